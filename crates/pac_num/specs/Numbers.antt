@@ -1,0 +1,33 @@
+-- Bits, bytes and words as whole numbers. Words are stored low byte first (UM0080, "Z80 CPU Register
+-- Configuration"); signed bytes are two's complement.
+use Rattle.std.specs.Prelude.{ℕ, ℤ, pos, negsuc, Bool, ◌+◌, ◌-◌, ◌*◌, ◌/◌, ◌%◌, ◌^◌, ◌==◌, nat_lt, if◌then◌else◌, count_ones}
+
+-- bit k of a number; bit 0 is the lowest
+abbrev pub bit : ℕ → ℕ → ℕ
+bit n k = n / 2 ^ k % 2
+
+-- the low and the high byte of a word, and the word that two bytes make
+abbrev pub low_byte : ℕ → ℕ
+low_byte word = word % 256
+
+abbrev pub high_byte : ℕ → ℕ
+high_byte word = word / 256
+
+abbrev pub word : ℕ → ℕ → ℕ
+word low high = low + 256 * high
+
+-- a sum of addresses, as sixteen bits hold it
+abbrev pub address : ℕ → ℕ
+address n = n % 65536
+
+-- a byte as a signed number, from -128 to 127, and the byte of such a number
+abbrev pub signed : ℕ → ℤ
+signed byte = if nat_lt byte 128 then pos byte else negsuc (255 - byte)
+
+abbrev pub unsigned : ℤ → ℕ
+unsigned (pos n) = n
+unsigned (negsuc n) = 255 - n
+
+-- an even count of ones, as the parity flag tells it
+abbrev pub is_even : ℕ → Bool
+is_even byte = count_ones byte % 2 == 0

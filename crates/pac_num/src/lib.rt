@@ -1,0 +1,70 @@
+//! Bits, bytes and words as the processor and the board read them, as whole numbers.
+#![tactic(auto)]
+
+ghost use Rattle.std.specs.Prelude.{◌≡◌, ◌<◌};
+ghost use Rattle.pac_num.specs.Numbers as number;
+
+/// Bit `place` of a byte, 0 or 1; bit 0 is the lowest.
+#[inline]
+pub fn bit(byte: u8, place: u8) -> u8
+    requires { place < 8 }
+    ensures { result ≡ number.bit byte place }
+{
+    byte / (1 << place) % 2
+}
+
+/// The low byte of a word.
+#[inline]
+pub fn low_byte(word: u16) -> u8
+    ensures { result ≡ number.low_byte word }
+{
+    (word % 256) as u8
+}
+
+/// The high byte of a word.
+#[inline]
+pub fn high_byte(word: u16) -> u8
+    ensures { result ≡ number.high_byte word }
+{
+    (word / 256) as u8
+}
+
+/// The word of two bytes.
+#[inline]
+pub fn word(low: u8, high: u8) -> u16
+    ensures { result ≡ number.word low high }
+{
+    low as u16 + 256 * high as u16
+}
+
+/// A byte read in two's complement, -128 to 127.
+#[inline]
+pub fn signed(byte: u8) -> i8
+    ensures { result ≡ number.signed byte }
+{
+    if byte < 128 {
+        byte as i8
+    } else {
+        -((255 - byte) as i8) - 1
+    }
+}
+
+/// The byte that stands for a number from -128 to 127 in two's complement.
+#[inline]
+pub fn unsigned(value: i8) -> u8
+    ensures { result ≡ number.unsigned value }
+{
+    if value >= 0 {
+        value as u8
+    } else {
+        255 - (-(value + 1)) as u8
+    }
+}
+
+/// Whether a byte has an even count of ones, as the parity flag tells it.
+#[inline]
+pub fn is_even(byte: u8) -> bool
+    ensures { result ≡ number.is_even byte }
+{
+    byte.count_ones() % 2 == 0
+}
