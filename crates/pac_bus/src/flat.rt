@@ -1,7 +1,7 @@
 //! A bus of memory and ports alone.
 
-ghost use Rattle.std.specs.Prelude.{◌≡◌, ◌<◌, ℕ, IfOk, slice_index, slice_set, replicate};
-ghost use Rattle.pac_bus.specs.Flat.{Cells, byte_at, input_at, after};
+ghost use Rattle.std.specs.Prelude.{◌≡◌, ◌+◌, ◌<◌, ◌≤◌, ℕ, IfOk, length, slice_index};
+ghost use Rattle.pac_bus.specs.Flat.{Cells, byte_at, input_at, after, loaded, IsBlank};
 
 use crate::Bus;
 use std::alloc::{AllocError, Global};
@@ -21,14 +21,34 @@ impl Model for Flat {
     ghost view = { λ flat. record { memory = flat.memory.value; ports = flat.ports } };
 }
 
+/// An array of zeros.
+fn zeros<const N: usize>() -> [u8; N]
+    ensures room { length result ≡ N }
+    ensures zero { (k : ℕ) → slice_index result k ≡ 0 }
+{
+    [0; N]
+}
+
 impl Flat {
-    /// A bus whose memory has these bytes from an address on and 0 elsewhere; what reaches over the end is left out.
-    pub fn new(alloc: Global) -> Result<Self, AllocError> {
-        let memory = Box::new(alloc, [0; 65536])?;
+    /// A bus whose 65,536 bytes and 256 ports are all 0; refused for want of memory alone.
+    pub fn new(alloc: Global) -> Result<Self, AllocError>
+        ensures { IfOk result IsBlank }
+    {
+        let memory = Box::new(alloc, zeros::<65536>())?;
         Ok(Flat {
             memory,
-            ports: [0; 256],
+            ports: zeros::<256>(),
         })
+    }
+
+    /// Puts bytes into memory from an address on; they must not reach over the end. The ports keep what they have.
+    pub fn load(&mut self, at: u16, bytes: &[u8])
+        requires { at + length bytes.now ≤ 65536 }
+        ensures { self.new ≡ loaded self.old at bytes.now }
+    {
+        let start = at as usize;
+        let end = start + bytes.len();
+        self.memory[start..end].copy_from_slice(bytes);
     }
 }
 
@@ -53,5 +73,34 @@ impl Bus for Flat {
 
     fn output(&mut self, port: u8, byte: u8) {
         self.ports[port as usize] = byte;
+    }
+}
+
+#[cfg(test)]
+mod tests {
+    use super::*;
+    use std::test::Fail;
+
+    #[test]
+    fn keeps_what_it_is_given(rt: HostRuntime) -> Result<(), Fail> {
+        let mut bus = Flat::new(rt.alloc())?;
+        assert_eq!(rt; (bus.read(0), bus.read(65535), bus.input(255)), (0, 0, 0));
+        bus.load(0x1000, &[0x3E, 0x42]);
+        bus.write(0xFFFF, 7);
+        bus.output(0, 0xFA);
+        assert_eq!(rt;
+            (
+                bus.read(0x0FFF),
+                bus.read(0x1000),
+                bus.read(0x1001),
+                bus.read(0x1002)
+            ),
+            (0, 0x3E, 0x42, 0)
+        );
+        assert_eq!(rt;
+            (bus.read(0xFFFF), bus.input(0), bus.input(1)),
+            (7, 0xFA, 0)
+        );
+        Ok(())
     }
 }
