@@ -1,13 +1,27 @@
-// A library with one function.
+//! The documented instructions of the Z80: codes, forms in source, times and effects (Zilog Z80 CPU
+//! User Manual UM0080).
 #![tactic(auto)]
 
 ghost use Rattle.std.specs.Prelude.{◌≡◌};
-ghost use Rattle.pac_table.specs.Echo.{echo_of};
+ghost use Rattle.pac_table.specs.Table.{table};
 
-// The `ensures` clause is the contract: what `echo` returns is `echo_of` of its argument, a definition
-// in `specs/Echo.antt`, which a caller's clause can cite too.
-pub fn echo(x: usize) -> usize
-    ensures { result ≡ echo_of x }
+mod effects;
+mod instruction;
+mod operands;
+mod patterns;
+mod table;
+
+pub use effects::{
+    Block, BlockOperation, Direction, Effect, InterruptMode, Pair, Place, Rotation, Special,
+};
+pub use instruction::Instr;
+pub use operands::{Mnemonic, Operands, Shape};
+pub use patterns::{Field, Immediate, Page, Pattern};
+pub use table::Row;
+
+/// The rows of the table.
+pub fn rows() -> &'static [Row]
+    ensures { result.now ≡ table }
 {
-    x
+    &table::ROWS
 }

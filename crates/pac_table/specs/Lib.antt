@@ -1,0 +1,3 @@
+pub mod Patterns
+pub mod Table
+pub mod Instructions

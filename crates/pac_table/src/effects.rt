@@ -1,0 +1,224 @@
+//! What an instruction does. A payload names the registers and cells concerned; numbers come from
+//! the fields and the immediate of the instruction itself.
+
+/// A place of 8 bits.
+#[derive(Clone, Copy, Debug, PartialEq, Eq)]
+pub enum Place {
+    /// The register in the first field.
+    First,
+    /// The register in the second field.
+    Second,
+    /// A.
+    Accumulator,
+    /// n, which is only read.
+    Immediate,
+    /// The cell at BC.
+    AtBc,
+    /// The cell at DE.
+    AtDe,
+    /// The cell at HL.
+    AtHl,
+    /// The cell at nn.
+    AtWord,
+    /// The cell at IX + d.
+    AtIx,
+    /// The cell at IY + d.
+    AtIy,
+}
+
+/// A register of 16 bits.
+#[derive(Clone, Copy, Debug, PartialEq, Eq)]
+pub enum Pair {
+    /// The pair in the first field; 3 is SP, and AF where the field is qq.
+    First,
+    /// HL.
+    Hl,
+    /// IX.
+    Ix,
+    /// IY.
+    Iy,
+}
+
+/// A register of the interrupt and refresh logic.
+#[derive(Clone, Copy, Debug, PartialEq, Eq)]
+pub enum Special {
+    /// I, the high byte of mode 2's table.
+    Interrupt,
+    /// R, which counts fetches.
+    Refresh,
+}
+
+/// How a maskable interrupt is answered (UM0080, "Interrupt Response").
+#[derive(Clone, Copy, Debug, PartialEq, Eq)]
+pub enum InterruptMode {
+    /// The instruction on the data bus.
+    Zero,
+    /// A call of 0038H.
+    One,
+    /// A call through the table at I * 256.
+    Two,
+}
+
+/// A turn of A.
+#[derive(Clone, Copy, Debug, PartialEq, Eq)]
+pub enum Rotation {
+    /// RLCA: left within the byte.
+    LeftCircular,
+    /// RRCA: right within the byte.
+    RightCircular,
+    /// RLA: left through the carry.
+    Left,
+    /// RRA: right through the carry.
+    Right,
+}
+
+/// What a block instruction does with one byte.
+#[derive(Clone, Copy, Debug, PartialEq, Eq)]
+pub enum BlockOperation {
+    /// The cell at DE becomes the cell at HL.
+    Load,
+    /// A is compared with the cell at HL.
+    Compare,
+    /// The cell at HL becomes what port C gives.
+    Input,
+    /// Port C is sent the cell at HL.
+    Output,
+}
+
+/// Where the pointers of a block instruction go.
+#[derive(Clone, Copy, Debug, PartialEq, Eq)]
+pub enum Direction {
+    /// By 1 up.
+    Up,
+    /// By 1 down.
+    Down,
+}
+
+/// A block instruction: LDI, CPIR, OUTD and the like.
+#[derive(Clone, Copy, Debug, PartialEq, Eq)]
+pub struct Block {
+    /// What is done with each byte.
+    pub operation: BlockOperation,
+    /// Where the pointers go.
+    pub direction: Direction,
+    /// Whether the instruction is done again until its count has run out.
+    pub repeats: bool,
+}
+
+/// What an instruction does (UM0080, "Z80 Instruction Description").
+#[derive(Clone, Copy, Debug, PartialEq, Eq)]
+pub enum Effect {
+    /// NOP.
+    Nop,
+    /// HALT.
+    Halt,
+    /// DI.
+    DisableInterrupts,
+    /// EI.
+    EnableInterrupts,
+    /// IM.
+    SetInterruptMode(InterruptMode),
+    /// LD of a byte: where it goes, then where it comes from. No flag changes.
+    Load(Place, Place),
+    /// LD A,I and LD A,R, which set flags.
+    LoadFromSpecial(Special),
+    /// LD I,A and LD R,A.
+    LoadSpecial(Special),
+    /// LD dd,nn.
+    LoadPair(Pair),
+    /// LD dd,(nn).
+    LoadPairFromMemory(Pair),
+    /// LD (nn),dd.
+    StorePair(Pair),
+    /// LD SP,HL.
+    LoadStackPointer(Pair),
+    /// PUSH.
+    Push(Pair),
+    /// POP.
+    Pop(Pair),
+    /// EX DE,HL.
+    ExchangeDeHl,
+    /// EX AF,AF'.
+    ExchangeAf,
+    /// EXX.
+    ExchangeBanks,
+    /// EX (SP),HL.
+    ExchangeStackTop(Pair),
+    /// ADD, ADC, SUB, SBC, AND, XOR, OR or CP, by the first field, of A and a place.
+    Alu(Place),
+    /// INC of a byte.
+    Increment(Place),
+    /// DEC of a byte.
+    Decrement(Place),
+    /// DAA.
+    DecimalAdjust,
+    /// CPL.
+    Complement,
+    /// NEG.
+    Negate,
+    /// SCF.
+    SetCarry,
+    /// CCF.
+    ComplementCarry,
+    /// RLCA, RRCA, RLA, RRA.
+    RotateAccumulator(Rotation),
+    /// RLC, RRC, RL, RR, SLA, SRA or SRL, by the first field.
+    Shift(Place),
+    /// BIT; the first field is the bit's number.
+    TestBit(Place),
+    /// RES; the first field is the bit's number.
+    ResetBit(Place),
+    /// SET; the first field is the bit's number.
+    SetBit(Place),
+    /// RLD.
+    RotateDigitLeft,
+    /// RRD.
+    RotateDigitRight,
+    /// ADD HL,ss and ADD IX,pp: the pair that grows by the pair in the first field, where 2 is that
+    /// same pair.
+    AddPair(Pair),
+    /// ADC HL,ss.
+    AddPairWithCarry,
+    /// SBC HL,ss.
+    SubtractPairWithCarry,
+    /// INC of a pair.
+    IncrementPair(Pair),
+    /// DEC of a pair.
+    DecrementPair(Pair),
+    /// JP nn.
+    Jump,
+    /// JP cc,nn.
+    JumpIf,
+    /// JP (HL).
+    JumpToPair(Pair),
+    /// JR e.
+    JumpRelative,
+    /// JR cc,e.
+    JumpRelativeIf,
+    /// DJNZ e.
+    DecrementAndJump,
+    /// CALL nn.
+    Call,
+    /// CALL cc,nn.
+    CallIf,
+    /// RET.
+    Return,
+    /// RET cc.
+    ReturnIf,
+    /// RETI.
+    ReturnFromInterrupt,
+    /// RETN.
+    ReturnFromNonMaskable,
+    /// RST.
+    Restart,
+    /// IN A,(n).
+    InputByte,
+    /// OUT (n),A.
+    OutputByte,
+    /// IN r,(C), with the register in the first field.
+    Input,
+    /// OUT (C),r, with the register in the first field.
+    Output,
+    /// LDI, CPI, INI, OUTI and their kin.
+    Block(Block),
+}

@@ -1,0 +1,75 @@
+//! Instructions: a row of the table with its fields and its immediate filled in.
+
+ghost use Rattle.std.specs.Prelude.{◌≡◌, ◌<◌, ◌≤◌, ◌↔◌, IsTrue, IsSome, IfSome};
+ghost use Rattle.pac_table.specs.Instructions.{IsInstruction, row_count, pattern_of, operands_of, effect_of, ticks_of, ticks_other_of, opcode_of};
+ghost use Rattle.pac_table.specs.Patterns.{IsDisplacement, IsSignedByte, word_limit, lists};
+
+use crate::effects::Effect;
+use crate::operands::Operands;
+use crate::patterns::{Immediate, Pattern};
+use crate::table::Row;
+use std::marker::Model;
+
+/// An instruction of the table.
+#[derive(Clone, Copy, PartialEq, Eq)]
+pub struct Instr {
+    row: u16,
+    p: u8,
+    q: u8,
+    word: u16,
+    disp: i8,
+}
+
+impl Model for Instr {
+    ghost use Rattle.pac_table.specs.Instructions.{Instruction, IsInstruction};
+
+    ghost Value = { Instruction };
+
+    ghost view = { λ i. record { row = i.row; p = i.p; q = i.q; word = i.word; disp = i.disp } };
+
+    ghost invariant = { λ i. IsInstruction (record { row = i.row; p = i.p; q = i.q; word = i.word; disp = i.disp }) };
+
+    ghost inverse = { λ i. record { row = i.row; p = i.p; q = i.q; word = i.word; disp = i.disp } };
+}
+
+impl Instr {
+    /// The number of the row.
+    pub fn row(&self) -> u16
+        ensures value { result ≡ self.now.row }
+        ensures bound { result < row_count }
+    {
+        self.row
+    }
+
+    /// The value of the first field, 0 where the row has none.
+    pub fn p(&self) -> u8
+        ensures value { result ≡ self.now.p }
+        ensures listed { IsTrue (lists (pattern_of self.now).first result) }
+    {
+        self.p
+    }
+
+    /// The value of the second field, 0 where the row has none.
+    pub fn q(&self) -> u8
+        ensures value { result ≡ self.now.q }
+        ensures listed { IsTrue (lists (pattern_of self.now).second result) }
+    {
+        self.q
+    }
+
+    /// n or nn, 0 where the row has neither.
+    pub fn word(&self) -> u16
+        ensures value { result ≡ self.now.word }
+        ensures bound { result < word_limit (pattern_of self.now).immediate }
+    {
+        self.word
+    }
+
+    /// d or e, 0 where the row has neither.
+    pub fn disp(&self) -> i8
+        ensures value { result ≡ self.now.disp }
+        ensures bound { IsDisplacement (pattern_of self.now).immediate result }
+    {
+        self.disp
+    }
+}
