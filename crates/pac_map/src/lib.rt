@@ -1,13 +1,8 @@
-// A library with one function.
+//! The board's bus: which chip an address selects, and what the processor reads and writes there.
 #![tactic(auto)]
 
-ghost use Rattle.std.specs.Prelude.{◌≡◌};
-ghost use Rattle.pac_map.specs.Echo.{echo_of};
+mod board_bus;
+mod bus_table;
 
-// The `ensures` clause is the contract: what `echo` returns is `echo_of` of its argument, a definition
-// in `specs/Echo.antt`, which a caller's clause can cite too.
-pub fn echo(x: usize) -> usize
-    ensures { result ≡ echo_of x }
-{
-    x
-}
+pub use board_bus::Map;
+pub use bus_table::{Place, read_place, write_place};

@@ -1,0 +1,87 @@
+-- What can happen to the board, one entry each, and the board's memory as reads see it.
+use Rattle.std.specs.Prelude.{ℕ, List, [], ◌∷◌, ◌-◌, ◌==◌, if◌then◌else◌, fold, slice_index, slice_set}
+use Rattle.pac_num.specs.Numbers.{low_byte, high_byte}
+use Rattle.pac_bus.specs.Action.{Action, Write as Written, Output}
+use Rattle.pac_map.specs.declared.bus_table.Place.{Place}
+use Rattle.pac_map.specs.declared.bus_table.Place.TheVariants.{Program, Tile, Colour, Work, Nothing, Inputs0, Inputs1, Switches}
+use Rattle.pac_map.specs.Place.{read_place, write_place}
+use Rattle.pac_map.specs.Cleared.{cleared}
+
+pub data Entry : Type 0 where
+  -- a byte written to a place
+  Write : (place : Place) (byte : ℕ) → Entry
+  -- the interrupt vector, set by OUT to port 0
+  Vector : (byte : ℕ) → Entry
+  -- the sound sample of this number
+  Sample : (number : ℕ) → Entry
+  -- the vertical blank that ends this frame
+  Blank : (frame : ℕ) → Entry
+  -- an interrupt accepted
+  Accept : Entry
+  -- a reset of the board
+  Reset : Entry
+  -- the inputs held from now on, bit k for the k-th; in the low byte those of 5000H, in the high those of 5040H
+  Hold : (mask : ℕ) → Entry
+
+-- what reads depend on, the program ROM aside: the DIP switches' byte, the mask of inputs held, the three RAMs
+pub record View : Type 0 where
+  pub switches : ℕ
+  pub held : ℕ
+  pub tile : List ℕ
+  pub colour : List ℕ
+  pub work : List ℕ
+
+-- the view at power-on: RAM cleared and nothing held (this profile)
+abbrev pub power_on : ℕ → View
+power_on switches =
+    record { switches = switches; held = 0; tile = cleared 1024; colour = cleared 1024; work = cleared 1024 }
+
+-- a byte written to a place: RAM keeps it, and no other place that is read does
+abbrev pub written : View → Place → ℕ → View
+written view (Tile cell) byte = record view { tile = slice_set view.tile cell byte }
+written view (Colour cell) byte = record view { colour = slice_set view.colour cell byte }
+written view (Work cell) byte = record view { work = slice_set view.work cell byte }
+written view _ byte = view
+
+abbrev pub view_after : View → Entry → View
+view_after view (Write place byte) = written view place byte
+view_after view (Hold mask) = record view { held = mask }
+view_after view _ = view
+
+-- the byte that a place gives: an input that is held reads 0; the block with no chip reads BFH and the
+-- watchdog's address FFH (this profile)
+abbrev pub byte_of : List ℕ → View → Place → ℕ
+byte_of program view (Program cell) = slice_index program cell
+byte_of program view (Tile cell) = slice_index view.tile cell
+byte_of program view (Colour cell) = slice_index view.colour cell
+byte_of program view (Work cell) = slice_index view.work cell
+byte_of program view Nothing = 191
+byte_of program view Inputs0 = 255 - low_byte view.held
+byte_of program view Inputs1 = 255 - high_byte view.held
+byte_of program view Switches = view.switches
+byte_of program view _ = 255
+
+-- the byte that a read from an address gives
+abbrev pub read_of : List ℕ → View → ℕ → ℕ
+read_of program view address = byte_of program view (read_place address)
+
+-- what the board makes of an action of the processor: port 0 holds the interrupt vector, and no other port is
+-- wired (this profile)
+abbrev pub entries_of : Action → List Entry
+entries_of (Written address byte) = Write (write_place address) byte ∷ []
+entries_of (Output port byte) = if port == 0 then Vector byte ∷ [] else []
+
+-- the program ROM beside the view
+pub record Contents : Type 0 where
+  pub program : List ℕ
+  pub view : View
+
+abbrev pub byte_at : Contents → ℕ → ℕ
+byte_at contents address = read_of contents.program contents.view address
+
+-- no input port is wired: all lines are high (this profile)
+abbrev pub input_at : Contents → ℕ → ℕ
+input_at contents port = 255
+
+abbrev pub after : Contents → Action → Contents
+after contents action = record contents { view = fold view_after contents.view (entries_of action) }

@@ -1,0 +1,4 @@
+pub mod Place
+pub mod Entry
+pub mod Cleared
+pub mod Sizes

@@ -1,0 +1,117 @@
+//! The address decoder: the place that an address selects, for a read and for a write.
+
+ghost use Rattle.std.specs.Prelude.{◌≡◌, ◌<◌};
+ghost use Rattle.pac_map.specs.Place as spec;
+
+/// A place on the bus (Namco Pac-Man service schematics). Numbers are cells, bits or registers of the place.
+#[derive(Clone, Copy, PartialEq, Debug)]
+pub enum Place {
+    /// A cell of the program ROM, below 16,384. A write there changes nothing.
+    Program(u16),
+    /// A cell of the tile RAM, below 1,024.
+    Tile(u16),
+    /// A cell of the colour RAM, below 1,024.
+    Colour(u16),
+    /// A cell of the work RAM, below 1,024; the last 16 are the sprites' attributes.
+    Work(u16),
+    /// No chip.
+    Nothing,
+    /// The first player's inputs, read only.
+    Inputs0,
+    /// The second player's inputs, read only.
+    Inputs1,
+    /// The DIP switches, read only.
+    Switches,
+    /// The watchdog: a write sets its count to 0, and nothing answers a read.
+    Kick,
+    /// A bit of the output latch, below 8, write only.
+    Latch(u8),
+    /// A register of the wave generator, below 32, write only.
+    Wave(u8),
+    /// A sprite coordinate, below 16, write only.
+    Coordinate(u8),
+}
+
+/// A place of the RAM page, whose bytes are counted from 0 to 4,095.
+#[inline]
+fn ram_place(offset: u16) -> Place
+    requires { offset < 4096 }
+    ensures place { result ≡ spec.ram_place offset }
+    ensures in_range { spec.IsInRange result }
+{
+    if offset < 1024 {
+        Place::Tile(offset)
+    } else if offset < 2048 {
+        Place::Colour(offset - 1024)
+    } else if offset < 3072 {
+        Place::Nothing
+    } else {
+        Place::Work(offset - 3072)
+    }
+}
+
+/// A place of the port page, whose low eight address lines are wired, when read.
+#[inline]
+fn read_port(offset: u8) -> Place
+    ensures place { result ≡ spec.read_port offset }
+    ensures in_range { spec.IsInRange result }
+{
+    if offset < 64 {
+        Place::Inputs0
+    } else if offset < 128 {
+        Place::Inputs1
+    } else if offset < 192 {
+        Place::Switches
+    } else {
+        Place::Kick
+    }
+}
+
+/// A place of the port page, whose low eight address lines are wired, when written.
+#[inline]
+fn write_port(offset: u8) -> Place
+    ensures place { result ≡ spec.write_port offset }
+    ensures in_range { spec.IsInRange result }
+{
+    if offset < 64 {
+        Place::Latch(offset % 8)
+    } else if offset < 96 {
+        Place::Wave(offset - 64)
+    } else if offset < 112 {
+        Place::Coordinate(offset - 96)
+    } else if offset < 192 {
+        Place::Nothing
+    } else {
+        Place::Kick
+    }
+}
+
+/// The place that a read from an address asks.
+#[inline]
+pub fn read_place(address: u16) -> Place
+    ensures place { result ≡ spec.read_place address }
+    ensures in_range { spec.IsInRange result }
+{
+    if address % 32768 < 16384 {
+        Place::Program(address % 32768)
+    } else if address % 8192 < 4096 {
+        ram_place(address % 8192)
+    } else {
+        read_port((address % 256) as u8)
+    }
+}
+
+/// The place that a write to an address reaches.
+#[inline]
+pub fn write_place(address: u16) -> Place
+    ensures place { result ≡ spec.write_place address }
+    ensures in_range { spec.IsInRange result }
+{
+    if address % 32768 < 16384 {
+        Place::Program(address % 32768)
+    } else if address % 8192 < 4096 {
+        ram_place(address % 8192)
+    } else {
+        write_port((address % 256) as u8)
+    }
+}
