@@ -1,0 +1,57 @@
+//! A file with the count of the bytes that it took, over all calls.
+ghost use Rattle.std.specs.Prelude.{◌≡◌, ◌+◌, ◌^◌, ◌<◌, [], length, true, false, IsErr, IfErr, OnOk, OnErr};
+
+use crate::{Out, WriteFault};
+
+/// A writer with the count of the bytes that it took. After its first refusal each call answers the same
+/// fault and writes nothing. The fields are there to be read.
+#[derive(Drop)]
+pub struct Counted<W> {
+    /// The writer.
+    pub writer: W,
+    /// The bytes that it took.
+    pub count: u64,
+    /// Whether it refused.
+    pub failed: bool,
+}
+
+impl<W: Out> Counted<W> {
+    ghost use Rattle.pac_out.specs.Counted.{HasTaken, Takes, Refuses};
+
+    /// A file of no bytes yet.
+    pub fn new(writer: W) -> Counted<W>
+        ensures { HasTaken W.took writer [] result }
+    {
+        Counted {
+            writer,
+            count: 0,
+            failed: false,
+        }
+    }
+
+    /// Writes all bytes behind those that the file took. The fault has the count of all bytes that the file
+    /// took.
+    pub fn put(&mut self, bytes: &[u8]) -> Result<(), WriteFault>
+        requires { self.old.failed ≡ false → self.old.count + length bytes.now < 2 ^ 64 }
+        ensures ok { OnOk result (Takes W.took self.old bytes.now self.new) }
+        ensures err { OnErr result (Refuses W.took W.refused self.old bytes.now self.new) }
+        ensures count { IfErr result (λ fault. fault.count ≡ self.new.count) }
+        ensures later_err { self.old.failed ≡ true → IsErr result }
+        ensures later_unchanged { self.old.failed ≡ true → self.new ≡ self.old }
+    {
+        if self.failed {
+            return Err(WriteFault { count: self.count });
+        }
+        match self.writer.put_all(bytes) {
+            Ok(()) => {
+                self.count += bytes.len() as u64;
+                Ok(())
+            }
+            Err(fault) => {
+                self.count += fault.count;
+                self.failed = true;
+                Err(WriteFault { count: self.count })
+            }
+        }
+    }
+}

@@ -1,0 +1,75 @@
+//! A writer for tests, that takes few bytes a call and refuses a call.
+ghost use Rattle.std.specs.Prelude.{◌≡◌, ◌<◌, ◌≤◌, ◌-◌, ◌⊎◌, ◌↔◌, [], length, take, min, Ok, IfOk, OnErr, IsErr};
+ghost use Rattle.pac_out.specs.Faulty.{Weak, Passes, IsRefused, Passes-nothing, Passes-joined};
+
+use crate::memory::Memory;
+use crate::{Failed, Out};
+use std::alloc::{AllocError, Global};
+use std::marker::Model;
+
+/// A writer over memory for tests. It takes at most so many bytes a call, and refuses one call.
+#[derive(Drop)]
+pub struct Faulty {
+    memory: Memory,
+    most: usize,
+    refusal: u64,
+}
+
+impl Model for Faulty {
+    ghost Value = { Weak };
+
+    ghost view = { λ faulty. record { space = faulty.memory; most = faulty.most; refusal = faulty.refusal } };
+}
+
+impl Faulty {
+    /// One with room for so many bytes, that takes at most `most` bytes a call and refuses the call of the
+    /// number `refusal`, once: 1 is its first call, 0 is none.
+    pub fn new(alloc: Global, room: usize, most: usize, refusal: u64) -> Result<Faulty, AllocError>
+        ensures { IfOk result (λ faulty. faulty ≡ record { space = record { bytes = []; room = room }; most = most; refusal = refusal }) }
+    {
+        let memory = Memory::new(alloc, room)?;
+        Ok(Faulty {
+            memory,
+            most,
+            refusal,
+        })
+    }
+
+    /// The bytes that it took.
+    pub fn bytes(&self) -> &[u8]
+        ensures { result.now ≡ self.now.space.bytes }
+    {
+        self.memory.bytes()
+    }
+}
+
+impl Out for Faulty {
+    ghost took = { Passes };
+
+    ghost refused = { IsRefused };
+
+    ghost nothing = { Passes-nothing };
+
+    ghost joined = { Passes-joined };
+
+    /// Takes a front of the bytes, or refuses where the call has come that it refuses.
+    fn write(&mut self, bytes: &[u8]) -> Result<usize, Failed>
+        ensures bound { IfOk result (λ count. count ≤ length bytes.now) }
+        ensures taken { IfOk result (λ count. Passes self.old (take count bytes.now) self.new) }
+        ensures none_taken { result ≡ Ok 0 → 0 < length bytes.now → IsRefused self.old self.new }
+        ensures err { OnErr result (IsRefused self.old self.new) }
+
+        // And how many they are, at which calls.
+        ensures call { self.new.refusal ≡ self.old.refusal - 1 }
+        ensures count { IfOk result (λ count. count ≡ min (min (length bytes.now) self.old.most) self.old.space.room) }
+        ensures refusal { self.old.refusal ≡ 1 → IsErr result }
+    {
+        let is_refused = self.refusal == 1;
+        self.refusal = self.refusal.saturating_sub(1);
+        if is_refused {
+            return Err(Failed);
+        }
+        let count = bytes.len().min(self.most);
+        self.memory.write(&bytes[..count])
+    }
+}

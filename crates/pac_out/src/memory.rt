@@ -1,0 +1,70 @@
+//! A writer over memory.
+ghost use Rattle.std.specs.Prelude.{◌≡◌, ◌<◌, ◌≤◌, ◌+◌, ◌↔◌, [], length, take, min, Ok, IfOk, OnErr, IsErr, vec_len, vec_capacity};
+ghost use Rattle.pac_out.specs.Memory.{Space, Adds, IsFull, Adds-nothing, Adds-joined};
+
+use crate::{Failed, Out};
+use std::alloc::{AllocError, Global};
+use std::marker::Model;
+
+/// A writer over memory of a fixed size, made at the start. It keeps the bytes that it took, and refuses
+/// where no room is left.
+#[derive(Drop)]
+pub struct Memory {
+    held: Vec<u8>,
+    room: usize,
+}
+
+impl Model for Memory {
+    ghost Value = { Space };
+
+    ghost view = { λ memory. record { bytes = memory.held.items; room = memory.room } };
+
+    ghost invariant = { λ memory. vec_len memory.held + memory.room ≤ vec_capacity memory.held };
+}
+
+impl Memory {
+    /// An empty one with room for so many bytes.
+    pub fn new(alloc: Global, room: usize) -> Result<Memory, AllocError>
+        ensures { IfOk result (λ memory. memory ≡ record { bytes = []; room = room }) }
+    {
+        let held = Vec::with_capacity(alloc, room)?;
+        Ok(Memory { held, room })
+    }
+
+    /// The bytes that it took.
+    pub fn bytes(&self) -> &[u8]
+        ensures { result.now ≡ self.now.bytes }
+    {
+        self.held.as_slice()
+    }
+}
+
+impl Out for Memory {
+    ghost took = { Adds };
+
+    ghost refused = { IsFull };
+
+    ghost nothing = { Adds-nothing };
+
+    ghost joined = { Adds-joined };
+
+    /// Takes the bytes for which there is room.
+    fn write(&mut self, bytes: &[u8]) -> Result<usize, Failed>
+        ensures bound { IfOk result (λ count. count ≤ length bytes.now) }
+        ensures taken { IfOk result (λ count. Adds self.old (take count bytes.now) self.new) }
+        ensures none_taken { result ≡ Ok 0 → 0 < length bytes.now → IsFull self.old self.new }
+        ensures err { OnErr result (IsFull self.old self.new) }
+
+        // And how many they are.
+        ensures count { IfOk result (λ count. count ≡ min (length bytes.now) self.old.room) }
+        ensures full { IsErr result ↔ ((0 < length bytes.now) × (self.old.room ≡ 0)) }
+    {
+        if self.room == 0 && !bytes.is_empty() {
+            return Err(Failed);
+        }
+        let count = bytes.len().min(self.room);
+        self.held.extend_from_slice(&bytes[..count]).unwrap();
+        self.room -= count;
+        Ok(count)
+    }
+}

@@ -1,0 +1,116 @@
+use crate::counted::Counted;
+use crate::faulty::Faulty;
+use crate::memory::Memory;
+use crate::through::Through;
+use crate::{Out, WriteFault};
+use std::io;
+use std::io::Write;
+
+const TEXT: &[u8] = b"The quick brown fox jumps over the lazy dog.";
+
+#[test]
+fn few_bytes_a_call_give_the_same_bytes(rt: HostRuntime) -> io::Result<()> {
+    for most in [1, 7, 44, 100] {
+        let mut output = Faulty::new(rt.alloc(), 100, most, 0)?;
+        assert_eq!(rt; output.put_all(TEXT), Ok(()));
+        assert!(rt; output.bytes() == TEXT, "{most} a call");
+    }
+    Ok(())
+}
+
+#[test]
+fn a_refusal_is_told_with_its_count(rt: HostRuntime) -> io::Result<()> {
+    for (refusal, count) in [(1, 0), (2, 7), (4, 21), (7, 42)] {
+        let mut output = Faulty::new(rt.alloc(), 100, 7, refusal)?;
+        assert_eq!(rt; output.put_all(TEXT), Err(WriteFault { count }));
+        assert_eq!(rt; output.bytes().len() as u64, count);
+        assert!(rt; TEXT.starts_with(output.bytes()), "the front at {count}");
+        assert_eq!(rt; output.put_all(TEXT), Ok(()));
+    }
+    Ok(())
+}
+
+#[test]
+fn taking_no_byte_is_a_refusal(rt: HostRuntime) -> io::Result<()> {
+    let mut output = Faulty::new(rt.alloc(), 100, 0, 0)?;
+    assert_eq!(rt; output.put_all(TEXT), Err(WriteFault { count: 0 }));
+    assert_eq!(rt; output.put_all(&[]), Ok(()));
+    let mut output = Memory::new(rt.alloc(), 10)?;
+    assert_eq!(rt; output.put_all(TEXT), Err(WriteFault { count: 10 }));
+    assert!(rt; output.bytes() == b"The quick ".as_slice());
+    Ok(())
+}
+
+#[test]
+fn a_file_counts_over_all_calls(rt: HostRuntime) -> io::Result<()> {
+    let mut file = Counted::new(Faulty::new(rt.alloc(), 1000, 30, 5)?);
+    assert_eq!(rt; file.put(TEXT), Ok(()));
+    assert_eq!(rt; file.put(&TEXT[..6]), Ok(()));
+    assert_eq!(rt; file.count, 50);
+    assert_eq!(rt; file.put(TEXT), Err(WriteFault { count: 80 }));
+    assert_eq!(rt; file.put(&[]), Err(WriteFault { count: 80 }));
+    assert_eq!(rt; file.put(TEXT), Err(WriteFault { count: 80 }));
+    assert_eq!(rt; file.writer.bytes().len(), 80);
+    Ok(())
+}
+
+#[test]
+fn a_writer_of_std_takes_the_bytes(rt: HostRuntime) -> io::Result<()> {
+    let mut output = Through {
+        inner: Vec::new(rt.alloc()),
+    };
+    assert_eq!(rt; output.put_all(TEXT), Ok(()));
+    assert_eq!(rt; (&mut output).put_all(b" Again."), Ok(()));
+    assert!(rt; &output.inner[..TEXT.len()] == TEXT);
+    assert!(rt; &output.inner[TEXT.len()..] == b" Again.".as_slice());
+
+    let mut room = [0u8; 9];
+    let mut output = Through {
+        inner: &mut room[..],
+    };
+    assert_eq!(rt; output.put_all(TEXT), Err(WriteFault { count: 9 }));
+    assert!(rt; &room == b"The quick");
+    Ok(())
+}
+
+// Answers its writes in turn: 0 takes all bytes, 1 is interrupted, 2 is another error.
+#[derive(Drop)]
+struct Answers {
+    all: [u8; 4],
+    next: usize,
+    taken: usize,
+}
+
+impl Write for Answers {
+    fn write(&mut self, buf: &[u8]) -> io::Result<usize> {
+        let answer = self.all.get(self.next).copied().unwrap_or(0);
+        self.next = self.next.saturating_add(1);
+        match answer {
+            0 => {
+                self.taken = self.taken.saturating_add(buf.len());
+                Ok(buf.len())
+            }
+            1 => Err(io::Error::from(io::ErrorKind::Interrupted)),
+            _ => Err(io::Error::from(io::ErrorKind::StorageFull)),
+        }
+    }
+
+    fn flush(&mut self) -> io::Result<()> {
+        Ok(())
+    }
+}
+
+#[test]
+fn an_interrupted_write_is_tried_again(rt: HostRuntime) {
+    let inner = Answers {
+        all: [1, 1, 0, 2],
+        next: 0,
+        taken: 0,
+    };
+    let mut file = Counted::new(Through { inner });
+    assert_eq!(rt; file.put(TEXT), Ok(()));
+    assert_eq!(rt; file.put(TEXT), Err(WriteFault { count: 44 }));
+    assert_eq!(rt; file.put(TEXT), Err(WriteFault { count: 44 }));
+    assert_eq!(rt; file.writer.inner.taken, 44);
+    assert_eq!(rt; file.writer.inner.next, 4);
+}
