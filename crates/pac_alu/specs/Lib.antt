@@ -1,0 +1,6 @@
+pub mod Flags
+pub mod Arithmetic
+pub mod Words
+pub mod Rotate
+pub mod Bits
+pub mod Transfer

@@ -1,0 +1,292 @@
+ghost use Rattle.std.specs.Prelude.{◌≡◌, ◌+◌, ◌-◌, ◌%◌, ◌<◌, ◌&&◌, ◌||◌, ◌+ℤ◌, ◌-ℤ◌, pos, nat_lt, if◌then◌else◌};
+ghost use Rattle.pac_alu.specs.Flags.{overflows, flags_of};
+ghost use Rattle.pac_alu.specs.Arithmetic.{sum_of, difference_of, logic_of, operation_of, arithmetic_of, increment_of, decrement_of, negation_of, complement_of, corrects_low, corrects_high, correction_of, adjusted_of, decimal_of};
+ghost use Rattle.pac_num.specs.Numbers.{signed};
+
+use crate::flag_byte::{Flags, parity_flags, weight};
+
+/// An operation of A and an operand, in the order of the codes 0 to 7 (UM0080, "8-Bit Arithmetic Group").
+#[derive(Clone, Copy, Debug, PartialEq, Eq)]
+pub enum Operation {
+    Add,
+    /// ADD with the carry.
+    Adc,
+    Sub,
+    /// SUB with the carry.
+    Sbc,
+    And,
+    Xor,
+    Or,
+    /// SUB for its flags alone.
+    Cp,
+}
+
+/// What an operation on bytes leaves: the value and F.
+#[derive(Clone, Copy, Debug, PartialEq, Eq)]
+pub struct Outcome {
+    /// The byte.
+    pub value: u8,
+    /// F after the operation.
+    pub f: u8,
+}
+
+impl Operation {
+    /// The operation of a code's field, 0 to 7; 7 and above are CP.
+    #[inline]
+    #[tactic(auto, unfolding(crate::specs::Arithmetic::operation_of))]
+    pub fn from_field(field: u8) -> Operation
+        ensures { result ≡ operation_of field }
+    {
+        match field {
+            0 => Operation::Add,
+            1 => Operation::Adc,
+            2 => Operation::Sub,
+            3 => Operation::Sbc,
+            4 => Operation::And,
+            5 => Operation::Xor,
+            6 => Operation::Or,
+            _ => Operation::Cp,
+        }
+    }
+}
+
+/// Whether the signed sum is outside -128 to 127. Each signed byte is lifted by 128 to stay above 0.
+#[inline]
+fn sum_overflows(a: u8, operand: u8, carry: u8) -> bool
+    ensures { result ≡ overflows ((signed a +ℤ signed operand) +ℤ pos carry) }
+{
+    let lifted = (a as u16 + 128) % 256 + (operand as u16 + 128) % 256 + carry as u16;
+    lifted < 128 || 383 < lifted
+}
+
+/// Whether the signed difference is outside -128 to 127. Each signed byte is lifted by 128 to stay above 0.
+#[inline]
+fn difference_overflows(a: u8, operand: u8, carry: u8) -> bool
+    ensures { result ≡ overflows ((signed a -ℤ signed operand) -ℤ pos carry) }
+{
+    let lifted = (a as u16 + 128) % 256;
+    let taken = (operand as u16 + 128) % 256 + carry as u16;
+    lifted + 128 < taken || taken + 127 < lifted
+}
+
+/// ADD and ADC.
+#[inline]
+#[tactic(auto, unfolding(crate::specs::Arithmetic::sum_of))]
+fn sum(a: u8, operand: u8, carry: u8, f: u8) -> Outcome
+    ensures { result ≡ sum_of a operand carry f }
+{
+    let whole = a as u16 + operand as u16 + carry as u16;
+    let value = (whole % 256) as u8;
+    let flags = Flags {
+        sign: 128 <= value,
+        zero: value == 0,
+        half_carry: 15 < a as u16 % 16 + operand as u16 % 16 + carry as u16,
+        parity_overflow: sum_overflows(a, operand, carry),
+        subtract: false,
+        carry: 255 < whole,
+    };
+    Outcome {
+        value,
+        f: flags.byte(f),
+    }
+}
+
+/// SUB, SBC and what CP tells.
+#[inline]
+#[tactic(auto, unfolding(crate::specs::Arithmetic::difference_of))]
+fn difference(a: u8, operand: u8, carry: u8, f: u8) -> Outcome
+    requires { carry < 2 }
+    ensures { result ≡ difference_of a operand carry f }
+{
+    let taken = operand as u16 + carry as u16;
+    let value = ((256 + a as u16 - taken) % 256) as u8;
+    let flags = Flags {
+        sign: 128 <= value,
+        zero: value == 0,
+        half_carry: a % 16 < operand % 16 + carry,
+        parity_overflow: difference_overflows(a, operand, carry),
+        subtract: true,
+        carry: (a as u16) < taken,
+    };
+    Outcome {
+        value,
+        f: flags.byte(f),
+    }
+}
+
+/// AND, OR and XOR.
+#[inline]
+#[tactic(auto, unfolding(crate::specs::Arithmetic::logic_of))]
+fn logic(value: u8, half_carry: bool, f: u8) -> Outcome
+    ensures { result ≡ logic_of value half_carry f }
+{
+    Outcome {
+        value,
+        f: parity_flags(value, half_carry, false).byte(f),
+    }
+}
+
+/// A and F after an operation of A and an operand.
+#[inline]
+#[tactic(auto, unfolding(crate::specs::Arithmetic::arithmetic_of))]
+pub fn arithmetic(operation: Operation, a: u8, operand: u8, f: u8) -> Outcome
+    ensures { result ≡ arithmetic_of operation a operand f }
+{
+    match operation {
+        Operation::Add => sum(a, operand, 0, f),
+        Operation::Adc => sum(a, operand, f % 2, f),
+        Operation::Sub => difference(a, operand, 0, f),
+        Operation::Sbc => difference(a, operand, f % 2, f),
+        Operation::And => logic(a & operand, true, f),
+        Operation::Xor => logic(a ^ operand, false, f),
+        Operation::Or => logic(a | operand, false, f),
+        Operation::Cp => Outcome {
+            value: a,
+            f: difference(a, operand, 0, f).f,
+        },
+    }
+}
+
+/// A byte and F after INC.
+#[inline]
+#[tactic(auto, unfolding(crate::specs::Arithmetic::increment_of))]
+pub fn increment(byte: u8, f: u8) -> Outcome
+    ensures { result ≡ increment_of byte f }
+{
+    let value = ((byte as u16 + 1) % 256) as u8;
+    let flags = Flags {
+        sign: 128 <= value,
+        zero: value == 0,
+        half_carry: 15 < byte % 16 + 1,
+        parity_overflow: byte == 127,
+        subtract: false,
+        carry: Flags::of(f).carry,
+    };
+    Outcome {
+        value,
+        f: flags.byte(f),
+    }
+}
+
+/// A byte and F after DEC.
+#[inline]
+#[tactic(auto, unfolding(crate::specs::Arithmetic::decrement_of))]
+pub fn decrement(byte: u8, f: u8) -> Outcome
+    ensures { result ≡ decrement_of byte f }
+{
+    let value = ((byte as u16 + 255) % 256) as u8;
+    let flags = Flags {
+        sign: 128 <= value,
+        zero: value == 0,
+        half_carry: byte % 16 < 1,
+        parity_overflow: byte == 128,
+        subtract: true,
+        carry: Flags::of(f).carry,
+    };
+    Outcome {
+        value,
+        f: flags.byte(f),
+    }
+}
+
+/// A and F after NEG.
+#[inline]
+#[tactic(auto, unfolding(crate::specs::Arithmetic::negation_of))]
+pub fn negate(a: u8, f: u8) -> Outcome
+    ensures { result ≡ negation_of a f }
+{
+    let value = ((256 - a as u16) % 256) as u8;
+    let flags = Flags {
+        sign: 128 <= value,
+        zero: value == 0,
+        half_carry: 0 < a % 16,
+        parity_overflow: a == 128,
+        subtract: true,
+        carry: a != 0,
+    };
+    Outcome {
+        value,
+        f: flags.byte(f),
+    }
+}
+
+/// A and F after CPL.
+#[inline]
+#[tactic(auto, unfolding(crate::specs::Arithmetic::complement_of))]
+pub fn complement(a: u8, f: u8) -> Outcome
+    ensures { result ≡ complement_of a f }
+{
+    let flags = Flags {
+        half_carry: true,
+        subtract: true,
+        ..Flags::of(f)
+    };
+    Outcome {
+        value: 255 - a,
+        f: flags.byte(f),
+    }
+}
+
+/// Whether DAA corrects the low digit.
+#[inline]
+fn corrects_low_digit(a: u8, before: Flags) -> bool
+    ensures { result ≡ (before.half_carry || nat_lt 9 (a % 16)) }
+{
+    before.half_carry || 9 < a % 16
+}
+
+/// Whether DAA corrects the high digit.
+#[inline]
+fn corrects_high_digit(a: u8, before: Flags) -> bool
+    ensures { result ≡ (before.carry || nat_lt 153 a) }
+{
+    before.carry || 0x99 < a
+}
+
+/// A less the correction where N is set, else with it.
+#[inline]
+fn corrected(a: u8, correction: u8, before: Flags) -> u8
+    ensures { result ≡ if before.subtract then (256 + a - correction) % 256 else (a + correction) % 256 }
+{
+    if before.subtract {
+        ((256 + a as u16 - correction as u16) % 256) as u8
+    } else {
+        ((a as u16 + correction as u16) % 256) as u8
+    }
+}
+
+/// H after DAA: a carry or borrow of the low digit.
+#[inline]
+fn adjusted_half_carry(a: u8, before: Flags) -> bool
+    ensures { result ≡ if before.subtract then before.half_carry && nat_lt (a % 16) 6 else nat_lt 9 (a % 16) }
+{
+    if before.subtract {
+        before.half_carry && a % 16 < 6
+    } else {
+        9 < a % 16
+    }
+}
+
+/// A and F after DAA.
+#[inline]
+#[tactic(auto, unfolding(crate::specs::Arithmetic::decimal_of))]
+pub fn decimal_adjust(a: u8, f: u8) -> Outcome
+    ensures { result ≡ decimal_of a f }
+{
+    let before = Flags::of(f);
+    let high = corrects_high_digit(a, before);
+    let correction = weight(6, corrects_low_digit(a, before)) + weight(96, high);
+    let value = corrected(a, correction, before);
+    let flags = Flags {
+        sign: 128 <= value,
+        zero: value == 0,
+        half_carry: adjusted_half_carry(a, before),
+        parity_overflow: pac_num::is_even(value),
+        subtract: before.subtract,
+        carry: high,
+    };
+    Outcome {
+        value,
+        f: flags.byte(f),
+    }
+}
