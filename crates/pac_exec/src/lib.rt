@@ -1,13 +1,8 @@
-// A library with one function.
+//! What each instruction does to the registers and the bus (Zilog Z80 CPU User Manual UM0080, "Z80
+//! Instruction Description").
 #![tactic(auto)]
 
-ghost use Rattle.std.specs.Prelude.{◌≡◌};
-ghost use Rattle.pac_exec.specs.Echo.{echo_of};
+mod places;
+mod regs;
 
-// The `ensures` clause is the contract: what `echo` returns is `echo_of` of its argument, a definition
-// in `specs/Echo.antt`, which a caller's clause can cite too.
-pub fn echo(x: usize) -> usize
-    ensures { result ≡ echo_of x }
-{
-    x
-}
+pub use regs::{Alternate, Regs, displaced};
