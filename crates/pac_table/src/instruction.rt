@@ -7,7 +7,7 @@ ghost use Rattle.pac_table.specs.Patterns.{IsDisplacement, IsSignedByte, word_li
 use crate::effects::Effect;
 use crate::operands::Operands;
 use crate::patterns::{Immediate, Pattern};
-use crate::table::Row;
+use crate::table::row_numbered;
 use std::marker::Model;
 
 /// An instruction of the table.
@@ -71,5 +71,44 @@ impl Instr {
         ensures bound { IsDisplacement (pattern_of self.now).immediate result }
     {
         self.disp
+    }
+
+    /// The code's pattern.
+    pub fn pattern(&self) -> Pattern
+        ensures { result ≡ pattern_of self.now }
+    {
+        row_numbered(self.row).pattern
+    }
+
+    /// The form in source.
+    pub fn operands(&self) -> Operands
+        ensures { result ≡ operands_of self.now }
+    {
+        row_numbered(self.row).operands
+    }
+
+    /// What is done.
+    pub fn effect(&self) -> Effect
+        ensures { result ≡ effect_of self.now }
+    {
+        row_numbered(self.row).effect
+    }
+
+    /// The time in T-states; where there are two, that of a taken or repeating instruction.
+    pub fn ticks(&self) -> u8
+        ensures value { result ≡ ticks_of self.now }
+        ensures at_least { 4 ≤ result }
+        ensures at_most { result ≤ 23 }
+    {
+        row_numbered(self.row).ticks
+    }
+
+    /// The time in T-states of an instruction that is not taken or does not repeat.
+    pub fn ticks_other(&self) -> u8
+        ensures value { result ≡ ticks_other_of self.now }
+        ensures at_least { 4 ≤ result }
+        ensures at_most { result ≤ 23 }
+    {
+        row_numbered(self.row).ticks_other
     }
 }

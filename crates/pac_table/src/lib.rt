@@ -2,9 +2,6 @@
 //! User Manual UM0080).
 #![tactic(auto)]
 
-ghost use Rattle.std.specs.Prelude.{◌≡◌};
-ghost use Rattle.pac_table.specs.Table.{table};
-
 mod effects;
 mod instruction;
 mod operands;
@@ -17,11 +14,5 @@ pub use effects::{
 pub use instruction::Instr;
 pub use operands::{Mnemonic, Operands, Shape};
 pub use patterns::{Field, Immediate, Page, Pattern};
-pub use table::Row;
+pub use table::{Row, row_numbered, rows};
 
-/// The rows of the table.
-pub fn rows() -> &'static [Row]
-    ensures { result.now ≡ table }
-{
-    &table::ROWS
-}

@@ -1,5 +1,7 @@
 //! The code of an instruction: fixed bits, lettered fields and what follows the opcode byte.
 
+ghost use Rattle.std.specs.Prelude.{◌≡◌, ◌+◌, ◌<◌, ◌≤◌};
+
 /// The prefix under which an opcode byte stands (UM0080, "Z80 Instruction Set").
 #[derive(Clone, Copy, Debug, PartialEq, Eq)]
 pub enum Page {
@@ -17,6 +19,52 @@ pub enum Page {
     DdCb,
     /// Behind FD CB and a displacement, the opcode last.
     FdCb,
+}
+
+impl Page {
+    ghost use Rattle.pac_table.specs.Patterns.{has_page, opcode_place, immediate_place};
+
+    /// Whether bytes begin with the page's prefix.
+    #[inline]
+    pub fn is_prefix_of(self, bytes: [u8; 4]) -> bool
+        ensures { result ≡ has_page self bytes }
+    {
+        match self {
+            Page::Plain => true,
+            Page::Cb => bytes[0] == 0xCB,
+            Page::Ed => bytes[0] == 0xED,
+            Page::Dd => bytes[0] == 0xDD,
+            Page::Fd => bytes[0] == 0xFD,
+            Page::DdCb => bytes[0] == 0xDD && bytes[1] == 0xCB,
+            Page::FdCb => bytes[0] == 0xFD && bytes[1] == 0xCB,
+        }
+    }
+
+    /// The place of the opcode byte among the bytes of a code, counted from 0.
+    #[inline]
+    pub fn opcode_place(self) -> usize
+        ensures value { result ≡ opcode_place self }
+        ensures bound { result < 4 }
+    {
+        match self {
+            Page::Plain => 0,
+            Page::Cb | Page::Ed | Page::Dd | Page::Fd => 1,
+            Page::DdCb | Page::FdCb => 3,
+        }
+    }
+
+    /// The place at which what follows the opcode begins; the displacement of the last two pages
+    /// stands before the opcode byte.
+    #[inline]
+    pub fn immediate_place(self) -> usize
+        ensures value { result ≡ immediate_place self }
+        ensures bound { result < 3 }
+    {
+        match self {
+            Page::Plain => 1,
+            Page::Cb | Page::Ed | Page::Dd | Page::Fd | Page::DdCb | Page::FdCb => 2,
+        }
+    }
 }
 
 /// A lettered field of an opcode byte: its place and the values that it may hold, as UM0080 lists
@@ -47,6 +95,72 @@ pub enum Field {
     AluOperation,
     /// Bits 3 to 5: RLC 0, RRC 1, RL 2, RR 3, SLA 4, SRA 5, SRL 7, and never 6.
     ShiftOperation,
+}
+
+impl Field {
+    ghost use Rattle.pac_table.specs.Patterns.{weight, size, lacks_six, lists, held};
+
+    /// The worth of the field's lowest bit.
+    #[inline]
+    pub fn weight(self) -> u8
+        ensures value { result ≡ weight self }
+        ensures positive { 0 < result }
+    {
+        match self {
+            Field::Absent | Field::RegisterLow => 1,
+            Field::RegisterHigh
+            | Field::Condition
+            | Field::RelativeCondition
+            | Field::BitNumber
+            | Field::RestartPlace
+            | Field::AluOperation
+            | Field::ShiftOperation => 8,
+            Field::Pair | Field::StackPair | Field::IndexPair => 16,
+        }
+    }
+
+    /// How many values the field's bits have.
+    #[inline]
+    pub fn size(self) -> u8
+        ensures value { result ≡ size self }
+        ensures positive { 0 < result }
+    {
+        match self {
+            Field::Absent => 1,
+            Field::Pair | Field::StackPair | Field::IndexPair | Field::RelativeCondition => 4,
+            Field::RegisterHigh
+            | Field::RegisterLow
+            | Field::Condition
+            | Field::BitNumber
+            | Field::RestartPlace
+            | Field::AluOperation
+            | Field::ShiftOperation => 8,
+        }
+    }
+
+    /// Whether 6 is none of the field's values.
+    #[inline]
+    pub fn lacks_six(self) -> bool
+        ensures { result ≡ lacks_six self }
+    {
+        matches!(self, Field::RegisterHigh | Field::RegisterLow | Field::ShiftOperation)
+    }
+
+    /// Whether the field lists a value.
+    #[inline]
+    pub fn lists(self, value: u8) -> bool
+        ensures { result ≡ lists self value }
+    {
+        value < self.size() && !(self.lacks_six() && value == 6)
+    }
+
+    /// What the field holds in an opcode byte.
+    #[inline]
+    pub fn held(self, opcode: u8) -> u8
+        ensures { result ≡ held self opcode }
+    {
+        opcode / self.weight() % self.size()
+    }
 }
 
 /// What follows the opcode byte; under DD CB and FD CB the displacement stands before it.
@@ -80,4 +194,38 @@ pub struct Pattern {
     pub second: Field,
     /// What follows the opcode.
     pub immediate: Immediate,
+}
+
+impl Pattern {
+    ghost use Rattle.pac_table.specs.Patterns.{opcode, is_opcode, matches};
+
+    /// The opcode byte where the fields hold `p` and `q`.
+    #[inline]
+    pub fn opcode(self, p: u8, q: u8) -> u8
+        requires { opcode self p q < 256 }
+        ensures { result ≡ opcode self p q }
+    {
+        self.opcode + self.first.weight() * p + self.second.weight() * q
+    }
+
+    /// Whether a byte is the opcode byte, with a listed value in each field.
+    #[inline]
+    pub fn is_opcode(self, byte: u8) -> bool
+        ensures { result ≡ is_opcode self byte }
+    {
+        let p = self.first.held(byte);
+        let q = self.second.held(byte);
+        let value = u32::from(self.opcode)
+            + u32::from(self.first.weight()) * u32::from(p)
+            + u32::from(self.second.weight()) * u32::from(q);
+        self.first.lists(p) && self.second.lists(q) && u32::from(byte) == value
+    }
+
+    /// Whether four bytes match: the prefix, and the opcode byte with listed values.
+    #[inline]
+    pub fn matches(self, bytes: [u8; 4]) -> bool
+        ensures { result ≡ matches self bytes }
+    {
+        self.page.is_prefix_of(bytes) && self.is_opcode(bytes[self.page.opcode_place()])
+    }
 }
