@@ -1,13 +1,14 @@
-// A library with one function.
+//! The tokens of a source line of the assembler, and the lines of a text.
 #![tactic(auto)]
 
-ghost use Rattle.std.specs.Prelude.{◌≡◌};
-ghost use Rattle.pac_lex.specs.Echo.{echo_of};
+mod fault;
+mod line;
+mod number;
+mod quote;
+mod reading;
+mod token;
 
-// The `ensures` clause is the contract: what `echo` returns is `echo_of` of its argument, a definition
-// in `specs/Echo.antt`, which a caller's clause can cite too.
-pub fn echo(x: usize) -> usize
-    ensures { result ≡ echo_of x }
-{
-    x
-}
+pub use fault::{Fault, LexError};
+pub use line::first_line;
+pub use reading::{LINE_LIMIT, tokens};
+pub use token::{Kind, Token};

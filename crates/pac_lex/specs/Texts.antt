@@ -1,0 +1,20 @@
+-- Texts of the source: characters in single quotes.
+use Rattle.std.specs.Prelude.{ℕ, ◌+◌, List, [], ◌∷◌, ◌++◌, Option, Some, None, if◌then◌else◌, option_map}
+use Rattle.std.specs.List.{flat_map}
+use Rattle.pac_lex.specs.Bytes.{is_quote}
+
+-- a character in a text: a quote is written twice
+abbrev pub quoted : ℕ → List ℕ
+quoted c = if is_quote c then 39 ∷ 39 ∷ [] else c ∷ []
+
+-- how a text of these characters is written
+abbrev pub spelled : List ℕ → List ℕ
+spelled characters = 39 ∷ (flat_map quoted characters ++ 39 ∷ [])
+
+-- behind an opening quote, how many bytes there are up to and with the closing one, if there is one
+abbrev pub closing : List ℕ → Option ℕ
+closing [] = None
+closing (b ∷ []) = if is_quote b then Some 1 else None
+closing (b ∷ c ∷ bytes) =
+    if is_quote b then (if is_quote c then option_map (λ n. n + 2) (closing bytes) else Some 1)
+    else option_map (λ n. n + 1) (closing (c ∷ bytes))

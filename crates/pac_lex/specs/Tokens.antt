@@ -1,0 +1,105 @@
+-- What a token is, and what a line of tokens is.
+use Rattle.std.specs.Prelude.{◌≡◌, ℕ, Bool, List, [], ◌∷◌, ◌++◌, ◌==◌, ◌||◌, ◌&&◌, not, false, IsTrue, IsFalse, Option, Some, None, if◌then◌else◌, ◌⊎◌, map, is_some}
+use Rattle.std.specs.List.{list_all}
+use Rattle.std.specs.Char.{is_ascii_digit, is_ascii_alphanumeric}
+use Rattle.pac_lex.specs.declared.token.Kind.{Kind}
+use Rattle.pac_lex.specs.declared.token.Kind.TheVariants.{Name, Number, Text, AlternateAf, Dollar, Colon, Comma, Open, Close, Plus, Minus, Star, Slash}
+use Rattle.pac_lex.specs.declared.token.Token.{Token}
+use Rattle.pac_lex.specs.declared.fault.Fault.{Fault}
+use Rattle.pac_lex.specs.declared.fault.Fault.TheVariants.{NoToken, WrongNumber, OpenText, LongLine}
+use Rattle.pac_lex.specs.Bytes.{is_blank, is_comment, is_quote, is_name_start, is_name_byte, is_printable}
+use Rattle.pac_lex.specs.Numbers.{numeral}
+use Rattle.pac_lex.specs.Texts.{spelled}
+
+-- a token without where it lies in memory
+pub record Lexeme : Type 0 where
+  pub kind : Kind
+  pub text : List ℕ
+
+abbrev pub view : Token → Lexeme
+view token = record { kind = token.kind; text = token.text.now }
+
+abbrev pub views : List Token → List Lexeme
+views tokens = map view tokens
+
+-- the tokens of one byte
+abbrev pub symbol : ℕ → Option Kind
+symbol b =
+    if b == 36 then Some Dollar
+    else (if b == 58 then Some Colon
+    else (if b == 44 then Some Comma
+    else (if b == 40 then Some Open
+    else (if b == 41 then Some Close
+    else (if b == 43 then Some Plus
+    else (if b == 45 then Some Minus
+    else (if b == 42 then Some Star
+    else (if b == 47 then Some Slash
+    else None))))))))
+
+-- AF in either case
+abbrev pub is_af : List ℕ → Bool
+is_af (a ∷ f ∷ []) = (a == 65 || a == 97) && (f == 70 || f == 102)
+is_af bytes = false
+
+-- the first byte passes, if there is one; there is one, and it passes
+abbrev pub begins : (ℕ → Bool) → List ℕ → Bool
+begins p [] = false
+begins p (b ∷ bytes) = p b
+
+-- These bytes are a token of this kind, where the line goes on with rest. A name and a number are as
+-- long as they can be; so is a text, since a doubled quote doesn't close it. AF with a quote behind it
+-- is AF'.
+abbrev pub IsToken : Kind → List ℕ → List ℕ → Type 0
+IsToken Name text rest = IsTrue (begins is_name_start text) × IsTrue (list_all is_name_byte text) × IsFalse (begins is_name_byte rest) × IsFalse (is_af text && begins is_quote rest)
+IsToken (Number n) text rest = IsTrue (begins is_ascii_digit text) × IsTrue (list_all is_ascii_alphanumeric text) × IsFalse (begins is_ascii_alphanumeric rest) × (numeral text ≡ Some n)
+IsToken Text text rest = (characters : List ℕ) × (text ≡ spelled characters) × IsTrue (list_all is_printable characters) × IsFalse (begins is_quote rest)
+IsToken AlternateAf text rest = (name : List ℕ) × IsTrue (is_af name) × (text ≡ name ++ 39 ∷ [])
+IsToken kind text rest = (b : ℕ) × (symbol b ≡ Some kind) × (text ≡ b ∷ [])
+
+-- no blank, no comment and no token begins with the byte
+abbrev pub begins_nothing : ℕ → Bool
+begins_nothing b = not (is_blank b || is_comment b || is_name_start b || is_ascii_digit b || is_quote b || is_some (symbol b))
+
+-- the fault that stands at the front of these bytes
+abbrev pub IsFault : Fault → List ℕ → Type 0
+IsFault NoToken bytes =
+    IsTrue (begins begins_nothing bytes)
+    ⊎ ((characters : List ℕ) × (rest : List ℕ) × (bytes ≡ spelled characters ++ rest) × IsFalse (begins is_quote rest) × IsFalse (list_all is_printable characters))
+IsFault WrongNumber bytes =
+    (run : List ℕ) × (rest : List ℕ) × (bytes ≡ run ++ rest) × IsTrue (begins is_ascii_digit run) × IsTrue (list_all is_ascii_alphanumeric run) × IsFalse (begins is_ascii_alphanumeric rest) × (numeral run ≡ None)
+IsFault OpenText bytes =
+    IsTrue (begins is_quote bytes) × ((characters rest : List ℕ) → bytes ≡ spelled characters ++ rest → IsFalse (begins is_quote rest) → ⊥)
+IsFault LongLine bytes = ⊥
+
+-- the line is blanks, then this token, then rest
+pub record TokenFirst (line : List ℕ) (token : Lexeme) (rest : List ℕ) : Type 0 where
+  pub gap : List ℕ
+  pub blank : IsTrue (list_all is_blank gap)
+  pub parts : line ≡ gap ++ (token.text ++ rest)
+  pub is_token : IsToken token.kind token.text rest
+
+-- blanks, and no more than a comment
+pub record NoTokenLeft (line : List ℕ) : Type 0 where
+  pub gap : List ℕ
+  pub comment : List ℕ
+  pub blank : IsTrue (list_all is_blank gap)
+  pub parts : line ≡ gap ++ comment
+  pub ends : IsFalse (begins (λ b. not (is_comment b)) comment)
+
+-- blanks, and then a fault
+pub record FaultFirst (line : List ℕ) (fault : Fault) : Type 0 where
+  pub gap : List ℕ
+  pub rest : List ℕ
+  pub blank : IsTrue (list_all is_blank gap)
+  pub parts : line ≡ gap ++ rest
+  pub is_fault : IsFault fault rest
+
+-- the line is read as these tokens, each in its own bytes, from left to right
+abbrev pub Reads : List ℕ → List Lexeme → Type 0
+Reads line [] = NoTokenLeft line
+Reads line (token ∷ tokens) = (rest : List ℕ) × TokenFirst line token rest × Reads rest tokens
+
+-- the line is read as these tokens up to this fault
+abbrev pub Breaks : List ℕ → List Lexeme → Fault → Type 0
+Breaks line [] fault = FaultFirst line fault
+Breaks line (token ∷ tokens) fault = (rest : List ℕ) × TokenFirst line token rest × Breaks rest tokens fault

@@ -1,0 +1,50 @@
+ghost use Rattle.std.specs.Prelude.{◌≡◌};
+ghost use Rattle.pac_lex.specs.declared.fault.LexError.TheVariants as errors;
+
+use std::alloc::{AllocError, AllocFailed};
+
+/// What is wrong with a line: its length, or else the leftmost place that is no token.
+#[derive(Clone, Copy, Debug, PartialEq, Eq)]
+pub enum Fault {
+    /// L1: a byte that begins no token, or a byte in a text other than a tab or 20H to 7EH.
+    NoToken,
+    /// L2: a number with a wrong digit, or above 65,535.
+    WrongNumber,
+    /// L3: a text without its closing quote.
+    OpenText,
+    /// L4: a line of more than 255 bytes.
+    LongLine,
+}
+
+/// Why a line has no tokens to show.
+#[derive(Clone, Copy, Debug, PartialEq, Eq)]
+pub enum LexError {
+    /// No room for the list of tokens.
+    Memory,
+    /// The line isn't one of tokens.
+    Fault(Fault),
+}
+
+impl From<Fault> for LexError {
+    ghost from_gives = { λ fault e. e ≡ errors.Fault fault };
+
+    fn from(fault: Fault) -> LexError {
+        LexError::Fault(fault)
+    }
+}
+
+impl From<AllocError> for LexError {
+    ghost from_gives = { λ _ e. e ≡ errors.Memory };
+
+    fn from(_error: AllocError) -> LexError {
+        LexError::Memory
+    }
+}
+
+impl<T: Drop> From<AllocFailed<T>> for LexError {
+    ghost from_gives = { λ _ e. e ≡ errors.Memory };
+
+    fn from(_error: AllocFailed<T>) -> LexError {
+        LexError::Memory
+    }
+}

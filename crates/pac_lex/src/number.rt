@@ -1,0 +1,48 @@
+ghost use Rattle.std.specs.Prelude.{◌≡◌, ◌<◌, ◌≤◌};
+ghost use Rattle.pac_lex.specs.Numbers.{digit, in_base, numeral};
+
+/// The number that a run of letters and digits is: `None` where it has a wrong digit or is above
+/// 65,535.
+pub(crate) fn numeral(run: &[u8]) -> Option<u16>
+    ensures { result ≡ numeral run.now }
+{
+    match run {
+        [front @ .., b'H' | b'h'] => in_base(16, front),
+        [front @ .., b'B' | b'b'] => in_base(2, front),
+        [front @ .., b'O' | b'o' | b'Q' | b'q'] => in_base(8, front),
+        [front @ .., b'D' | b'd'] => in_base(10, front),
+        _ => in_base(10, run),
+    }
+}
+
+fn in_base(base: u8, digits: &[u8]) -> Option<u16>
+    requires low { 0 < base }
+    requires high { base ≤ 16 }
+    ensures { result ≡ in_base base digits.now }
+{
+    let mut value: u32 = 0;
+    for byte in digits {
+        let digit = digit(*byte);
+        if digit >= base {
+            return None;
+        }
+        value = value * u32::from(base) + u32::from(digit);
+        if value > 65_535 {
+            return None;
+        }
+    }
+    Some(value as u16)
+}
+
+// What a digit counts: 0 to 9, and 10 to 35 for the letters in either case.
+fn digit(byte: u8) -> u8
+    ensures { result ≡ digit byte }
+{
+    if byte.is_ascii_digit() {
+        byte - 48
+    } else if byte < b'a' {
+        byte.saturating_sub(55)
+    } else {
+        byte - 87
+    }
+}
