@@ -1,6 +1,6 @@
 ghost use Rattle.std.specs.Prelude.{◌≡◌, ◌+◌, ◌-◌, ◌%◌, ◌<◌, ◌&&◌, ◌||◌, ◌+ℤ◌, ◌-ℤ◌, pos, nat_lt, if◌then◌else◌};
-ghost use Rattle.pac_alu.specs.Flags.{overflows, flags_of};
-ghost use Rattle.pac_alu.specs.Arithmetic.{sum_of, difference_of, logic_of, operation_of, arithmetic_of, increment_of, decrement_of, negation_of, complement_of, corrects_low, corrects_high, correction_of, adjusted_of, decimal_of};
+ghost use Rattle.pac_alu.specs.Flags.{overflows};
+ghost use Rattle.pac_alu.specs.Arithmetic.{sum_of, difference_of, logic_of, operation_of, arithmetic_of, increment_of, decrement_of, negation_of, complement_of, decimal_of};
 ghost use Rattle.pac_num.specs.Numbers.{signed};
 
 use crate::flag_byte::{Flags, parity_flags, weight};

@@ -2,3 +2,4 @@ pub mod Place
 pub mod Entry
 pub mod Cleared
 pub mod Sizes
+pub mod Behind
