@@ -37,7 +37,7 @@ pub fn copy_flags(count: u16, f: u8) -> u8
 {
     let flags = Flags {
         half_carry: false,
-        parity_overflow: count != 0,
+        parity_overflow: 0 < count,
         subtract: false,
         ..Flags::of(f)
     };

@@ -2,7 +2,9 @@
 //! Instruction Description").
 #![tactic(auto)]
 
+mod instructions;
 mod places;
 mod regs;
 
+pub use instructions::perform;
 pub use regs::{Alternate, Regs, displaced};

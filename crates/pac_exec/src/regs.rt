@@ -130,6 +130,15 @@ impl Regs {
         pac_num::word(self.l, self.h)
     }
 
+    /// Enables interrupts, or disables them.
+    #[inline]
+    pub fn set_interrupts(&mut self, enabled: bool)
+        ensures { self.new ≡ record self.old { iff1 = enabled; iff2 = enabled } }
+    {
+        self.iff1 = enabled;
+        self.iff2 = enabled;
+    }
+
     /// Exchanges A and F with their second set.
     pub fn exchange_af(&mut self)
         ensures { self.new ≡ registers.with_other_af self.old }

@@ -1,4 +1,5 @@
--- What can happen to the board, one entry each, and the board's memory as reads see it.
+-- What can happen to the board, one entry each, and the board's memory as reads see it (Namco Pac-Man service
+-- schematics; what this profile adds is named).
 use Rattle.std.specs.Prelude.{ℕ, List, [], ◌∷◌, ◌-◌, ◌==◌, if◌then◌else◌, fold, slice_index, slice_set}
 use Rattle.pac_num.specs.Numbers.{low_byte, high_byte}
 use Rattle.pac_bus.specs.Action.{Action, Write as Written, Output}
@@ -20,7 +21,7 @@ pub data Entry : Type 0 where
   Accept : Entry
   -- a reset of the board
   Reset : Entry
-  -- the inputs held from now on, bit k for the k-th; in the low byte those of 5000H, in the high those of 5040H
+  -- the inputs held from now on: the mask's low byte is the port at 5000H, its high byte the port at 5040H
   Hold : (mask : ℕ) → Entry
 
 -- what reads depend on, the program ROM aside: the DIP switches' byte, the mask of inputs held, the three RAMs
@@ -55,11 +56,11 @@ byte_of program view (Program cell) = slice_index program cell
 byte_of program view (Tile cell) = slice_index view.tile cell
 byte_of program view (Colour cell) = slice_index view.colour cell
 byte_of program view (Work cell) = slice_index view.work cell
-byte_of program view Nothing = 191
-byte_of program view Inputs0 = 255 - low_byte view.held
-byte_of program view Inputs1 = 255 - high_byte view.held
+byte_of program view Nothing = 0xBF
+byte_of program view Inputs0 = 0xFF - low_byte view.held
+byte_of program view Inputs1 = 0xFF - high_byte view.held
 byte_of program view Switches = view.switches
-byte_of program view _ = 255
+byte_of program view _ = 0xFF
 
 -- the byte that a read from an address gives
 abbrev pub read_of : List ℕ → View → ℕ → ℕ
@@ -81,7 +82,7 @@ byte_at contents address = read_of contents.program contents.view address
 
 -- no input port is wired: all lines are high (this profile)
 abbrev pub input_at : Contents → ℕ → ℕ
-input_at contents port = 255
+input_at contents port = 0xFF
 
 abbrev pub after : Contents → Action → Contents
 after contents action = record contents { view = fold view_after contents.view (entries_of action) }

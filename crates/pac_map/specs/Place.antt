@@ -1,7 +1,6 @@
 -- What the board's address decoder selects (Namco Pac-Man service schematics, CPU board). A15 isn't wired.
--- A14 low is the program ROM. A14 high leaves A13 out: A12 low is the RAM page, A12 high the port page, which
--- leaves out A11 to A8 too. That the unpopulated block of the RAM page reads BFH, and that the watchdog's
--- address reads FFH, is this profile.
+-- A14 low is the program ROM. A14 high leaves out A13: A12 low is the RAM page, A12 high the port page, which
+-- leaves out A11 to A8 too.
 use Rattle.std.specs.Prelude.{ℕ, ◌-◌, ◌%◌, ◌<◌, nat_lt, if◌then◌else◌}
 use Rattle.pac_map.specs.declared.bus_table.Place.{Place}
 use Rattle.pac_map.specs.declared.bus_table.Place.TheVariants.{Program, Tile, Colour, Work, Nothing, Inputs0, Inputs1, Switches, Kick, Latch, Wave, Coordinate}
@@ -9,34 +8,34 @@ use Rattle.pac_map.specs.declared.bus_table.Place.TheVariants.{Program, Tile, Co
 -- the RAM page, 4,096 bytes: 000-3FF, 400-7FF, 800-BFF, C00-FFF
 abbrev pub ram_place : ℕ → Place
 ram_place offset =
-    if nat_lt offset 1024 then Tile offset
-    else (if nat_lt offset 2048 then Colour (offset - 1024)
-    else (if nat_lt offset 3072 then Nothing
-    else Work (offset - 3072)))
+    if nat_lt offset 0x400 then Tile offset
+    else if nat_lt offset 0x800 then Colour (offset - 0x400)
+    else if nat_lt offset 0xC00 then Nothing
+    else Work (offset - 0xC00)
 
 -- the port page when read, 256 bytes: 00-3F, 40-7F, 80-BF, C0-FF
 abbrev pub read_port : ℕ → Place
 read_port offset =
-    if nat_lt offset 64 then Inputs0
-    else (if nat_lt offset 128 then Inputs1
-    else (if nat_lt offset 192 then Switches
-    else Kick))
+    if nat_lt offset 0x40 then Inputs0
+    else if nat_lt offset 0x80 then Inputs1
+    else if nat_lt offset 0xC0 then Switches
+    else Kick
 
--- the port page when written: 00-3F (bits 2 to 0), 40-5F, 60-6F, 70-BF, C0-FF
+-- the port page when written: 00-3F (three lines choose the bit), 40-5F, 60-6F, 70-BF, C0-FF
 abbrev pub write_port : ℕ → Place
 write_port offset =
-    if nat_lt offset 64 then Latch (offset % 8)
-    else (if nat_lt offset 96 then Wave (offset - 64)
-    else (if nat_lt offset 112 then Coordinate (offset - 96)
-    else (if nat_lt offset 192 then Nothing
-    else Kick)))
+    if nat_lt offset 0x40 then Latch (offset % 8)
+    else if nat_lt offset 0x60 then Wave (offset - 0x40)
+    else if nat_lt offset 0x70 then Coordinate (offset - 0x60)
+    else if nat_lt offset 0xC0 then Nothing
+    else Kick
 
 -- the ROM, the RAM page, or a port
 abbrev pub place_by : (ℕ → Place) → ℕ → Place
 place_by port address =
-    if nat_lt (address % 32768) 16384 then Program (address % 32768)
-    else (if nat_lt (address % 8192) 4096 then ram_place (address % 8192)
-    else port (address % 256))
+    if nat_lt (address % 0x8000) 0x4000 then Program (address % 0x8000)
+    else if nat_lt (address % 0x2000) 0x1000 then ram_place (address % 0x2000)
+    else port (address % 0x100)
 
 -- the place that a read from an address asks
 abbrev pub read_place : ℕ → Place
@@ -46,12 +45,12 @@ read_place = place_by read_port
 abbrev pub write_place : ℕ → Place
 write_place = place_by write_port
 
--- a cell of a place lies in it
+-- the cell, bit, register or byte lies in its place
 abbrev pub IsInRange : Place → Type 0
-IsInRange (Program cell) = cell < 16384
-IsInRange (Tile cell) = cell < 1024
-IsInRange (Colour cell) = cell < 1024
-IsInRange (Work cell) = cell < 1024
+IsInRange (Program cell) = cell < 0x4000
+IsInRange (Tile cell) = cell < 0x400
+IsInRange (Colour cell) = cell < 0x400
+IsInRange (Work cell) = cell < 0x400
 IsInRange (Latch bit) = bit < 8
 IsInRange (Wave register) = register < 32
 IsInRange (Coordinate byte) = byte < 16

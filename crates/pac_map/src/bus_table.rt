@@ -35,18 +35,18 @@ pub enum Place {
 /// A place of the RAM page, whose bytes are counted from 0 to 4,095.
 #[inline]
 fn ram_place(offset: u16) -> Place
-    requires { offset < 4096 }
+    requires { offset < 0x1000 }
     ensures place { result ≡ spec.ram_place offset }
     ensures in_range { spec.IsInRange result }
 {
-    if offset < 1024 {
+    if offset < 0x400 {
         Place::Tile(offset)
-    } else if offset < 2048 {
-        Place::Colour(offset - 1024)
-    } else if offset < 3072 {
+    } else if offset < 0x800 {
+        Place::Colour(offset - 0x400)
+    } else if offset < 0xC00 {
         Place::Nothing
     } else {
-        Place::Work(offset - 3072)
+        Place::Work(offset - 0xC00)
     }
 }
 
@@ -56,11 +56,11 @@ fn read_port(offset: u8) -> Place
     ensures place { result ≡ spec.read_port offset }
     ensures in_range { spec.IsInRange result }
 {
-    if offset < 64 {
+    if offset < 0x40 {
         Place::Inputs0
-    } else if offset < 128 {
+    } else if offset < 0x80 {
         Place::Inputs1
-    } else if offset < 192 {
+    } else if offset < 0xC0 {
         Place::Switches
     } else {
         Place::Kick
@@ -73,13 +73,13 @@ fn write_port(offset: u8) -> Place
     ensures place { result ≡ spec.write_port offset }
     ensures in_range { spec.IsInRange result }
 {
-    if offset < 64 {
+    if offset < 0x40 {
         Place::Latch(offset % 8)
-    } else if offset < 96 {
-        Place::Wave(offset - 64)
-    } else if offset < 112 {
-        Place::Coordinate(offset - 96)
-    } else if offset < 192 {
+    } else if offset < 0x60 {
+        Place::Wave(offset - 0x40)
+    } else if offset < 0x70 {
+        Place::Coordinate(offset - 0x60)
+    } else if offset < 0xC0 {
         Place::Nothing
     } else {
         Place::Kick
@@ -92,12 +92,12 @@ pub fn read_place(address: u16) -> Place
     ensures place { result ≡ spec.read_place address }
     ensures in_range { spec.IsInRange result }
 {
-    if address % 32768 < 16384 {
-        Place::Program(address % 32768)
-    } else if address % 8192 < 4096 {
-        ram_place(address % 8192)
+    if address % 0x8000 < 0x4000 {
+        Place::Program(address % 0x8000)
+    } else if address % 0x2000 < 0x1000 {
+        ram_place(address % 0x2000)
     } else {
-        read_port((address % 256) as u8)
+        read_port((address % 0x100) as u8)
     }
 }
 
@@ -107,11 +107,11 @@ pub fn write_place(address: u16) -> Place
     ensures place { result ≡ spec.write_place address }
     ensures in_range { spec.IsInRange result }
 {
-    if address % 32768 < 16384 {
-        Place::Program(address % 32768)
-    } else if address % 8192 < 4096 {
-        ram_place(address % 8192)
+    if address % 0x8000 < 0x4000 {
+        Place::Program(address % 0x8000)
+    } else if address % 0x2000 < 0x1000 {
+        ram_place(address % 0x2000)
     } else {
-        write_port((address % 256) as u8)
+        write_port((address % 0x100) as u8)
     }
 }

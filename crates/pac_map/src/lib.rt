@@ -3,6 +3,8 @@
 
 mod board_bus;
 mod bus_table;
+#[cfg(test)]
+mod tests;
 
 pub use board_bus::Map;
 pub use bus_table::{Place, read_place, write_place};

@@ -1,5 +1,5 @@
 -- A writer for tests, over memory: it takes at most `most` bytes a call, and refuses one call.
-use Rattle.std.specs.Prelude.{◌≡◌, ℕ, ◌+◌, ◌-◌, ◌<◌, ◌≤◌, List, [], ◌++◌, length, ◌⊎◌}
+use Rattle.std.specs.Prelude.{◌≡◌, ℕ, ◌-◌, ◌<◌, ◌≤◌, List, [], ◌++◌, ◌⊎◌}
 use Rattle.std.proofs.Common.{refl, arith, ◌∙◌}
 use Rattle.pac_out.specs.Memory.{Space, Adds, Adds-nothing, Adds-joined}
 

@@ -1,6 +1,6 @@
 -- A writer of std's as an output, as far as the bytes that it holds are known.
-use Rattle.std.specs.Prelude.{◌≡◌, ℕ, List, [], ◌++◌, Option, None, Some}
-use Rattle.std.specs.Io.KnownBytes.{Keeps, Appends}
+use Rattle.std.specs.Prelude.{ℕ, List, [], ◌++◌, Option, None, Some}
+use Rattle.std.specs.Io.KnownBytes.{Appends}
 use Rattle.std.proofs.Common.{sym, append-nil, append_assoc, ◌∙◌, ap}
 
 -- Taking nothing changes nothing.

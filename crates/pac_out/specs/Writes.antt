@@ -1,6 +1,6 @@
 -- What a writer took. A writer says by two relations between its value before and after what taking some
 -- bytes leaves of it, `took`, and what a refusal leaves of it, `refused`.
-use Rattle.std.specs.Prelude.{◌≡◌, ℕ, ◌<◌, List, length, take}
+use Rattle.std.specs.Prelude.{ℕ, ◌<◌, List, length, take}
 
 -- The writer `old` took a front of `count` of these bytes, fewer than all, then refused, and is `new`.
 pub record StopsAfter {W : Type 0} (took : W → List ℕ → W → Type 0) (refused : W → W → Type 0) (old : W) (bytes : List ℕ) (count : ℕ) (new : W) : Type 0 where

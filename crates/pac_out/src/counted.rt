@@ -1,5 +1,5 @@
 //! A file with the count of the bytes that it took, over all calls.
-ghost use Rattle.std.specs.Prelude.{◌≡◌, ◌+◌, ◌^◌, ◌<◌, [], length, true, false, IsErr, IfErr, OnOk, OnErr};
+ghost use Rattle.std.specs.Prelude.{◌≡◌, ◌+◌, ◌^◌, ◌<◌, ◌≤◌, [], length, true, false, IsErr, IfErr, OnOk, OnErr};
 
 use crate::{Out, WriteFault};
 
@@ -35,6 +35,8 @@ impl<W: Out> Counted<W> {
         requires { self.old.failed ≡ false → self.old.count + length bytes.now < 2 ^ 64 }
         ensures ok { OnOk result (Takes W.took self.old bytes.now self.new) }
         ensures err { OnErr result (Refuses W.took W.refused self.old bytes.now self.new) }
+        ensures taken { OnOk result (self.new.count ≡ self.old.count + length bytes.now) }
+        ensures at_most { self.new.count ≤ self.old.count + length bytes.now }
         ensures count { IfErr result (λ fault. fault.count ≡ self.new.count) }
         ensures later_err { self.old.failed ≡ true → IsErr result }
         ensures later_unchanged { self.old.failed ≡ true → self.new ≡ self.old }

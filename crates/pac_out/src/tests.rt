@@ -109,6 +109,7 @@ fn an_interrupted_write_is_tried_again(rt: HostRuntime) {
     };
     let mut file = Counted::new(Through { inner });
     assert_eq!(rt; file.put(TEXT), Ok(()));
+    assert_eq!(rt; file.count, 44);
     assert_eq!(rt; file.put(TEXT), Err(WriteFault { count: 44 }));
     assert_eq!(rt; file.put(TEXT), Err(WriteFault { count: 44 }));
     assert_eq!(rt; file.writer.inner.taken, 44);

@@ -1,4 +1,4 @@
-use Rattle.std.proofs.Common.{take, drop, length, length-drop, ◌+◌, ◌≤◌, arith}
+use Rattle.std.proofs.Common.{length-drop, arith}
 use Rattle.std.proofs.Math.Seq.{take-add}
 use Rattle.std.proofs.lemmas.List.{take_rest}
 use Rattle.pac_out.proofs.Out.put_all.Goals as goal
