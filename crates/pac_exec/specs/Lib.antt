@@ -1,3 +1,4 @@
 pub mod Registers
 pub mod Done
+pub mod Places
 pub mod Effect
