@@ -3,6 +3,7 @@
 #![tactic(auto)]
 
 mod instructions;
+mod pairs;
 mod places;
 mod regs;
 
