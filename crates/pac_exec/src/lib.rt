@@ -4,8 +4,11 @@
 
 mod instructions;
 mod pairs;
+mod jumps;
 mod places;
 mod regs;
+mod word_arithmetic;
+mod word_loads;
 
 pub use instructions::perform;
 pub use regs::{Alternate, Regs, displaced};
