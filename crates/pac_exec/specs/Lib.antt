@@ -5,4 +5,7 @@ pub mod Pairs
 pub mod WordLoads
 pub mod WordArithmetic
 pub mod Jumps
+pub mod Calls
+pub mod Ports
+pub mod SpecialLoads
 pub mod Effect

@@ -2,11 +2,14 @@
 //! Instruction Description").
 #![tactic(auto)]
 
+mod calls;
 mod instructions;
-mod pairs;
 mod jumps;
+mod pairs;
 mod places;
+mod ports;
 mod regs;
+mod special_loads;
 mod word_arithmetic;
 mod word_loads;
 

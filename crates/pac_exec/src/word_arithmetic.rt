@@ -5,7 +5,9 @@ ghost use Rattle.pac_exec.specs.WordArithmetic.{addend, add_pair_done, add_pair_
 
 use crate::pairs::{get_pair, set_pair};
 use crate::regs::Regs;
-use pac_alu::{add_words, add_words_with_carry, decrement_word, increment_word, subtract_words_with_carry};
+use pac_alu::{
+    add_words, add_words_with_carry, decrement_word, increment_word, subtract_words_with_carry,
+};
 use pac_table::{Instr, Pair};
 
 /// The pair that ADD HL,ss and ADD IX,pp add: 2 names the sum's own register.

@@ -5,7 +5,9 @@ ghost use Rattle.std.specs.Prelude.{◌≡◌};
 ghost use Rattle.pac_bus.specs.Action.{behind};
 ghost use Rattle.pac_exec.specs.WordLoads.{load_pair_done, load_pair_from_memory_done, store_pair_done, load_stack_pointer_done, push_done, pop_done, exchange_de_hl_done, exchange_stack_top_done};
 
-use crate::pairs::{get_pair, get_stack_pair, next, pop_word, push_word, read_word, set_pair, set_stack_pair};
+use crate::pairs::{
+    get_pair, get_stack_pair, next, pop_word, push_word, read_word, set_pair, set_stack_pair,
+};
 use crate::regs::Regs;
 use pac_bus::Bus;
 use pac_num::{high_byte, low_byte};
