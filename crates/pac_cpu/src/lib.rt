@@ -1,13 +1,9 @@
-// A library with one function.
+//! The processor: registers, and one step over any bus (Zilog Z80 CPU User Manual UM0080).
 #![tactic(auto)]
 
-ghost use Rattle.std.specs.Prelude.{◌≡◌};
-ghost use Rattle.pac_cpu.specs.Echo.{echo_of};
+mod cpu;
+pub mod laws;
+mod once;
 
-// The `ensures` clause is the contract: what `echo` returns is `echo_of` of its argument, a definition
-// in `specs/Echo.antt`, which a caller's clause can cite too.
-pub fn echo(x: usize) -> usize
-    ensures { result ≡ echo_of x }
-{
-    x
-}
+pub use cpu::Cpu;
+pub use once::{Cause, Kind, Once, Stop};

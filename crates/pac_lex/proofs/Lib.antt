@@ -3,3 +3,8 @@ pub mod NumberLemmas
 pub mod QuoteLemmas
 pub mod NameLemmas
 pub mod ScanLemmas
+pub mod Fronts
+pub mod TextLaws
+pub mod TokenLaws
+pub mod LineLaws
+pub mod AnswerLaws

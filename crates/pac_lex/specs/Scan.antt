@@ -27,6 +27,11 @@ abbrev pub Gives : {X Y : Type 0} → (X → Y) → Result X LexError → Result
 Gives view (Ok x) read = read ≡ Ok (view x)
 Gives view (Err e) read = Fails e read
 
+-- a fact of the fault, where there is one
+abbrev pub OnFault : LexError → (Fault → Type 0) → Type 0
+OnFault errors.Memory P = Unit {0}
+OnFault (errors.Fault fault) P = P fault
+
 -- Each of these reads at the front of the bytes, and gives the token's kind and length.
 abbrev pub Found : Type 0
 Found = Result (Kind × ℕ) Fault

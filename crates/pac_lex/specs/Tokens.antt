@@ -1,5 +1,5 @@
 -- What a token is, and what a line of tokens is.
-use Rattle.std.specs.Prelude.{◌≡◌, ℕ, Bool, List, [], ◌∷◌, ◌++◌, ◌==◌, ◌||◌, ◌&&◌, not, false, IsTrue, IsFalse, Option, Some, None, if◌then◌else◌, ◌⊎◌, map, is_some}
+use Rattle.std.specs.Prelude.{◌≡◌, ◌<◌, ◌≤◌, length, ℕ, Bool, List, [], ◌∷◌, ◌++◌, ◌==◌, ◌||◌, ◌&&◌, not, false, IsTrue, IsFalse, Option, Some, None, if◌then◌else◌, ◌⊎◌, map, is_some}
 use Rattle.std.specs.List.{list_all}
 use Rattle.std.specs.Char.{is_ascii_digit, is_ascii_alphanumeric}
 use Rattle.pac_lex.specs.declared.token.Kind.{Kind}
@@ -103,3 +103,12 @@ Reads line (token ∷ tokens) = (rest : List ℕ) × TokenFirst line token rest 
 abbrev pub Breaks : List ℕ → List Lexeme → Fault → Type 0
 Breaks line [] fault = FaultFirst line fault
 Breaks line (token ∷ tokens) fault = (rest : List ℕ) × TokenFirst line token rest × Breaks rest tokens fault
+
+-- a line of tokens: 255 bytes at most
+abbrev pub IsRead : List ℕ → List Lexeme → Type 0
+IsRead line tokens = (length line ≤ 255) × Reads line tokens
+
+-- the one fault of a line: its length, or else the leftmost
+abbrev pub HasFault : List ℕ → Fault → Type 0
+HasFault line LongLine = 255 < length line
+HasFault line fault = (length line ≤ 255) × (tokens : List Lexeme) × Breaks line tokens fault

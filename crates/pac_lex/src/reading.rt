@@ -1,9 +1,9 @@
-ghost use Rattle.std.specs.Prelude.{◌≡◌, ◌+◌, ◌<◌, ◌≤◌, [], length, IfOk, IfSome, IsTrue, MatchResult, MatchOption};
+ghost use Rattle.std.specs.Prelude.{◌≡◌, ◌+◌, ◌<◌, ◌≤◌, [], length, IfOk, IfSome, IsTrue, MatchResult, MatchOption, List, IfErr};
 ghost use Rattle.std.specs.List.{prefix_len, list_all};
 ghost use Rattle.std.specs.Char.{is_ascii_digit, is_ascii_alphanumeric};
 ghost use Rattle.pac_lex.specs.Bytes.{is_blank, is_quote, is_name_start, is_name_byte, is_printable};
-ghost use Rattle.pac_lex.specs.Tokens.{view, views, symbol, is_af, begins};
-ghost use Rattle.pac_lex.specs.Scan.{Gives, is_end, before, name_at, number_at, text_at, token_at, scan, tokens_of};
+ghost use Rattle.pac_lex.specs.Tokens.{Lexeme, view, views, IsRead, HasFault, symbol, is_af, begins};
+ghost use Rattle.pac_lex.specs.Scan.{Gives, OnFault, is_end, before, name_at, number_at, text_at, token_at, scan, tokens_of};
 
 use crate::fault::{Fault, LexError};
 use crate::number::numeral;
@@ -14,10 +14,26 @@ use std::alloc::Global;
 /// The most bytes that a source line may have, its ending not counted (this profile).
 pub const LINE_LIMIT: usize = 255;
 
-/// The tokens of a line, which stands here without its ending.
-#[tactic(auto, unfolding(crate::specs::Scan::tokens_of))]
+/// The tokens of a line, which stands here without its ending. Blanks and a comment behind `;` are
+/// none. Where the line has a fault, the answer is L4, or else the leftmost of L1 to L3.
 pub fn tokens(alloc: Global, line: &[u8]) -> Result<Vec<Token<'_>>, LexError>
+    // What is read is so: the line is these tokens, each in its own bytes, with blanks between them.
+    ensures read { IfOk result (λ v. IsRead line.now (views v.items)) }
+    // What is so is read, unless memory runs out.
+    ensures only { (tokens : List Lexeme) → IsRead line.now tokens → Gives (λ v. views v.items) result (Ok tokens) }
+    // The fault told is the line's, and the line's is told.
+    ensures fault { IfErr result (λ e. OnFault e (HasFault line.now)) }
+    ensures refused { (fault : Fault) → HasFault line.now fault → Gives (λ v. views v.items) result (Err fault) }
+    // Which tokens and which fault, as a function of the line.
     ensures exact { Gives (λ v. views v.items) result (tokens_of line.now) }
+{
+    checked(alloc, line)
+}
+
+// The same, by its last clause alone.
+#[tactic(auto, unfolding(crate::specs::Scan::tokens_of))]
+fn checked(alloc: Global, line: &[u8]) -> Result<Vec<Token<'_>>, LexError>
+    ensures { Gives (λ v. views v.items) result (tokens_of line.now) }
 {
     if line.len() > LINE_LIMIT {
         return Err(LexError::Fault(Fault::LongLine));

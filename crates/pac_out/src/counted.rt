@@ -44,15 +44,15 @@ impl<W: Out> Counted<W> {
         if self.failed {
             return Err(WriteFault { count: self.count });
         }
-        match self.writer.put_all(bytes) {
-            Ok(()) => {
-                self.count += bytes.len() as u64;
+        match self.writer.put_behind(self.count, bytes) {
+            Ok(total) => {
+                self.count = total;
                 Ok(())
             }
             Err(fault) => {
-                self.count += fault.count;
+                self.count = fault.count;
                 self.failed = true;
-                Err(WriteFault { count: self.count })
+                Err(fault)
             }
         }
     }

@@ -2,8 +2,8 @@
 //! those that it took before it refused is told.
 #![tactic(auto)]
 
-ghost use Rattle.std.specs.Prelude.{◌≡◌, ◌<◌, ◌≤◌, List, [], ◌++◌, length, take, Ok, IfOk, IfErr, OnOk, OnErr, ℕ};
-ghost use Rattle.pac_out.specs.Writes.{StopsAfter};
+ghost use Rattle.std.specs.Prelude.{◌≡◌, ◌<◌, ◌≤◌, ◌+◌, ◌^◌, List, [], ◌++◌, length, take, Ok, IfOk, IfErr, OnOk, OnErr, ℕ};
+ghost use Rattle.pac_out.specs.Writes.{StopsAfter, StopsBehind};
 
 pub mod counted;
 pub mod faulty;
@@ -71,6 +71,25 @@ pub trait Out {
             }
         }
         Ok(())
+    }
+
+    /// Writes all bytes behind the first `count` of an output, and answers the count of all that it took then;
+    /// so does the fault.
+    final fn put_behind(&mut self, count: u64, bytes: &[u8]) -> Result<u64, WriteFault>
+    where
+        Self: Sized,
+        requires { count + length bytes.now < 2 ^ 64 }
+        ensures ok { OnOk result (took self.old bytes.now self.new) }
+        ensures total { IfOk result (λ total. total ≡ count + length bytes.now) }
+        ensures within { IfErr result (λ fault. (count ≤ fault.count) × (fault.count < count + length bytes.now)) }
+        ensures err { IfErr result (λ fault. StopsBehind took refused count self.old bytes.now fault.count self.new) }
+    {
+        match self.put_all(bytes) {
+            Ok(()) => Ok(count + bytes.len() as u64),
+            Err(fault) => Err(WriteFault {
+                count: count + fault.count,
+            }),
+        }
     }
 }
 

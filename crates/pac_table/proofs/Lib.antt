@@ -1,1 +1,2 @@
 pub mod TableRules
+pub mod Uniqueness

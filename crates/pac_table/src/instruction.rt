@@ -6,8 +6,8 @@ ghost use Rattle.pac_table.specs.Patterns.{IsDisplacement, IsSignedByte, word_li
 
 use crate::effects::Effect;
 use crate::operands::Operands;
-use crate::patterns::{Immediate, Pattern};
-use crate::table::row_numbered;
+use crate::patterns::Pattern;
+use crate::table::{row_numbered, rows};
 use std::marker::Model;
 
 /// An instruction of the table.
@@ -32,7 +32,47 @@ impl Model for Instr {
     ghost inverse = { λ i. record { row = i.row; p = i.p; q = i.q; word = i.word; disp = i.disp } };
 }
 
+fn is_instruction(row: u16, p: u8, q: u8, word: u16, disp: i8) -> bool
+    ensures { IsTrue result ↔ IsInstruction (record { row = row; p = p; q = q; word = word; disp = disp }) }
+{
+    if row as usize >= rows().len() {
+        return false;
+    }
+    let pattern = row_numbered(row).pattern;
+    pattern.first.lists(p)
+        && pattern.second.lists(q)
+        && pattern.immediate.takes_word(word)
+        && pattern.immediate.takes_displacement(disp)
+}
+
 impl Instr {
+    /// The instruction of a row with these values, or nothing where the row is none of the table's, a
+    /// field doesn't list its value, n, nn, d or e is out of range, or what the row doesn't have
+    /// isn't 0.
+    pub fn new(row: u16, p: u8, q: u8, word: u16, disp: i8) -> Option<Self>
+        ensures valid { IsSome result ↔ IsInstruction (record { row = row; p = p; q = q; word = word; disp = disp }) }
+        ensures value { IfSome result (λ i. i ≡ record { row = row; p = p; q = q; word = word; disp = disp }) }
+    {
+        if is_instruction(row, p, q, word, disp) {
+            Some(Instr {
+                row,
+                p,
+                q,
+                word,
+                disp,
+            })
+        } else {
+            None
+        }
+    }
+
+    /// The opcode byte, with the fields filled in.
+    pub fn opcode(&self) -> u8
+        ensures { result ≡ opcode_of self.now }
+    {
+        row_numbered(self.row).pattern.opcode(self.p, self.q)
+    }
+
     /// The number of the row.
     pub fn row(&self) -> u16
         ensures value { result ≡ self.now.row }

@@ -2,6 +2,8 @@
 //! User Manual UM0080).
 #![tactic(auto)]
 
+ghost use Rattle.pac_table.specs.Instructions.{AtMostOne};
+
 mod effects;
 mod instruction;
 mod operands;
@@ -16,3 +18,9 @@ pub use operands::{Mnemonic, Operands, Shape};
 pub use patterns::{Field, Immediate, Page, Pattern};
 pub use table::{Row, row_numbered, rows};
 
+
+/// At most one row matches any bytes.
+pub fn at_most_one()
+    ensures { AtMostOne }
+{
+}

@@ -1,6 +1,6 @@
 //! The code of an instruction: fixed bits, lettered fields and what follows the opcode byte.
 
-ghost use Rattle.std.specs.Prelude.{◌≡◌, ◌+◌, ◌<◌, ◌≤◌};
+ghost use Rattle.std.specs.Prelude.{◌≡◌, ◌+◌, ◌<◌, ◌≤◌, ◌↔◌, IsTrue};
 
 /// The prefix under which an opcode byte stands (UM0080, "Z80 Instruction Set").
 #[derive(Clone, Copy, Debug, PartialEq, Eq)]
@@ -178,6 +178,33 @@ pub enum Immediate {
     Displacement,
     /// d, then n.
     DisplacementByte,
+}
+
+impl Immediate {
+    ghost use Rattle.pac_table.specs.Patterns.{word_limit, IsDisplacement};
+
+    /// Whether n or nn may have this value; where there is neither, 0 alone.
+    #[inline]
+    pub fn takes_word(self, word: u16) -> bool
+        ensures { IsTrue result ↔ (word < word_limit self) }
+    {
+        match self {
+            Immediate::Absent | Immediate::Relative | Immediate::Displacement => word == 0,
+            Immediate::Byte | Immediate::DisplacementByte => word < 256,
+            Immediate::Word => true,
+        }
+    }
+
+    /// Whether d or e may have this value; where there is neither, 0 alone.
+    #[inline]
+    pub fn takes_displacement(self, displacement: i8) -> bool
+        ensures { IsTrue result ↔ IsDisplacement self displacement }
+    {
+        match self {
+            Immediate::Absent | Immediate::Byte | Immediate::Word => displacement == 0,
+            Immediate::Relative | Immediate::Displacement | Immediate::DisplacementByte => true,
+        }
+    }
 }
 
 /// The code of a row: its page, the opcode byte with each field 0, the fields in the order in

@@ -1,0 +1,47 @@
+-- The registers at power-on and behind a reset (UM0080, "RESET"). That all are 0 at power-on, and that a
+-- reset keeps what it doesn't clear, is this profile's.
+use Rattle.std.specs.Prelude.{false}
+use Rattle.pac_table.specs.declared.effects.InterruptMode.TheVariants.{Zero}
+use Rattle.pac_exec.specs.declared.regs.Regs.{Regs}
+use Rattle.pac_exec.specs.declared.regs.Alternate.{Alternate}
+
+abbrev pub blank_set : Alternate
+blank_set = record { a = 0; f = 0; b = 0; c = 0; d = 0; e = 0; h = 0; l = 0 }
+
+abbrev pub at_power_on : Regs
+at_power_on =
+    record {
+      a = 0;
+      f = 0;
+      b = 0;
+      c = 0;
+      d = 0;
+      e = 0;
+      h = 0;
+      l = 0;
+      alternate = blank_set;
+      ix = 0;
+      iy = 0;
+      sp = 0;
+      pc = 0;
+      i = 0;
+      r = 0;
+      iff1 = false;
+      iff2 = false;
+      mode = Zero;
+      halted = false;
+      after_ei = false;
+    }
+
+abbrev pub behind_reset : Regs → Regs
+behind_reset regs =
+    record regs {
+      pc = 0;
+      i = 0;
+      r = 0;
+      mode = Zero;
+      iff1 = false;
+      iff2 = false;
+      halted = false;
+      after_ei = false;
+    }

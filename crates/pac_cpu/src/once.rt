@@ -1,0 +1,48 @@
+//! What one step of the processor comes to.
+
+use pac_table::Instr;
+
+/// What one call of `step` did.
+#[derive(Clone, Copy, PartialEq, Eq)]
+pub enum Once {
+    /// A step was done.
+    Stepped {
+        /// Its time in T-states, 4 to 23.
+        ticks: u8,
+        /// What it was.
+        kind: Kind,
+    },
+    /// Nothing was done, and nothing has changed.
+    Stopped(Stop),
+}
+
+/// The kinds of a step.
+#[derive(Clone, Copy, PartialEq, Eq)]
+pub enum Kind {
+    /// An instruction, or one turn of a repeating one.
+    Ran(Instr),
+    /// A halted processor waited.
+    Halted,
+    /// An interrupt was accepted.
+    Accepted,
+}
+
+/// Why and where no step can be done.
+#[derive(Clone, Copy, Debug, PartialEq, Eq)]
+pub struct Stop {
+    /// Where the processor stands.
+    pub pc: u16,
+    /// The four bytes from there on.
+    pub bytes: [u8; 4],
+    /// What is amiss.
+    pub cause: Cause,
+}
+
+/// What stops the processor.
+#[derive(Clone, Copy, Debug, PartialEq, Eq)]
+pub enum Cause {
+    /// S1: the bytes are no documented instruction.
+    Opcode,
+    /// S2: in mode 0 this vector byte is no RST.
+    Vector(u8),
+}
