@@ -1,2 +1,11 @@
 pub mod Registers
+pub mod Done
+pub mod Places
+pub mod Pairs
+pub mod WordLoads
+pub mod WordArithmetic
+pub mod Jumps
+pub mod Calls
+pub mod Ports
+pub mod SpecialLoads
 pub mod Effect

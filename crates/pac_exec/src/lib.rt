@@ -2,9 +2,16 @@
 //! Instruction Description").
 #![tactic(auto)]
 
+mod calls;
 mod instructions;
+mod jumps;
+mod pairs;
 mod places;
+mod ports;
 mod regs;
+mod special_loads;
+mod word_arithmetic;
+mod word_loads;
 
 pub use instructions::perform;
 pub use regs::{Alternate, Regs, displaced};

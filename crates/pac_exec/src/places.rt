@@ -2,7 +2,7 @@
 
 ghost use Rattle.std.specs.Prelude.{◌≡◌};
 ghost use Rattle.pac_bus.specs.Action.{behind};
-ghost use Rattle.pac_exec.specs.Effect.{source, regs_with, writes_to};
+ghost use Rattle.pac_exec.specs.Places.{source, regs_with, writes_to};
 
 use crate::regs::{Regs, displaced};
 use pac_bus::Bus;

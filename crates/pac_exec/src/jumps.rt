@@ -1,0 +1,75 @@
+//! Jumps (UM0080, "Jump Group"). PC stands behind the code. Each gives its time in T-states, the shorter one
+//! where a condition isn't met.
+
+ghost use Rattle.std.specs.Prelude.{◌≡◌};
+ghost use Rattle.pac_alu.specs.Flags.{condition_of, is_met};
+ghost use Rattle.pac_exec.specs.Jumps.{jump_if_done, jump_to_pair_done, jump_relative_done, jump_relative_if_done, decrement_and_jump_done};
+
+use crate::pairs::get_pair;
+use crate::regs::{Regs, displaced};
+use pac_alu::Condition;
+use pac_table::{Instr, Pair};
+
+/// Whether the condition in an instruction's first field is met.
+#[inline]
+pub fn meets_condition(instr: &Instr, regs: &Regs) -> bool
+    ensures { result ≡ is_met (condition_of instr.now.p) regs.now.f }
+{
+    Condition::from_field(instr.p()).is_met(regs.f)
+}
+
+/// JP cc,nn.
+pub fn jump_if(instr: &Instr, regs: &mut Regs) -> u8
+    ensures regs { regs.new ≡ (jump_if_done instr.now regs.old).regs }
+    ensures time { result ≡ (jump_if_done instr.now regs.old).ticks }
+{
+    if meets_condition(instr, regs) {
+        regs.pc = instr.word();
+        instr.ticks()
+    } else {
+        instr.ticks_other()
+    }
+}
+
+/// JP (HL).
+pub fn jump_to_pair(pair: Pair, instr: &Instr, regs: &mut Regs) -> u8
+    ensures regs { regs.new ≡ (jump_to_pair_done pair instr.now regs.old).regs }
+    ensures time { result ≡ (jump_to_pair_done pair instr.now regs.old).ticks }
+{
+    regs.pc = get_pair(pair, instr, regs);
+    instr.ticks()
+}
+
+/// JR e.
+pub fn jump_relative(instr: &Instr, regs: &mut Regs) -> u8
+    ensures regs { regs.new ≡ (jump_relative_done instr.now regs.old).regs }
+    ensures time { result ≡ (jump_relative_done instr.now regs.old).ticks }
+{
+    regs.pc = displaced(regs.pc, instr.disp());
+    instr.ticks()
+}
+
+/// JR cc,e.
+pub fn jump_relative_if(instr: &Instr, regs: &mut Regs) -> u8
+    ensures regs { regs.new ≡ (jump_relative_if_done instr.now regs.old).regs }
+    ensures time { result ≡ (jump_relative_if_done instr.now regs.old).ticks }
+{
+    if meets_condition(instr, regs) {
+        jump_relative(instr, regs)
+    } else {
+        instr.ticks_other()
+    }
+}
+
+/// DJNZ e.
+pub fn decrement_and_jump(instr: &Instr, regs: &mut Regs) -> u8
+    ensures regs { regs.new ≡ (decrement_and_jump_done instr.now regs.old).regs }
+    ensures time { result ≡ (decrement_and_jump_done instr.now regs.old).ticks }
+{
+    regs.b = ((regs.b as u16 + 255) % 256) as u8;
+    if regs.b != 0 {
+        jump_relative(instr, regs)
+    } else {
+        instr.ticks_other()
+    }
+}

@@ -1,0 +1,175 @@
+//! Registers and cells of 16 bits, and the stack.
+
+ghost use Rattle.std.specs.Prelude.{◌≡◌};
+ghost use Rattle.pac_bus.specs.Action.{behind};
+ghost use Rattle.pac_exec.specs.Pairs as pairs;
+
+use crate::regs::Regs;
+use pac_bus::Bus;
+use pac_num::{high_byte, low_byte};
+use pac_table::{Instr, Pair};
+
+/// The address above another, modulo 65,536.
+#[inline]
+pub fn next(address: u16) -> u16
+    ensures { result ≡ pairs.next address }
+{
+    ((address as u32 + 1) % 65536) as u16
+}
+
+/// The address below another, modulo 65,536.
+#[inline]
+pub fn previous(address: u16) -> u16
+    ensures { result ≡ pairs.previous address }
+{
+    ((address as u32 + 65535) % 65536) as u16
+}
+
+/// The word at an address, low byte first.
+#[inline]
+pub fn read_word<B: Bus>(address: u16, bus: &B) -> u16
+    ensures { result ≡ pairs.word_at (B.byte_at bus.now) address }
+{
+    pac_num::word(bus.read(address), bus.read(next(address)))
+}
+
+impl Regs {
+    /// Puts a word into BC.
+    #[inline]
+    pub fn set_bc(&mut self, word: u16)
+        ensures { self.new ≡ pairs.with_bc self.old word }
+    {
+        self.b = high_byte(word);
+        self.c = low_byte(word);
+    }
+
+    /// Puts a word into DE.
+    #[inline]
+    pub fn set_de(&mut self, word: u16)
+        ensures { self.new ≡ pairs.with_de self.old word }
+    {
+        self.d = high_byte(word);
+        self.e = low_byte(word);
+    }
+
+    /// Puts a word into HL.
+    #[inline]
+    pub fn set_hl(&mut self, word: u16)
+        ensures { self.new ≡ pairs.with_hl self.old word }
+    {
+        self.h = high_byte(word);
+        self.l = low_byte(word);
+    }
+
+    /// AF as a word.
+    #[inline]
+    pub fn af(&self) -> u16
+        ensures { result ≡ pairs.af self.now }
+    {
+        pac_num::word(self.f, self.a)
+    }
+
+    /// Puts a word into AF; all eight bits of F change.
+    #[inline]
+    pub fn set_af(&mut self, word: u16)
+        ensures { self.new ≡ pairs.with_af self.old word }
+    {
+        self.a = high_byte(word);
+        self.f = low_byte(word);
+    }
+
+    /// The pair that a field dd or ss names: BC 0, DE 1, HL 2, SP 3.
+    #[inline]
+    pub fn pair(&self, dd: u8) -> u16
+        ensures { result ≡ pairs.pair_numbered self.now dd }
+    {
+        match dd {
+            0 => self.bc(),
+            1 => self.de(),
+            2 => self.hl(),
+            _ => self.sp,
+        }
+    }
+
+    /// Puts a word into the pair that a field dd or ss names.
+    #[inline]
+    pub fn set_pair(&mut self, dd: u8, word: u16)
+        ensures { self.new ≡ pairs.with_pair_numbered self.old dd word }
+    {
+        match dd {
+            0 => self.set_bc(word),
+            1 => self.set_de(word),
+            2 => self.set_hl(word),
+            _ => self.sp = word,
+        }
+    }
+}
+
+/// The register of 16 bits that an instruction speaks of.
+#[inline]
+pub fn get_pair(pair: Pair, instr: &Instr, regs: &Regs) -> u16
+    ensures { result ≡ pairs.pair_value pair instr.now regs.now }
+{
+    match pair {
+        Pair::First => regs.pair(instr.p()),
+        Pair::Hl => regs.hl(),
+        Pair::Ix => regs.ix,
+        Pair::Iy => regs.iy,
+    }
+}
+
+/// Puts a word into the register of 16 bits that an instruction speaks of.
+#[inline]
+pub fn set_pair(pair: Pair, word: u16, instr: &Instr, regs: &mut Regs)
+    ensures { regs.new ≡ pairs.with_pair pair instr.now regs.old word }
+{
+    match pair {
+        Pair::First => regs.set_pair(instr.p(), word),
+        Pair::Hl => regs.set_hl(word),
+        Pair::Ix => regs.ix = word,
+        Pair::Iy => regs.iy = word,
+    }
+}
+
+/// The register that PUSH speaks of: 3 is AF.
+#[inline]
+pub fn get_stack_pair(pair: Pair, instr: &Instr, regs: &Regs) -> u16
+    ensures { result ≡ pairs.stack_pair_value pair instr.now regs.now }
+{
+    match pair {
+        Pair::First if instr.p() == 3 => regs.af(),
+        _ => get_pair(pair, instr, regs),
+    }
+}
+
+/// Puts a word into the register that POP speaks of: 3 is AF.
+#[inline]
+pub fn set_stack_pair(pair: Pair, word: u16, instr: &Instr, regs: &mut Regs)
+    ensures { regs.new ≡ pairs.with_stack_pair pair instr.now regs.old word }
+{
+    match pair {
+        Pair::First if instr.p() == 3 => regs.set_af(word),
+        _ => set_pair(pair, word, instr, regs),
+    }
+}
+
+/// Pushes a word: the high byte to SP-1, then the low byte to SP-2, where SP then points.
+pub fn push_word<B: Bus>(word: u16, regs: &mut Regs, bus: &mut B)
+    ensures regs { regs.new ≡ pairs.with_room regs.old }
+    ensures bus { bus.new ≡ behind B.after bus.old (pairs.push_writes regs.old.sp word) }
+{
+    let above = previous(regs.sp);
+    regs.sp = previous(above);
+    bus.write(above, high_byte(word));
+    bus.write(regs.sp, low_byte(word));
+}
+
+/// Pops the word at SP.
+pub fn pop_word<B: Bus>(regs: &mut Regs, bus: &B) -> u16
+    ensures value { result ≡ pairs.word_at (B.byte_at bus.now) regs.old.sp }
+    ensures regs { regs.new ≡ pairs.without_top regs.old }
+{
+    let word = read_word(regs.sp, bus);
+    regs.sp = next(next(regs.sp));
+    word
+}

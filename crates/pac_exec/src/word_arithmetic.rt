@@ -1,0 +1,79 @@
+//! Arithmetic of 16 bits (UM0080, "16-Bit Arithmetic Group"). Each gives its time in T-states.
+
+ghost use Rattle.std.specs.Prelude.{◌≡◌};
+ghost use Rattle.pac_exec.specs.WordArithmetic.{addend, add_pair_done, add_pair_with_carry_done, subtract_pair_with_carry_done, increment_pair_done, decrement_pair_done};
+
+use crate::pairs::{get_pair, set_pair};
+use crate::regs::Regs;
+use pac_alu::{
+    add_words, add_words_with_carry, decrement_word, increment_word, subtract_words_with_carry,
+};
+use pac_table::{Instr, Pair};
+
+/// The pair that ADD HL,ss and ADD IX,pp add: 2 names the sum's own register.
+fn addend_of(pair: Pair, instr: &Instr, regs: &Regs) -> u16
+    ensures { result ≡ addend pair instr.now regs.now }
+{
+    if instr.p() == 2 {
+        get_pair(pair, instr, regs)
+    } else {
+        regs.pair(instr.p())
+    }
+}
+
+/// ADD HL,ss and ADD IX,pp.
+pub fn add_pair(pair: Pair, instr: &Instr, regs: &mut Regs) -> u8
+    ensures regs { regs.new ≡ (add_pair_done pair instr.now regs.old).regs }
+    ensures time { result ≡ (add_pair_done pair instr.now regs.old).ticks }
+{
+    let sum = add_words(
+        get_pair(pair, instr, regs),
+        addend_of(pair, instr, regs),
+        regs.f,
+    );
+    set_pair(pair, sum.value, instr, regs);
+    regs.f = sum.f;
+    instr.ticks()
+}
+
+/// ADC HL,ss.
+pub fn add_pair_with_carry(instr: &Instr, regs: &mut Regs) -> u8
+    ensures regs { regs.new ≡ (add_pair_with_carry_done instr.now regs.old).regs }
+    ensures time { result ≡ (add_pair_with_carry_done instr.now regs.old).ticks }
+{
+    let sum = add_words_with_carry(regs.hl(), regs.pair(instr.p()), regs.f);
+    regs.set_hl(sum.value);
+    regs.f = sum.f;
+    instr.ticks()
+}
+
+/// SBC HL,ss.
+pub fn subtract_pair_with_carry(instr: &Instr, regs: &mut Regs) -> u8
+    ensures regs { regs.new ≡ (subtract_pair_with_carry_done instr.now regs.old).regs }
+    ensures time { result ≡ (subtract_pair_with_carry_done instr.now regs.old).ticks }
+{
+    let difference = subtract_words_with_carry(regs.hl(), regs.pair(instr.p()), regs.f);
+    regs.set_hl(difference.value);
+    regs.f = difference.f;
+    instr.ticks()
+}
+
+/// INC of a pair.
+pub fn increment_pair(pair: Pair, instr: &Instr, regs: &mut Regs) -> u8
+    ensures regs { regs.new ≡ (increment_pair_done pair instr.now regs.old).regs }
+    ensures time { result ≡ (increment_pair_done pair instr.now regs.old).ticks }
+{
+    let word = increment_word(get_pair(pair, instr, regs));
+    set_pair(pair, word, instr, regs);
+    instr.ticks()
+}
+
+/// DEC of a pair.
+pub fn decrement_pair(pair: Pair, instr: &Instr, regs: &mut Regs) -> u8
+    ensures regs { regs.new ≡ (decrement_pair_done pair instr.now regs.old).regs }
+    ensures time { result ≡ (decrement_pair_done pair instr.now regs.old).ticks }
+{
+    let word = decrement_word(get_pair(pair, instr, regs));
+    set_pair(pair, word, instr, regs);
+    instr.ticks()
+}
