@@ -3,9 +3,13 @@ pub mod Done
 pub mod Places
 pub mod Pairs
 pub mod WordLoads
+pub mod ByteArithmetic
 pub mod WordArithmetic
+pub mod Shifts
+pub mod BitOperations
 pub mod Jumps
 pub mod Calls
 pub mod Ports
 pub mod SpecialLoads
+pub mod Blocks
 pub mod Effect

@@ -2,6 +2,9 @@
 //! Instruction Description").
 #![tactic(auto)]
 
+mod bit_operations;
+mod blocks;
+mod byte_arithmetic;
 mod calls;
 mod instructions;
 mod jumps;
@@ -9,6 +12,7 @@ mod pairs;
 mod places;
 mod ports;
 mod regs;
+mod shifts;
 mod special_loads;
 mod word_arithmetic;
 mod word_loads;
