@@ -37,7 +37,8 @@ pub fn call_if<B: Bus>(instr: &Instr, regs: &mut Regs, bus: &mut B) -> u8
     ensures bus { bus.new ≡ behind B.after bus.old (call_if_done instr.now regs.old).actions }
     ensures time { result ≡ (call_if_done instr.now regs.old).ticks }
 {
-    if meets_condition(instr, regs) {
+    let calls = meets_condition(instr, regs);
+    if calls {
         call(instr, regs, bus)
     } else {
         instr.ticks_other()
@@ -67,7 +68,8 @@ pub fn return_if<B: Bus>(instr: &Instr, regs: &mut Regs, bus: &B) -> u8
     ensures regs { regs.new ≡ (return_if_done instr.now regs.old (B.byte_at bus.now)).regs }
     ensures time { result ≡ (return_if_done instr.now regs.old (B.byte_at bus.now)).ticks }
 {
-    if meets_condition(instr, regs) {
+    let returns = meets_condition(instr, regs);
+    if returns {
         return_to_caller(instr, regs, bus)
     } else {
         instr.ticks_other()

@@ -23,7 +23,8 @@ pub fn jump_if(instr: &Instr, regs: &mut Regs) -> u8
     ensures regs { regs.new ≡ (jump_if_done instr.now regs.old).regs }
     ensures time { result ≡ (jump_if_done instr.now regs.old).ticks }
 {
-    if meets_condition(instr, regs) {
+    let jumps = meets_condition(instr, regs);
+    if jumps {
         regs.pc = instr.word();
         instr.ticks()
     } else {
