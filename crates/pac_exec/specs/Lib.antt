@@ -2,6 +2,7 @@ pub mod Registers
 pub mod Done
 pub mod Places
 pub mod Pairs
+pub mod ByteLoads
 pub mod WordLoads
 pub mod ByteArithmetic
 pub mod WordArithmetic

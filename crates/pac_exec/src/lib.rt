@@ -5,6 +5,7 @@
 mod bit_operations;
 mod blocks;
 mod byte_arithmetic;
+mod byte_loads;
 mod calls;
 mod instructions;
 mod jumps;
