@@ -3,16 +3,26 @@
 #![tactic(auto)]
 
 mod bit_operations;
+#[cfg(test)]
+mod block_tests;
 mod blocks;
 mod byte_arithmetic;
 mod byte_loads;
+#[cfg(test)]
+mod byte_tests;
 mod calls;
 mod instructions;
 mod jumps;
+#[cfg(test)]
+mod load_tests;
+#[cfg(test)]
+mod machine;
 mod pairs;
 mod places;
 mod ports;
 mod regs;
+#[cfg(test)]
+mod shift_tests;
 mod shifts;
 mod special_loads;
 mod word_arithmetic;
