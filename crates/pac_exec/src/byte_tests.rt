@@ -28,8 +28,26 @@ fn each_operand_of_add(rt: HostRuntime) -> Result<(), Fail> {
         ([0x86, 0, 0, 0], before, 0x3C, 0x00, 7),
         ([0xDD, 0x86, 0x80, 0], before, 0x3C, 0x00, 19),
         ([0xFD, 0x86, 0x7F, 0], before, 0x3C, 0x00, 19),
-        ([0xDD, 0x86, 0x80, 0], Regs { ix: 0x0010, ..before }, 0x25, 0x00, 19),
-        ([0xFD, 0x86, 0x7F, 0], Regs { iy: 0xFFF0, ..before }, 0x18, 0x00, 19),
+        (
+            [0xDD, 0x86, 0x80, 0],
+            Regs {
+                ix: 0x0010,
+                ..before
+            },
+            0x25,
+            0x00,
+            19,
+        ),
+        (
+            [0xFD, 0x86, 0x7F, 0],
+            Regs {
+                iy: 0xFFF0,
+                ..before
+            },
+            0x18,
+            0x00,
+            19,
+        ),
     ] {
         let cells = [(0x4800, 0x27), (0xFF90, 0x10), (0x006F, 0x03)];
         let mut machine = Machine::new(rt.alloc(), regs, &cells, &[])?;
@@ -79,16 +97,86 @@ fn increments_and_decrements(rt: HostRuntime) -> Result<(), Fail> {
         ..blank()
     };
     for (opcode, after) in [
-        (0x04, Regs { b: 0x80, f: 0x94, ..low }),
-        (0x0C, Regs { c: 0x80, f: 0x94, ..low }),
-        (0x14, Regs { d: 0x80, f: 0x94, ..low }),
-        (0x1C, Regs { e: 0x80, f: 0x94, ..low }),
-        (0x24, Regs { h: 0x80, f: 0x94, ..low }),
-        (0x2C, Regs { l: 0x80, f: 0x94, ..low }),
-        (0x3C, Regs { a: 0x80, f: 0x94, ..low }),
-        (0x05, Regs { b: 0x7E, f: 0x02, ..low }),
-        (0x2D, Regs { l: 0x7E, f: 0x02, ..low }),
-        (0x3D, Regs { a: 0x7E, f: 0x02, ..low }),
+        (
+            0x04,
+            Regs {
+                b: 0x80,
+                f: 0x94,
+                ..low
+            },
+        ),
+        (
+            0x0C,
+            Regs {
+                c: 0x80,
+                f: 0x94,
+                ..low
+            },
+        ),
+        (
+            0x14,
+            Regs {
+                d: 0x80,
+                f: 0x94,
+                ..low
+            },
+        ),
+        (
+            0x1C,
+            Regs {
+                e: 0x80,
+                f: 0x94,
+                ..low
+            },
+        ),
+        (
+            0x24,
+            Regs {
+                h: 0x80,
+                f: 0x94,
+                ..low
+            },
+        ),
+        (
+            0x2C,
+            Regs {
+                l: 0x80,
+                f: 0x94,
+                ..low
+            },
+        ),
+        (
+            0x3C,
+            Regs {
+                a: 0x80,
+                f: 0x94,
+                ..low
+            },
+        ),
+        (
+            0x05,
+            Regs {
+                b: 0x7E,
+                f: 0x02,
+                ..low
+            },
+        ),
+        (
+            0x2D,
+            Regs {
+                l: 0x7E,
+                f: 0x02,
+                ..low
+            },
+        ),
+        (
+            0x3D,
+            Regs {
+                a: 0x7E,
+                f: 0x02,
+                ..low
+            },
+        ),
     ] {
         let mut machine = Machine::new(rt.alloc(), low, &[], &[])?;
         assert_eq!(rt; machine.does([opcode, 0, 0, 0])?, 4, "{opcode}");
@@ -102,10 +190,22 @@ fn increments_and_decrements(rt: HostRuntime) -> Result<(), Fail> {
         (0x3D, 0x00, 0x01, 0xFF, 0x93),
         (0x3D, 0x01, 0xFF, 0x00, 0x6B),
     ] {
-        let before = Regs { a: byte, f, ..blank() };
+        let before = Regs {
+            a: byte,
+            f,
+            ..blank()
+        };
         let mut machine = Machine::new(rt.alloc(), before, &[], &[])?;
         machine.does([opcode, 0, 0, 0])?;
-        assert_eq!(rt; machine.regs, Regs { a: value, f: after, ..blank() }, "{opcode} {byte} {f}");
+        assert_eq!(rt;
+            machine.regs,
+            Regs {
+                a: value,
+                f: after,
+                ..blank()
+            },
+            "{opcode} {byte} {f}"
+        );
     }
     Ok(())
 }
@@ -157,7 +257,11 @@ fn accumulator_alone(rt: HostRuntime) -> Result<(), Fail> {
         let before = Regs { a, f, ..blank() };
         let mut machine = Machine::new(rt.alloc(), before, &[], &[])?;
         assert_eq!(rt; machine.does(bytes)?, ticks, "{bytes:?} {a} {f}");
-        let regs = Regs { a: value, f: after, ..blank() };
+        let regs = Regs {
+            a: value,
+            f: after,
+            ..blank()
+        };
         assert_eq!(rt; machine.regs, regs, "{bytes:?} {a} {f}");
     }
     Ok(())
@@ -176,11 +280,29 @@ fn decimals(rt: HostRuntime) -> Result<(), Fail> {
     ] {
         assert_eq!(rt; machine.does(bytes)?, ticks, "{bytes:?}");
     }
-    assert_eq!(rt; machine.regs, Regs { a: 0x42, f: 0x14, sp: 0x4FEE, ..blank() });
-    assert_eq!(rt; (machine.bus.read(0x4FEF), machine.bus.read(0x4FEE)), (0x42, 0x14));
+    assert_eq!(rt;
+        machine.regs,
+        Regs {
+            a: 0x42,
+            f: 0x14,
+            sp: 0x4FEE,
+            ..blank()
+        }
+    );
+    assert_eq!(rt;
+        (machine.bus.read(0x4FEF), machine.bus.read(0x4FEE)),
+        (0x42, 0x14)
+    );
     let mut machine = Machine::new(rt.alloc(), Regs { a: 0x42, ..blank() }, &[], &[])?;
     machine.does([0xD6, 0x27, 0, 0])?;
     machine.does([0x27, 0, 0, 0])?;
-    assert_eq!(rt; machine.regs, Regs { a: 0x15, f: 0x02, ..blank() });
+    assert_eq!(rt;
+        machine.regs,
+        Regs {
+            a: 0x15,
+            f: 0x02,
+            ..blank()
+        }
+    );
     Ok(())
 }

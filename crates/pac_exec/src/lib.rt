@@ -11,6 +11,8 @@ mod byte_loads;
 #[cfg(test)]
 mod byte_tests;
 mod calls;
+#[cfg(test)]
+mod flow_tests;
 mod instructions;
 mod jumps;
 #[cfg(test)]
@@ -27,6 +29,8 @@ mod shifts;
 mod special_loads;
 mod word_arithmetic;
 mod word_loads;
+#[cfg(test)]
+mod word_tests;
 
 pub use instructions::perform;
 pub use regs::{Alternate, Regs, displaced};

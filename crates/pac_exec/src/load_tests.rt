@@ -99,11 +99,18 @@ fn second_sets(rt: HostRuntime) -> Result<(), Fail> {
         l: 0x88,
     };
     let first = distinct();
-    let before = Regs { alternate: second, ..first };
+    let before = Regs {
+        alternate: second,
+        ..first
+    };
     let with_af = Regs {
         a: 0x11,
         f: 0x22,
-        alternate: Alternate { a: first.a, f: first.f, ..second },
+        alternate: Alternate {
+            a: first.a,
+            f: first.f,
+            ..second
+        },
         ..first
     };
     let with_bank = Regs {
@@ -138,14 +145,50 @@ fn second_sets(rt: HostRuntime) -> Result<(), Fail> {
 #[test]
 fn control(rt: HostRuntime) -> Result<(), Fail> {
     let off = distinct();
-    let on = Regs { iff1: true, iff2: true, ..off };
+    let on = Regs {
+        iff1: true,
+        iff2: true,
+        ..off
+    };
     for (bytes, before, after, ticks) in [
         ([0x76, 0, 0, 0], on, Regs { halted: true, ..on }, 4),
         ([0xF3, 0, 0, 0], on, off, 4),
-        ([0xFB, 0, 0, 0], off, Regs { after_ei: true, ..on }, 4),
-        ([0xED, 0x46, 0, 0], Regs { mode: InterruptMode::Two, ..off }, off, 8),
-        ([0xED, 0x56, 0, 0], off, Regs { mode: InterruptMode::One, ..off }, 8),
-        ([0xED, 0x5E, 0, 0], off, Regs { mode: InterruptMode::Two, ..off }, 8),
+        (
+            [0xFB, 0, 0, 0],
+            off,
+            Regs {
+                after_ei: true,
+                ..on
+            },
+            4,
+        ),
+        (
+            [0xED, 0x46, 0, 0],
+            Regs {
+                mode: InterruptMode::Two,
+                ..off
+            },
+            off,
+            8,
+        ),
+        (
+            [0xED, 0x56, 0, 0],
+            off,
+            Regs {
+                mode: InterruptMode::One,
+                ..off
+            },
+            8,
+        ),
+        (
+            [0xED, 0x5E, 0, 0],
+            off,
+            Regs {
+                mode: InterruptMode::Two,
+                ..off
+            },
+            8,
+        ),
         ([0xC3, 0x20, 0x15, 0], off, Regs { pc: 0x1520, ..off }, 10),
     ] {
         let mut machine = Machine::new(rt.alloc(), before, &[], &[])?;

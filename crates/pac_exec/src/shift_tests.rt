@@ -38,10 +38,18 @@ fn shifts(rt: HostRuntime) -> Result<(), Fail> {
         ..blank()
     };
     for (on_b, on_cell, byte, f, value, after) in SHIFTS {
-        let before = Regs { b: byte, f, ..usual };
+        let before = Regs {
+            b: byte,
+            f,
+            ..usual
+        };
         let mut machine = Machine::new(rt.alloc(), before, &[], &[])?;
         assert_eq!(rt; machine.does([0xCB, on_b, 0, 0])?, 8, "{on_b} {byte} {f}");
-        let regs = Regs { b: value, f: after, ..usual };
+        let regs = Regs {
+            b: value,
+            f: after,
+            ..usual
+        };
         assert_eq!(rt; machine.regs, regs, "{on_b} {byte} {f}");
         for (bytes, ticks) in [
             ([0xCB, on_cell, 0, 0], 15),
@@ -50,7 +58,11 @@ fn shifts(rt: HostRuntime) -> Result<(), Fail> {
         ] {
             let mut machine = Machine::new(rt.alloc(), before, &[(0x4800, byte)], &[])?;
             assert_eq!(rt; machine.does(bytes)?, ticks, "{bytes:?} {byte} {f}");
-            assert_eq!(rt; machine.regs, Regs { f: after, ..before }, "{bytes:?} {byte} {f}");
+            assert_eq!(rt;
+                machine.regs,
+                Regs { f: after, ..before },
+                "{bytes:?} {byte} {f}"
+            );
             assert_eq!(rt; machine.bus.read(0x4800), value, "{bytes:?} {byte} {f}");
         }
     }
@@ -70,13 +82,62 @@ fn each_register_turns(rt: HostRuntime) -> Result<(), Fail> {
         ..blank()
     };
     for (opcode, after) in [
-        (0x00, Regs { b: 0x11, f: 0x05, ..before }),
-        (0x01, Regs { c: 0x11, f: 0x05, ..before }),
-        (0x02, Regs { d: 0x11, f: 0x05, ..before }),
-        (0x03, Regs { e: 0x11, f: 0x05, ..before }),
-        (0x04, Regs { h: 0x11, f: 0x05, ..before }),
-        (0x05, Regs { l: 0x11, f: 0x05, ..before }),
-        (0x07, Regs { a: 0x11, f: 0x05, ..before }),
+        (
+            0x00,
+            Regs {
+                b: 0x11,
+                f: 0x05,
+                ..before
+            },
+        ),
+        (
+            0x01,
+            Regs {
+                c: 0x11,
+                f: 0x05,
+                ..before
+            },
+        ),
+        (
+            0x02,
+            Regs {
+                d: 0x11,
+                f: 0x05,
+                ..before
+            },
+        ),
+        (
+            0x03,
+            Regs {
+                e: 0x11,
+                f: 0x05,
+                ..before
+            },
+        ),
+        (
+            0x04,
+            Regs {
+                h: 0x11,
+                f: 0x05,
+                ..before
+            },
+        ),
+        (
+            0x05,
+            Regs {
+                l: 0x11,
+                f: 0x05,
+                ..before
+            },
+        ),
+        (
+            0x07,
+            Regs {
+                a: 0x11,
+                f: 0x05,
+                ..before
+            },
+        ),
     ] {
         let mut machine = Machine::new(rt.alloc(), before, &[], &[])?;
         assert_eq!(rt; machine.does([0xCB, opcode, 0, 0])?, 8, "{opcode}");
@@ -100,7 +161,11 @@ fn accumulator_turns(rt: HostRuntime) -> Result<(), Fail> {
         let before = Regs { a, f, ..blank() };
         let mut machine = Machine::new(rt.alloc(), before, &[], &[])?;
         assert_eq!(rt; machine.does([opcode, 0, 0, 0])?, 4, "{opcode} {a} {f}");
-        let regs = Regs { a: value, f: after, ..blank() };
+        let regs = Regs {
+            a: value,
+            f: after,
+            ..blank()
+        };
         assert_eq!(rt; machine.regs, regs, "{opcode} {a} {f}");
     }
     Ok(())
@@ -114,10 +179,24 @@ fn digits_turn(rt: HostRuntime) -> Result<(), Fail> {
         (0x67, 0x84, 0x20, 0x00, 0x80, 0x42, 0x80),
         (0x67, 0xF1, 0x23, 0x13, 0xF3, 0x12, 0x85),
     ] {
-        let before = Regs { a, f, h: 0x50, l: 0x00, ..blank() };
+        let before = Regs {
+            a,
+            f,
+            h: 0x50,
+            l: 0x00,
+            ..blank()
+        };
         let mut machine = Machine::new(rt.alloc(), before, &[(0x5000, memory)], &[])?;
-        assert_eq!(rt; machine.does([0xED, opcode, 0, 0])?, 18, "{opcode} {a} {memory}");
-        let regs = Regs { a: value, f: after, ..before };
+        assert_eq!(rt;
+            machine.does([0xED, opcode, 0, 0])?,
+            18,
+            "{opcode} {a} {memory}"
+        );
+        let regs = Regs {
+            a: value,
+            f: after,
+            ..before
+        };
         assert_eq!(rt; machine.regs, regs, "{opcode} {a} {memory}");
         assert_eq!(rt; machine.bus.read(0x5000), byte, "{opcode} {a} {memory}");
     }
@@ -138,11 +217,19 @@ fn bits_of_registers(rt: HostRuntime) -> Result<(), Fail> {
             (0xC0, 0x00, 0x00, one, 0x00),
             (0xC0, 0xFF, 0xFF, 0xFF, 0xFF),
         ] {
-            let before = Regs { e: byte, f, ..blank() };
+            let before = Regs {
+                e: byte,
+                f,
+                ..blank()
+            };
             let mut machine = Machine::new(rt.alloc(), before, &[], &[])?;
             let code = opcode | place * 8 | 3;
             assert_eq!(rt; machine.does([0xCB, code, 0, 0])?, 8, "{code} {byte} {f}");
-            let regs = Regs { e: value, f: after, ..blank() };
+            let regs = Regs {
+                e: value,
+                f: after,
+                ..blank()
+            };
             assert_eq!(rt; machine.regs, regs, "{code} {byte} {f}");
         }
     }
@@ -175,7 +262,11 @@ fn bits_of_cells(rt: HostRuntime) -> Result<(), Fail> {
                 let before = Regs { f, ..usual };
                 let mut machine = Machine::new(rt.alloc(), before, &[(0x4800, byte)], &[])?;
                 assert_eq!(rt; machine.does(bytes)?, ticks, "{bytes:?} {byte} {f}");
-                assert_eq!(rt; machine.regs, Regs { f: after, ..usual }, "{bytes:?} {byte} {f}");
+                assert_eq!(rt;
+                    machine.regs,
+                    Regs { f: after, ..usual },
+                    "{bytes:?} {byte} {f}"
+                );
                 assert_eq!(rt; machine.bus.read(0x4800), value, "{bytes:?} {byte} {f}");
             }
         }
