@@ -8,3 +8,6 @@ mod regs;
 
 pub use instructions::perform;
 pub use regs::{Alternate, Regs, displaced};
+
+#[cfg(test)]
+mod tests;
