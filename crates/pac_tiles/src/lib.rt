@@ -45,7 +45,7 @@ pub fn offset(column: u8, row: u8) -> u16
 
 /// Fills row y of the picture, from the top, with the values of its 288 pixels, from the tile ROM's 4,096
 /// bytes and the 1,024 bytes of tile RAM.
-pub fn row(rom: &[u8], tile_ram: &[u8], y: u8, out: &mut [u8; 288])
+pub fn row(rom: &[u8], tile_ram: &[u8], y: u8, out: &mut [u8; WIDTH])
     requires rom { length rom.now ≡ 4096 }
     requires tile_ram { length tile_ram.now ≡ 1024 }
     requires y { y < 224 }
