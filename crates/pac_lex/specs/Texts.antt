@@ -1,5 +1,5 @@
 -- Texts of the source: characters in single quotes.
-use Rattle.std.specs.Prelude.{ℕ, ◌+◌, ◌-◌, ◌&&◌, List, [], ◌∷◌, ◌++◌, length, take, drop, Option, Some, None, if◌then◌else◌, option_map}
+use Rattle.std.specs.Prelude.{ℕ, ◌+◌, ◌-◌, ◌&&◌, not, List, [], ◌∷◌, ◌++◌, length, take, drop, Option, Some, None, if◌then◌else◌, option_map}
 use Rattle.std.specs.List.{flat_map}
 use Rattle.pac_lex.specs.Bytes.{is_quote}
 
@@ -33,3 +33,9 @@ unfoldable pub unquoted : List ℕ → List ℕ
 unquoted [] = []
 unquoted (b ∷ []) = b ∷ []
 unquoted (b ∷ c ∷ bytes) = b ∷ (if is_quote b && is_quote c then unquoted bytes else unquoted (c ∷ bytes))
+
+-- the character of a text of one
+abbrev pub one_character : List ℕ → Option ℕ
+one_character (a ∷ c ∷ z ∷ []) = if is_quote a && not (is_quote c) && is_quote z then Some c else None
+one_character (a ∷ b ∷ c ∷ z ∷ []) = if is_quote a && is_quote b && is_quote c && is_quote z then Some 39 else None
+one_character text = None

@@ -1,5 +1,5 @@
 ghost use Rattle.std.specs.Prelude.{◌≡◌, ◌≤◌, ℕ, List, [], ◌∷◌, length, IfSome, IfOk, Some};
-ghost use Rattle.pac_lex.specs.Texts.{spelled, closing, unquoted, behind_character, inside};
+ghost use Rattle.pac_lex.specs.Texts.{spelled, closing, unquoted, behind_character, inside, one_character};
 
 use std::alloc::{AllocError, Global};
 
@@ -15,6 +15,8 @@ pub fn characters(alloc: Global, text: &[u8]) -> Result<Vec<u8>, AllocError>
 pub fn one_character(text: &[u8]) -> Option<u8>
     ensures some { IfSome result (λ c. text.now ≡ spelled (c ∷ [])) }
     ensures each { (c : ℕ) → text.now ≡ spelled (c ∷ []) → result ≡ Some c }
+    // The same as a function of the bytes.
+    ensures exact { result ≡ one_character text.now }
 {
     match text {
         [b'\'', b'\'', b'\'', b'\''] => Some(b'\''),
