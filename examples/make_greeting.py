@@ -192,7 +192,7 @@ BOAT = """
 """
 
 # The codes of the tiles. 00H stays black: the tile RAM is all 0 at power-on. A letter's code is its own.
-BLACK, CHEQUERED, SMALL, LARGE, CREST, DEEP = 0x00, 0x01, 0x02, 0x03, 0x04, 0x05
+CHEQUERED, SMALL, LARGE, CREST, DEEP = 0x01, 0x02, 0x03, 0x04, 0x05
 QUARTERS = 0x10  # bits 0 to 3: the quarters at the top left, top right, bottom left, bottom right
 MOON_FROM, BOAT_FROM = 0x60, 0x80
 
