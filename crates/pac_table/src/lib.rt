@@ -18,9 +18,7 @@ pub use operands::{Mnemonic, Operands, Shape};
 pub use patterns::{Field, Immediate, Page, Pattern};
 pub use table::{Row, row_numbered, rows};
 
-
 /// At most one row matches any bytes.
 pub fn at_most_one()
     ensures { AtMostOne }
-{
-}
+{}
