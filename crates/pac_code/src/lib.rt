@@ -5,6 +5,8 @@ ghost use Rattle.pac_code.specs.Codes.{DecodesFront, DecodesBack};
 
 mod decoder;
 mod encoder;
+#[cfg(test)]
+mod tests;
 
 pub use decoder::decode;
 pub use encoder::{Code, encode};

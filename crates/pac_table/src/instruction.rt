@@ -11,7 +11,7 @@ use crate::table::{row_numbered, rows};
 use std::marker::Model;
 
 /// An instruction of the table.
-#[derive(Clone, Copy, PartialEq, Eq)]
+#[derive(Clone, Copy, Debug, PartialEq, Eq)]
 pub struct Instr {
     row: u16,
     p: u8,

@@ -9,6 +9,8 @@ mod instruction;
 mod operands;
 mod patterns;
 mod table;
+#[cfg(test)]
+mod tests;
 
 pub use effects::{
     Block, BlockOperation, Direction, Effect, InterruptMode, Pair, Place, Rotation, Special,
