@@ -1,3 +1,3 @@
-pub mod Marks
 pub mod Steps
 pub mod Complete
+pub mod Undefined

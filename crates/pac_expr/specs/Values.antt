@@ -1,5 +1,5 @@
 -- The value of an expression, in whole numbers of 32 bits.
-use Rattle.std.specs.Prelude.{ℕ, ℤ, pos, negsuc, ◌+ℤ◌, ◌-ℤ◌, ◌*ℤ◌, neg_ℤ, int_le, int_div, ◌&&◌, List, Option, Some, None, Result, Ok, Err, if◌then◌else◌}
+use Rattle.std.specs.Prelude.{◌≡◌, ◌⊎◌, ℕ, ℤ, pos, negsuc, ◌+ℤ◌, ◌-ℤ◌, ◌*ℤ◌, neg_ℤ, int_le, int_div, ◌&&◌, List, Option, Some, None, Result, Ok, Err, if◌then◌else◌}
 use Rattle.std.specs.Ordering.{int_eq}
 use Rattle.pac_expr.specs.declared.expr.Sign.{Sign}
 use Rattle.pac_expr.specs.declared.expr.Sign.TheVariants as signs
@@ -58,3 +58,13 @@ value_of names line (atom a) = atom_value names line a
 value_of names line (group t) = value_of names line t
 value_of names line (signed sign t) = sign_value sign (value_of names line t)
 value_of names line (joined operator left right) = joined_value operator (value_of names line left) (value_of names line right)
+
+-- a name of the tree isn't defined
+abbrev pub HasUndefined : (List ℕ → Option ℤ) → Tree → Type 0
+HasUndefined names (atom (number n)) = ⊥
+HasUndefined names (atom (character c)) = ⊥
+HasUndefined names (atom (name text)) = names text ≡ None
+HasUndefined names (atom here) = ⊥
+HasUndefined names (group t) = HasUndefined names t
+HasUndefined names (signed sign t) = HasUndefined names t
+HasUndefined names (joined operator left right) = HasUndefined names left ⊎ HasUndefined names right

@@ -1,8 +1,9 @@
-ghost use Rattle.std.specs.Prelude.{◌≡◌, ℕ, ℤ, List, Option};
+ghost use Rattle.std.specs.Prelude.{◌≡◌, ◌↔◌, ℕ, ℤ, List, Option, Some, Err};
 ghost use Rattle.pac_expr.specs.Trees.{view, atom_of};
-ghost use Rattle.pac_expr.specs.Values.{value_of, atom_value, sign_value, joined_value, operate, first};
+ghost use Rattle.pac_expr.specs.Values.{value_of, atom_value, sign_value, joined_value, operate, first, HasUndefined};
 
 use crate::expr::{Expr, Operand, Operator, Sign};
+use std::fmt;
 
 /// Why an expression has no value. Where several faults are in one, the first in this order is told.
 #[derive(Clone, Copy, Debug, PartialEq, Eq)]
@@ -13,6 +14,20 @@ pub enum ValueError {
     OutOfRange,
     /// E3: a division by zero.
     DivisionByZero,
+}
+
+impl fmt::Display for ValueError {
+    ghost use Rattle.pac_expr.specs.Codes.{code};
+
+    ghost output = { λ fault. Some (code fault) };
+
+    fn fmt<W: fmt::Write>(&self, f: &mut fmt::Formatter<W>) -> fmt::Result {
+        match self {
+            ValueError::Undefined => write!(f, "E1"),
+            ValueError::OutOfRange => write!(f, "E2"),
+            ValueError::DivisionByZero => write!(f, "E3"),
+        }
+    }
 }
 
 /// What names stand for.
@@ -28,16 +43,24 @@ pub trait Symbols {
 /// The value of an expression, where `here` is the address of its line. A quotient is rounded toward
 /// zero.
 pub fn value<S: Symbols>(expr: &Expr<'_>, symbols: &S, here: u16) -> Result<i32, ValueError>
+    ensures exact { result ≡ value_of (S.lookup symbols.now) here (view expr.now) }
+    // E1 comes exactly where some name isn't defined, whatever else is wrong.
+    ensures undefined { (result ≡ Err ValueError.Undefined) ↔ HasUndefined (S.lookup symbols.now) (view expr.now) }
+{
+    evaluated(expr, symbols, here)
+}
+
+fn evaluated<S: Symbols>(expr: &Expr<'_>, symbols: &S, here: u16) -> Result<i32, ValueError>
     ensures { result ≡ value_of (S.lookup symbols.now) here (view expr.now) }
 {
     match expr {
         Expr::Value(operand) => operand_value(operand, symbols, here),
-        Expr::Group(inner) => value(inner, symbols, here),
-        Expr::Signed(sign, operand) => signed(*sign, value(operand, symbols, here)),
+        Expr::Group(inner) => evaluated(inner, symbols, here),
+        Expr::Signed(sign, operand) => signed(*sign, evaluated(operand, symbols, here)),
         Expr::Joined(operator, left, right) => joined(
             *operator,
-            value(left, symbols, here),
-            value(right, symbols, here),
+            evaluated(left, symbols, here),
+            evaluated(right, symbols, here),
         ),
     }
 }

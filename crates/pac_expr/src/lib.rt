@@ -9,3 +9,6 @@ mod words;
 pub use evaluation::{Symbols, ValueError, value};
 pub use expr::{Expr, Operand, Operator, Sign};
 pub use parsing::{ParseError, parse};
+
+#[cfg(test)]
+mod tests;
