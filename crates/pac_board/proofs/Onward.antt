@@ -45,7 +45,7 @@ half-follows state before (Steps regs actions ticks kind) times stands =
       long = omega (arith, times.0);
       short = omega (arith, times.1);
     }
-half-follows state before (Stops stop) times stands = record { now = stands.now; pictures = refl; met = refl; same = refl }
+half-follows state before (Stops stop) times stands = record { now = stands.now; pictures = refl; met = refl; same = refl; none = refl }
 
 pub steps-follow_walks : StepsFollowWalks
 steps-follow_walks state from limit count stands early =

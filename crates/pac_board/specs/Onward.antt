@@ -1,5 +1,5 @@
 -- One step of the board is one step along each walk that stands where the board stands.
-use Rattle.std.specs.Prelude.{◌≡◌, ◌≤◌, ◌<◌, ℕ, ◌+◌, ◌++◌, List, Option, None, Some}
+use Rattle.std.specs.Prelude.{◌≡◌, ◌≤◌, ◌<◌, ℕ, ◌+◌, ◌++◌, List, [], Option, None, Some}
 use Rattle.pac_cpu.specs.declared.once.Once.{Once}
 use Rattle.pac_cpu.specs.declared.once.Once.TheVariants.{Stepped, Stopped}
 use Rattle.pac_cpu.specs.declared.once.Kind.{Kind}
@@ -25,15 +25,16 @@ pub record Went (before after : Walk View) (old new : State) (given : List Pictu
   pub long : 4 ≤ ticks
   pub short : ticks ≤ 23
 
-pub record Stood (before after : Walk View) (old new : State) (stop : Stop) : Type 0 where
+pub record Stood (before after : Walk View) (old new : State) (given : List Picture) (stop : Stop) : Type 0 where
   pub now : after.now ≡ old.now
   pub pictures : after.pictures ≡ before.pictures
   pub met : after.stop ≡ Some stop
   pub same : new ≡ old
+  pub none : given ≡ []
 
 abbrev pub Follows : Walk View → Walk View → State → State → List Picture → Once → Type 0
 Follows before after old new given (Stepped ticks kind) = Went before after old new given ticks
-Follows before after old new given (Stopped stop) = Stood before after old new stop
+Follows before after old new given (Stopped stop) = Stood before after old new given stop
 
 abbrev pub StepsFollowWalks : Type 0
 StepsFollowWalks =

@@ -4,3 +4,6 @@ pub mod SourceLines
 pub mod SourceResults
 pub mod SourceTokens
 pub mod SourceViews
+pub mod Texts
+pub mod Turns
+pub mod Run

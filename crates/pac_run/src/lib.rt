@@ -1,4 +1,8 @@
 //! The work of the program `pacboard`, as calls that are proved: sources are read and run.
 #![tactic(auto)]
 
+mod image;
+mod pieces;
+mod report;
+pub mod run;
 pub mod source;
