@@ -76,7 +76,7 @@ fn logic(rt: HostRuntime) {
 }
 
 #[test]
-fn one_operand(rt: HostRuntime) {
+fn increments(rt: HostRuntime) {
     for (byte, f, value, after) in [
         (0x7F, 0x00, 0x80, 0x94),
         (0xFF, 0x00, 0x00, 0x50),
@@ -90,6 +90,10 @@ fn one_operand(rt: HostRuntime) {
             "INC {byte} {f}"
         );
     }
+}
+
+#[test]
+fn decrements(rt: HostRuntime) {
     for (byte, f, value, after) in [
         (0x80, 0x00, 0x7F, 0x16),
         (0x00, 0x00, 0xFF, 0x92),
@@ -103,6 +107,10 @@ fn one_operand(rt: HostRuntime) {
             "DEC {byte} {f}"
         );
     }
+}
+
+#[test]
+fn negations(rt: HostRuntime) {
     for (byte, f, value, after) in [
         (0x80, 0x00, 0x80, 0x87),
         (0x00, 0x01, 0x00, 0x42),
@@ -116,6 +124,10 @@ fn one_operand(rt: HostRuntime) {
             "NEG {byte} {f}"
         );
     }
+}
+
+#[test]
+fn complements_and_carries(rt: HostRuntime) {
     assert_eq!(rt;
         complement(0xB4, 0x00),
         Outcome {
@@ -229,7 +241,7 @@ fn all_decimals(rt: HostRuntime) {
 }
 
 #[test]
-fn words(rt: HostRuntime) {
+fn word_sums(rt: HostRuntime) {
     for (left, right, f, value, after) in [
         (0x4242, 0x1111, 0x00, 0x5353, 0x00),
         (0x0FFF, 0x0001, 0x02, 0x1000, 0x10),
@@ -244,6 +256,10 @@ fn words(rt: HostRuntime) {
             "ADD {left} {right} {f}"
         );
     }
+}
+
+#[test]
+fn word_sums_with_carry(rt: HostRuntime) {
     for (left, right, f, value, after) in [
         (0x5437, 0x2222, 0x01, 0x765A, 0x00),
         (0x7FFF, 0x0000, 0x01, 0x8000, 0x94),
@@ -259,6 +275,10 @@ fn words(rt: HostRuntime) {
             "ADC {left} {right} {f}"
         );
     }
+}
+
+#[test]
+fn word_differences(rt: HostRuntime) {
     for (left, right, f, value, after) in [
         (0x9999, 0x1111, 0x01, 0x8887, 0x82),
         (0x0000, 0x0001, 0x00, 0xFFFF, 0x93),
@@ -275,6 +295,10 @@ fn words(rt: HostRuntime) {
             "SBC {left} {right} {f}"
         );
     }
+}
+
+#[test]
+fn word_steps(rt: HostRuntime) {
     for (word, next) in [
         (0x0000, 0x0001),
         (0x00FF, 0x0100),

@@ -1,13 +1,8 @@
-// A library with one function.
+//! The main board of Namco's Pac-Man cabinet: what has happened to it, what it answers, its step, and its
+//! trace from power-on on.
 #![tactic(auto)]
 
-ghost use Rattle.std.specs.Prelude.{◌≡◌};
-ghost use Rattle.pac_board.specs.Echo.{echo_of};
+mod board;
+pub mod laws;
 
-// The `ensures` clause is the contract: what `echo` returns is `echo_of` of its argument, a definition
-// in `specs/Echo.antt`, which a caller's clause can cite too.
-pub fn echo(x: usize) -> usize
-    ensures { result ≡ echo_of x }
-{
-    x
-}
+pub use board::{Board, TICKS_A_FRAME, TooFar};

@@ -1,13 +1,22 @@
-// A library with one function.
+//! Instructions to bytes and back (Zilog Z80 CPU User Manual UM0080).
 #![tactic(auto)]
 
-ghost use Rattle.std.specs.Prelude.{◌≡◌};
-ghost use Rattle.pac_code.specs.Echo.{echo_of};
+ghost use Rattle.pac_code.specs.Codes.{DecodesFront, DecodesBack};
 
-// The `ensures` clause is the contract: what `echo` returns is `echo_of` of its argument, a definition
-// in `specs/Echo.antt`, which a caller's clause can cite too.
-pub fn echo(x: usize) -> usize
-    ensures { result ≡ echo_of x }
-{
-    x
-}
+mod decoder;
+mod encoder;
+#[cfg(test)]
+mod tests;
+
+pub use decoder::decode;
+pub use encoder::{Code, encode};
+
+/// Bytes that begin with the code of an instruction hold that instruction.
+pub fn decodes_front()
+    ensures { DecodesFront }
+{}
+
+/// An instruction's code gives it back, whatever follows.
+pub fn decodes_back()
+    ensures { DecodesBack }
+{}

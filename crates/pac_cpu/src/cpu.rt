@@ -1,9 +1,15 @@
 //! The processor as a value: its registers behind the calls that change them.
 
-ghost use Rattle.std.specs.Prelude.{◌≡◌};
+ghost use Rattle.std.specs.Prelude.{◌≡◌, ◌≤◌};
+ghost use Rattle.pac_bus.specs.Action.{behind};
 ghost use Rattle.pac_cpu.specs.Power.{at_power_on, behind_reset};
+ghost use Rattle.pac_cpu.specs.Step.{Stops, half, seen_on, regs_behind, actions_of, once_of, IfStepped, IfStopped};
 
-use pac_exec::{Alternate, Regs};
+use crate::once::Once;
+use crate::power::blank;
+use crate::step::advance;
+use pac_bus::Bus;
+use pac_exec::Regs;
 use pac_table::InterruptMode;
 use std::marker::Model;
 
@@ -28,39 +34,7 @@ impl Cpu {
     pub fn power_on() -> Self
         ensures { result ≡ at_power_on }
     {
-        let alternate = Alternate {
-            a: 0,
-            f: 0,
-            b: 0,
-            c: 0,
-            d: 0,
-            e: 0,
-            h: 0,
-            l: 0,
-        };
-        let regs = Regs {
-            a: 0,
-            f: 0,
-            b: 0,
-            c: 0,
-            d: 0,
-            e: 0,
-            h: 0,
-            l: 0,
-            alternate,
-            ix: 0,
-            iy: 0,
-            sp: 0,
-            pc: 0,
-            i: 0,
-            r: 0,
-            iff1: false,
-            iff2: false,
-            mode: InterruptMode::Zero,
-            halted: false,
-            after_ei: false,
-        };
-        Cpu { regs }
+        Cpu::with_regs(blank())
     }
 
     /// A processor with these registers.
@@ -84,13 +58,31 @@ impl Cpu {
     pub fn reset(&mut self)
         ensures { self.new ≡ behind_reset self.old }
     {
-        self.regs.pc = 0;
-        self.regs.i = 0;
-        self.regs.r = 0;
-        self.regs.mode = InterruptMode::Zero;
-        self.regs.iff1 = false;
-        self.regs.iff2 = false;
-        self.regs.halted = false;
-        self.regs.after_ei = false;
+        *self = Cpu::with_regs(Regs {
+            pc: 0,
+            i: 0,
+            r: 0,
+            mode: InterruptMode::Zero,
+            iff1: false,
+            iff2: false,
+            halted: false,
+            after_ei: false,
+            ..self.regs
+        });
+    }
+
+    /// Does one step over a bus: an interrupt's acceptance where one is requested with a vector byte,
+    /// enabled and not directly behind EI; a halted step; or the instruction at PC. Where that is none,
+    /// or in mode 0 the vector byte is no RST, nothing is done and the stop is told, as often as it is
+    /// asked for.
+    pub fn step<B: Bus>(&mut self, bus: &mut B, request: Option<u8>) -> Once
+        ensures regs { self.new ≡ regs_behind (half (seen_on B.byte_at B.input_at B.after bus.old) self.old request) self.old }
+        ensures bus { bus.new ≡ behind B.after bus.old (actions_of (half (seen_on B.byte_at B.input_at B.after bus.old) self.old request)) }
+        ensures result { result ≡ once_of (half (seen_on B.byte_at B.input_at B.after bus.old) self.old request) }
+        ensures time { IfStepped result (λ ticks kind. (4 ≤ ticks) × (ticks ≤ 23)) }
+        ensures stop { IfStopped result (λ stop. (self.new ≡ self.old) × (bus.new ≡ bus.old)) }
+        ensures again { IfStopped result (λ stop. half (seen_on B.byte_at B.input_at B.after bus.new) self.new request ≡ Stops stop) }
+    {
+        advance(&mut self.regs, bus, request)
     }
 }

@@ -4,6 +4,11 @@
 mod cpu;
 pub mod laws;
 mod once;
+mod power;
+mod step;
 
 pub use cpu::Cpu;
 pub use once::{Cause, Kind, Once, Stop};
+
+#[cfg(test)]
+mod tests;

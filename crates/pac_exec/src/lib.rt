@@ -34,3 +34,6 @@ mod word_tests;
 
 pub use instructions::perform;
 pub use regs::{Alternate, Regs, displaced};
+
+#[cfg(test)]
+mod tests;

@@ -1,13 +1,14 @@
-// A library with one function.
+//! Expressions of the assembler: the tree that tokens spell, and its value.
 #![tactic(auto)]
 
-ghost use Rattle.std.specs.Prelude.{◌≡◌};
-ghost use Rattle.pac_expr.specs.Echo.{echo_of};
+mod evaluation;
+mod expr;
+mod parsing;
+mod words;
 
-// The `ensures` clause is the contract: what `echo` returns is `echo_of` of its argument, a definition
-// in `specs/Echo.antt`, which a caller's clause can cite too.
-pub fn echo(x: usize) -> usize
-    ensures { result ≡ echo_of x }
-{
-    x
-}
+pub use evaluation::{Symbols, ValueError, value};
+pub use expr::{Expr, Operand, Operator, Sign};
+pub use parsing::{ParseError, parse};
+
+#[cfg(test)]
+mod tests;

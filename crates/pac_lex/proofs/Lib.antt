@@ -4,6 +4,7 @@ pub mod QuoteLemmas
 pub mod NameLemmas
 pub mod ScanLemmas
 pub mod Fronts
+pub mod CharacterLemmas
 pub mod TextLaws
 pub mod TokenLaws
 pub mod LineLaws

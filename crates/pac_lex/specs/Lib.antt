@@ -1,5 +1,6 @@
 pub mod Bytes
 pub mod Numbers
 pub mod Texts
+pub mod Codes
 pub mod Tokens
 pub mod Scan

@@ -1,5 +1,5 @@
 -- Texts of the source: characters in single quotes.
-use Rattle.std.specs.Prelude.{ℕ, ◌+◌, List, [], ◌∷◌, ◌++◌, Option, Some, None, if◌then◌else◌, option_map}
+use Rattle.std.specs.Prelude.{ℕ, ◌+◌, ◌-◌, ◌&&◌, not, List, [], ◌∷◌, ◌++◌, length, take, drop, Option, Some, None, if◌then◌else◌, option_map}
 use Rattle.std.specs.List.{flat_map}
 use Rattle.pac_lex.specs.Bytes.{is_quote}
 
@@ -18,3 +18,24 @@ closing (b ∷ []) = if is_quote b then Some 1 else None
 closing (b ∷ c ∷ bytes) =
     if is_quote b then (if is_quote c then option_map (λ n. n + 2) (closing bytes) else Some 1)
     else option_map (λ n. n + 1) (closing (c ∷ bytes))
+
+-- what stands between the quotes of a text
+abbrev pub inside : List ℕ → List ℕ
+inside text = take (length text - 2) (drop 1 text)
+
+-- what follows a character in a text, behind its first byte
+abbrev pub behind_character : ℕ → List ℕ → List ℕ
+behind_character c [] = []
+behind_character c (d ∷ bytes) = if is_quote c && is_quote d then bytes else d ∷ bytes
+
+-- characters with each doubled quote as one
+unfoldable pub unquoted : List ℕ → List ℕ
+unquoted [] = []
+unquoted (b ∷ []) = b ∷ []
+unquoted (b ∷ c ∷ bytes) = b ∷ (if is_quote b && is_quote c then unquoted bytes else unquoted (c ∷ bytes))
+
+-- the character of a text of one
+abbrev pub one_character : List ℕ → Option ℕ
+one_character (a ∷ c ∷ z ∷ []) = if is_quote a && not (is_quote c) && is_quote z then Some c else None
+one_character (a ∷ b ∷ c ∷ z ∷ []) = if is_quote a && is_quote b && is_quote c && is_quote z then Some 39 else None
+one_character text = None

@@ -1,7 +1,8 @@
-ghost use Rattle.std.specs.Prelude.{◌≡◌};
+ghost use Rattle.std.specs.Prelude.{◌≡◌, Some};
 ghost use Rattle.pac_lex.specs.declared.fault.LexError.TheVariants as errors;
 
 use std::alloc::{AllocError, AllocFailed};
+use std::fmt;
 
 /// What is wrong with a line: its length, or else the leftmost place that is no token.
 #[derive(Clone, Copy, Debug, PartialEq, Eq)]
@@ -23,6 +24,21 @@ pub enum LexError {
     Memory,
     /// The line isn't one of tokens.
     Fault(Fault),
+}
+
+impl fmt::Display for Fault {
+    ghost use Rattle.pac_lex.specs.Codes.{code};
+
+    ghost output = { λ fault. Some (code fault) };
+
+    fn fmt<W: fmt::Write>(&self, f: &mut fmt::Formatter<W>) -> fmt::Result {
+        match self {
+            Fault::NoToken => write!(f, "L1"),
+            Fault::WrongNumber => write!(f, "L2"),
+            Fault::OpenText => write!(f, "L3"),
+            Fault::LongLine => write!(f, "L4"),
+        }
+    }
 }
 
 impl From<Fault> for LexError {

@@ -10,5 +10,9 @@ mod token;
 
 pub use fault::{Fault, LexError};
 pub use line::first_line;
+pub use quote::{characters, one_character};
 pub use reading::{LINE_LIMIT, tokens};
 pub use token::{Kind, Token};
+
+#[cfg(test)]
+mod tests;

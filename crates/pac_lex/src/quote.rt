@@ -1,5 +1,62 @@
-ghost use Rattle.std.specs.Prelude.{◌≡◌, ◌≤◌, length, IfSome};
-ghost use Rattle.pac_lex.specs.Texts.{closing};
+ghost use Rattle.std.specs.Prelude.{◌≡◌, ◌≤◌, ℕ, List, [], ◌∷◌, length, IfSome, IfOk, Some};
+ghost use Rattle.pac_lex.specs.Texts.{spelled, closing, unquoted, behind_character, inside, one_character};
+
+use std::alloc::{AllocError, Global};
+
+/// The characters of a text, whose bytes stand here with their quotes: those between the quotes, each
+/// doubled quote as one.
+pub fn characters(alloc: Global, text: &[u8]) -> Result<Vec<u8>, AllocError>
+    ensures { (characters : List ℕ) → text.now ≡ spelled characters → IfOk result (λ v. v.items ≡ characters) }
+{
+    unquoted(alloc, inside(text))
+}
+
+/// The character of a text of one, whose bytes stand here with their quotes.
+pub fn one_character(text: &[u8]) -> Option<u8>
+    ensures some { IfSome result (λ c. text.now ≡ spelled (c ∷ [])) }
+    ensures each { (c : ℕ) → text.now ≡ spelled (c ∷ []) → result ≡ Some c }
+    // The same as a function of the bytes.
+    ensures exact { result ≡ one_character text.now }
+{
+    match text {
+        [b'\'', b'\'', b'\'', b'\''] => Some(b'\''),
+        [b'\'', c, b'\''] if *c != b'\'' => Some(*c),
+        _ => None,
+    }
+}
+
+// What stands between the quotes.
+fn inside(text: &[u8]) -> &[u8]
+    ensures { result.now ≡ inside text.now }
+{
+    match text {
+        [_, inside @ .., _] => inside,
+        _ => &[],
+    }
+}
+
+fn unquoted(alloc: Global, inside: &[u8]) -> Result<Vec<u8>, AllocError>
+    ensures { IfOk result (λ v. v.items ≡ unquoted inside.now) }
+{
+    let mut found = Vec::new(alloc);
+    let mut rest = inside;
+    while let [first, behind @ ..] = rest {
+        found.push(*first)?;
+        rest = behind_character(*first, behind);
+    }
+    Ok(found)
+}
+
+// What follows a character, of which a quote is written twice.
+fn behind_character(character: u8, behind: &[u8]) -> &[u8]
+    ensures same { result.now ≡ behind_character character behind.now }
+    ensures shorter { length result.now ≤ length behind.now }
+{
+    match behind {
+        [b'\'', rest @ ..] if character == b'\'' => rest,
+        _ => behind,
+    }
+}
 
 /// Behind an opening quote: how many bytes there are up to and with the closing one.
 pub(crate) fn closing(bytes: &[u8]) -> Option<usize>

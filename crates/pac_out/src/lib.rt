@@ -2,7 +2,7 @@
 //! those that it took before it refused is told.
 #![tactic(auto)]
 
-ghost use Rattle.std.specs.Prelude.{◌≡◌, ◌<◌, ◌≤◌, ◌+◌, ◌^◌, List, [], ◌++◌, length, take, Ok, IfOk, IfErr, OnOk, OnErr, ℕ};
+ghost use Rattle.std.specs.Prelude.{◌≡◌, ◌<◌, ◌≤◌, ◌+◌, ◌-◌, ◌^◌, List, [], ◌++◌, length, take, Ok, IfOk, IfErr, OnOk, OnErr, ℕ};
 ghost use Rattle.pac_out.specs.Writes.{StopsAfter, StopsBehind};
 
 pub mod counted;
@@ -82,6 +82,7 @@ pub trait Out {
         ensures ok { OnOk result (took self.old bytes.now self.new) }
         ensures total { IfOk result (λ total. total ≡ count + length bytes.now) }
         ensures within { IfErr result (λ fault. (count ≤ fault.count) × (fault.count < count + length bytes.now)) }
+        ensures stops { IfErr result (λ fault. StopsAfter took refused self.old bytes.now (fault.count - count) self.new) }
         ensures err { IfErr result (λ fault. StopsBehind took refused count self.old bytes.now fault.count self.new) }
     {
         match self.put_all(bytes) {

@@ -1,13 +1,8 @@
-// A library with one function.
+//! The work of the program `pacboard`, as calls that are proved: sources are read and run.
 #![tactic(auto)]
 
-ghost use Rattle.std.specs.Prelude.{◌≡◌};
-ghost use Rattle.pac_run.specs.Echo.{echo_of};
-
-// The `ensures` clause is the contract: what `echo` returns is `echo_of` of its argument, a definition
-// in `specs/Echo.antt`, which a caller's clause can cite too.
-pub fn echo(x: usize) -> usize
-    ensures { result ≡ echo_of x }
-{
-    x
-}
+mod image;
+mod pieces;
+mod report;
+pub mod run;
+pub mod source;

@@ -1,2 +1,3 @@
 pub mod TableRules
 pub mod Uniqueness
+pub mod Lengths

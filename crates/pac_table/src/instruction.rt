@@ -1,7 +1,7 @@
 //! Instructions: a row of the table with its fields and its immediate filled in.
 
-ghost use Rattle.std.specs.Prelude.{◌≡◌, ◌<◌, ◌≤◌, ◌↔◌, IsTrue, IsSome, IfSome};
-ghost use Rattle.pac_table.specs.Instructions.{IsInstruction, row_count, pattern_of, operands_of, effect_of, ticks_of, ticks_other_of, opcode_of};
+ghost use Rattle.std.specs.Prelude.{◌≡◌, ◌<◌, ◌≤◌, ◌↔◌, IsTrue, IsSome, IfSome, length};
+ghost use Rattle.pac_table.specs.Instructions.{IsInstruction, row_count, pattern_of, operands_of, effect_of, ticks_of, ticks_other_of, opcode_of, code};
 ghost use Rattle.pac_table.specs.Patterns.{IsDisplacement, IsSignedByte, word_limit, lists};
 
 use crate::effects::Effect;
@@ -11,7 +11,7 @@ use crate::table::{row_numbered, rows};
 use std::marker::Model;
 
 /// An instruction of the table.
-#[derive(Clone, Copy, PartialEq, Eq)]
+#[derive(Clone, Copy, Debug, PartialEq, Eq)]
 pub struct Instr {
     row: u16,
     p: u8,
@@ -77,6 +77,7 @@ impl Instr {
     pub fn row(&self) -> u16
         ensures value { result ≡ self.now.row }
         ensures bound { result < row_count }
+        ensures valid { IsInstruction self.now }
     {
         self.row
     }
@@ -113,9 +114,20 @@ impl Instr {
         self.disp
     }
 
+    /// How many bytes the code has.
+    pub fn size(&self) -> u8
+        ensures value { result ≡ length (code self.now) }
+        ensures at_least { 1 ≤ result }
+        ensures at_most { result ≤ 4 }
+    {
+        let pattern = row_numbered(self.row).pattern;
+        pattern.page.prefix_size() + 1 + pattern.immediate.size()
+    }
+
     /// The code's pattern.
     pub fn pattern(&self) -> Pattern
-        ensures { result ≡ pattern_of self.now }
+        ensures value { result ≡ pattern_of self.now }
+        ensures valid { IsInstruction self.now }
     {
         row_numbered(self.row).pattern
     }

@@ -9,6 +9,8 @@ mod instruction;
 mod operands;
 mod patterns;
 mod table;
+#[cfg(test)]
+mod tests;
 
 pub use effects::{
     Block, BlockOperation, Direction, Effect, InterruptMode, Pair, Place, Rotation, Special,
@@ -18,9 +20,7 @@ pub use operands::{Mnemonic, Operands, Shape};
 pub use patterns::{Field, Immediate, Page, Pattern};
 pub use table::{Row, row_numbered, rows};
 
-
 /// At most one row matches any bytes.
 pub fn at_most_one()
     ensures { AtMostOne }
-{
-}
+{}

@@ -1,6 +1,6 @@
 //! The code of an instruction: fixed bits, lettered fields and what follows the opcode byte.
 
-ghost use Rattle.std.specs.Prelude.{◌≡◌, ◌+◌, ◌<◌, ◌≤◌, ◌↔◌, IsTrue};
+ghost use Rattle.std.specs.Prelude.{◌≡◌, ◌+◌, ◌<◌, ◌≤◌, ◌↔◌, IsTrue, ℕ, ℤ, length};
 
 /// The prefix under which an opcode byte stands (UM0080, "Z80 Instruction Set").
 #[derive(Clone, Copy, Debug, PartialEq, Eq)]
@@ -22,7 +22,7 @@ pub enum Page {
 }
 
 impl Page {
-    ghost use Rattle.pac_table.specs.Patterns.{has_page, opcode_place, immediate_place};
+    ghost use Rattle.pac_table.specs.Patterns.{prefix, has_page, is_displaced, opcode_place, immediate_place};
 
     /// Whether bytes begin with the page's prefix.
     #[inline]
@@ -38,6 +38,27 @@ impl Page {
             Page::DdCb => bytes[0] == 0xDD && bytes[1] == 0xCB,
             Page::FdCb => bytes[0] == 0xFD && bytes[1] == 0xCB,
         }
+    }
+
+    /// How many bytes the prefix has.
+    #[inline]
+    pub fn prefix_size(self) -> u8
+        ensures value { result ≡ length (prefix self) }
+        ensures bound { result ≤ 2 }
+    {
+        match self {
+            Page::Plain => 0,
+            Page::Cb | Page::Ed | Page::Dd | Page::Fd => 1,
+            Page::DdCb | Page::FdCb => 2,
+        }
+    }
+
+    /// Whether the displacement stands before the opcode byte.
+    #[inline]
+    pub fn is_displaced(self) -> bool
+        ensures { result ≡ is_displaced self }
+    {
+        matches!(self, Page::DdCb | Page::FdCb)
     }
 
     /// The place of the opcode byte among the bytes of a code, counted from 0.
@@ -143,7 +164,10 @@ impl Field {
     pub fn lacks_six(self) -> bool
         ensures { result ≡ lacks_six self }
     {
-        matches!(self, Field::RegisterHigh | Field::RegisterLow | Field::ShiftOperation)
+        matches!(
+            self,
+            Field::RegisterHigh | Field::RegisterLow | Field::ShiftOperation
+        )
     }
 
     /// Whether the field lists a value.
@@ -181,7 +205,20 @@ pub enum Immediate {
 }
 
 impl Immediate {
-    ghost use Rattle.pac_table.specs.Patterns.{word_limit, IsDisplacement};
+    ghost use Rattle.pac_table.specs.Patterns.{word_limit, immediate_bytes, IsDisplacement};
+
+    /// How many bytes follow the opcode byte.
+    #[inline]
+    pub fn size(self) -> u8
+        ensures value { (word : ℕ) (displacement : ℤ) → length (immediate_bytes self word displacement) ≡ result }
+        ensures bound { result ≤ 2 }
+    {
+        match self {
+            Immediate::Absent => 0,
+            Immediate::Byte | Immediate::Relative | Immediate::Displacement => 1,
+            Immediate::Word | Immediate::DisplacementByte => 2,
+        }
+    }
 
     /// Whether n or nn may have this value; where there is neither, 0 alone.
     #[inline]

@@ -1,0 +1,66 @@
+-- What has happened to the board is a start view and the list of entries since, the newest first. Whatever the
+-- board answers is asked of these two: the last entry that decides, and where none does, the start view.
+use Rattle.std.specs.Prelude.{ℕ, List, [], ◌∷◌, ◌-◌, ◌==◌, Bool, true, false, Option, Some, None, unwrap_or, if◌then◌else◌, slice_index}
+use Rattle.pac_num.specs.Numbers.{low_byte, high_byte}
+use Rattle.pac_map.specs.declared.bus_table.Place.{Place}
+use Rattle.pac_map.specs.declared.bus_table.Place.TheVariants.{Program, Tile, Colour, Work, Nothing, Inputs0, Inputs1, Switches}
+use Rattle.pac_map.specs.Place.{read_place}
+use Rattle.pac_map.specs.Entry.{Entry, Write, Hold, View, view_after}
+
+-- whether a place is this cell of tile, colour or work RAM
+abbrev pub is_tile : ℕ → Place → Bool
+is_tile cell (Tile other) = other == cell
+is_tile cell _ = false
+
+abbrev pub is_colour : ℕ → Place → Bool
+is_colour cell (Colour other) = other == cell
+is_colour cell _ = false
+
+abbrev pub is_work : ℕ → Place → Bool
+is_work cell (Work other) = other == cell
+is_work cell _ = false
+
+-- the byte last written to the place that a test tells
+abbrev pub last_written : (Place → Bool) → List Entry → Option ℕ
+last_written here [] = None
+last_written here (Write place byte ∷ older) = if here place then Some byte else last_written here older
+last_written here (entry ∷ older) = last_written here older
+
+-- the mask of inputs last held
+abbrev pub last_held : List Entry → Option ℕ
+last_held [] = None
+last_held (Hold mask ∷ older) = Some mask
+last_held (entry ∷ older) = last_held older
+
+abbrev pub tile_at : View → List Entry → ℕ → ℕ
+tile_at start entries cell = unwrap_or (last_written (is_tile cell) entries) (slice_index start.tile cell)
+
+abbrev pub colour_at : View → List Entry → ℕ → ℕ
+colour_at start entries cell = unwrap_or (last_written (is_colour cell) entries) (slice_index start.colour cell)
+
+abbrev pub work_at : View → List Entry → ℕ → ℕ
+work_at start entries cell = unwrap_or (last_written (is_work cell) entries) (slice_index start.work cell)
+
+abbrev pub held : View → List Entry → ℕ
+held start entries = unwrap_or (last_held entries) start.held
+
+-- the byte that a place gives (service schematics; BFH, FFH and the inputs' sense as in this profile's bus table)
+abbrev pub answer : List ℕ → View → List Entry → Place → ℕ
+answer program start entries (Program cell) = slice_index program cell
+answer program start entries (Tile cell) = tile_at start entries cell
+answer program start entries (Colour cell) = colour_at start entries cell
+answer program start entries (Work cell) = work_at start entries cell
+answer program start entries Nothing = 191
+answer program start entries Inputs0 = 255 - low_byte (held start entries)
+answer program start entries Inputs1 = 255 - high_byte (held start entries)
+answer program start entries Switches = start.switches
+answer program start entries _ = 255
+
+-- the byte that a read from an address gives
+abbrev pub read : List ℕ → View → List Entry → ℕ → ℕ
+read program start entries address = answer program start entries (read_place address)
+
+-- the view that a history leaves: each entry in turn, the oldest first
+abbrev pub view_of : View → List Entry → View
+view_of start [] = start
+view_of start (entry ∷ older) = view_after (view_of start older) entry

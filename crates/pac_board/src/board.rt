@@ -1,0 +1,156 @@
+//! The board: processor, bus, ROMs and the vertical counter as one value.
+
+ghost use Rattle.std.specs.Prelude.{◌≡◌, ◌↔◌, ◌≤◌, ◌<◌, ◌+◌, ◌^◌, ◌/◌, length, IsErr, OnOk, OnErr, IfOk};
+ghost use Rattle.pac_board.specs.Trace.{Roms};
+ghost use Rattle.pac_board.specs.State as state;
+
+use pac_cpu::{Cpu, Once};
+use pac_map::Map;
+use std::alloc::{AllocError, Global};
+use std::marker::Model;
+use thiserror::Error;
+
+/// The T-states of a frame: 264 lines of 192.
+pub const TICKS_A_FRAME: u64 = 50_688;
+
+/// The time, in T-states, from which on no step is begun (this profile).
+const LATEST: u64 = 1 << 52;
+
+/// The time is so late that no step is begun.
+#[derive(Clone, Copy, Debug, PartialEq, Eq, Error)]
+#[error("the board's time is over")]
+pub struct TooFar;
+
+/// The main board. Clauses see its ROMs and the moment that it stands at.
+#[derive(Drop)]
+pub struct Board {
+    cpu: Cpu,
+    map: Map,
+    tiles: Vec<u8>,
+    time: u64,
+    steps: u64,
+}
+
+impl Model for Board {
+    ghost use Rattle.std.specs.Prelude.{◌≡◌, ◌≤◌, ◌*◌, ◌+◌, ◌^◌, length};
+    ghost use Rattle.pac_board.specs.State.{State};
+
+    ghost Value = { State };
+
+    ghost view = { λ board. record {
+      roms = record { program = board.map.program; tiles = board.tiles.items };
+      now = record { regs = board.cpu; board = board.map.view; time = board.time; steps = board.steps };
+    } };
+
+    ghost invariant = { λ board. record {
+      tiles : length board.tiles.items ≡ 4096;
+      steps : 4 * board.steps ≤ board.time;
+      time : board.time ≤ 2 ^ 52 + 22;
+    } };
+}
+
+impl Board {
+    /// The board at power-on, with a program ROM of 16,384 bytes, a tile ROM of 4,096 bytes and the byte of the
+    /// DIP switches. Refused for want of memory alone.
+    pub fn init(
+        alloc: Global,
+        program: Vec<u8>,
+        tiles: Vec<u8>,
+        switches: u8,
+    ) -> Result<Board, AllocError>
+        requires program { length program.items ≡ 16384 }
+        requires tiles { length tiles.items ≡ 4096 }
+        ensures { IfOk result (λ board. board ≡ state.at_power_on (record { program = program.items; tiles = tiles.items }) switches) }
+    {
+        let map = Map::new(alloc, program, switches)?;
+        Ok(Board {
+            cpu: Cpu::power_on(),
+            map,
+            tiles,
+            time: 0,
+            steps: 0,
+        })
+    }
+
+    /// The time since power-on, in T-states.
+    #[inline]
+    pub fn time(&self) -> u64
+        ensures time { result ≡ self.now.now.time }
+        ensures bound { self.now.now.time ≤ 2 ^ 52 + 22 }
+    {
+        self.time
+    }
+
+    /// The steps since power-on.
+    #[inline]
+    pub fn steps(&self) -> u64
+        ensures { result ≡ self.now.now.steps }
+    {
+        self.steps
+    }
+
+    /// The frames whose vertical blank has come.
+    #[inline]
+    pub fn frames(&self) -> u64
+        ensures { result ≡ self.now.now.time / 50688 }
+    {
+        self.time / TICKS_A_FRAME
+    }
+
+    /// Does one step, with the events that fall in it. No request is made yet.
+    pub fn step_once(&mut self) -> Result<Once, TooFar>
+        ensures late { IsErr result ↔ (2 ^ 52 ≤ self.old.now.time) }
+        ensures unchanged { OnErr result (self.new ≡ self.old) }
+        ensures state { OnOk result (self.new ≡ state.behind (state.next_of self.old) self.old) }
+        ensures once { IfOk result (λ once. once ≡ state.once_of (state.next_of self.old) self.old) }
+        ensures pictures { OnOk result (state.pictures_in (state.next_of self.old) ≡ state.due_since (self.old.now.time / 50688) self.new) }
+    {
+        if self.time >= LATEST {
+            return Err(TooFar);
+        }
+        let once = self.cpu.step(&mut self.map, None);
+        self.time += u64::from(ticks_in(&once));
+        self.steps += u64::from(steps_in(&once));
+        Ok(once)
+    }
+
+    /// The tile ROM, 4,096 bytes.
+    #[inline]
+    pub fn tiles(&self) -> &[u8]
+        ensures bytes { result.now ≡ self.now.roms.tiles }
+        ensures size { length self.now.roms.tiles ≡ 4096 }
+    {
+        &self.tiles
+    }
+
+    /// The tile RAM, 1,024 bytes.
+    #[inline]
+    pub fn tile_ram(&self) -> &[u8]
+        ensures bytes { result.now ≡ self.now.now.board.tile }
+        ensures size { length self.now.now.board.tile ≡ 1024 }
+    {
+        self.map.tile_ram()
+    }
+}
+
+/// The time of a step, 0 for a stop.
+#[inline]
+fn ticks_in(once: &Once) -> u8
+    ensures { result ≡ state.ticks_in once.now }
+{
+    match once {
+        Once::Stepped { ticks, .. } => *ticks,
+        Once::Stopped(_) => 0,
+    }
+}
+
+/// 1 for a step, 0 for a stop.
+#[inline]
+fn steps_in(once: &Once) -> u8
+    ensures { result ≡ state.steps_in once.now }
+{
+    match once {
+        Once::Stepped { .. } => 1,
+        Once::Stopped(_) => 0,
+    }
+}

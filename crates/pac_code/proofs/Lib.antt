@@ -1,0 +1,4 @@
+pub mod Reading
+pub mod RoundTrip
+pub mod Fronts
+pub mod Decoding

@@ -1,0 +1,149 @@
+//! The five instructions of the table by UM0080's pages, and the registers by its tables of r.
+
+use crate::{Alternate, Regs, displaced, perform};
+use pac_bus::{Bus, Flat};
+use pac_table::{Instr, InterruptMode};
+use std::test::Fail;
+
+/// Registers that are all different: A 1, F 2, B 3 .. L 8, the second set 11 to 18.
+fn different() -> Regs {
+    let alternate = Alternate {
+        a: 11,
+        f: 12,
+        b: 13,
+        c: 14,
+        d: 15,
+        e: 16,
+        h: 17,
+        l: 18,
+    };
+    Regs {
+        a: 1,
+        f: 2,
+        b: 3,
+        c: 4,
+        d: 5,
+        e: 6,
+        h: 7,
+        l: 8,
+        alternate,
+        ix: 0x1234,
+        iy: 0x5678,
+        sp: 0x4FF0,
+        pc: 0x0100,
+        i: 0x3F,
+        r: 0x80,
+        iff1: false,
+        iff2: false,
+        mode: InterruptMode::One,
+        halted: false,
+        after_ei: false,
+    }
+}
+
+#[test]
+fn performs_the_five_rows(rt: HostRuntime) -> Result<(), Fail> {
+    let mut bus = Flat::new(rt.alloc())?;
+    let mut regs = different();
+    let nop = Instr::new(0, 0, 0, 0, 0).ok_or("NOP")?;
+    let load = Instr::new(1, 0, 0, 0x42, 0).ok_or("LD A,42H")?;
+    let store = Instr::new(2, 0, 0, 0x4040, 0).ok_or("LD (4040H),A")?;
+    let jump = Instr::new(3, 0, 0, 0xFFFE, 0).ok_or("JP 0FFFEH")?;
+    let halt = Instr::new(4, 0, 0, 0, 0).ok_or("HALT")?;
+    assert_eq!(rt; perform(&nop, &mut regs, &mut bus), 4);
+    assert_eq!(rt; regs, different());
+    assert_eq!(rt; perform(&load, &mut regs, &mut bus), 7);
+    assert_eq!(rt;
+        regs,
+        Regs {
+            a: 0x42,
+            ..different()
+        }
+    );
+    assert_eq!(rt; perform(&store, &mut regs, &mut bus), 13);
+    assert_eq!(rt;
+        (bus.read(0x403F), bus.read(0x4040), bus.read(0x4041)),
+        (0, 0x42, 0)
+    );
+    assert_eq!(rt;
+        regs,
+        Regs {
+            a: 0x42,
+            ..different()
+        }
+    );
+    assert_eq!(rt; perform(&jump, &mut regs, &mut bus), 10);
+    assert_eq!(rt;
+        regs,
+        Regs {
+            a: 0x42,
+            pc: 0xFFFE,
+            ..different()
+        }
+    );
+    assert_eq!(rt; perform(&halt, &mut regs, &mut bus), 4);
+    assert_eq!(rt;
+        regs,
+        Regs {
+            a: 0x42,
+            pc: 0xFFFE,
+            halted: true,
+            ..different()
+        }
+    );
+    Ok(())
+}
+
+#[test]
+fn names_registers(rt: HostRuntime) {
+    let mut regs = different();
+    for (r, byte) in [(0, 3), (1, 4), (2, 5), (3, 6), (4, 7), (5, 8), (7, 1)] {
+        assert_eq!(rt; regs.register(r), byte, "r {r}");
+        regs.set_register(r, byte + 100);
+        assert_eq!(rt; regs.register(r), byte + 100, "r {r}");
+    }
+    assert_eq!(rt; (regs.bc(), regs.de(), regs.hl()), (0x6768, 0x696A, 0x6B6C));
+}
+
+#[test]
+fn exchanges_sets(rt: HostRuntime) {
+    let mut regs = different();
+    regs.exchange_af();
+    assert_eq!(rt;
+        (regs.a, regs.f, regs.b, regs.alternate.a, regs.alternate.f),
+        (11, 12, 3, 1, 2)
+    );
+    regs.exchange_bank();
+    assert_eq!(rt;
+        (regs.b, regs.c, regs.d, regs.e, regs.h, regs.l),
+        (13, 14, 15, 16, 17, 18)
+    );
+    assert_eq!(rt;
+        (regs.alternate.b, regs.alternate.c, regs.alternate.d),
+        (3, 4, 5)
+    );
+    assert_eq!(rt;
+        (regs.alternate.e, regs.alternate.h, regs.alternate.l),
+        (6, 7, 8)
+    );
+    regs.exchange_bank();
+    regs.exchange_af();
+    assert_eq!(rt; regs, different());
+    regs.set_interrupts(true);
+    assert_eq!(rt;
+        regs,
+        Regs {
+            iff1: true,
+            iff2: true,
+            ..different()
+        }
+    );
+}
+
+#[test]
+fn displaces_round_the_ends(rt: HostRuntime) {
+    assert_eq!(rt; displaced(0x4000, 127), 0x407F);
+    assert_eq!(rt; displaced(0x4000, -128), 0x3F80);
+    assert_eq!(rt; displaced(0x0000, -1), 0xFFFF);
+    assert_eq!(rt; displaced(0xFFFF, 1), 0x0000);
+}

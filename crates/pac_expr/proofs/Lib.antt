@@ -1,0 +1,3 @@
+pub mod Steps
+pub mod Complete
+pub mod Undefined

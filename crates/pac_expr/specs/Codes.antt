@@ -1,0 +1,9 @@
+-- The codes that are printed for a fault of an expression.
+use Rattle.std.specs.Prelude.{ℕ, List, codes}
+use Rattle.pac_expr.specs.declared.evaluation.ValueError.{ValueError}
+use Rattle.pac_expr.specs.declared.evaluation.ValueError.TheVariants.{Undefined, OutOfRange, DivisionByZero}
+
+abbrev pub code : ValueError → List ℕ
+code Undefined = codes "E1"
+code OutOfRange = codes "E2"
+code DivisionByZero = codes "E3"

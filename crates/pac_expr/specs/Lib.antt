@@ -1,0 +1,4 @@
+pub mod Trees
+pub mod Values
+pub mod Machine
+pub mod Codes

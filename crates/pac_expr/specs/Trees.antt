@@ -1,0 +1,111 @@
+-- Expressions as trees, and the tokens that spell them.
+use Rattle.std.specs.Prelude.{◌≡◌, ℕ, ◌-◌, ◌≤◌, List, [], ◌∷◌, ◌++◌, Option, Some, None, map}
+use Rattle.pac_lex.specs.declared.token.Kind.{Kind}
+use Rattle.pac_lex.specs.declared.token.Kind.TheVariants as kinds
+use Rattle.pac_lex.specs.declared.token.Token.{Token}
+use Rattle.pac_lex.specs.Texts.{one_character}
+use Rattle.pac_expr.specs.declared.expr.Operand.{Operand}
+use Rattle.pac_expr.specs.declared.expr.Operand.TheVariants as operands
+use Rattle.pac_expr.specs.declared.expr.Sign.{Sign}
+use Rattle.pac_expr.specs.declared.expr.Sign.TheVariants as signs
+use Rattle.pac_expr.specs.declared.expr.Operator.{Operator}
+use Rattle.pac_expr.specs.declared.expr.Operator.TheVariants.{Add, Subtract, Multiply, Divide}
+use Rattle.pac_expr.specs.declared.expr.Expr.{Expr, Value, Group', Signed', Joined'}
+
+-- the last parts of an expression: a number, a character, a name, and `$`
+pub data Atom : Type 0 where
+  number : ℕ → Atom
+  character : ℕ → Atom
+  name : List ℕ → Atom
+  here : Atom
+
+-- a tree without where it lies in memory
+pub data Tree : Type 0 where
+  atom : Atom → Tree
+  group : Tree → Tree
+  signed : Sign → Tree → Tree
+  joined : Operator → Tree → Tree → Tree
+
+abbrev pub atom_of : Operand → Atom
+atom_of (operands.Number n) = number n
+atom_of (operands.Character c) = character c
+atom_of (operands.Name text) = name text.now
+atom_of operands.Here = here
+
+abbrev pub view : Expr → Tree
+view (Value operand) = atom (atom_of operand)
+view (Group' p inner) = group (view inner)
+view (Signed' sign p operand) = signed sign (view operand)
+view (Joined' operator p left q right) = joined operator (view left) (view right)
+
+-- what the tokens of an expression are to its grammar
+pub data Mark : Type 0 where
+  single : Atom → Mark
+  opening : Mark
+  closing : Mark
+  plus : Mark
+  minus : Mark
+  star : Mark
+  slash : Mark
+  other : Mark
+
+-- a text of one character is an operand, and another text is nothing in an expression
+abbrev pub text_mark : Option ℕ → Mark
+text_mark None = other
+text_mark (Some c) = single (character c)
+
+abbrev pub kind_mark : Kind → List ℕ → Mark
+kind_mark (kinds.Number n) text = single (number n)
+kind_mark kinds.Text text = text_mark (one_character text)
+kind_mark kinds.Name text = single (name text)
+kind_mark kinds.Dollar text = single here
+kind_mark kinds.Open text = opening
+kind_mark kinds.Close text = closing
+kind_mark kinds.Plus text = plus
+kind_mark kinds.Minus text = minus
+kind_mark kinds.Star text = star
+kind_mark kinds.Slash text = slash
+kind_mark kind text = other
+
+abbrev pub mark : Token → Mark
+mark token = kind_mark token.kind token.text.now
+
+abbrev pub marks : List Token → List Mark
+marks tokens = map mark tokens
+
+abbrev pub sign_mark : Sign → Mark
+sign_mark signs.Plus = plus
+sign_mark signs.Minus = minus
+
+abbrev pub operator_mark : Operator → Mark
+operator_mark Add = plus
+operator_mark Subtract = minus
+operator_mark Multiply = star
+operator_mark Divide = slash
+
+-- the tokens that spell a tree
+abbrev pub spelling : Tree → List Mark
+spelling (atom a) = single a ∷ []
+spelling (group t) = opening ∷ (spelling t ++ closing ∷ [])
+spelling (signed sign t) = sign_mark sign ∷ spelling t
+spelling (joined operator left right) = spelling left ++ (operator_mark operator ∷ spelling right)
+
+-- products bind tighter than sums
+abbrev pub rank : Operator → ℕ
+rank Add = 2
+rank Subtract = 2
+rank Multiply = 1
+rank Divide = 1
+
+-- The tree is one whose operators outside its groups have this rank at most. The left operand of an
+-- operator may have its rank, the right one only a lower rank, so operators of one rank join from left
+-- to right. A sign stands before an operand without operators, and a group may hold any tree.
+abbrev pub IsRanked : ℕ → Tree → Type 0
+IsRanked n (atom a) = Unit {0}
+IsRanked n (group t) = IsRanked 2 t
+IsRanked n (signed sign t) = IsRanked 0 t
+IsRanked n (joined operator left right) = (rank operator ≤ n) × IsRanked (rank operator) left × IsRanked (rank operator - 1) right
+
+-- an expression of the source: a tree with its parentheses where they are needed, and its tokens
+abbrev pub IsExpression : List Token → Tree → Type 0
+IsExpression tokens t = IsRanked 2 t × (marks tokens ≡ spelling t)

@@ -1,0 +1,138 @@
+ghost use Rattle.std.specs.Prelude.{◌≡◌, ◌↔◌, ℕ, ℤ, List, Option, Some, Err};
+ghost use Rattle.pac_expr.specs.Trees.{view, atom_of};
+ghost use Rattle.pac_expr.specs.Values.{value_of, atom_value, sign_value, joined_value, operate, first, HasUndefined};
+
+use crate::expr::{Expr, Operand, Operator, Sign};
+use std::fmt;
+
+/// Why an expression has no value. Where several faults are in one, the first in this order is told.
+#[derive(Clone, Copy, Debug, PartialEq, Eq)]
+pub enum ValueError {
+    /// E1: a name that isn't defined.
+    Undefined,
+    /// E2: a partial result outside -2,147,483,648 to 2,147,483,647.
+    OutOfRange,
+    /// E3: a division by zero.
+    DivisionByZero,
+}
+
+impl fmt::Display for ValueError {
+    ghost use Rattle.pac_expr.specs.Codes.{code};
+
+    ghost output = { λ fault. Some (code fault) };
+
+    fn fmt<W: fmt::Write>(&self, f: &mut fmt::Formatter<W>) -> fmt::Result {
+        match self {
+            ValueError::Undefined => write!(f, "E1"),
+            ValueError::OutOfRange => write!(f, "E2"),
+            ValueError::DivisionByZero => write!(f, "E3"),
+        }
+    }
+}
+
+/// What names stand for.
+pub trait Symbols {
+    /// The number of each name that is defined.
+    ghost lookup: { Self → List ℕ → Option ℤ };
+
+    /// The number that a name stands for, if it is defined.
+    fn symbol(&self, name: &[u8]) -> Option<i32>
+        ensures { result ≡ Self.lookup self.now name.now };
+}
+
+/// The value of an expression, where `here` is the address of its line. A quotient is rounded toward
+/// zero.
+pub fn value<S: Symbols>(expr: &Expr<'_>, symbols: &S, here: u16) -> Result<i32, ValueError>
+    ensures exact { result ≡ value_of (S.lookup symbols.now) here (view expr.now) }
+    // E1 comes exactly where some name isn't defined, whatever else is wrong.
+    ensures undefined { (result ≡ Err ValueError.Undefined) ↔ HasUndefined (S.lookup symbols.now) (view expr.now) }
+{
+    evaluated(expr, symbols, here)
+}
+
+fn evaluated<S: Symbols>(expr: &Expr<'_>, symbols: &S, here: u16) -> Result<i32, ValueError>
+    ensures { result ≡ value_of (S.lookup symbols.now) here (view expr.now) }
+{
+    match expr {
+        Expr::Value(operand) => operand_value(operand, symbols, here),
+        Expr::Group(inner) => evaluated(inner, symbols, here),
+        Expr::Signed(sign, operand) => signed(*sign, evaluated(operand, symbols, here)),
+        Expr::Joined(operator, left, right) => joined(
+            *operator,
+            evaluated(left, symbols, here),
+            evaluated(right, symbols, here),
+        ),
+    }
+}
+
+fn operand_value<S: Symbols>(
+    operand: &Operand<'_>,
+    symbols: &S,
+    here: u16,
+) -> Result<i32, ValueError>
+    ensures { result ≡ atom_value (S.lookup symbols.now) here (atom_of operand.now) }
+{
+    match operand {
+        Operand::Number(number) => Ok(i32::from(*number)),
+        Operand::Character(code) => Ok(i32::from(*code)),
+        Operand::Name(name) => symbols.symbol(name).ok_or(ValueError::Undefined),
+        Operand::Here => Ok(i32::from(here)),
+    }
+}
+
+fn signed(sign: Sign, operand: Result<i32, ValueError>) -> Result<i32, ValueError>
+    ensures { result ≡ sign_value sign operand }
+{
+    match sign {
+        Sign::Plus => operand,
+        Sign::Minus => match operand {
+            Ok(number) => number.checked_neg().ok_or(ValueError::OutOfRange),
+            Err(fault) => Err(fault),
+        },
+    }
+}
+
+fn joined(
+    operator: Operator,
+    left: Result<i32, ValueError>,
+    right: Result<i32, ValueError>,
+) -> Result<i32, ValueError>
+    ensures { result ≡ joined_value operator left right }
+{
+    match (left, right) {
+        (Ok(left), Ok(right)) => operated(operator, left, right),
+        (Ok(_), Err(fault)) => Err(fault),
+        (Err(fault), Ok(_)) => Err(fault),
+        (Err(fault), Err(other)) => Err(first(fault, other)),
+    }
+}
+
+fn operated(operator: Operator, left: i32, right: i32) -> Result<i32, ValueError>
+    ensures { result ≡ operate operator left right }
+{
+    match operator {
+        Operator::Add => left.checked_add(right).ok_or(ValueError::OutOfRange),
+        Operator::Subtract => left.checked_sub(right).ok_or(ValueError::OutOfRange),
+        Operator::Multiply => left.checked_mul(right).ok_or(ValueError::OutOfRange),
+        Operator::Divide => {
+            if right == 0 {
+                return Err(ValueError::DivisionByZero);
+            }
+            left.checked_div(right).ok_or(ValueError::OutOfRange)
+        }
+    }
+}
+
+// The first of two faults, in the order of their codes.
+fn first(fault: ValueError, other: ValueError) -> ValueError
+    ensures { result ≡ first fault other }
+{
+    match fault {
+        ValueError::Undefined => ValueError::Undefined,
+        ValueError::DivisionByZero => other,
+        ValueError::OutOfRange => match other {
+            ValueError::Undefined => ValueError::Undefined,
+            _ => ValueError::OutOfRange,
+        },
+    }
+}

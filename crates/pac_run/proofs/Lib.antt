@@ -1,0 +1,12 @@
+pub mod SourceWords
+pub mod SourceSteps
+pub mod SourceValid
+pub mod SourceRom
+pub mod SourceReading
+pub mod SourceCuts
+pub mod SourceRows
+pub mod Fronts
+pub mod Images
+pub mod Turns
+pub mod Loops
+pub mod Ends

@@ -1,0 +1,9 @@
+pub mod Source
+pub mod SourceForms
+pub mod SourceLines
+pub mod SourceResults
+pub mod SourceTokens
+pub mod SourceViews
+pub mod Texts
+pub mod Turns
+pub mod Run

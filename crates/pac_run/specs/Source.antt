@@ -1,0 +1,114 @@
+-- The items, the fault and the ROM of a source: its lines say operations of the Z80, which stand one
+-- behind another from address 0 in a ROM of 16,384 bytes.
+use Rattle.std.specs.Prelude.{◌≡◌, ℕ, ◌+◌, ◌-◌, ◌≤◌, ◌&&◌, Bool, nat_lt, nat_le, if◌then◌else◌, Option, Some, None, List, [], ◌∷◌, ◌++◌, length, take, drop, map, slice_index, slice_get, All}
+use Rattle.std.specs.List.{sum_by, filter_map, range_with_len}
+use Rattle.std.specs.Str.Lines.{lines}
+use Rattle.pac_table.specs.Instructions.{Instruction, IsInstruction, code}
+use Rattle.pac_run.specs.SourceLines.{statement_of}
+use Rattle.pac_run.specs.declared.source.statement.Statement.{Statement}
+use Rattle.pac_run.specs.declared.source.statement.Statement.TheVariants.{Blank, Operation, Unreadable}
+use Rattle.pac_run.specs.declared.source.AsmFault.{AsmFault}
+use Rattle.pac_run.specs.declared.source.AsmCode.TheVariants.{Syntax, PastEnd, TooManyLines}
+
+-- the bytes of the program ROM, which ends at 3FFFH
+abbrev pub rom_size : ℕ
+rom_size = 16384
+
+-- the lines that a source may have
+abbrev pub most_lines : ℕ
+most_lines = 65535
+
+-- An item: an address, and the instruction that stands there.
+abbrev pub Placed : Type 0
+Placed = ℕ × Instruction
+
+-- the bytes of a line
+abbrev pub bytes : Statement → List ℕ
+bytes Blank = []
+bytes (Operation instruction) = code instruction
+bytes Unreadable = []
+
+abbrev pub size : Statement → ℕ
+size statement = length (bytes statement)
+
+-- What a line says, with what the lines above it say.
+pub record Line : Type 0 where
+  pub above : List Statement
+  pub statement : Statement
+
+-- the number of a line, from 1
+abbrev pub number : Line → ℕ
+number line = length line.above + 1
+
+-- the address of a line: the sizes above it
+abbrev pub address : Line → ℕ
+address line = sum_by size line.above
+
+-- statements as lines behind other statements
+abbrev pub behind : List Statement → List Statement → List Line
+behind above [] = []
+behind above (statement ∷ below) =
+    record { above = above; statement = statement } ∷ behind (above ++ statement ∷ []) below
+
+-- The lines of a source. They end at LF, and one CR before it is dropped.
+abbrev pub lines_of : List ℕ → List Line
+lines_of source = behind [] (map statement_of (lines source))
+
+-- what is wrong with a statement in the line of a number at an address: that it is none of the
+-- source, or that it has bytes past the end of the ROM
+abbrev pub fault_at : ℕ → ℕ → Statement → Option AsmFault
+fault_at number address Blank = None
+fault_at number address (Operation instruction) =
+    if nat_lt rom_size (address + length (code instruction))
+    then Some (record { code = PastEnd; line = number }) else None
+fault_at number address Unreadable = Some (record { code = Syntax; line = number })
+
+abbrev pub fault : Line → Option AsmFault
+fault line = fault_at (number line) (address line) line.statement
+
+-- the item of a statement at an address
+abbrev pub item_at : ℕ → Statement → Option Placed
+item_at address Blank = None
+item_at address (Operation instruction) = Some (address, instruction)
+item_at address Unreadable = None
+
+abbrev pub item : Line → Option Placed
+item line = item_at (address line) line.statement
+
+-- The fault of a source: too many lines, or else that of the first line that has one.
+unfoldable pub fault_of : List ℕ → Option AsmFault
+fault_of source =
+    if nat_lt most_lines (length (lines source))
+    then Some (record { code = TooManyLines; line = most_lines + 1 })
+    else slice_get (filter_map fault (lines_of source)) 0
+
+-- The items of a source, in order.
+unfoldable pub items_of : List ℕ → List Placed
+items_of source = filter_map item (lines_of source)
+
+-- whether an item covers an address
+abbrev pub covers : Placed → ℕ → Bool
+covers item place = nat_le item.0 place && nat_lt place (item.0 + length (code item.1))
+
+-- the byte at an address: that of the item that covers it, 0 where none does
+abbrev pub byte_of : List Placed → ℕ → ℕ
+byte_of [] place = 0
+byte_of (item ∷ more) place =
+    if covers item place then slice_index (code item.1) (place - item.0) else byte_of more place
+
+-- the bytes of items at the addresses below a limit
+unfoldable pub bytes_below : ℕ → List Placed → List ℕ
+bytes_below limit items = map (byte_of items) (range_with_len 0 limit)
+
+-- The ROM of items.
+abbrev pub rom_of : List Placed → List ℕ
+rom_of items = bytes_below rom_size items
+
+-- An item is an instruction of the table that lies in the ROM, which holds its code.
+pub record IsHeld (rom : List ℕ) (item : Placed) : Type 0 where
+  pub valid : IsInstruction item.1
+  pub within : item.0 + length (code item.1) ≤ rom_size
+  pub held : take (length (code item.1)) (drop item.0 rom) ≡ code item.1
+
+abbrev pub AreHeld : List ℕ → List Placed → Type 0
+AreHeld rom items = All (IsHeld rom) items

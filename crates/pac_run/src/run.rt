@@ -1,0 +1,174 @@
+//! A run: the board from power-on to the last blank or a stop, its frames and its report.
+
+ghost use Rattle.std.specs.Prelude.{◌≡◌, ◌≤◌, ◌<◌, ◌+◌, ◌*◌, ◌/◌, ◌^◌, length, OnOk, IfOk, IfErr};
+ghost use Rattle.pac_out.specs.Writes.{StopsAfter, StopsBehind};
+ghost use Rattle.pac_board.specs.Trace.{view_trace};
+ghost use Rattle.pac_board.specs.State.{behind, next_of, once_of, pictures_in, due_since, at_power_on};
+ghost use Rattle.pac_run.specs.Texts.{images};
+ghost use Rattle.pac_run.specs.Turns.{IsTurn, IsWithin, IsDone, switches};
+ghost use Rattle.pac_run.specs.Run.{Makes, Runs};
+ghost use Rattle.pac_run.specs.declared.run.RunFault.TheVariants.{NoMemory};
+
+use crate::image::put_image;
+use crate::report::put_report;
+use crate::source::{AsmError, AsmFault, assemble};
+use pac_board::{Board, TICKS_A_FRAME};
+use pac_cpu::{Once, Stop};
+use pac_out::{Out, WriteFault};
+use std::alloc::{AllocError, Global};
+
+/// The byte that the DIP switches give (this profile).
+const SWITCHES: u8 = 0xC9;
+
+/// What a run came to.
+#[derive(Clone, Copy, Debug, PartialEq, Eq)]
+pub struct Outcome {
+    /// The frames whose vertical blank came.
+    pub frames: u32,
+    /// The steps that were done.
+    pub steps: u64,
+    /// Their time in T-states.
+    pub ticks: u64,
+    /// What stopped the board before its last frame, if anything did.
+    pub stop: Option<Stop>,
+}
+
+/// The outputs of a run.
+#[derive(Clone, Copy, Debug, PartialEq, Eq)]
+pub enum Output {
+    /// The images of the frames.
+    Frames,
+    /// The report.
+    Report,
+}
+
+/// Why a run has no outcome.
+#[derive(Clone, Copy, Debug, PartialEq, Eq)]
+pub enum RunFault {
+    /// The source has a fault; nothing was written.
+    Source(AsmFault),
+    /// The writer of an output refused behind this count of its bytes.
+    Write(Output, u64),
+    /// Memory ran out; nothing was written.
+    NoMemory,
+}
+
+/// What a turn of the run came to.
+pub(crate) enum Turn {
+    /// A step was done, and the frames' output has this count of bytes.
+    Stepped(u64),
+    /// The board stopped.
+    Stopped(Stop),
+}
+
+/// The image of the board's picture, where a frame ended since so many were shown, behind `count` bytes.
+fn show<W: Out>(board: &Board, shown: u64, output: &mut W, count: u64) -> Result<u64, WriteFault>
+    requires room { count < 2 ^ 63 }
+    ensures ok { OnOk result (W.took output.old (images (due_since shown board.now)) output.new) }
+    ensures total { IfOk result (λ total. total ≡ count + length (images (due_since shown board.now))) }
+    ensures bound { IfOk result (λ total. shown ≤ board.now.now.time / 50688 → total + 193551 * shown ≤ count + 193551 * (board.now.now.time / 50688)) }
+    ensures err { IfErr result (λ fault. StopsBehind W.took W.refused count output.old (images (due_since shown board.now)) fault.count output.new) }
+{
+    if shown < board.frames() {
+        put_image(output, count, board.tiles(), board.tile_ram())
+    } else {
+        Ok(count)
+    }
+}
+
+/// One step of the board, and the image of the frame that it ended, behind `count` bytes.
+fn take_turn<W: Out>(board: &mut Board, output: &mut W, count: u64) -> Result<Turn, WriteFault>
+    requires early { board.old.now.time < 2 ^ 52 }
+    requires room { count < 2 ^ 63 }
+    ensures board { board.new ≡ behind (next_of board.old) board.old }
+    ensures turn { IfOk result (IsTurn W.took output.old output.new count (pictures_in (next_of board.old)) (once_of (next_of board.old) board.old)) }
+    ensures bound { IfOk result (IsWithin count (board.old.now.time / 50688) (board.new.now.time / 50688)) }
+    ensures err { IfErr result (λ fault. StopsBehind W.took W.refused count output.old (images (pictures_in (next_of board.old))) fault.count output.new) }
+{
+    let shown = board.frames();
+    match board.step_once() {
+        Ok(Once::Stepped { .. }) => Ok(Turn::Stepped(show(board, shown, output, count)?)),
+        Ok(Once::Stopped(stop)) => Ok(Turn::Stopped(stop)),
+        Err(_) => unreachable!(),
+    }
+}
+
+/// Runs the board from power-on to the end of its frames or to a stop, and writes each frame's image as its
+/// blank comes. Answers the stop, if there was one.
+pub(crate) fn run_frames<W: Out>(
+    board: &mut Board,
+    frames: u32,
+    output: &mut W,
+) -> Result<Option<Stop>, WriteFault>
+    requires frames { frames ≤ 15 }
+    requires start { board.old ≡ at_power_on board.old.roms switches }
+    ensures done { IfOk result (IsDone W.took board.old board.new frames output.old output.new) }
+    ensures shown { OnOk result (board.new.now.time / 50688 ≤ 15) }
+    ensures err { IfErr result (λ fault. StopsAfter W.took W.refused output.old (images (view_trace board.old.roms switches frames).pictures) fault.count output.new) }
+{
+    let limit = TICKS_A_FRAME * u64::from(frames);
+    let mut count = 0;
+    while board.time() < limit {
+        match take_turn(board, output, count)? {
+            Turn::Stepped(total) => count = total,
+            Turn::Stopped(stop) => return Ok(Some(stop)),
+        }
+    }
+    Ok(None)
+}
+
+impl From<AllocError> for RunFault {
+    ghost from_gives = { λ _ fault. fault ≡ NoMemory };
+
+    fn from(_error: AllocError) -> RunFault {
+        RunFault::NoMemory
+    }
+}
+
+/// The board of a source and of a tile ROM's 4,096 bytes.
+fn make_board(alloc: Global, source: &[u8], tiles: &[u8]) -> Result<Board, RunFault>
+    requires { length tiles.now ≡ 4096 }
+    ensures { Makes source.now tiles.now result }
+{
+    let program = match assemble(alloc, source) {
+        Ok(program) => program,
+        Err(AsmError::Fault(fault)) => return Err(RunFault::Source(fault)),
+        Err(AsmError::Memory) => return Err(RunFault::NoMemory),
+    };
+    let tiles = Vec::from_slice(alloc, tiles)?;
+    let board = Board::init(alloc, program.rom, tiles, SWITCHES)?;
+    Ok(board)
+}
+
+/// Runs a source on the board with a tile ROM of 4,096 bytes, for 1 to 15 frames or to a stop: to one output
+/// go the images of the frames whose vertical blank came, as binary PPM one behind another, to the other the
+/// report. The source is judged and all memory is found before anything is written.
+pub fn run_first<F: Out, R: Out>(
+    alloc: Global,
+    source: &[u8],
+    tiles: &[u8],
+    n: u32,
+    frames: &mut F,
+    report: &mut R,
+) -> Result<Outcome, RunFault>
+    requires tiles { length tiles.now ≡ 4096 }
+    requires at_least { 1 ≤ n }
+    requires at_most { n ≤ 15 }
+    ensures { Runs F.took F.refused R.took R.refused source.now tiles.now n frames.old frames.new report.old report.new result }
+{
+    let mut board = make_board(alloc, source, tiles)?;
+    let stop = match run_frames(&mut board, n, frames) {
+        Ok(stop) => stop,
+        Err(fault) => return Err(RunFault::Write(Output::Frames, fault.count)),
+    };
+    let outcome = Outcome {
+        frames: board.frames() as u32,
+        steps: board.steps(),
+        ticks: board.time(),
+        stop,
+    };
+    match put_report(report, outcome.frames, n, outcome.steps, outcome.ticks, stop) {
+        Ok(()) => Ok(outcome),
+        Err(fault) => Err(RunFault::Write(Output::Report, fault.count)),
+    }
+}

@@ -1,0 +1,42 @@
+-- What a list by its places is made of.
+use Rattle.std.proofs.Common.{◌≡◌, ℕ, zero, suc, ◌+◌, ◌<◌, [], ◌∷◌, ◌++◌, length, get_or, refl, sym, ◌∙◌, append_assoc, append-nil, add-zero, arith}
+use Rattle.std.proofs.lemmas.Bool.{cases_lt}
+use mathlib.Core.Logic.{inl, inr}
+use Rattle.std.proofs.lemmas.List.{length_push, get_or_push, get_or_append_left}
+use Rattle.pac_tiles.specs.Tabulate.{tabulate}
+
+pub length-tabulate : {A : Type 0} (count : ℕ) (value : ℕ → A) → length (tabulate count value) ≡ count
+unfolding tabulate
+length-tabulate zero value = refl
+length-tabulate (suc count) value = let e = length-tabulate count value in rw length_push (omega (arith, e))
+
+pub get_or-tabulate : {A : Type 0} (count : ℕ) (value : ℕ → A) (place : ℕ) (other : A) → place < count → get_or (tabulate count value) place other ≡ value place
+unfolding tabulate
+get_or-tabulate zero value place other below = absurd (omega (arith, below))
+get_or-tabulate (suc count) value place other below =
+    let long = length-tabulate count value in
+    elim (cases_lt place count) [
+      | inl before ↦
+          get_or_append_left (tabulate count value) _ other place (rw long before) ∙ get_or-tabulate count value place other before
+      | inr past ↦
+          let last : place ≡ count = omega (arith, below, past) in
+          rw last (get_or_push _ _ other count long)
+    ]
+
+-- the first `front` values, then the others
+pub tabulate-add : {A : Type 0} (front back : ℕ) (value : ℕ → A) → tabulate (front + back) value ≡ tabulate front value ++ tabulate back (λ place. value (front + place))
+unfolding tabulate
+tabulate-add front zero value = rw add-zero (sym (append-nil _))
+tabulate-add front (suc back) value =
+    let more : front + suc back ≡ suc (front + back) = omega arith in
+    let before = tabulate-add front back value in
+    rw (more, before) (append_assoc (tabulate front value) (tabulate back (λ place. value (front + place))) (value (front + back) ∷ []))
+
+-- two functions that agree give the same list
+pub tabulate-same : {A : Type 0} (count : ℕ) (one other : ℕ → A) → ((place : ℕ) → place < count → one place ≡ other place) → tabulate count one ≡ tabulate count other
+unfolding tabulate
+tabulate-same zero one other same = refl
+tabulate-same (suc count) one other same =
+    let front = tabulate-same count one other (λ place below. same place (omega (arith, below))) in
+    let last = same count (omega arith) in
+    rw (front, last) refl
