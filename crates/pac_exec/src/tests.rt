@@ -1,8 +1,9 @@
-//! The five instructions of the table by UM0080's pages, and the registers by its tables of r.
+//! Five instructions one after another by UM0080's pages, and the registers by its tables of r.
 
-use crate::{Alternate, Regs, displaced, perform};
-use pac_bus::{Bus, Flat};
-use pac_table::{Instr, InterruptMode};
+use crate::machine::Machine;
+use crate::{Alternate, Regs, displaced};
+use pac_bus::Bus;
+use pac_table::InterruptMode;
 use std::test::Fail;
 
 /// Registers that are all different: A 1, F 2, B 3 .. L 8, the second set 11 to 18.
@@ -42,53 +43,38 @@ fn different() -> Regs {
 }
 
 #[test]
-fn performs_the_five_rows(rt: HostRuntime) -> Result<(), Fail> {
-    let mut bus = Flat::new(rt.alloc())?;
-    let mut regs = different();
-    let nop = Instr::new(0, 0, 0, 0, 0).ok_or("NOP")?;
-    let load = Instr::new(1, 0, 0, 0x42, 0).ok_or("LD A,42H")?;
-    let store = Instr::new(2, 0, 0, 0x4040, 0).ok_or("LD (4040H),A")?;
-    let jump = Instr::new(3, 0, 0, 0xFFFE, 0).ok_or("JP 0FFFEH")?;
-    let halt = Instr::new(4, 0, 0, 0, 0).ok_or("HALT")?;
-    assert_eq!(rt; perform(&nop, &mut regs, &mut bus), 4);
-    assert_eq!(rt; regs, different());
-    assert_eq!(rt; perform(&load, &mut regs, &mut bus), 7);
+fn performs_one_after_another(rt: HostRuntime) -> Result<(), Fail> {
+    let mut machine = Machine::new(rt.alloc(), different(), &[], &[])?;
+    assert_eq!(rt; machine.does([0x00, 0, 0, 0])?, 4, "NOP");
+    assert_eq!(rt; machine.regs, different());
+    assert_eq!(rt; machine.does([0x3E, 0x42, 0, 0])?, 7, "LD A,42H");
+    let loaded = Regs {
+        a: 0x42,
+        ..different()
+    };
+    assert_eq!(rt; machine.regs, loaded);
+    assert_eq!(rt; machine.does([0x32, 0x40, 0x40, 0])?, 13, "LD (4040H),A");
     assert_eq!(rt;
-        regs,
-        Regs {
-            a: 0x42,
-            ..different()
-        }
-    );
-    assert_eq!(rt; perform(&store, &mut regs, &mut bus), 13);
-    assert_eq!(rt;
-        (bus.read(0x403F), bus.read(0x4040), bus.read(0x4041)),
+        (
+            machine.bus.read(0x403F),
+            machine.bus.read(0x4040),
+            machine.bus.read(0x4041)
+        ),
         (0, 0x42, 0)
     );
+    assert_eq!(rt; machine.regs, loaded);
+    assert_eq!(rt; machine.does([0xC3, 0xFE, 0xFF, 0])?, 10, "JP 0FFFEH");
+    let jumped = Regs {
+        pc: 0xFFFE,
+        ..loaded
+    };
+    assert_eq!(rt; machine.regs, jumped);
+    assert_eq!(rt; machine.does([0x76, 0, 0, 0])?, 4, "HALT");
     assert_eq!(rt;
-        regs,
+        machine.regs,
         Regs {
-            a: 0x42,
-            ..different()
-        }
-    );
-    assert_eq!(rt; perform(&jump, &mut regs, &mut bus), 10);
-    assert_eq!(rt;
-        regs,
-        Regs {
-            a: 0x42,
-            pc: 0xFFFE,
-            ..different()
-        }
-    );
-    assert_eq!(rt; perform(&halt, &mut regs, &mut bus), 4);
-    assert_eq!(rt;
-        regs,
-        Regs {
-            a: 0x42,
-            pc: 0xFFFE,
             halted: true,
-            ..different()
+            ..jumped
         }
     );
     Ok(())
