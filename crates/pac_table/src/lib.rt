@@ -3,6 +3,8 @@
 #![tactic(auto)]
 
 ghost use Rattle.pac_table.specs.Instructions.{AtMostOne};
+ghost use Rattle.pac_table.specs.Counts.{CountsOpcodes};
+ghost use Rattle.pac_table.specs.Forms.{FillsCodes};
 
 mod effects;
 mod instruction;
@@ -23,4 +25,15 @@ pub use table::{Row, row_numbered, rows};
 /// At most one row matches any bytes.
 pub fn at_most_one()
     ensures { AtMostOne }
+{}
+
+/// The table has the documented opcodes: 252 without a prefix, 248 behind CB, 58 behind ED, 39
+/// behind DD and behind FD, and 31 behind DD CB and behind FD CB.
+pub fn opcode_counts()
+    ensures { CountsOpcodes }
+{}
+
+/// The operands of each form fill the code, each part once.
+pub fn forms_fill_codes()
+    ensures { FillsCodes }
 {}

@@ -4,7 +4,7 @@ use crate::{Effect, Field, Immediate, Instr, Mnemonic, Operands, Page, Place, Sh
 
 #[test]
 fn the_parts_of_an_instruction(rt: HostRuntime) {
-    let load = Instr::new(1, 0, 0, 0x42, 0);
+    let load = Instr::new(1, 7, 0, 0x42, 0);
     assert_eq!(rt;
         load.map(|instr| (
             instr.row(),
@@ -13,7 +13,7 @@ fn the_parts_of_an_instruction(rt: HostRuntime) {
             instr.word(),
             instr.disp()
         )),
-        Some((1, 0, 0, 0x42, 0))
+        Some((1, 7, 0, 0x42, 0))
     );
     assert_eq!(rt;
         load.map(|instr| (
@@ -26,13 +26,13 @@ fn the_parts_of_an_instruction(rt: HostRuntime) {
     );
     assert_eq!(rt;
         load.map(|instr| instr.effect()),
-        Some(Effect::Load(Place::Accumulator, Place::Immediate))
+        Some(Effect::Load(Place::First, Place::Immediate))
     );
     assert_eq!(rt;
         load.map(|instr| instr.pattern().immediate),
         Some(Immediate::Byte)
     );
-    let store = Instr::new(2, 0, 0, 0x4040, 0);
+    let store = Instr::new(10, 0, 0, 0x4040, 0);
     assert_eq!(rt;
         store.map(|instr| (instr.opcode(), instr.size(), instr.ticks())),
         Some((0x32, 3, 13))
@@ -50,10 +50,11 @@ fn the_parts_of_an_instruction(rt: HostRuntime) {
 #[test]
 fn what_no_row_takes_is_refused(rt: HostRuntime) {
     assert_eq!(rt; Instr::new(rows().len() as u16, 0, 0, 0, 0), None);
-    assert_eq!(rt; Instr::new(1, 1, 0, 0x42, 0), None);
-    assert_eq!(rt; Instr::new(1, 0, 1, 0x42, 0), None);
-    assert_eq!(rt; Instr::new(1, 0, 0, 0x100, 0), None);
-    assert_eq!(rt; Instr::new(1, 0, 0, 0x42, -1), None);
+    assert_eq!(rt; Instr::new(1, 6, 0, 0x42, 0), None);
+    assert_eq!(rt; Instr::new(1, 8, 0, 0x42, 0), None);
+    assert_eq!(rt; Instr::new(1, 7, 1, 0x42, 0), None);
+    assert_eq!(rt; Instr::new(1, 7, 0, 0x100, 0), None);
+    assert_eq!(rt; Instr::new(1, 7, 0, 0x42, -1), None);
     assert_eq!(rt; Instr::new(0, 0, 0, 1, 0), None);
 }
 
