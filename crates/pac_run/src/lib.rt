@@ -3,6 +3,7 @@
 
 mod image;
 mod pieces;
+pub mod program;
 mod report;
 pub mod run;
 pub mod source;

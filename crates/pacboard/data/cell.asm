@@ -1,0 +1,3 @@
+LD A,42H
+LD (4040H),A
+HALT
