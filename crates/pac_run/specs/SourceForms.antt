@@ -2,7 +2,7 @@
 use Rattle.std.specs.Prelude.{ℕ, pos, Option}
 use Rattle.std.specs.List.{position_or_len, position}
 use Rattle.pac_table.specs.declared.operands.Mnemonic.TheVariants.{Nop, Halt, Ld, Jp}
-use Rattle.pac_table.specs.declared.operands.Shape.TheVariants.{Accumulator, Byte, Word, AtWord}
+use Rattle.pac_table.specs.declared.operands.Shape.TheVariants.{Accumulator, FirstRegister, Byte, Word, AtWord}
 use Rattle.pac_table.specs.declared.operands.Operands.{Operands}
 use Rattle.pac_table.specs.contracts.operands.OperandsPartialEq.TheImpl as forms
 use Rattle.pac_table.specs.Table.{table, bare, unary, binary}
@@ -28,9 +28,9 @@ no_operation = instruction (bare Nop) 0 0
 abbrev pub halt : Instruction
 halt = instruction (bare Halt) 0 0
 
--- LD A,n
+-- LD A,n: LD r,n with 7, A, for r
 abbrev pub load_accumulator : ℕ → Instruction
-load_accumulator n = instruction (binary Ld Accumulator Byte) 0 n
+load_accumulator n = instruction (binary Ld FirstRegister Byte) 7 n
 
 -- LD (nn),A
 abbrev pub store_accumulator : ℕ → Instruction

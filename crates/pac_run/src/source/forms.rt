@@ -6,6 +6,9 @@ ghost use Rattle.std.specs.Prelude.{◌≡◌, ◌≤◌};
 
 use pac_table::{Instr, Mnemonic, Operands, Shape, rows};
 
+/// The number of A in a register's field.
+const ACCUMULATOR: u8 = 7;
+
 /// `NOP`
 #[tactic(auto, using(crate::proofs::SourceRows::is_no_operation))]
 pub fn no_operation() -> Instr
@@ -27,8 +30,8 @@ pub fn load_accumulator(n: u8) -> Instr
     ensures { result ≡ form.load_accumulator n }
 {
     instruction(
-        operands(Mnemonic::Ld, Shape::Accumulator, Shape::Byte),
-        0,
+        operands(Mnemonic::Ld, Shape::FirstRegister, Shape::Byte),
+        ACCUMULATOR,
         n as u16,
     )
 }
