@@ -41,9 +41,9 @@ pub behind-agrees : (state : State) (h : Half) → IsInTime h → (regs : Regs) 
     → contents ≡ behind_actions after (record { program = state.roms.program; view = state.now.board }) (actions_of h)
     → (once : Once) → once ≡ once_of_half h
     → record {
-        roms = record { program = contents.program; tiles = state.roms.tiles };
-        now = record { regs = regs; board = contents.view; time = state.now.time + ticks_in once; steps = state.now.steps + steps_in once };
-      } ≡ behind (behind_half (by_view state.roms) state.now h) state
+      roms = record { program = contents.program; tiles = state.roms.tiles };
+      now = record { regs = regs; board = contents.view; time = state.now.time + ticks_in once; steps = state.now.steps + steps_in once };
+    } ≡ behind (behind_half (by_view state.roms) state.now h) state
 behind-agrees state (Steps after_regs actions ticks kind) times regs r contents c once o =
     let acted = c ∙ acted-folds state.roms state.roms.program state.now.board actions in
     let kept = kept-short state.roms (put_actions (by_view state.roms) state.now.board actions) state.now.time ticks times.1 in
@@ -89,20 +89,20 @@ pub steps-agree : (state : State) (regs : Regs) (contents : Contents) (once : On
     → once ≡ once_of_half (half (seen_on byte_at input_at after (record { program = state.roms.program; view = state.now.board })) state.now.regs None)
     → ticks ≡ ticks_in once → count ≡ steps_in once
     → Agreed state (record {
-        roms = record { program = contents.program; tiles = state.roms.tiles };
-        now = record { regs = regs; board = contents.view; time = state.now.time + ticks; steps = state.now.steps + count };
-      }) once
+      roms = record { program = contents.program; tiles = state.roms.tiles };
+      now = record { regs = regs; board = contents.view; time = state.now.time + ticks; steps = state.now.steps + count };
+    }) once
 steps-agree state regs contents once ticks count r c o t n =
     let h = half (seen (by_view state.roms) state.now.board) state.now.regs None in
     let same = ap (λ (s : Seen). half s state.now.regs None) (seen-agrees state.roms state.now.board) in
     let times : IsInTime h = timed (by_view state.roms) state.now in
     let o' = o ∙ ap once_of_half same in
     let agreed = behind-agrees state h times regs (r ∙ ap (λ x. regs_behind x state.now.regs) same) contents
-      (c ∙ ap (λ x. behind_actions after (record { program = state.roms.program; view = state.now.board }) (actions_of x)) same) once o' in
+    (c ∙ ap (λ x. behind_actions after (record { program = state.roms.program; view = state.now.board }) (actions_of x)) same) once o' in
     let counted = ap (λ (x : ℕ × ℕ). let s : State = record {
-        roms = record { program = contents.program; tiles = state.roms.tiles };
-        now = record { regs = regs; board = contents.view; time = state.now.time + x.0; steps = state.now.steps + x.1 };
-      } in s) (λ i. (t i, n i)) in
+      roms = record { program = contents.program; tiles = state.roms.tiles };
+      now = record { regs = regs; board = contents.view; time = state.now.time + x.0; steps = state.now.steps + x.1 };
+    } in s) (λ i. (t i, n i)) in
     let whole = counted ∙ agreed in
     record {
       state_is = whole;

@@ -57,19 +57,22 @@ code-first program view item at codes whole short inside lies here =
   where
     bytes : List ℕ
     bytes = four_bytes (λ byte. read_of program view byte) at
+
     size : length (take (length codes) (four_bytes (λ byte. read_of program view byte) at)) ≡ length codes
     size = length-take (length codes) (four_bytes (λ byte. read_of program view byte) at) ∙ omega arith
+
     code-at : (k : ℕ) → k < length codes → slice_index codes k ≡ slice_index program (at % 32768 + k)
     code-at k lt =
         ap (λ cs. slice_index cs k) (sym lies)
         ∙ get_or-take (length codes) (drop item.at program) k 0 lt
         ∙ get_or-drop item.at program k 0
         ∙ ap (λ a. slice_index program (a + k)) here
+
     each : (k : ℕ) → k < length codes → slice_index (take (length codes) (four_bytes (λ byte. read_of program view byte) at)) k ≡ slice_index codes k
     each k lt =
         get_or-take (length codes) (four_bytes (λ byte. read_of program view byte) at) k 0 lt
         ∙ below_four (λ byte. read_of program view byte) at (λ j. slice_index program (at % 32768 + j)) (length codes) short
-            (λ some. program-first program view at (omega arith)) (λ j below. program-read program view at (suc j) (omega arith)) k lt
+        (λ some. program-first program view at (omega arith)) (λ j below. program-read program view at (suc j) (omega arith)) k lt
         ∙ sym (code-at k lt)
 
 module _ (again : DecodesFront) (short : (instruction : Instruction) → IsInstruction instruction → length (code instruction) ≤ 4) where
@@ -78,7 +81,7 @@ module _ (again : DecodesFront) (short : (instruction : Instruction) → IsInstr
       → decoded (four_bytes (λ byte. read_of program view byte) at) ≡ Some item.instruction
   item-decoded program view item at whole lies here =
       again item.instruction (four_bytes (λ byte. read_of program view byte) at) lies.instruction
-        (code-first program view item at (code item.instruction) whole (short item.instruction lies.instruction) lies.inside lies.bytes here)
+      (code-first program view item at (code item.instruction) whole (short item.instruction lies.instruction) lies.inside lies.bytes here)
 
   item-agrees : (program : List ℕ) (view : View) (items : List Item) (at : ℕ) → length program ≡ 16384 → AllLie program items
       → option_or (item_at items (at % 32768)) (decoded (four_bytes (λ byte. read_of program view byte) at)) ≡ decoded (four_bytes (λ byte. read_of program view byte) at)
@@ -96,7 +99,7 @@ module _ (again : DecodesFront) (short : (instruction : Instruction) → IsInstr
     where
       choose : (a b c d e f g h : Bool)
           → option_or (item_in items (cond a (Program (at % 32768)) (cond b (cond c (Tile (at % 8192)) (cond d (Colour (at % 8192 - 1024)) (cond e Nothing (Work (at % 8192 - 3072))))) (cond f Inputs0 (cond g Inputs1 (cond h Switches Kick))))))
-            (decoded (four_bytes (λ byte. read_of program view byte) at)) ≡ decoded (four_bytes (λ byte. read_of program view byte) at)
+          (decoded (four_bytes (λ byte. read_of program view byte) at)) ≡ decoded (four_bytes (λ byte. read_of program view byte) at)
       choose true b c d e f g h = item-agrees program view items at whole lie
       choose false true true d e f g h = refl
       choose false true false true e f g h = refl
@@ -113,7 +116,7 @@ module _ (again : DecodesFront) (short : (instruction : Instruction) → IsInstr
     put = λ entries entry. refl;
     read = λ entries at. read-viewed roms.program start entries at sized;
     instruction = λ entries at.
-      ap (λ byte_at. option_or (item_in items (read_place at)) (decoded (four_bytes byte_at at))) (λ i. λ byte. read-viewed roms.program start entries byte sized i)
-      ∙ instruction-agrees roms.program (view_of start entries) items at whole lie;
+        ap (λ byte_at. option_or (item_in items (read_place at)) (decoded (four_bytes byte_at at))) (λ i. λ byte. read-viewed roms.program start entries byte sized i)
+        ∙ instruction-agrees roms.program (view_of start entries) items at whole lie;
     picture = λ entries. picture-agrees roms.tiles (λ cell. tile_at start entries cell) (λ cell. slice_index (view_of start entries).tile cell) (λ cell lt. sym (tile-viewed start entries cell sized lt));
   }

@@ -33,7 +33,7 @@ walk-opened ask limit from count open_yet early =
 
 half-follows : (state : State) (before : Walk View) (h : Half) → IsInTime h → StandsAt before state
     → Follows before (behind_step before (behind_half (by_view state.roms) state.now h)) state (behind (behind_half (by_view state.roms) state.now h) state)
-      (pictures_in (behind_half (by_view state.roms) state.now h)) (once_of (behind_half (by_view state.roms) state.now h) state)
+    (pictures_in (behind_half (by_view state.roms) state.now h)) (once_of (behind_half (by_view state.roms) state.now h) state)
 half-follows state before (Steps regs actions ticks kind) times stands =
     let same : state.now.time + ticks - state.now.time ≡ ticks = omega arith in
     record {
@@ -53,4 +53,4 @@ steps-follow_walks state from limit count stands early =
     let in_time : before.now.time < limit = omega (arith, ap (λ (m : Moment View). m.time) stands.now) in
     let after = walk-opened (by_view state.roms) limit from count stands.open_yet in_time ∙ ap (λ now. behind_step before (step (by_view state.roms) now)) stands.now in
     subst (λ (w : Walk View). Follows before w state (behind (next_of state) state) (pictures_in (next_of state)) (once_of (next_of state) state)) (sym after)
-      (half-follows state before (half (seen (by_view state.roms) state.now.board) state.now.regs None) (timed (by_view state.roms) state.now) stands)
+    (half-follows state before (half (seen (by_view state.roms) state.now.board) state.now.regs None) (timed (by_view state.roms) state.now) stands)

@@ -43,7 +43,7 @@ module _ (roms : Roms) (items : List Item) (start : View) where
   half-pictures w so_far (Steps regs actions ticks kind) =
       let acted = put_actions (by_history roms items start) w.now.board actions in
       sym (composed-pictures (events w.now.time ticks) acted
-        ∙ ap (λ ps. ps ++ composed (by_history roms items start) acted (events w.now.time ticks)) (acted-pictures actions w.now.board ∙ sym so_far))
+      ∙ ap (λ ps. ps ++ composed (by_history roms items start) acted (events w.now.time ticks)) (acted-pictures actions w.now.board ∙ sym so_far))
 
   onward-pictures : (w : Walk (List Entry)) → w.pictures ≡ pictures_of roms.tiles start w.now.board → (stop : Option Stop) (ended : Bool)
       → (onward_if (by_history roms items start) w stop ended).pictures ≡ pictures_of roms.tiles start (onward_if (by_history roms items start) w stop ended).now.board

@@ -144,5 +144,5 @@ offset-in_range column row c r = choose (nat_le 2 column && nat_lt column 34) re
 pub picture-agrees : (rom : List ℕ) (f g : ℕ → ℕ) → ((cell : ℕ) → cell < 1024 → f cell ≡ g cell) → picture_of rom f ≡ picture_of rom g
 picture-agrees rom f g h =
     tabulate-agrees 224 (row_of rom f) (row_of rom g) (λ y below.
-      tabulate-agrees 288 (λ x. dot_of rom f x y) (λ x. dot_of rom g x y) (λ x within.
-        ap (λ tile. pixel_of rom tile (x % 8) (y % 8)) (h (offset_of (x / 8) (y / 8)) (offset-in_range (x / 8) (y / 8) (omega arith) (omega arith)))))
+    tabulate-agrees 288 (λ x. dot_of rom f x y) (λ x. dot_of rom g x y) (λ x within.
+    ap (λ tile. pixel_of rom tile (x % 8) (y % 8)) (h (offset_of (x / 8) (y / 8)) (offset-in_range (x / 8) (y / 8) (omega arith) (omega arith)))))

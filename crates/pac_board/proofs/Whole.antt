@@ -28,7 +28,7 @@ timed ask now = half-in_time (seen ask now.board) now.regs None
 pub traces-agree : TracesAgree
 traces-agree roms items switches frames whole lie =
     walk-carried (view_of (power_on switches)) (by_history roms items (power_on switches)) (by_view roms)
-      (view-carries decodes_front length-code roms items (power_on switches) whole lie (power_on-sized switches)) (frame_ticks * frames) (start []) (12672 * frames)
+    (view-carries decodes_front length-code roms items (power_on switches) whole lie (power_on-sized switches)) (frame_ticks * frames) (start []) (12672 * frames)
 
 pub pictures-of_history : PicturesAreOfTheHistory
 pictures-of_history roms items switches frames = walk-pictures roms items (power_on switches) (frame_ticks * frames) at_power_on 0 0 (12672 * frames)

@@ -40,4 +40,4 @@ abbrev pub StepsFollowWalks : Type 0
 StepsFollowWalks =
     (state : State) (from : Moment View) (limit count : ℕ) → StandsAt (walk (by_view state.roms) limit from count) state → state.now.time < limit
     → Follows (walk (by_view state.roms) limit from count) (walk (by_view state.roms) limit from (count + 1)) state (behind (next_of state) state)
-      (pictures_in (next_of state)) (once_of (next_of state) state)
+    (pictures_in (next_of state)) (once_of (next_of state) state)

@@ -18,7 +18,7 @@ pub took-behind : {W : Type 0} (took : W → List ℕ → W → Type 0) (refused
 took-behind took refused joined count reached old mid new front back total at taken stops start text before size =
     let both : length (text ++ front) ≡ reached = omega (arith, length-append text front, size, at) in
     subst (λ (whole : List ℕ). StopsAfter took refused start whole total new) (append_assoc text front back)
-      (stops start (text ++ front) (joined start old mid text front before taken) both)
+    (stops start (text ++ front) (joined start old mid text front before taken) both)
 
 -- the pieces before one, that one, and the others
 pub pieces-split : {X : Type 0} (f : X → List ℕ) (xs : List X) (i : ℕ) (d : X) → i < length xs

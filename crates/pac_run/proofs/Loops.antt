@@ -65,7 +65,7 @@ step-on : {W : Type 0} (took : W → List ℕ → W → Type 0) (first now : Sta
     → Follows (along now.roms frames now.now.steps) (along now.roms frames (now.now.steps + 1)) now (behind (next_of now) now) (pictures_in (next_of now)) (once_of (next_of now) now)
 step-on took first now frames before after count on early =
     steps-follow_walks now (start (power_on switches)) (frame_ticks * frames) now.now.steps
-      (subst (λ (r : Roms). StandsAt (along r frames now.now.steps) now) (sym on.roms) on.stands) early
+    (subst (λ (r : Roms). StandsAt (along r frames now.now.steps) now) (sym on.roms) on.stands) early
 
 -- the pictures so far on the board's own ROMs
 so-far : (first now : State) (frames : ℕ) → now.roms ≡ first.roms → (along now.roms frames now.now.steps).pictures ≡ (along first.roms frames now.now.steps).pictures
@@ -80,15 +80,15 @@ on-by took joins first now new frames before after later count total given (Stop
 on-by took joins first now new frames before after later count total given (Stepped ticks kind) on early follows turned within =
     let at = there first now frames new.now.steps on.roms follows.steps in
     let pictures : (along first.roms frames new.now.steps).pictures ≡ (along first.roms frames now.now.steps).pictures ++ given =
-      ap (λ (w : Walk View). w.pictures) (sym at) ∙ follows.pictures ∙ ap (λ ps. ps ++ given) (so-far first now frames on.roms) in
+    ap (λ (w : Walk View). w.pictures) (sym at) ∙ follows.pictures ∙ ap (λ ps. ps ++ given) (so-far first now frames on.roms) in
     let text : images (along first.roms frames now.now.steps).pictures ++ images given ≡ images (along first.roms frames new.now.steps).pictures =
-      sym (images-append (along first.roms frames now.now.steps).pictures given) ∙ ap images (sym pictures) in
+    sym (images-append (along first.roms frames now.now.steps).pictures given) ∙ ap images (sym pictures) in
     record {
       roms = follows.roms ∙ on.roms;
       stands = subst (λ (w : Walk View). StandsAt w new) at follows.stands;
       taken = subst (λ (bytes : List ℕ). took before bytes later) text (joins before after later (images (along first.roms frames now.now.steps).pictures) (images given) on.taken turned.0);
       counted = turned.1 ∙ ap (λ n. n + length (images given)) on.counted
-        ∙ sym (length-append (images (along first.roms frames now.now.steps).pictures) (images given)) ∙ ap length text;
+          ∙ sym (length-append (images (along first.roms frames now.now.steps).pictures) (images given)) ∙ ap length text;
       bound = let bound = on.bound in omega (arith, within, bound);
       time = let time = follows.time in let short = follows.short in omega (arith, time, short, early);
     }
@@ -100,8 +100,8 @@ pub on-turned : {W : Type 0} (took : W → List ℕ → W → Type 0) → Joins 
     → IsOn took first new frames before later total
 on-turned took joins first now new frames before after later count total on early is turned within =
     on-by took joins first now new frames before after later count total (pictures_in (next_of now)) (once_of (next_of now) now) on early
-      (subst (λ (s : State). Follows (along now.roms frames now.now.steps) (along now.roms frames (now.now.steps + 1)) now s (pictures_in (next_of now)) (once_of (next_of now) now)) (sym is)
-        (step-on took first now frames before after count on early)) turned within
+    (subst (λ (s : State). Follows (along now.roms frames now.now.steps) (along now.roms frames (now.now.steps + 1)) now s (pictures_in (next_of now)) (once_of (next_of now) now)) (sym is)
+    (step-on took first now frames before after count on early)) turned within
 
 -- a step takes time
 pub longer-by : (before after : Walk View) (now new : State) (given : List Picture) (once : Once) {W : Type 0} (took : W → List ℕ → W → Type 0) (out later : W) (count total : ℕ)
@@ -115,8 +115,8 @@ pub on-longer : {W : Type 0} (took : W → List ℕ → W → Type 0) (first now
     → now.now.time < new.now.time
 on-longer took first now new frames before after later count total on early is turned =
     longer-by (along now.roms frames now.now.steps) (along now.roms frames (now.now.steps + 1)) now new (pictures_in (next_of now)) (once_of (next_of now) now) took after later count total
-      (subst (λ (s : State). Follows (along now.roms frames now.now.steps) (along now.roms frames (now.now.steps + 1)) now s (pictures_in (next_of now)) (once_of (next_of now) now)) (sym is)
-        (step-on took first now frames before after count on early)) turned
+    (subst (λ (s : State). Follows (along now.roms frames now.now.steps) (along now.roms frames (now.now.steps + 1)) now s (pictures_in (next_of now)) (once_of (next_of now) now)) (sym is)
+    (step-on took first now frames before after count on early)) turned
 
 -- what has ended is the trace
 ended-done : {W : Type 0} (took : W → List ℕ → W → Type 0) (first new : State) (frames count : ℕ) (before after : W) (stop : Option Stop)
@@ -136,8 +136,8 @@ on-late took first now frames before after count on late =
     let time = ap (λ m. m.time) on.stands.now in
     let test : nat_le (frame_ticks * frames) (along first.roms frames now.now.steps).now.time ≡ true = grind (arith, nat_tests, time) in
     ended-done took first now frames now.now.steps before after None
-      ((λ i. is_some (on.stands.open_yet i) || nat_le (frame_ticks * frames) (along first.roms frames now.now.steps).now.time) ∙ test)
-      (sym on.stands.now) (sym on.stands.open_yet) on.taken
+    ((λ i. is_some (on.stands.open_yet i) || nat_le (frame_ticks * frames) (along first.roms frames now.now.steps).now.time) ∙ test)
+    (sym on.stands.now) (sym on.stands.open_yet) on.taken
 
 stopped-by : {W : Type 0} (took : W → List ℕ → W → Type 0) (first now new : State) (frames : ℕ) (before after later : W) (count : ℕ) (stop : Stop) (given : List Picture) (once : Once)
     → IsOn took first now frames before after count
@@ -148,21 +148,21 @@ stopped-by took first now new frames before after later count stop given (Stoppe
     let at = there first now frames (now.now.steps + 1) on.roms refl in
     let met_is : (along first.roms frames (now.now.steps + 1)).stop ≡ Some met = ap (λ (w : Walk View). w.stop) (sym at) ∙ follows.met in
     let pictures : (along first.roms frames (now.now.steps + 1)).pictures ≡ (along first.roms frames now.now.steps).pictures =
-      ap (λ (w : Walk View). w.pictures) (sym at) ∙ follows.pictures ∙ so-far first now frames on.roms in
+    ap (λ (w : Walk View). w.pictures) (sym at) ∙ follows.pictures ∙ so-far first now frames on.roms in
     ended-done took first new frames (now.now.steps + 1) before later (Some stop)
-      (ap (λ s. is_some s || nat_le (frame_ticks * frames) (along first.roms frames (now.now.steps + 1)).now.time) met_is)
-      (ap (λ (s : State). s.now) follows.same ∙ sym follows.now ∙ ap (λ (w : Walk View). w.now) at)
-      (ap Some turned.0 ∙ sym met_is)
-      (subst (λ (w : _). took before (images (along first.roms frames (now.now.steps + 1)).pictures) w) (sym turned.1)
-        (subst (λ (ps : List Picture). took before (images ps) after) (sym pictures) on.taken))
+    (ap (λ s. is_some s || nat_le (frame_ticks * frames) (along first.roms frames (now.now.steps + 1)).now.time) met_is)
+    (ap (λ (s : State). s.now) follows.same ∙ sym follows.now ∙ ap (λ (w : Walk View). w.now) at)
+    (ap Some turned.0 ∙ sym met_is)
+    (subst (λ (w : _). took before (images (along first.roms frames (now.now.steps + 1)).pictures) w) (sym turned.1)
+    (subst (λ (ps : List Picture). took before (images ps) after) (sym pictures) on.taken))
 
 pub on-stopped : {W : Type 0} (took : W → List ℕ → W → Type 0) (first now new : State) (frames : ℕ) (before after later : W) (count : ℕ) (stop : Stop)
     → IsOn took first now frames before after count → now.now.time < frame_ticks * frames → new ≡ behind (next_of now) now
     → IsTurn took after later count (pictures_in (next_of now)) (once_of (next_of now) now) (turn.Stopped stop) → IsDone took first new frames before later (Some stop)
 on-stopped took first now new frames before after later count stop on early is turned =
     stopped-by took first now new frames before after later count stop (pictures_in (next_of now)) (once_of (next_of now) now) on
-      (subst (λ (s : State). Follows (along now.roms frames now.now.steps) (along now.roms frames (now.now.steps + 1)) now s (pictures_in (next_of now)) (once_of (next_of now) now)) (sym is)
-        (step-on took first now frames before after count on early)) turned
+    (subst (λ (s : State). Follows (along now.roms frames now.now.steps) (along now.roms frames (now.now.steps + 1)) now s (pictures_in (next_of now)) (once_of (next_of now) now)) (sym is)
+    (step-on took first now frames before after count on early)) turned
 
 pictures-by : (first now new : State) (frames : ℕ) (given : List Picture) (once : Once) → now.roms ≡ first.roms
     → Follows (along now.roms frames now.now.steps) (along now.roms frames (now.now.steps + 1)) now new given once
@@ -181,7 +181,7 @@ on-refused took refused first now frames before after later count total on early
     let pictures = pictures-by first now (behind (next_of now) now) frames (pictures_in (next_of now)) (once_of (next_of now) now) on.roms (step-on took first now frames before after count on early) in
     let front = walks-fronts first.roms switches frames (now.now.steps + 1) in
     let text : (images (along first.roms frames now.now.steps).pictures ++ images (pictures_in (next_of now))) ++ images front.rest ≡ images (view_trace first.roms switches frames).pictures =
-      ap (λ bytes. bytes ++ images front.rest) (sym (images-append (along first.roms frames now.now.steps).pictures (pictures_in (next_of now))) ∙ ap images (sym pictures))
-      ∙ sym (images-append (along first.roms frames (now.now.steps + 1)).pictures front.rest) ∙ ap images (sym front.joined) in
+    ap (λ bytes. bytes ++ images front.rest) (sym (images-append (along first.roms frames now.now.steps).pictures (pictures_in (next_of now))) ∙ ap images (sym pictures))
+    ∙ sym (images-append (along first.roms frames (now.now.steps + 1)).pictures front.rest) ∙ ap images (sym front.joined) in
     subst (λ (bytes : List ℕ). StopsAfter took refused before bytes total later) text
-      (StopsAfter-append (stops before (images (along first.roms frames now.now.steps).pictures) on.taken (sym on.counted)) (images front.rest))
+    (StopsAfter-append (stops before (images (along first.roms frames now.now.steps).pictures) on.taken (sym on.counted)) (images front.rest))

@@ -38,7 +38,7 @@ joined pieces = flat_map (λ piece. piece) pieces
 abbrev pub cause_text : ℕ → List ℕ → Cause → List ℕ
 cause_text pc bytes Opcode =
     joined (codes "stop S1 at " ∷ hex_word pc ∷ codes " bytes " ∷ hex_byte (slice_index bytes 0) ∷ codes " " ∷ hex_byte (slice_index bytes 1)
-      ∷ codes " " ∷ hex_byte (slice_index bytes 2) ∷ codes " " ∷ hex_byte (slice_index bytes 3) ∷ codes "\n" ∷ [])
+    ∷ codes " " ∷ hex_byte (slice_index bytes 2) ∷ codes " " ∷ hex_byte (slice_index bytes 3) ∷ codes "\n" ∷ [])
 cause_text pc bytes (Vector vector) = joined (codes "stop S2 at " ∷ hex_word pc ∷ codes " byte " ∷ hex_byte vector ∷ codes "\n" ∷ [])
 
 abbrev pub end_text : Option Stop → List ℕ

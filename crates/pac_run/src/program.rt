@@ -6,12 +6,9 @@ use crate::run::{Outcome, Output, RunFault, run_first};
 use crate::source::{AsmError, AsmFault, assemble};
 use pac_out::through::Through;
 use std::alloc::Global;
-use std::env;
-use std::fmt;
-use std::fs;
-use std::io;
 use std::io::{ErrorKind, Read};
 use std::rt::{Env, Files};
+use std::{env, fmt, fs, io};
 
 /// The most bytes of a file that is read: 16 MiB.
 const MOST_BYTES: u64 = 16_777_216;
@@ -39,7 +36,9 @@ enum Failure<'a> {
 impl fmt::Display for Failure<'_> {
     fn fmt<W: fmt::Write>(&self, f: &mut fmt::Formatter<W>) -> fmt::Result {
         match self {
-            Failure::Words => f.write_str("usage: pacboard first SOURCE TILES N FRAMES (N from 1 to 15)"),
+            Failure::Words => f.write_str(
+                "usage: pacboard first SOURCE TILES N FRAMES (N from 1 to 15)",
+            ),
             Failure::Read(name) => write!(f, "read fault {name}"),
             Failure::Source(fault) => {
                 let code = fault.code;
@@ -47,8 +46,14 @@ impl fmt::Display for Failure<'_> {
                 write!(f, "refused {code} line {line}")
             }
             Failure::Tiles => f.write_str("refused M3 tiles"),
-            Failure::Write(Output::Frames, count) => write!(f, "write fault frames after {count} bytes"),
-            Failure::Write(Output::Report, count) => write!(f, "write fault report after {count} bytes"),
+            Failure::Write(Output::Frames, count) => write!(
+                f,
+                "write fault frames after {count} bytes"
+            ),
+            Failure::Write(Output::Report, count) => write!(
+                f,
+                "write fault report after {count} bytes"
+            ),
             Failure::Memory => f.write_str("out of memory"),
         }
     }
@@ -94,13 +99,7 @@ pub fn run_words<R: Files + Print + Eprint + AllocGlobal>(rt: &R, words: &[Strin
     ensures { result ≤ 5 }
 {
     match work(rt, words) {
-        Ok(outcome) => {
-            if outcome.stop.is_some() {
-                5
-            } else {
-                0
-            }
-        }
+        Ok(outcome) => { if outcome.stop.is_some() { 5 } else { 0 } }
         Err(failure) => tell(rt, failure),
     }
 }
@@ -122,7 +121,13 @@ fn work<'a, R: Files + Print + AllocGlobal>(
         return Err(Failure::Words);
     }
     let n = frame_count(words[3].as_str())?;
-    first(rt, words[1].as_str(), words[2].as_str(), n, words[4].as_str())
+    first(
+        rt,
+        words[1].as_str(),
+        words[2].as_str(),
+        n,
+        words[4].as_str(),
+    )
 }
 
 /// The count of frames that a word asks for, 1 to 15.

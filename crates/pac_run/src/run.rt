@@ -167,7 +167,14 @@ pub fn run_first<F: Out, R: Out>(
         ticks: board.time(),
         stop,
     };
-    match put_report(report, outcome.frames, n, outcome.steps, outcome.ticks, stop) {
+    match put_report(
+        report,
+        outcome.frames,
+        n,
+        outcome.steps,
+        outcome.ticks,
+        stop,
+    ) {
         Ok(()) => Ok(outcome),
         Err(fault) => Err(RunFault::Write(Output::Report, fault.count)),
     }

@@ -14,8 +14,8 @@ returns-in_err-total-clause-err g c =
     let row = row_of c.args.tiles.now (slice_index c.args.tile_ram.now) in
     let p = err_from_is_err_and c.from_residual.result c.from_residual.ensures.1 in
     rw (p.1, p.2) (subst (λ (text : List ℕ). StopsBehind g.W.Out.took g.W.Out.refused c.args.count c.args.output.now text c.in_err-total.field-0.0.count c.put_behind.new.self)
-      (ap (λ front. front ++ rest-of row 0) (sym (image-none row)) ∙ image-rest row 0 (omega arith))
-      (behind-longer g.W.Out.took g.W.Out.refused c.args.count c.args.output.now c.put_behind.new.self header (rest-of row 0) c.in_err-total.field-0.0.count c.in_err-total.ensures.err))
+    (ap (λ front. front ++ rest-of row 0) (sym (image-none row)) ∙ image-rest row 0 (omega arith))
+    (behind-longer g.W.Out.took g.W.Out.refused c.args.count c.args.output.now c.put_behind.new.self header (rest-of row 0) c.in_err-total.field-0.0.count c.in_err-total.ensures.err))
 
 pub loop-y-init : goal.loop-y-init
 loop-y-init g c =
@@ -33,14 +33,14 @@ returns-in_err-total-2-clause-err g c =
     let within : y < 224 = c.loop-y-test.true in
     let text : c.deref.result.now ≡ flat_map grey (row y) = c.deref.ensures.0 ∙ c.row_text-text.ensures.text ∙ ap (flat_map grey) c.row.ensures.row in
     let behind = took-behind g.W.Out.took g.W.Out.refused g.met.W.Out.joined c.args.count c.loop-y.total c.args.output.now c.loop-y.output c.put_behind-in-loop-y.new.self (image (tabulate y row)) c.deref.result.now c.in_err-total-2.field-0.0.count
-      c.loop-y.invariant.counted c.loop-y.invariant.taken c.in_err-total-2.ensures.err in
+    c.loop-y.invariant.counted c.loop-y.invariant.taken c.in_err-total-2.ensures.err in
     let p = err_from_is_err_and c.from_residual-in_err-total-2.result c.from_residual-in_err-total-2.ensures.1 in
     let last : y + 1 < 225 = omega arith in
     let whole : (image (tabulate y row) ++ c.deref.result.now) ++ rest-of row (y + 1) ≡ image (tabulate 224 row) =
-      ap (λ one. (image (tabulate y row) ++ one) ++ rest-of row (y + 1)) text ∙ ap (λ front. front ++ rest-of row (y + 1)) (sym (image-more row y)) ∙ image-rest row (y + 1) last in
+    ap (λ one. (image (tabulate y row) ++ one) ++ rest-of row (y + 1)) text ∙ ap (λ front. front ++ rest-of row (y + 1)) (sym (image-more row y)) ∙ image-rest row (y + 1) last in
     rw (p.1, p.2) (subst (λ (bytes : List ℕ). StopsBehind g.W.Out.took g.W.Out.refused c.args.count c.args.output.now bytes c.in_err-total-2.field-0.0.count c.put_behind-in-loop-y.new.self)
-      whole
-      (behind-longer g.W.Out.took g.W.Out.refused c.args.count c.args.output.now c.put_behind-in-loop-y.new.self (image (tabulate y row) ++ c.deref.result.now) (rest-of row (y + 1)) c.in_err-total-2.field-0.0.count behind))
+    whole
+    (behind-longer g.W.Out.took g.W.Out.refused c.args.count c.args.output.now c.put_behind-in-loop-y.new.self (image (tabulate y row) ++ c.deref.result.now) (rest-of row (y + 1)) c.in_err-total-2.field-0.0.count behind))
 
 pub loop-y-preserved : goal.loop-y-preserved
 loop-y-preserved g c =

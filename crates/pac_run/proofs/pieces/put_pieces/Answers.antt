@@ -16,8 +16,8 @@ returns-in_err-total-clause-err g c =
     let one = (get_or c.args.pieces.now c.loop-piece.piece-index (record { ref_ptr = (0, 0); now = [] })).now in
     let rest = flat_map (λ piece. piece.now) (drop (c.loop-piece.piece-index + 1) c.args.pieces.now) in
     let stops = took-behind g.W.Out.took g.W.Out.refused g.met.W.Out.joined c.args.count c.loop-piece.total c.args.output.now c.loop-piece.output c.put_behind.new.self before one c.in_err-total.field-0.0.count
-      c.loop-piece.invariant.counted c.loop-piece.invariant.taken c.in_err-total.ensures.err in
+    c.loop-piece.invariant.counted c.loop-piece.invariant.taken c.in_err-total.ensures.err in
     let p = err_from_is_err_and c.from_residual.result c.from_residual.ensures.1 in
     rw (p.1, p.2) (subst (λ (text : List ℕ). StopsBehind g.W.Out.took g.W.Out.refused c.args.count c.args.output.now text c.in_err-total.field-0.0.count c.put_behind.new.self)
-      (pieces-split (λ piece. piece.now) c.args.pieces.now c.loop-piece.piece-index (record { ref_ptr = (0, 0); now = [] }) c.loop-piece-test.true)
-      (behind-longer g.W.Out.took g.W.Out.refused c.args.count c.args.output.now c.put_behind.new.self (before ++ one) rest c.in_err-total.field-0.0.count stops))
+    (pieces-split (λ piece. piece.now) c.args.pieces.now c.loop-piece.piece-index (record { ref_ptr = (0, 0); now = [] }) c.loop-piece-test.true)
+    (behind-longer g.W.Out.took g.W.Out.refused c.args.count c.args.output.now c.put_behind.new.self (before ++ one) rest c.in_err-total.field-0.0.count stops))

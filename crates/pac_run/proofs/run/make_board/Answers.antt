@@ -15,6 +15,6 @@ returns c =
       board_is = c.in_ok-board.ensures ∙ (λ i. at_power_on (record { program = program.rom i; tiles = c.in_ok-tiles.ensures.items i }) switches);
       size = size;
       lie = lie-all (rom_of (items_of c.args.source.now)) (items_of c.args.source.now) size
-        (subst (λ (rom : List _). AreHeld rom (items_of c.args.source.now)) program.rom
+          (subst (λ (rom : List _). AreHeld rom (items_of c.args.source.now)) program.rom
           (subst (λ (items : List Placed). AreHeld c.in-Ok.program.rom.items items) program.items_are c.in-Ok.ensures.held));
     }

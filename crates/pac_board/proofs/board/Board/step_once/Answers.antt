@@ -11,7 +11,7 @@ returns-clause-state c =
       now = record { regs = c.self.inside.cpu; board = c.self.inside.map.view; time = c.self.inside.time; steps = c.self.inside.steps };
     } in
     let agreed = steps-agree old c.step-once.new.self c.step-once.new.bus c.step-once.result c.from.result c.from-2.result
-      c.step-once.ensures.regs c.step-once.ensures.bus c.step-once.ensures.result (c.from.ensures ∙ c.ticks_in.ensures) (c.from-2.ensures ∙ c.steps_in.ensures) in
+    c.step-once.ensures.regs c.step-once.ensures.bus c.step-once.ensures.result (c.from.ensures ∙ c.ticks_in.ensures) (c.from-2.ensures ∙ c.steps_in.ensures) in
     let new : State = record {
       roms = record { program = c.step-once.new.bus.program; tiles = c.self.inside.tiles.items };
       now = record { regs = c.step-once.new.self; board = c.step-once.new.bus.view; time = c.self.inside.time + c.from.result; steps = c.self.inside.steps + c.from-2.result };
@@ -25,7 +25,7 @@ returns-clause-once c =
       now = record { regs = c.self.inside.cpu; board = c.self.inside.map.view; time = c.self.inside.time; steps = c.self.inside.steps };
     } in
     let agreed = steps-agree old c.step-once.new.self c.step-once.new.bus c.step-once.result c.from.result c.from-2.result
-      c.step-once.ensures.regs c.step-once.ensures.bus c.step-once.ensures.result (c.from.ensures ∙ c.ticks_in.ensures) (c.from-2.ensures ∙ c.steps_in.ensures) in
+    c.step-once.ensures.regs c.step-once.ensures.bus c.step-once.ensures.result (c.from.ensures ∙ c.ticks_in.ensures) (c.from-2.ensures ∙ c.steps_in.ensures) in
     let new : State = record {
       roms = record { program = c.step-once.new.bus.program; tiles = c.self.inside.tiles.items };
       now = record { regs = c.step-once.new.self; board = c.step-once.new.bus.view; time = c.self.inside.time + c.from.result; steps = c.self.inside.steps + c.from-2.result };
@@ -39,7 +39,7 @@ returns-clause-pictures c =
       now = record { regs = c.self.inside.cpu; board = c.self.inside.map.view; time = c.self.inside.time; steps = c.self.inside.steps };
     } in
     let agreed = steps-agree old c.step-once.new.self c.step-once.new.bus c.step-once.result c.from.result c.from-2.result
-      c.step-once.ensures.regs c.step-once.ensures.bus c.step-once.ensures.result (c.from.ensures ∙ c.ticks_in.ensures) (c.from-2.ensures ∙ c.steps_in.ensures) in
+    c.step-once.ensures.regs c.step-once.ensures.bus c.step-once.ensures.result (c.from.ensures ∙ c.ticks_in.ensures) (c.from-2.ensures ∙ c.steps_in.ensures) in
     let new : State = record {
       roms = record { program = c.step-once.new.bus.program; tiles = c.self.inside.tiles.items };
       now = record { regs = c.step-once.new.self; board = c.step-once.new.bus.view; time = c.self.inside.time + c.from.result; steps = c.self.inside.steps + c.from-2.result };
