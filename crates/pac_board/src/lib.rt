@@ -4,5 +4,7 @@
 
 mod board;
 pub mod laws;
+#[cfg(test)]
+mod tests;
 
 pub use board::{Board, TICKS_A_FRAME, TooFar};

@@ -7,3 +7,5 @@ pub mod program;
 mod report;
 pub mod run;
 pub mod source;
+#[cfg(test)]
+mod tests;

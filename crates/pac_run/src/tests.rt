@@ -1,0 +1,141 @@
+//! Runs whose numbers follow from UM0080's T-states (NOP and a halted step 4, LD A,n 7, LD (nn),A 13, JP nn 10) and
+//! from a frame's 50,688; pictures by the schematics' places of the tiles.
+
+use crate::run::{Outcome, Output, RunFault, run_first};
+use crate::source::{AsmCode, AsmFault};
+use pac_out::Out;
+use pac_out::faulty::Faulty;
+use pac_out::memory::Memory;
+use std::alloc::Global;
+use std::process::Abort;
+use std::test::Fail;
+
+/// Shows tile 42H at x 16 to 23, y 0 to 7.
+const PROGRAM: &[u8] = b"LD A,42H\nLD (4040H),A\nHALT\n";
+
+const PROGRAM_REPORT: &[u8] = b"frames 1 of 1\nsteps 12669 ticks 50688\nend done\n";
+
+/// Two frames of NOPs: at 4800H, where nothing answers, the bus gives BFH, which the five operations don't have.
+const REPORT_OF_TWO: &[u8] =
+    b"frames 1 of 2\nsteps 18432 ticks 73728\nstop S1 at 4800 bytes BF BF BF BF\n";
+
+/// The bytes of an image: its header's 15, and 3 for each of 288 by 224 pixels.
+const IMAGE: usize = 193_551;
+
+/// Runs a source with tiles of one value each: all pixels of tile t have the value t modulo 4.
+fn run_flat<F: Out, R: Out>(
+    rt: &impl Abort,
+    alloc: Global,
+    source: &[u8],
+    n: u32,
+    frames: &mut F,
+    report: &mut R,
+) -> Result<Outcome, RunFault> {
+    let tiles: Vec<u8> = (0..4096u16)
+        .map(|place| match place / 16 % 4 {
+            0 => 0x00,
+            1 => 0x0F,
+            2 => 0xF0,
+            _ => 0xFF,
+        })
+        .collect(alloc)?;
+    assert!(rt; tiles.len() == 4096);
+    assert!(rt; (1..=15).contains(&n));
+    run_first(alloc, source, &tiles, n, frames, report)
+}
+
+#[test]
+fn one_tile_for_one_frame(rt: HostRuntime) -> Result<(), Fail> {
+    let mut frames = Memory::new(rt.alloc(), 200_000)?;
+    let mut report = Memory::new(rt.alloc(), 200)?;
+    let outcome = Outcome {
+        frames: 1,
+        steps: 12669,
+        ticks: 50688,
+        stop: None,
+    };
+    let found = run_flat(&rt, rt.alloc(), PROGRAM, 1, &mut frames, &mut report);
+    assert_eq!(rt; found, Ok(outcome));
+    assert!(rt; report.bytes() == PROGRAM_REPORT);
+    assert_eq!(rt; frames.bytes().len(), IMAGE);
+    let Some(levels) = frames.bytes().strip_prefix(b"P6\n288 224\n255\n") else {
+        panic!(rt; "another header");
+    };
+    for (place, level) in levels.iter().enumerate() {
+        let is_in_tile = (16..24).contains(&(place / 3 % 288)) && place / 864 < 8;
+        assert_eq!(rt; *level, if is_in_tile { 170 } else { 0 }, "{place}");
+    }
+    Ok(())
+}
+
+#[test]
+fn steps_and_ticks_of_a_frame(rt: HostRuntime) -> Result<(), Fail> {
+    for (source, steps, ticks) in [(b"".as_slice(), 12672, 50688), (b"JP 0", 5069, 50690)] {
+        let mut frames = Memory::new(rt.alloc(), 200_000)?;
+        let mut report = Memory::new(rt.alloc(), 200)?;
+        let outcome = Outcome {
+            frames: 1,
+            steps,
+            ticks,
+            stop: None,
+        };
+        let found = run_flat(&rt, rt.alloc(), source, 1, &mut frames, &mut report);
+        assert_eq!(rt; found, Ok(outcome));
+        assert_eq!(rt; frames.bytes().len(), IMAGE);
+        assert!(rt; frames.bytes().iter().skip(15).all(|level| *level == 0));
+    }
+    Ok(())
+}
+
+#[test]
+fn two_frames_of_nothing(rt: HostRuntime) -> Result<(), Fail> {
+    let mut frames = Memory::new(rt.alloc(), 400_000)?;
+    let mut report = Memory::new(rt.alloc(), 200)?;
+    assert!(rt; run_flat(&rt, rt.alloc(), b"", 2, &mut frames, &mut report).is_ok());
+    assert!(rt; report.bytes() == REPORT_OF_TWO);
+    Ok(())
+}
+
+#[test]
+fn a_faulty_source_writes_nothing(rt: HostRuntime) -> Result<(), Fail> {
+    let mut frames = Memory::new(rt.alloc(), 200_000)?;
+    let mut report = Memory::new(rt.alloc(), 200)?;
+    let fault = AsmFault {
+        code: AsmCode::Syntax,
+        line: 1,
+    };
+    let found = run_flat(&rt, rt.alloc(), b"LD A,256", 1, &mut frames, &mut report);
+    assert_eq!(rt; found, Err(RunFault::Source(fault)));
+    assert!(rt; frames.bytes().is_empty() && report.bytes().is_empty());
+    Ok(())
+}
+
+#[test]
+fn few_bytes_a_call_give_the_same_bytes(rt: HostRuntime) -> Result<(), Fail> {
+    let mut whole = Memory::new(rt.alloc(), 200_000)?;
+    let mut report = Faulty::new(rt.alloc(), 200, 7, 0)?;
+    assert!(rt; run_flat(&rt, rt.alloc(), PROGRAM, 1, &mut whole, &mut report).is_ok());
+    assert!(rt; report.bytes() == PROGRAM_REPORT);
+    let mut frames = Faulty::new(rt.alloc(), 200_000, 7, 0)?;
+    assert!(rt; run_flat(&rt, rt.alloc(), PROGRAM, 1, &mut frames, &mut report).is_ok());
+    assert!(rt; frames.bytes() == whole.bytes());
+    Ok(())
+}
+
+#[test]
+fn a_refused_write_is_told_with_its_output_and_count(rt: HostRuntime) -> Result<(), Fail> {
+    let mut frames = Faulty::new(rt.alloc(), 200_000, 5, 5)?;
+    let mut report = Memory::new(rt.alloc(), 200)?;
+    let found = run_flat(&rt, rt.alloc(), PROGRAM, 1, &mut frames, &mut report);
+    assert_eq!(rt; found, Err(RunFault::Write(Output::Frames, 20)));
+    assert_eq!(rt; frames.bytes().len(), 20);
+    assert!(rt; report.bytes().is_empty());
+
+    let mut frames = Memory::new(rt.alloc(), 200_000)?;
+    let mut report = Memory::new(rt.alloc(), 30)?;
+    let found = run_flat(&rt, rt.alloc(), PROGRAM, 1, &mut frames, &mut report);
+    assert_eq!(rt; found, Err(RunFault::Write(Output::Report, 30)));
+    assert_eq!(rt; frames.bytes().len(), IMAGE);
+    assert!(rt; PROGRAM_REPORT.starts_with(report.bytes()));
+    Ok(())
+}
