@@ -15,9 +15,8 @@ const PROGRAM: &[u8] = b"LD A,42H\nLD (4040H),A\nHALT\n";
 
 const PROGRAM_REPORT: &[u8] = b"frames 1 of 1\nsteps 12669 ticks 50688\nend done\n";
 
-/// Two frames of NOPs: at 4800H, where nothing answers, the bus gives BFH, which the five operations don't have.
-const REPORT_OF_TWO: &[u8] =
-    b"frames 1 of 2\nsteps 18432 ticks 73728\nstop S1 at 4800 bytes BF BF BF BF\n";
+/// Two frames of an empty source: NOPs, then at 4800H, where nothing answers, CP A, which the bus's BFH is.
+const REPORT_OF_TWO: &[u8] = b"frames 2 of 2\nsteps 25343 ticks 101379\nend done\n";
 
 /// The bytes of an image: its header's 15, and 3 for each of 288 by 224 pixels.
 const IMAGE: usize = 193_551;
