@@ -11,4 +11,6 @@ pub use cpu::Cpu;
 pub use once::{Cause, Kind, Once, Stop};
 
 #[cfg(test)]
+mod program_tests;
+#[cfg(test)]
 mod tests;
