@@ -5,6 +5,7 @@ use pac_bus::{Bus, Flat};
 use pac_exec::Regs;
 use pac_table::InterruptMode;
 use std::test::Fail;
+use std::time::Instant;
 
 /// The time of a step, 0 of a stop.
 fn ticks(once: Once) -> u8 {
@@ -140,5 +141,40 @@ fn prefixed_codes_that_are_none_stop_at_the_prefix(rt: HostRuntime) -> Result<()
         };
         assert!(rt; cpu.step(&mut bus, None) == Once::Stopped(stop));
     }
+    Ok(())
+}
+
+// A mixed loop over RAM: the time that its 200,000 steps take is printed, and no bound is set to it.
+#[test]
+fn a_mixed_loop(rt: HostRuntime) -> Result<(), Fail> {
+    let mut bus = Flat::new(rt.alloc())?;
+    // LOOP: INC HL; ADD A,(HL); LD (IX+5),A; BIT 3,A; LDI; PUSH BC; CALL 4C30H; POP BC; RLCA; AND 7FH; JR LOOP
+    bus.load(
+        0x4C00,
+        &[
+            0x23, 0x86, 0xDD, 0x77, 0x05, 0xCB, 0x5F, 0xED, 0xA0, 0xC5, 0xCD, 0x30, 0x4C, 0xC1,
+            0x07, 0xE6, 0x7F, 0x18, 0xED,
+        ],
+    );
+    // INC A; RET
+    bus.load(0x4C30, &[0x3C, 0xC9]);
+    let mut cpu = Cpu::with_regs(Regs {
+        h: 0x10,
+        d: 0x80,
+        ix: 0x2000,
+        sp: 0x7000,
+        pc: 0x4C00,
+        ..Cpu::power_on().regs()
+    });
+    let start = Instant::now(&rt)?;
+    let mut stops = 0u32;
+    for _ in 0..200_000u32 {
+        if let Once::Stopped(_) = cpu.step(&mut bus, None) {
+            stops = 1;
+        }
+    }
+    let micros = start.elapsed(&rt)?.as_micros();
+    println!(rt; "200000 steps in {micros} microseconds")?;
+    assert_eq!(rt; stops, 0);
     Ok(())
 }
