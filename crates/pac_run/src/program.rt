@@ -10,6 +10,9 @@ use std::io::{ErrorKind, Read};
 use std::rt::{Env, Files};
 use std::{env, fmt, fs, io};
 
+#[cfg(test)]
+mod tests;
+
 /// The most bytes of a file that is read: 16 MiB.
 const MOST_BYTES: u64 = 16_777_216;
 
@@ -91,30 +94,36 @@ pub fn run<R: Env + Files + Print + Eprint + AllocGlobal>(rt: &R) -> u8
             return tell(rt, Failure::Memory);
         }
     }
-    run_words(rt, &words)
+    run_words(rt, rt, &words)
 }
 
-/// The same with the words that follow the program's name.
-pub fn run_words<R: Files + Print + Eprint + AllocGlobal>(rt: &R, words: &[String]) -> u8
+/// The same with the words that follow the program's name, over the files of `rt`; the report and the line of a
+/// failure go to `console`.
+pub fn run_words<R: Files + AllocGlobal, C: Print + Eprint>(
+    rt: &R,
+    console: &C,
+    words: &[String],
+) -> u8
     ensures { result ≤ 5 }
 {
-    match work(rt, words) {
+    match work(rt, console, words) {
         Ok(outcome) => { if outcome.stop.is_some() { 5 } else { 0 } }
-        Err(failure) => tell(rt, failure),
+        Err(failure) => tell(console, failure),
     }
 }
 
 /// Tells a failure, and answers its status.
-fn tell<R: Eprint>(rt: &R, failure: Failure) -> u8
+fn tell<C: Eprint>(console: &C, failure: Failure) -> u8
     ensures { result ≤ 5 }
 {
-    let _ = eprintln!(rt; "{failure}");
+    let _ = eprintln!(console; "{failure}");
     failure.status()
 }
 
 /// `first SOURCE TILES N FRAMES`.
-fn work<'a, R: Files + Print + AllocGlobal>(
+fn work<'a, R: Files + AllocGlobal, C: Print>(
     rt: &R,
+    console: &C,
     words: &'a [String],
 ) -> Result<Outcome, Failure<'a>> {
     if words.len() != 5 || words[0].as_str() != "first" {
@@ -123,6 +132,7 @@ fn work<'a, R: Files + Print + AllocGlobal>(
     let n = frame_count(words[3].as_str())?;
     first(
         rt,
+        console,
         words[1].as_str(),
         words[2].as_str(),
         n,
@@ -142,8 +152,9 @@ fn frame_count(word: &str) -> Result<u32, Failure<'static>>
 
 /// Runs a source file for so many frames: all is read first, then the frames' file is created, then source and
 /// tiles are judged, in this order.
-fn first<'a, R: Files + Print + AllocGlobal>(
+fn first<'a, R: Files + AllocGlobal, C: Print>(
     rt: &R,
+    console: &C,
     source_name: &'a str,
     tiles_name: &'a str,
     n: u32,
@@ -162,7 +173,7 @@ fn first<'a, R: Files + Print + AllocGlobal>(
     }
     let mut frames = Through { inner: file };
     let mut report = Through {
-        inner: io::writer(rt),
+        inner: io::writer(console),
     };
     match run_first(rt.alloc(), &source, &tiles, n, &mut frames, &mut report) {
         Ok(outcome) => Ok(outcome),

@@ -2,6 +2,7 @@
 //! from a frame's 50,688; pictures by the schematics' places of the tiles.
 
 use crate::run::{Outcome, Output, RunFault, run_first};
+use crate::scarce::Hoard;
 use crate::source::{AsmCode, AsmFault};
 use pac_out::Out;
 use pac_out::faulty::Faulty;
@@ -136,5 +137,32 @@ fn a_refused_write_is_told_with_its_output_and_count(rt: HostRuntime) -> Result<
     assert_eq!(rt; found, Err(RunFault::Write(Output::Report, 30)));
     assert_eq!(rt; frames.bytes().len(), IMAGE);
     assert!(rt; PROGRAM_REPORT.starts_with(report.bytes()));
+    Ok(())
+}
+
+// With no memory, and then with a little more each time, there is no answer but want of it, with nothing written, and
+// the right one.
+#[test]
+fn memory_that_is_refused(rt: HostRuntime) -> Result<(), Fail> {
+    let tiles = vec![in rt.alloc(); 0xFF; 4096]?;
+    let mut frames = Memory::new(rt.alloc(), 200_000)?;
+    let mut report = Memory::new(rt.alloc(), 200)?;
+    let mut hoard = Hoard::take(rt.alloc(), 200)?;
+    let mut refused = 0;
+    for turn in 0..200u32 {
+        refused = turn;
+        let found = run_first(rt.alloc(), PROGRAM, &tiles, 1, &mut frames, &mut report);
+        if found.is_ok() {
+            break;
+        }
+        assert_eq!(rt; found, Err(RunFault::NoMemory));
+        assert!(rt; frames.bytes().is_empty() && report.bytes().is_empty());
+        assert!(rt; hoard.release());
+    }
+    drop(hoard);
+    assert!(rt; 20 < refused && refused < 199, "{refused}");
+    assert!(rt; report.bytes() == PROGRAM_REPORT);
+    assert_eq!(rt; frames.bytes().len(), IMAGE);
+    assert!(rt; frames.bytes().iter().skip(15).all(|level| *level == 255));
     Ok(())
 }
