@@ -14,3 +14,5 @@ pub use once::{Cause, Kind, Once, Stop};
 mod program_tests;
 #[cfg(test)]
 mod tests;
+#[cfg(test)]
+mod vectors;

@@ -1,9 +1,8 @@
-//! Five instructions one after another by UM0080's pages, and the registers by its tables of r.
+//! An instruction by UM0080's page, and the registers by its tables of r. The vectors of all families stand in pac_cpu.
 
-use crate::machine::Machine;
-use crate::{Alternate, Regs, displaced};
-use pac_bus::Bus;
-use pac_table::InterruptMode;
+use crate::{Alternate, Regs, displaced, perform};
+use pac_bus::{Bus, Flat};
+use pac_table::{Instr, InterruptMode, Row, rows};
 use std::test::Fail;
 
 /// Registers that are all different: A 1, F 2, B 3 .. L 8, the second set 11 to 18.
@@ -43,40 +42,22 @@ fn different() -> Regs {
 }
 
 #[test]
-fn performs_one_after_another(rt: HostRuntime) -> Result<(), Fail> {
-    let mut machine = Machine::new(rt.alloc(), different(), &[], &[])?;
-    assert_eq!(rt; machine.does([0x00, 0, 0, 0])?, 4, "NOP");
-    assert_eq!(rt; machine.regs, different());
-    assert_eq!(rt; machine.does([0x3E, 0x42, 0, 0])?, 7, "LD A,42H");
-    let loaded = Regs {
-        a: 0x42,
-        ..different()
-    };
-    assert_eq!(rt; machine.regs, loaded);
-    assert_eq!(rt; machine.does([0x32, 0x40, 0x40, 0])?, 13, "LD (4040H),A");
+fn performs_a_store(rt: HostRuntime) -> Result<(), Fail> {
+    let is_store = |row: &Row| row.pattern.matches([0x32, 0, 0, 0]);
+    let place = rows()
+        .iter()
+        .position(is_store)
+        .ok_or("no row of LD (nn),A")?;
+    let row = u16::try_from(place).ok().ok_or("no number of a row")?;
+    let store = Instr::new(row, 0, 0, 0x4040, 0).ok_or("no LD (4040H),A")?;
+    let mut regs = different();
+    let mut bus = Flat::new(rt.alloc())?;
+    assert_eq!(rt; perform(&store, &mut regs, &mut bus), 13);
     assert_eq!(rt;
-        (
-            machine.bus.read(0x403F),
-            machine.bus.read(0x4040),
-            machine.bus.read(0x4041)
-        ),
-        (0, 0x42, 0)
+        (bus.read(0x403F), bus.read(0x4040), bus.read(0x4041)),
+        (0, 1, 0)
     );
-    assert_eq!(rt; machine.regs, loaded);
-    assert_eq!(rt; machine.does([0xC3, 0xFE, 0xFF, 0])?, 10, "JP 0FFFEH");
-    let jumped = Regs {
-        pc: 0xFFFE,
-        ..loaded
-    };
-    assert_eq!(rt; machine.regs, jumped);
-    assert_eq!(rt; machine.does([0x76, 0, 0, 0])?, 4, "HALT");
-    assert_eq!(rt;
-        machine.regs,
-        Regs {
-            halted: true,
-            ..jumped
-        }
-    );
+    assert_eq!(rt; regs, different());
     Ok(())
 }
 
