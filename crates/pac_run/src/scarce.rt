@@ -7,14 +7,14 @@ const SMALL: usize = 1200;
 
 /// Blocks that nothing uses, which leave no memory to anything else.
 #[derive(Drop)]
-pub struct Hoard {
+pub(crate) struct Hoard {
     small: Vec<Vec<u8>>,
     large: Vec<Vec<u8>>,
 }
 
 impl Hoard {
     /// Takes so many small blocks, one behind another, and then all that is left, in blocks ever smaller.
-    pub fn take(alloc: Global, count: usize) -> Result<Hoard, AllocError> {
+    pub(crate) fn take(alloc: Global, count: usize) -> Result<Hoard, AllocError> {
         let mut large = Vec::with_capacity(alloc, 100_000)?;
         let mut small = Vec::with_capacity(alloc, count)?;
         for _ in 0..count {
@@ -32,7 +32,7 @@ impl Hoard {
     }
 
     /// Gives the last small block back, and answers whether there was one.
-    pub fn release(&mut self) -> bool {
+    pub(crate) fn release(&mut self) -> bool {
         self.small.pop().is_some()
     }
 }
