@@ -11,7 +11,7 @@ use crate::{Cpu, Kind, Once};
 use pac_bus::{Bus, Flat};
 use pac_exec::Regs;
 use pac_table::InterruptMode;
-use std::alloc::{AllocError, Global};
+use std::alloc::Global;
 use std::process::Abort;
 use std::test::Fail;
 
@@ -160,7 +160,7 @@ impl Machine {
         }
     }
 
-    /// PC behind a code of so many bytes, with R grown and EI's delay over.
+    /// What each code leaves: PC behind it, R grown and EI's delay over.
     fn pass(&mut self, code: &str) {
         for _ in code.split(' ') {
             self.regs.pc = self.regs.pc.wrapping_add(1);
