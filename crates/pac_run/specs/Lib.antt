@@ -7,3 +7,4 @@ pub mod SourceViews
 pub mod Texts
 pub mod Turns
 pub mod Run
+pub mod Messages

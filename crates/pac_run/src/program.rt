@@ -1,6 +1,8 @@
 //! The work of the program `pacboard`: words and files in, files, texts and an exit status out.
 
-ghost use Rattle.std.specs.Prelude.{◌≤◌, IfOk};
+ghost use Rattle.std.specs.Prelude.{◌≡◌, ◌≢◌, ◌≤◌, length, Some, Err, IfOk};
+ghost use Rattle.pac_run.specs.declared.program.Failure.TheVariants.{Words};
+ghost use Rattle.pac_run.specs.Messages as messages;
 
 use crate::run::{Outcome, Output, RunFault, run_first};
 use crate::source::{AsmError, AsmFault, assemble};
@@ -37,6 +39,10 @@ enum Failure<'a> {
 }
 
 impl fmt::Display for Failure<'_> {
+    ghost use Rattle.pac_run.specs.Messages.{message};
+
+    ghost output = { λ failure. Some (message failure) };
+
     fn fmt<W: fmt::Write>(&self, f: &mut fmt::Formatter<W>) -> fmt::Result {
         match self {
             Failure::Words => f.write_str(
@@ -49,14 +55,9 @@ impl fmt::Display for Failure<'_> {
                 write!(f, "refused {code} line {line}")
             }
             Failure::Tiles => f.write_str("refused M3 tiles"),
-            Failure::Write(Output::Frames, count) => write!(
-                f,
-                "write fault frames after {count} bytes"
-            ),
-            Failure::Write(Output::Report, count) => write!(
-                f,
-                "write fault report after {count} bytes"
-            ),
+            Failure::Write(output, count) => {
+                write!(f, "write fault {output} after {count} bytes")
+            }
             Failure::Memory => f.write_str("out of memory"),
         }
     }
@@ -65,7 +66,7 @@ impl fmt::Display for Failure<'_> {
 impl Failure<'_> {
     /// The exit status: 1 refused input, 2 command line, 3 read or write fault, 4 memory.
     fn status(&self) -> u8
-        ensures { result ≤ 5 }
+        ensures { result ≡ messages.status self.now }
     {
         match self {
             Failure::Source(_) => 1,
@@ -104,7 +105,8 @@ pub fn run_words<R: Files + AllocGlobal, C: Print + Eprint>(
     console: &C,
     words: &[String],
 ) -> u8
-    ensures { result ≤ 5 }
+    ensures status { result ≤ 5 }
+    ensures words { length words.now ≢ 5 → result ≡ 2 }
 {
     match work(rt, console, words) {
         Ok(outcome) => { if outcome.stop.is_some() { 5 } else { 0 } }
@@ -114,7 +116,7 @@ pub fn run_words<R: Files + AllocGlobal, C: Print + Eprint>(
 
 /// Tells a failure, and answers its status.
 fn tell<C: Eprint>(console: &C, failure: Failure) -> u8
-    ensures { result ≤ 5 }
+    ensures { result ≡ messages.status failure.entry }
 {
     let _ = eprintln!(console; "{failure}");
     failure.status()
@@ -125,7 +127,9 @@ fn work<'a, R: Files + AllocGlobal, C: Print>(
     rt: &R,
     console: &C,
     words: &'a [String],
-) -> Result<Outcome, Failure<'a>> {
+) -> Result<Outcome, Failure<'a>>
+    ensures { length words.now ≢ 5 → result ≡ Err Words }
+{
     if words.len() != 5 || words[0].as_str() != "first" {
         return Err(Failure::Words);
     }

@@ -1,6 +1,6 @@
 //! A run: the board from power-on to the last blank or a stop, its frames and its report.
 
-ghost use Rattle.std.specs.Prelude.{◌≡◌, ◌≤◌, ◌<◌, ◌+◌, ◌*◌, ◌/◌, ◌^◌, length, OnOk, IfOk, IfErr};
+ghost use Rattle.std.specs.Prelude.{◌≡◌, ◌≤◌, ◌<◌, ◌+◌, ◌*◌, ◌/◌, ◌^◌, length, Some, OnOk, IfOk, IfErr};
 ghost use Rattle.pac_out.specs.Writes.{StopsAfter, StopsBehind};
 ghost use Rattle.pac_board.specs.Trace.{view_trace};
 ghost use Rattle.pac_board.specs.State.{behind, next_of, once_of, pictures_in, due_since, at_power_on};
@@ -16,6 +16,7 @@ use pac_board::{Board, TICKS_A_FRAME};
 use pac_cpu::{Once, Stop};
 use pac_out::{Out, WriteFault};
 use std::alloc::{AllocError, Global};
+use std::fmt;
 
 /// The byte that the DIP switches give (this profile).
 const SWITCHES: u8 = 0xC9;
@@ -40,6 +41,19 @@ pub enum Output {
     Frames,
     /// The report.
     Report,
+}
+
+impl fmt::Display for Output {
+    ghost use Rattle.pac_run.specs.Messages.{output};
+
+    ghost output = { λ named. Some (output named) };
+
+    fn fmt<W: fmt::Write>(&self, f: &mut fmt::Formatter<W>) -> fmt::Result {
+        match self {
+            Output::Frames => write!(f, "frames"),
+            Output::Report => write!(f, "report"),
+        }
+    }
 }
 
 /// Why a run has no outcome.

@@ -3,7 +3,7 @@
 ghost use Rattle.pac_run.specs.Source as spec;
 ghost use Rattle.pac_run.specs.SourceResults as answer;
 ghost use Rattle.pac_run.specs.declared.source.AsmError.TheVariants.{Memory};
-ghost use Rattle.std.specs.Prelude.{◌≡◌, ◌≤◌, ◌-◌, ◌++◌, length, replicate, MatchResult, IfOk, OnOk};
+ghost use Rattle.std.specs.Prelude.{◌≡◌, ◌≤◌, ◌-◌, ◌++◌, length, replicate, Some, MatchResult, IfOk, OnOk};
 ghost use Rattle.std.specs.Str.Lines.{lines};
 
 mod forms;
@@ -56,6 +56,10 @@ pub enum AsmCode {
 }
 
 impl fmt::Display for AsmCode {
+    ghost use Rattle.pac_run.specs.Messages.{code};
+
+    ghost output = { λ fault. Some (code fault) };
+
     fn fmt<W: fmt::Write>(&self, f: &mut fmt::Formatter<W>) -> fmt::Result {
         f.write_str(match self {
             AsmCode::Syntax => "A2",
