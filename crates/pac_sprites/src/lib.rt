@@ -8,9 +8,10 @@ ghost use Rattle.pac_sprites.specs.Sprites as sprites;
 use pac_num::bit;
 use std::ops::Range;
 
-// The columns of the picture at which sprites show begin at the first of these, and end before the second.
+// The first column of the picture at which sprites show.
 const FIRST_COLUMN: u16 = 16;
 
+// The first column behind those.
 const END_COLUMN: u16 = 272;
 
 /// The value, 0 to 3, of pixel (x, y) of a sprite, 0 to 63, of the sprite ROM's 4,096 bytes.
@@ -48,13 +49,14 @@ fn flipped(turned: bool, place: u8) -> u8
     if turned { 15 - place } else { place }
 }
 
-// How far a place is behind a start, where that is less than 16.
+// How far a place of the picture is behind the first of a box, where it is one of the box's 16.
 #[inline]
-fn place_within(start: i16, place: u16) -> Option<u8>
-    ensures value { result ≡ (if sprites.is_within start place then Some (sprites.behind start place) else None) }
+fn place_within(first: i16, place: u16) -> Option<u8>
+    ensures value { result ≡
+        (if sprites.is_within first place then Some (sprites.behind first place) else None) }
     ensures below { IfSome result (λ within. within < 16) }
 {
-    let behind = i32::from(place) - i32::from(start);
+    let behind = i32::from(place) - i32::from(first);
     if 0 <= behind && behind < 16 {
         Some(behind as u8)
     } else {
@@ -96,11 +98,12 @@ pub struct Sprite {
 }
 
 impl Sprite {
-    /// The sprite of two attribute bytes (4FF0H and 4FF1H for the first) and two coordinate bytes (5060H and
-    /// 5061H for the first), in the order of their addresses.
+    /// The sprite of its two attribute bytes (4FF0H and 4FF1H for the first sprite) and its two coordinate bytes
+    /// (5060H and 5061H for the first), in the order of their addresses.
     #[inline]
     pub fn of(attributes: [u8; 2], coordinates: [u8; 2]) -> Sprite
-        ensures sprite { result ≡ sprites.sprite_of attributes coordinates }
+        ensures sprite { result ≡ sprites.sprite_of (slice_index attributes 0) (slice_index attributes 1)
+            (slice_index coordinates 0) (slice_index coordinates 1) }
         ensures code { result.code < 64 }
         ensures colour { result.colour < 32 }
         // -31 to 224
@@ -108,14 +111,14 @@ impl Sprite {
         ensures left { (pos 17 ≤ℤ result.left) × (result.left ≤ℤ pos 272) }
     {
         let [shape, colour] = attributes;
-        let [down, across] = coordinates;
+        let [line, column] = coordinates;
         Sprite {
             code: shape / 4,
             flip_x: bit(shape, 0) == 1,
             flip_y: bit(shape, 1) == 1,
             colour: colour % 32,
-            left: 272 - i16::from(across),
-            top: i16::from(down) - 31,
+            left: 272 - i16::from(column),
+            top: i16::from(line) - 31,
         }
     }
 
@@ -149,7 +152,8 @@ impl Sprite {
     /// The columns of the picture at which the sprite shows, on each line that it covers.
     #[inline]
     pub fn columns(&self) -> Range<u16>
-        ensures columns { (x : ℕ) → sprites.is_column_of self.now x ≡ (nat_le result.start x && nat_lt x result.end) }
+        ensures columns { (x : ℕ) →
+            sprites.is_column_of self.now x ≡ (nat_le result.start x && nat_lt x result.end) }
         ensures start { 16 ≤ result.start }
         ensures end { result.end ≤ 272 }
     {
@@ -210,7 +214,7 @@ impl Sprite {
 mod tests {
     use super::*;
 
-    // Sprite 1 has values in its lines 0 and 8 alone, where each quarter has others.
+    // Sprite 1 is 0 save on these two lines.
     const LINE_0: [u8; 16] = [1, 2, 3, 0, 0, 3, 1, 2, 2, 2, 2, 2, 1, 1, 1, 1];
 
     const LINE_8: [u8; 16] = [3, 3, 3, 3, 0, 0, 0, 0, 0, 0, 0, 0, 0, 0, 0, 2];
