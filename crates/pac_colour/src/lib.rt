@@ -1,0 +1,73 @@
+//! Colours of the picture: the colour number of a pixel, and red, green and blue of a byte of the colour PROM.
+#![tactic(auto)]
+
+ghost use Rattle.std.specs.Prelude.{◌≡◌, ◌<◌, length};
+ghost use Rattle.pac_colour.specs.Colours.{index_of, rgb_of};
+
+use pac_num::bit;
+
+/// The colour number, 0 to 15, of a pixel's value, 0 to 3, in a colour, from the 256 bytes of the lookup PROM.
+/// The high three bits of the colour byte are not wired.
+#[inline]
+pub fn index(lookup: &[u8], colour: u8, pixel: u8) -> u8
+    requires lookup { length lookup.now ≡ 256 }
+    requires pixel { pixel < 4 }
+    ensures index { result ≡ index_of lookup.now colour pixel }
+    ensures below { result < 16 }
+{
+    lookup[4 * (colour % 32) as usize + pixel as usize] % 16
+}
+
+/// Red, green and blue, 0 to 255 each, of a byte of the colour PROM.
+#[inline]
+pub fn rgb(byte: u8) -> [u8; 3]
+    ensures { result ≡ rgb_of byte }
+{
+    let red = 33 * bit(byte, 0) + 71 * bit(byte, 1) + 151 * bit(byte, 2);
+    let green = 33 * bit(byte, 3) + 71 * bit(byte, 4) + 151 * bit(byte, 5);
+    let blue = 81 * bit(byte, 6) + 174 * bit(byte, 7);
+    [red, green, blue]
+}
+
+#[cfg(test)]
+mod tests {
+    use super::*;
+
+    #[test]
+    fn bytes_of_the_colour_prom_have_their_colours(rt: HostRuntime) {
+        for (byte, colour) in [
+            (0x00, [0, 0, 0]),
+            (0x01, [33, 0, 0]),
+            (0x07, [255, 0, 0]),
+            (0x38, [0, 255, 0]),
+            (0x80, [0, 0, 174]),
+            (0xC0, [0, 0, 255]),
+            (0xFF, [255, 255, 255]),
+        ] {
+            assert!(rt; rgb(byte) == colour, "colour byte {byte}");
+        }
+    }
+
+    // Each byte of the lookup PROM is its own place.
+    #[test]
+    fn pixels_have_their_colour_numbers(rt: HostRuntime) {
+        let mut lookup = [0u8; 256];
+        for place in 0..=255u8 {
+            lookup[place as usize] = place;
+        }
+        for (colour, pixel, number) in [
+            (0, 0, 0),
+            (0, 3, 3),
+            (1, 2, 6),
+            (5, 1, 5),
+            (31, 3, 15),
+            (0xE1, 2, 6),
+        ] {
+            assert_eq!(rt;
+                index(&lookup, colour, pixel),
+                number,
+                "colour {colour}, pixel {pixel}"
+            );
+        }
+    }
+}

@@ -1,0 +1,330 @@
+//! Sprites of the picture: the pixels of a sprite, what its bytes say, and the places that it covers.
+#![tactic(auto)]
+
+ghost use Rattle.std.specs.Prelude.{◌≡◌, ◌<◌, ◌≤◌, ◌≤ℤ◌, ℕ, pos, negsuc, nat_le, nat_lt, ◌&&◌, length, slice_index, Some, None, if◌then◌else◌, EachIndex, IfSome, is_some};
+ghost use Rattle.std.specs.Int.Signed.{le_z};
+ghost use Rattle.pac_sprites.specs.Sprites as sprites;
+
+use pac_num::bit;
+use std::ops::Range;
+
+// The first column of the picture at which sprites show.
+const FIRST_COLUMN: u16 = 16;
+
+// The first column behind those.
+const END_COLUMN: u16 = 272;
+
+/// The value, 0 to 3, of pixel (x, y) of a sprite, 0 to 63, of the sprite ROM's 4,096 bytes.
+#[inline]
+pub fn pixel(rom: &[u8], code: u8, x: u8, y: u8) -> u8
+    requires rom { length rom.now ≡ 4096 }
+    requires code { code < 64 }
+    requires x { x < 16 }
+    requires y { y < 16 }
+    ensures value { result ≡ sprites.pixel_of rom.now code x y }
+    ensures below { result < 4 }
+{
+    let quarter = 8 * ((x / 4 + 1) % 4);
+    let line = y % 8 + 32 * (y / 8);
+    value(rom[64 * code as usize + (quarter + line) as usize], x % 4)
+}
+
+// One of the four pixel values of a byte, from left to right.
+#[inline]
+fn value(byte: u8, place: u8) -> u8
+    requires { place < 4 }
+    ensures value { result ≡ sprites.value_of byte place }
+    ensures below { result < 4 }
+{
+    2 * bit(byte, 7 - place) + bit(byte, 3 - place)
+}
+
+// A line or a column of a sprite's box, turned or not.
+#[inline]
+fn flipped(turned: bool, place: u8) -> u8
+    requires { place < 16 }
+    ensures value { result ≡ sprites.flipped turned place }
+    ensures below { result < 16 }
+{
+    if turned { 15 - place } else { place }
+}
+
+// How far a place of the picture is behind the first of a box, where it is one of the box's 16.
+#[inline]
+fn place_within(first: i16, place: u16) -> Option<u8>
+    ensures value { result ≡
+        (if sprites.is_within first place then Some (sprites.behind first place) else None) }
+    ensures below { IfSome result (λ within. within < 16) }
+{
+    let behind = i32::from(place) - i32::from(first);
+    if 0 <= behind && behind < 16 {
+        Some(behind as u8)
+    } else {
+        None
+    }
+}
+
+// The first column at which sprites show that is not left of a place, or the end of those columns.
+#[inline]
+fn column_from(place: i32) -> u16
+    ensures first { (x : ℕ) → 16 ≤ x → x < 272 → nat_le result x ≡ le_z place (pos x) }
+    ensures low { 16 ≤ result }
+    ensures high { result ≤ 272 }
+{
+    if place < i32::from(FIRST_COLUMN) {
+        FIRST_COLUMN
+    } else if place < i32::from(END_COLUMN) {
+        place as u16
+    } else {
+        END_COLUMN
+    }
+}
+
+/// What the bytes of one of the eight sprites say. A sprite is 16 by 16 pixels.
+#[derive(Clone, Copy, Debug, PartialEq, Eq)]
+pub struct Sprite {
+    /// Which sprite of the sprite ROM, 0 to 63.
+    pub code: u8,
+    /// Whether left and right are turned.
+    pub flip_x: bool,
+    /// Whether top and bottom are turned.
+    pub flip_y: bool,
+    /// The colour, 0 to 31.
+    pub colour: u8,
+    /// The column of the picture of its leftmost pixels, 17 to 272.
+    pub left: i16,
+    /// The line of the picture of its topmost pixels, -31 to 224.
+    pub top: i16,
+}
+
+impl Sprite {
+    /// The sprite of its two attribute bytes (4FF0H and 4FF1H for the first sprite) and its two coordinate bytes
+    /// (5060H and 5061H for the first), in the order of their addresses.
+    #[inline]
+    pub fn of(attributes: [u8; 2], coordinates: [u8; 2]) -> Sprite
+        ensures sprite { result ≡ sprites.sprite_of (slice_index attributes 0) (slice_index attributes 1)
+            (slice_index coordinates 0) (slice_index coordinates 1) }
+        ensures code { result.code < 64 }
+        ensures colour { result.colour < 32 }
+        // -31 to 224
+        ensures top { (negsuc 30 ≤ℤ result.top) × (result.top ≤ℤ pos 224) }
+        ensures left { (pos 17 ≤ℤ result.left) × (result.left ≤ℤ pos 272) }
+    {
+        let [shape, colour] = attributes;
+        let [line, column] = coordinates;
+        Sprite {
+            code: shape / 4,
+            flip_x: bit(shape, 0) == 1,
+            flip_y: bit(shape, 1) == 1,
+            colour: colour % 32,
+            left: 272 - i16::from(column),
+            top: i16::from(line) - 31,
+        }
+    }
+
+    /// Whether the sprite shows at (x, y) of the picture: its box covers the place, and x is in 16 to 271.
+    #[inline]
+    pub fn covers(&self, x: u16, y: u8) -> bool
+        ensures { result ≡ sprites.covers_of self.now x y }
+    {
+        FIRST_COLUMN <= x
+            && x < END_COLUMN
+            && place_within(self.left, x).is_some()
+            && place_within(self.top, u16::from(y)).is_some()
+    }
+
+    /// The value, 0 to 3, that the sprite has at (x, y) of the picture, where it shows there.
+    #[inline]
+    pub fn pixel(&self, rom: &[u8], x: u16, y: u8) -> Option<u8>
+        requires rom { length rom.now ≡ 4096 }
+        requires code { self.now.code < 64 }
+        ensures value { result ≡ sprites.dot_of rom.now self.now x y }
+        ensures below { IfSome result (λ value. value < 4) }
+    {
+        if x < FIRST_COLUMN || END_COLUMN <= x {
+            return None;
+        }
+        let across = place_within(self.left, x)?;
+        let down = place_within(self.top, u16::from(y))?;
+        Some(self.boxed(rom, across, down))
+    }
+
+    /// The columns of the picture at which the sprite shows, on each line that it covers.
+    #[inline]
+    pub fn columns(&self) -> Range<u16>
+        ensures columns { (x : ℕ) →
+            sprites.is_column_of self.now x ≡ (nat_le result.start x && nat_lt x result.end) }
+        ensures start { 16 ≤ result.start }
+        ensures end { result.end ≤ 272 }
+    {
+        let left = i32::from(self.left);
+        column_from(left)..column_from(left + 16)
+    }
+
+    /// The values, 0 to 3, of the 16 pixels that the sprite has on line y of the picture, from left to right, where
+    /// it covers that line; its columns may lie outside the picture.
+    pub fn line(&self, rom: &[u8], y: u8) -> Option<[u8; 16]>
+        requires rom { length rom.now ≡ 4096 }
+        requires code { self.now.code < 64 }
+        ensures covered { is_some result ≡ sprites.is_within self.now.top y }
+        ensures values { IfSome result (λ values. EachIndex values (λ across.
+            slice_index values across ≡ sprites.boxed_of rom.now self.now across (sprites.behind self.now.top y))) }
+        ensures below { IfSome result (λ values. EachIndex values (λ across. slice_index values across < 4)) }
+    {
+        let down = place_within(self.top, u16::from(y))?;
+        Some(self.boxed_line(rom, down))
+    }
+
+    // The values of a line of the sprite's box.
+    fn boxed_line(&self, rom: &[u8], down: u8) -> [u8; 16]
+        requires rom { length rom.now ≡ 4096 }
+        requires code { self.now.code < 64 }
+        requires down { down < 16 }
+        ensures values { EachIndex result (λ across.
+            slice_index result across ≡ sprites.boxed_of rom.now self.now across down) }
+        ensures below { EachIndex result (λ across. slice_index result across < 4) }
+    {
+        let mut values = [0; 16];
+        for across in 0..16u8 {
+            values[across as usize] = self.boxed(rom, across, down);
+        }
+        values
+    }
+
+    // The value of the pixel at a column and a line of the sprite's box.
+    #[inline]
+    fn boxed(&self, rom: &[u8], across: u8, down: u8) -> u8
+        requires rom { length rom.now ≡ 4096 }
+        requires code { self.now.code < 64 }
+        requires across { across < 16 }
+        requires down { down < 16 }
+        ensures value { result ≡ sprites.boxed_of rom.now self.now across down }
+        ensures below { result < 4 }
+    {
+        pixel(
+            rom,
+            self.code,
+            flipped(self.flip_x, across),
+            flipped(self.flip_y, down),
+        )
+    }
+}
+
+#[cfg(test)]
+mod tests {
+    use super::*;
+
+    // Sprite 1 is 0 save on these two lines.
+    const LINE_0: [u8; 16] = [1, 2, 3, 0, 0, 3, 1, 2, 2, 2, 2, 2, 1, 1, 1, 1];
+
+    const LINE_8: [u8; 16] = [3, 3, 3, 3, 0, 0, 0, 0, 0, 0, 0, 0, 0, 0, 0, 2];
+
+    fn rom() -> [u8; 4096]
+        ensures { length result ≡ 4096 }
+    {
+        let mut rom = [0u8; 4096];
+        rom[64 + 8] = 0b0110_1010;
+        rom[64 + 16] = 0b0101_0110;
+        rom[64 + 24] = 0b1111_0000;
+        rom[64] = 0b0000_1111;
+        rom[64 + 32 + 8] = 0b1111_1111;
+        rom[64 + 32] = 0b0001_0000;
+        rom
+    }
+
+    #[test]
+    fn pixels_stand_in_their_bytes(rt: HostRuntime) {
+        let rom = rom();
+        for x in 0..16u8 {
+            assert_eq!(rt;
+                pixel(&rom, 1, x, 0),
+                LINE_0[x as usize],
+                "line 0, column {x}"
+            );
+            assert_eq!(rt;
+                pixel(&rom, 1, x, 8),
+                LINE_8[x as usize],
+                "line 8, column {x}"
+            );
+            assert_eq!(rt; pixel(&rom, 1, x, 7), 0);
+            assert_eq!(rt; pixel(&rom, 0, x, 0), 0);
+        }
+    }
+
+    #[test]
+    fn bytes_say_which_sprite_and_where(rt: HostRuntime) {
+        let plain = Sprite {
+            code: 1,
+            flip_x: false,
+            flip_y: false,
+            colour: 5,
+            left: 261,
+            top: 0,
+        };
+        assert!(rt; Sprite::of([0x04, 0x05], [0x1F, 0x0B]) == plain);
+        let turned = Sprite {
+            code: 63,
+            flip_x: true,
+            flip_y: false,
+            colour: 31,
+            left: 272,
+            top: -31,
+        };
+        assert!(rt; Sprite::of([0xFD, 0xFF], [0x00, 0x00]) == turned);
+        let last = Sprite {
+            code: 0,
+            flip_x: false,
+            flip_y: true,
+            colour: 0,
+            left: 17,
+            top: 224,
+        };
+        assert!(rt; Sprite::of([0x02, 0xE0], [0xFF, 0xFF]) == last);
+    }
+
+    #[test]
+    fn sprites_cover_their_boxes(rt: HostRuntime) {
+        let right = Sprite::of([0x04, 0x05], [0x1F, 0x0B]);
+        let hidden = Sprite::of([0x00, 0x00], [0x1F, 0x00]);
+        let above = Sprite::of([0x00, 0x00], [0x00, 0x0B]);
+        let one_line = Sprite::of([0x00, 0x00], [0x10, 0x0B]);
+        for x in 0..288u16 {
+            for y in 0..224u8 {
+                assert_eq!(rt;
+                    right.covers(x, y),
+                    261 <= x && x < 272 && y < 16,
+                    "({x}, {y})"
+                );
+                assert!(rt; !hidden.covers(x, y), "({x}, {y})");
+                assert!(rt; !above.covers(x, y), "({x}, {y})");
+                assert_eq!(rt;
+                    one_line.covers(x, y),
+                    261 <= x && x < 272 && y == 0,
+                    "({x}, {y})"
+                );
+            }
+        }
+        assert!(rt; right.columns() == (261..272));
+        assert!(rt; hidden.columns().is_empty());
+    }
+
+    #[test]
+    fn flips_turn_a_sprite_in_its_box(rt: HostRuntime) {
+        let mut corner = [0u8; 4096];
+        corner[39] = 0b0001_0001;
+        let both = Sprite::of([0x03, 0x00], [0x1F, 0xAC]);
+        assert!(rt; both.pixel(&corner, 100, 0) == Some(3));
+        assert!(rt; both.pixel(&corner, 115, 15) == Some(0));
+        assert!(rt; both.pixel(&corner, 116, 15).is_none());
+
+        let rom = rom();
+        let plain = Sprite::of([0x04, 0x00], [0x1F, 0xAC]);
+        assert!(rt; plain.line(&rom, 0) == Some(LINE_0));
+        assert!(rt; plain.line(&rom, 8) == Some(LINE_8));
+        assert!(rt; plain.line(&rom, 16).is_none());
+        let mut mirrored = LINE_8;
+        mirrored.reverse();
+        let turned = Sprite::of([0x07, 0x00], [0x1F, 0xAC]);
+        assert!(rt; turned.line(&rom, 7) == Some(mirrored));
+    }
+}
