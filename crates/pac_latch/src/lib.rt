@@ -1,9 +1,10 @@
 //! The board's output latch, its interrupt vector and request, and the watchdog's count of vertical blanks.
 #![tactic(auto)]
 
-ghost use Rattle.std.specs.Prelude.{◌≡◌, ◌≢◌, ℕ, ◌<◌, ◌≤◌, Bool, length};
+ghost use Rattle.std.specs.Prelude.{◌≡◌, ◌≢◌, ◌==◌, ℕ, ◌<◌, ◌≤◌, Bool, length};
 ghost use Rattle.pac_latch.specs.Latched.{power_on, after_bit, after_vector, after_kick, after_accept, after_reset, after_blank};
 ghost use Rattle.pac_latch.specs.Latched as spec;
+ghost use Rattle.pac_num.specs.Numbers as number;
 
 #[cfg(test)]
 mod tests;
@@ -130,7 +131,8 @@ impl Latch {
 
     /// The latch as one byte.
     pub fn bits(&self) -> u8
-        ensures { result ≡ spec.byte_of self.now }
+        ensures byte { result ≡ spec.byte_of self.now }
+        ensures bits { (place : ℕ) → place < 8 → (number.bit result place == 1) ≡ spec.is_set self.now place }
     {
         self.weight(0)
             + self.weight(1)
