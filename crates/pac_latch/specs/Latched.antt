@@ -27,7 +27,7 @@ power_on =
 abbrev pub is_set : Latched → ℕ → Bool
 is_set latched place = slice_index_or latched.bits place false
 
--- the latch as one byte
+-- the latch as one byte: each bit that is 1 adds its power of 2
 abbrev pub weight : Latched → ℕ → ℕ
 weight latched place = if is_set latched place then 2 ^ place else 0
 
@@ -40,10 +40,11 @@ byte_of latched =
 abbrev pub request_of : Latched → Option ℕ
 request_of latched = if latched.request then Some latched.vector else None
 
--- after a bit of the latch is written: a 0 in interrupt enable takes the request back
+-- whether a bit that is written takes the request back: a 0 in interrupt enable does
 abbrev pub withdraws : ℕ → Bool → Bool
 withdraws place bit = place == INTERRUPT_ENABLE && not bit
 
+-- after a bit of the latch is written
 abbrev pub after_bit : Latched → ℕ → Bool → Latched
 after_bit latched place bit =
     record latched {

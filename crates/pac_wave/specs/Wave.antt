@@ -55,7 +55,8 @@ pub record Fit20Bits (all : Accumulators) : Type 0 where
 abbrev pub power_on : Accumulators
 power_on = record { first = 0; second = 0; third = 0 }
 
--- the sample that an accumulator points to in its waveform: the wave PROM has eight waveforms of 32 samples, four bits each
+-- the sample that an accumulator points to in its waveform: the wave PROM has eight waveforms of 32 samples, of
+-- four bits each
 abbrev pub pointed : List ℕ → ℕ → ℕ → ℕ
 pointed prom waveform accumulator = slice_index prom (32 * waveform + accumulator / 32768) % 16
 
@@ -68,14 +69,15 @@ abbrev pub level : List ℕ → List ℕ → Voice → ℕ → ℤ
 level prom registers voice accumulator =
     amplified (pointed prom (waveform registers voice) accumulator) (volume registers voice)
 
+-- what it comes to from samples and volumes of four bits: from -8 * 15 to 7 * 15
 abbrev pub IsLevel : ℤ → Type 0
 IsLevel value = (negsuc 119 ≤ℤ value) × (value ≤ℤ pos 105)
 
--- the sound of three voices
+-- three voices together: 64 times their sum
 abbrev pub mixed : ℤ → ℤ → ℤ → ℤ
 mixed first second third = pos 64 *ℤ ((first +ℤ second) +ℤ third)
 
--- the sound sample; it is 0 while sound is off
+-- the sound sample: 0 while sound is off
 abbrev pub sample_of : List ℕ → List ℕ → Accumulators → Bool → ℤ
 sample_of prom registers all on =
     if on
