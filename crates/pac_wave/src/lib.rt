@@ -1,0 +1,212 @@
+//! The wave generator: three voices that walk through the wave PROM, and the sound samples that they add up to.
+#![tactic(auto)]
+
+ghost use Rattle.std.specs.Prelude.{◌≡◌, ◌<◌, ◌^◌, ◌∷◌, [], pos, negsuc, ◌≤ℤ◌, length};
+ghost use Rattle.pac_wave.specs.Wave.{AreNibbles, Fit20Bits, power_on};
+ghost use Rattle.pac_wave.specs.Wave as spec;
+
+pub mod laws;
+#[cfg(test)]
+mod tests;
+
+use std::marker::Model;
+
+/// One of the wave generator's voices.
+#[derive(Clone, Copy, PartialEq, Debug)]
+pub enum Voice {
+    /// The one whose frequency has all 20 bits.
+    First,
+    /// The one of the registers from 16H on.
+    Second,
+    /// The one of the registers from 1BH on.
+    Third,
+}
+
+/// The wave generator's accumulators, 20 bits for each voice (Namco Pac-Man service schematics).
+#[derive(Drop)]
+pub struct Wave {
+    first: u32,
+    second: u32,
+    third: u32,
+}
+
+impl Model for Wave {
+    ghost use Rattle.pac_wave.specs.Wave.{Accumulators, Fit20Bits};
+
+    ghost Value = { Accumulators };
+
+    ghost view = { λ wave. record { first = wave.first; second = wave.second; third = wave.third } };
+
+    ghost invariant = { λ wave. Fit20Bits (record { first = wave.first; second = wave.second; third = wave.third }) };
+}
+
+/// The number of a voice's waveform, 0 to 7.
+#[inline]
+fn waveform(registers: &[u8; 32], voice: Voice) -> u8
+    ensures waveform { result ≡ spec.waveform registers.now voice }
+    ensures below { result < 8 }
+{
+    match voice {
+        Voice::First => registers[0x05] % 8,
+        Voice::Second => registers[0x0A] % 8,
+        Voice::Third => registers[0x0F] % 8,
+    }
+}
+
+/// A voice's volume, 0 to 15.
+#[inline]
+fn volume(registers: &[u8; 32], voice: Voice) -> u8
+    requires { AreNibbles registers.now }
+    ensures volume { result ≡ spec.volume registers.now voice }
+    ensures below { result < 16 }
+{
+    match voice {
+        Voice::First => registers[0x15],
+        Voice::Second => registers[0x1A],
+        Voice::Third => registers[0x1F],
+    }
+}
+
+/// Five digits of four bits as one number, the lowest first.
+#[inline]
+fn digits(a: u8, b: u8, c: u8, d: u8, e: u8) -> u32
+    requires a { a < 16 }
+    requires b { b < 16 }
+    requires c { c < 16 }
+    requires d { d < 16 }
+    requires e { e < 16 }
+    ensures digits { result ≡ spec.digits a b c d e }
+    ensures below { result < 2 ^ 20 }
+{
+    u32::from(a)
+        + 16 * u32::from(b)
+        + 256 * u32::from(c)
+        + 4096 * u32::from(d)
+        + 65536 * u32::from(e)
+}
+
+/// A voice's frequency, 20 bits.
+#[inline]
+fn frequency(registers: &[u8; 32], voice: Voice) -> u32
+    requires { AreNibbles registers.now }
+    ensures frequency { result ≡ spec.frequency registers.now voice }
+    ensures below { result < 2 ^ 20 }
+{
+    match voice {
+        Voice::First => digits(
+            registers[0x10],
+            registers[0x11],
+            registers[0x12],
+            registers[0x13],
+            registers[0x14],
+        ),
+        Voice::Second => digits(
+            0,
+            registers[0x16],
+            registers[0x17],
+            registers[0x18],
+            registers[0x19],
+        ),
+        Voice::Third => digits(
+            0,
+            registers[0x1B],
+            registers[0x1C],
+            registers[0x1D],
+            registers[0x1E],
+        ),
+    }
+}
+
+/// A sample of a waveform, 0 to 15, about its middle 8 and at a volume.
+#[inline]
+fn amplified(sample: u8, volume: u8) -> i16
+    requires sample { sample < 16 }
+    requires volume { volume < 16 }
+    ensures amplified { result ≡ spec.amplified sample volume }
+    ensures within { spec.IsLevel result }
+{
+    (i16::from(sample) - 8) * i16::from(volume)
+}
+
+/// What a voice puts into the sound, from the wave PROM's 256 bytes.
+#[inline]
+fn level(prom: &[u8], registers: &[u8; 32], voice: Voice, accumulator: u32) -> i16
+    requires prom { length prom.now ≡ 256 }
+    requires registers { AreNibbles registers.now }
+    requires accumulator { accumulator < 2 ^ 20 }
+    ensures level { result ≡ spec.level prom.now registers.now voice accumulator }
+    ensures within { spec.IsLevel result }
+{
+    let place = 32 * usize::from(waveform(registers, voice)) + (accumulator / 32768) as usize;
+    amplified(prom[place] % 16, volume(registers, voice))
+}
+
+/// The sound sample that three voices add up to.
+#[inline]
+fn mixed(first: i16, second: i16, third: i16) -> i16
+    requires first { spec.IsLevel first }
+    requires second { spec.IsLevel second }
+    requires third { spec.IsLevel third }
+    ensures mixed { result ≡ spec.mixed first second third }
+    ensures low { negsuc 23039 ≤ℤ result }
+    ensures high { result ≤ℤ pos 20160 }
+{
+    64 * (first + second + third)
+}
+
+/// An accumulator a sample later.
+#[inline]
+fn grown(registers: &[u8; 32], voice: Voice, accumulator: u32) -> u32
+    requires registers { AreNibbles registers.now }
+    requires accumulator { accumulator < 2 ^ 20 }
+    ensures grown { result ≡ spec.grown registers.now voice accumulator }
+    ensures below { result < 2 ^ 20 }
+{
+    (accumulator + frequency(registers, voice)) % 0x10_0000
+}
+
+impl Wave {
+    /// All accumulators 0, as at power-on.
+    pub fn new() -> Wave
+        ensures { result ≡ power_on }
+    {
+        Wave {
+            first: 0,
+            second: 0,
+            third: 0,
+        }
+    }
+
+    /// The next sound sample, -23,040 to 20,160, from the wave PROM's 256 bytes and the 32 registers, each
+    /// below 16; register n is the one at address 5040H + n. While sound is off the sample is 0 and the
+    /// accumulators stay; else they grow by their voices' frequencies behind the sample.
+    pub fn tick(&mut self, prom: &[u8], registers: &[u8; 32], on: bool) -> i16
+        requires prom { length prom.now ≡ 256 }
+        requires registers { AreNibbles registers.now }
+        ensures sample { result ≡ spec.sample_of prom.now registers.now self.old on }
+        ensures accumulators { self.new ≡ spec.after registers.now on self.old }
+        ensures low { negsuc 23039 ≤ℤ result }
+        ensures high { result ≤ℤ pos 20160 }
+    {
+        if !on {
+            return 0;
+        }
+        let sample = mixed(
+            level(prom, registers, Voice::First, self.first),
+            level(prom, registers, Voice::Second, self.second),
+            level(prom, registers, Voice::Third, self.third),
+        );
+        self.first = grown(registers, Voice::First, self.first);
+        self.second = grown(registers, Voice::Second, self.second);
+        self.third = grown(registers, Voice::Third, self.third);
+        sample
+    }
+
+    /// The accumulators of the first, the second and the third voice, each below 2^20.
+    pub fn accumulators(&self) -> [u32; 3]
+        ensures accumulators { result ≡ self.now.first ∷ self.now.second ∷ self.now.third ∷ [] }
+        ensures below { Fit20Bits self.now }
+    {
+        [self.first, self.second, self.third]
+    }
+}
