@@ -111,9 +111,10 @@ impl Latch {
     pub fn reset(&mut self)
         ensures { self.new ≡ after_reset self.old }
     {
-        self.bits = [false; 8];
-        self.requested = false;
-        self.count = 0;
+        *self = Latch {
+            vector: self.vector,
+            ..Latch::new()
+        };
     }
 
     /// The vertical blank: asks for an interrupt where interrupts are enabled, then counts the blank. Answers
