@@ -1,0 +1,4 @@
+pub mod Parts
+pub mod NameLemmas
+pub mod CountLemmas
+pub mod Frames
