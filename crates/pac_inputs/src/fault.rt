@@ -1,7 +1,7 @@
 ghost use Rattle.std.specs.Prelude.{◌≡◌, Some};
 ghost use Rattle.pac_inputs.specs.declared.fault.ScriptError.TheVariants as errors;
 
-use std::alloc::{AllocError, AllocFailed};
+use std::alloc::AllocError;
 use std::fmt;
 use thiserror::Error;
 
@@ -50,26 +50,10 @@ impl fmt::Display for Code {
     }
 }
 
-impl From<ScriptFault> for ScriptError {
-    ghost from_gives = { λ fault e. e ≡ errors.Fault fault };
-
-    fn from(fault: ScriptFault) -> ScriptError {
-        ScriptError::Fault(fault)
-    }
-}
-
 impl From<AllocError> for ScriptError {
     ghost from_gives = { λ _ e. e ≡ errors.Memory };
 
     fn from(_error: AllocError) -> ScriptError {
-        ScriptError::Memory
-    }
-}
-
-impl<T: Drop> From<AllocFailed<T>> for ScriptError {
-    ghost from_gives = { λ _ e. e ≡ errors.Memory };
-
-    fn from(_error: AllocFailed<T>) -> ScriptError {
         ScriptError::Memory
     }
 }

@@ -1,4 +1,4 @@
-ghost use Rattle.std.specs.Prelude.{◌≡◌, ◌<◌, ◌≤◌, [], ◌∷◌, ◌++◌, List, length, map, option_map, IfOk, IfSome, IfNone, IsTrue, IsFalse, Some, not};
+ghost use Rattle.std.specs.Prelude.{◌≡◌, ◌<◌, ◌≤◌, [], ◌∷◌, length, option_map, IfSome, IfNone, not};
 ghost use Rattle.std.specs.List.{prefix_len, slice_split};
 ghost use Rattle.pac_inputs.specs.Inputs.{mask, places};
 ghost use Rattle.pac_inputs.specs.Words.{is_blank, is_comma, is_dash, words, frame_count, inputs_named};
@@ -7,10 +7,10 @@ ghost use Rattle.bitflags.specs.Sets.{find_name};
 
 use crate::fault::Code;
 use crate::inputs::Inputs;
+use bitflags::Flags;
+
 /// The most frames that a script may have (this profile).
 pub const FRAME_LIMIT: u32 = 36_000;
-
-use bitflags::Flags;
 
 /// A line of a script: so many frames, 1 to 36,000, with these inputs held.
 #[derive(Clone, Copy, Debug, PartialEq, Eq)]
