@@ -1,5 +1,5 @@
 -- What a script says: so many frames with so many inputs held, line by line, and its first fault.
-use Rattle.std.specs.Prelude.{◌≡◌, ℕ, ◌+◌, Bool, false, ◌==◌, List, [], ◌∷◌, ◌++◌, Option, Some, None, Result, Ok, Err, nat_lt, if◌then◌else◌}
+use Rattle.std.specs.Prelude.{◌≡◌, ℕ, ◌+◌, Bool, false, ◌==◌, List, [], ◌∷◌, ◌++◌, ◌⊎◌, ◌<◌, ◌≤◌, length, Option, Some, None, Result, Ok, Err, nat_lt, if◌then◌else◌}
 use Rattle.std.specs.Str.Lines.{lines}
 use Rattle.pac_inputs.specs.declared.fault.Code.{Code}
 use Rattle.pac_inputs.specs.declared.fault.Code.TheVariants.{Names, Count, Length}
@@ -86,3 +86,40 @@ Fails (errors.Fault fault) read = read ≡ Err fault
 abbrev pub Gives : Result (List Stretch) ScriptError → Read → Type 0
 Gives (Ok lines) read = read ≡ Ok lines
 Gives (Err e) read = Fails e read
+
+-- ---- the same, as what holds of the lines
+
+-- What lines say, each by itself: these stretches in their order, with the lines left out that say nothing.
+abbrev pub Says : List (List ℕ) → List Stretch → Type 0
+Says [] said = said ≡ []
+Says (line ∷ lines) said =
+    ((meaning line ≡ Ok None) × Says lines said)
+    ⊎ ((first : Stretch) × (more : List Stretch) × (meaning line ≡ Ok (Some first)) × (said ≡ first ∷ more) × Says lines more)
+
+-- the text is this script
+pub record IsScript (text : List ℕ) (said : List Stretch) : Type 0 where
+  pub says : Says (lines text) said
+  pub within : total said ≤ 36000
+
+-- A line behind so many frames has this fault: one of its own, or its frames are too many.
+abbrev pub IsFault : ℕ → List ℕ → Code → Type 0
+IsFault before line code =
+    (meaning line ≡ Err code)
+    ⊎ ((added : Stretch) × (meaning line ≡ Ok (Some added)) × (36000 < before + added.frames) × (code ≡ Length))
+
+-- the first line of the text that has a fault has this one; the lines before it are right
+pub record HasFault (text : List ℕ) (fault : ScriptFault) : Type 0 where
+  pub front : List (List ℕ)
+  pub wrong : List ℕ
+  pub back : List (List ℕ)
+  pub said : List Stretch
+  pub parts : lines text ≡ front ++ wrong ∷ back
+  pub line : fault.line ≡ length front + 1
+  pub says : Says front said
+  pub within : total said ≤ 36000
+  pub faulty : IsFault (total said) wrong fault.code
+
+-- a fact of the fault, where there is one
+abbrev pub OnFault : ScriptError → (ScriptFault → Type 0) → Type 0
+OnFault errors.Memory P = Unit {0}
+OnFault (errors.Fault fault) P = P fault

@@ -1,6 +1,8 @@
-ghost use Rattle.std.specs.Prelude.{◌≡◌, ◌≤◌, [], ◌∷◌, ◌++◌, OnOk, IfErr, Ok};
+ghost use Rattle.std.specs.Prelude.{◌≡◌, ◌≤◌, [], ◌∷◌, ◌++◌, List, OnOk, IfOk, IfErr, Ok, Err};
 ghost use Rattle.pac_inputs.specs.declared.fault.ScriptError.TheVariants as errors;
-ghost use Rattle.pac_inputs.specs.Script.{with_line, in_line, Fails, Gives, script_of};
+ghost use Rattle.pac_inputs.specs.declared.fault.ScriptFault.{ScriptFault};
+ghost use Rattle.pac_inputs.specs.declared.line.Stretch.{Stretch};
+ghost use Rattle.pac_inputs.specs.Script.{with_line, in_line, Fails, Gives, OnFault, IsScript, HasFault, script_of};
 
 use crate::fault::{Code, ScriptError, ScriptFault};
 use crate::line::{FRAME_LIMIT, meaning};
@@ -11,8 +13,23 @@ use std::alloc::Global;
 /// The script that a text is: lines of a count of frames and the names of the inputs held in them, or `-`
 /// for none, parted by blanks or tabs. Lines without words and those whose first word begins with `#` say
 /// nothing. Where a line is wrong, the answer is the first fault.
-#[tactic(auto, unfolding(crate::specs::Script::read))]
 pub fn read_script(alloc: Global, text: &[u8]) -> Result<Script, ScriptError>
+    // What is read is so: the text is this script.
+    ensures read { IfOk result (λ script. IsScript text.now script) }
+    // What is so is read, unless memory runs out.
+    ensures only { (said : List Stretch) → IsScript text.now said → Gives result (Ok said) }
+    // The fault told is the text's first, and the text's first is told.
+    ensures fault { IfErr result (λ e. OnFault e (HasFault text.now)) }
+    ensures refused { (fault : ScriptFault) → HasFault text.now fault → Gives result (Err fault) }
+    // Which script and which fault, as a function of the text.
+    ensures exact { Gives result (script_of text.now) }
+{
+    read(alloc, text)
+}
+
+// The same, by its last clause alone.
+#[tactic(auto, unfolding(crate::specs::Script::read))]
+fn read(alloc: Global, text: &[u8]) -> Result<Script, ScriptError>
     ensures { Gives result (script_of text.now) }
 {
     let mut script = Script::new(alloc);
