@@ -57,7 +57,7 @@ joined before (Ok (Some line)) = if nat_lt 36000 (total before + line.frames) th
 abbrev pub with_line : List Stretch → List ℕ → Said
 with_line before line = joined before (meaning line)
 
--- What the lines from this number on, and those before them, say together; or the first fault.
+-- a script, or its fault
 abbrev pub Read : Type 0
 Read = Result (List Stretch) ScriptFault
 
@@ -70,6 +70,7 @@ abbrev pub ◌>>=◌ : Read → (List Stretch → Read) → Read
 (Ok lines) >>= f = f lines
 (Err fault) >>= f = Err fault
 
+-- What the lines from this number on, and those before them, say together; or the first fault.
 unfoldable pub read : ℕ → List Stretch → List (List ℕ) → Read
 read number before [] = Ok before
 read number before (line ∷ lines) = in_line number (with_line before line) >>= λ after. read (number + 1) after lines
