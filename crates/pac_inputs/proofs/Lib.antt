@@ -1,0 +1,5 @@
+pub mod Parts
+pub mod NameLemmas
+pub mod CountLemmas
+pub mod Frames
+pub mod Laws

@@ -1,0 +1,6 @@
+pub mod Codes
+pub mod Entries
+pub mod Inputs
+pub mod Script
+pub mod Stretches
+pub mod Words

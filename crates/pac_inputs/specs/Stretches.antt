@@ -1,0 +1,21 @@
+-- What a script says of each frame. Its lines follow one another, and frames count from 1.
+use Rattle.std.specs.Prelude.{ℕ, ◌+◌, ◌&&◌, List, [], ◌∷◌, nat_lt, nat_le, if◌then◌else◌}
+use Rattle.pac_inputs.specs.declared.line.Stretch.{Stretch}
+use Rattle.pac_inputs.specs.Inputs.{mask}
+
+-- the frames of a script
+abbrev pub total : List Stretch → ℕ
+total [] = 0
+total (line ∷ lines) = line.frames + total lines
+
+-- The inputs of the line that covers a frame, of lines with so many frames before them: the frame is behind
+-- those, and one of the line's own. Where no line covers it, nothing is held.
+abbrev pub held_behind : ℕ → List Stretch → ℕ → ℕ
+held_behind before [] frame = 0
+held_behind before (line ∷ lines) frame =
+    if nat_lt before frame && nat_le frame (before + line.frames) then mask line.inputs
+    else held_behind (before + line.frames) lines frame
+
+-- the inputs held in a frame
+abbrev pub held : List Stretch → ℕ → ℕ
+held lines frame = held_behind 0 lines frame

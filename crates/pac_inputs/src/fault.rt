@@ -1,0 +1,59 @@
+ghost use Rattle.std.specs.Prelude.{◌≡◌, Some};
+ghost use Rattle.pac_inputs.specs.declared.fault.ScriptError.TheVariants as errors;
+
+use std::alloc::AllocError;
+use std::fmt;
+use thiserror::Error;
+
+/// What is wrong with a line of a script. Where several faults are in one line, the first in the order
+/// I2, I1, I3 is told.
+#[derive(Clone, Copy, Debug, PartialEq, Eq)]
+pub enum Code {
+    /// I1: the names are missing, one of them is unknown, or more follows them.
+    Names,
+    /// I2: the count of frames isn't a decimal number from 1 to 36,000.
+    Count,
+    /// I3: with this line the script has more than 36,000 frames.
+    Length,
+}
+
+/// The first fault of a script: what is wrong, and in which line, counted from 1.
+#[derive(Clone, Copy, Debug, PartialEq, Eq, Error)]
+#[error("{code} line {line}")]
+pub struct ScriptFault {
+    pub code: Code,
+    pub line: u64,
+}
+
+/// Why there is no script.
+#[derive(Clone, Copy, Debug, PartialEq, Eq, Error)]
+pub enum ScriptError {
+    /// No room for its lines.
+    #[error("out of memory")]
+    Memory,
+    /// A line of it is wrong.
+    #[error("{0}")]
+    Fault(ScriptFault),
+}
+
+impl fmt::Display for Code {
+    ghost use Rattle.pac_inputs.specs.Codes.{printed};
+
+    ghost output = { λ code. Some (printed code) };
+
+    fn fmt<W: fmt::Write>(&self, f: &mut fmt::Formatter<W>) -> fmt::Result {
+        match self {
+            Code::Names => write!(f, "I1"),
+            Code::Count => write!(f, "I2"),
+            Code::Length => write!(f, "I3"),
+        }
+    }
+}
+
+impl From<AllocError> for ScriptError {
+    ghost from_gives = { λ _ e. e ≡ errors.Memory };
+
+    fn from(_error: AllocError) -> ScriptError {
+        ScriptError::Memory
+    }
+}

@@ -1,0 +1,17 @@
+//! What the players hold: the inputs of the board, and scripts that tell them frame by frame.
+#![tactic(auto)]
+
+mod fault;
+mod inputs;
+mod line;
+mod reading;
+mod script;
+
+pub use fault::{Code, ScriptError, ScriptFault};
+pub use inputs::Inputs;
+pub use line::{FRAME_LIMIT, Stretch};
+pub use reading::read_script;
+pub use script::Script;
+
+#[cfg(test)]
+mod tests;

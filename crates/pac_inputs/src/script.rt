@@ -1,0 +1,101 @@
+ghost use Rattle.std.specs.Prelude.{◌≡◌, ◌+◌, ◌≤◌, [], ◌∷◌, ◌++◌, OnOk};
+ghost use Rattle.pac_inputs.specs.Inputs.{mask};
+ghost use Rattle.pac_inputs.specs.Stretches.{total, held};
+ghost use Rattle.pac_inputs.specs.Entries.{held_up_to};
+
+use crate::inputs::Inputs;
+use crate::line::Stretch;
+use bitflags::Flags;
+use std::alloc::{AllocError, Global};
+use std::marker::Model;
+
+// The inputs that are held up to a frame, which is the last of a line of the script.
+#[derive(Clone, Copy)]
+struct Entry {
+    end: u32,
+    inputs: Inputs,
+}
+
+/// A script: which inputs are held in which frame. Clauses see a list of its stretches of frames, in their
+/// order.
+#[derive(Drop)]
+pub struct Script {
+    entries: Vec<Entry>,
+    frames: u32,
+}
+
+impl Model for Script {
+    ghost use Rattle.std.specs.Prelude.{◌≡◌, ◌≤◌, List};
+    ghost use Rattle.pac_inputs.specs.declared.line.Stretch.{Stretch};
+    ghost use Rattle.pac_inputs.specs.Stretches.{total};
+    ghost use Rattle.pac_inputs.specs.Entries.{stretches, Rises};
+
+    ghost Value = { List Stretch };
+
+    ghost view = { λ script. stretches 0 script.entries.items };
+
+    ghost invariant = { λ script. record {
+      rises : Rises 0 script.entries.items;
+      all : script.frames ≡ total (stretches 0 script.entries.items);
+      within : script.frames ≤ 36000;
+    } };
+}
+
+impl Script {
+    // No frames.
+    pub(crate) fn new(alloc: Global) -> Script
+        ensures { result ≡ [] }
+    {
+        Script {
+            entries: Vec::new(alloc),
+            frames: 0,
+        }
+    }
+
+    // Adds frames behind those that it has.
+    #[tactic(auto, using(crate::proofs::Frames::entry_behind, crate::proofs::Frames::rises_behind, crate::proofs::Frames::total_behind))]
+    pub(crate) fn push(&mut self, stretch: Stretch) -> Result<(), AllocError>
+        requires { total self.old + stretch.frames ≤ 36000 }
+        ensures { OnOk result (self.new ≡ self.old ++ stretch ∷ []) }
+    {
+        let end = self.frames + stretch.frames;
+        self.entries.push(Entry {
+            end,
+            inputs: stretch.inputs,
+        })?;
+        self.frames = end;
+        Ok(())
+    }
+
+    /// How many frames it has, 0 to 36,000.
+    #[inline]
+    pub fn frames(&self) -> u32
+        ensures count { result ≡ total self.now }
+        ensures within { result ≤ 36000 }
+    {
+        self.frames
+    }
+
+    /// The inputs that are held in a frame, the first of which is 1; none in frame 0 and behind the last.
+    #[tactic(auto, using(crate::proofs::Frames::found_up_to, crate::proofs::Frames::nothing_first))]
+    pub fn held(&self, frame: u32) -> Inputs
+        ensures { mask result ≡ held self.now frame }
+    {
+        if frame == 0 {
+            return Inputs::empty();
+        }
+        held_up_to(&self.entries, frame)
+    }
+}
+
+// The inputs of the first entry that ends with the frame or behind it.
+fn held_up_to(entries: &[Entry], frame: u32) -> Inputs
+    ensures { mask result ≡ held_up_to entries.now frame }
+{
+    for entry in entries {
+        if frame <= entry.end {
+            return entry.inputs;
+        }
+    }
+    Inputs::empty()
+}
