@@ -1,3 +1,5 @@
+//! What can be wrong with a script.
+
 ghost use Rattle.std.specs.Prelude.{◌≡◌, Some};
 ghost use Rattle.pac_inputs.specs.declared.fault.ScriptError.TheVariants as errors;
 
@@ -21,7 +23,9 @@ pub enum Code {
 #[derive(Clone, Copy, Debug, PartialEq, Eq, Error)]
 #[error("{code} line {line}")]
 pub struct ScriptFault {
+    /// What is wrong.
     pub code: Code,
+    /// The number of the line, from 1.
     pub line: u64,
 }
 

@@ -1,3 +1,5 @@
+//! The inputs of the board, and the bytes of its two input ports.
+
 ghost use Rattle.std.specs.Prelude.{⊤, ◌≡◌, [], ◌∷◌, codes};
 ghost use Rattle.pac_inputs.specs.Inputs.{mask, in0, in1, places};
 

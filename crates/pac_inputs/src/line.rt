@@ -1,3 +1,5 @@
+//! What a line of a script says by itself.
+
 ghost use Rattle.std.specs.Prelude.{◌≡◌, ◌<◌, ◌≤◌, [], ◌∷◌, length, option_map, IfSome, IfNone, not};
 ghost use Rattle.std.specs.List.{prefix_len, slice_split};
 ghost use Rattle.pac_inputs.specs.Inputs.{mask, places};
@@ -15,7 +17,9 @@ pub const FRAME_LIMIT: u32 = 36_000;
 /// A line of a script: so many frames, 1 to 36,000, with these inputs held.
 #[derive(Clone, Copy, Debug, PartialEq, Eq)]
 pub struct Stretch {
+    /// How many frames, 1 to 36,000.
     pub frames: u32,
+    /// What is held in each of them.
     pub inputs: Inputs,
 }
 

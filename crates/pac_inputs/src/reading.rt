@@ -1,3 +1,5 @@
+//! A script from its text.
+
 ghost use Rattle.std.specs.Prelude.{◌≡◌, ◌≤◌, [], ◌∷◌, ◌++◌, List, OnOk, IfOk, IfErr, Ok, Err};
 ghost use Rattle.pac_inputs.specs.declared.fault.ScriptError.TheVariants as errors;
 ghost use Rattle.pac_inputs.specs.declared.fault.ScriptFault.{ScriptFault};

@@ -1,3 +1,5 @@
+//! A script, frame by frame.
+
 ghost use Rattle.std.specs.Prelude.{◌≡◌, ◌+◌, ◌≤◌, [], ◌∷◌, ◌++◌, OnOk};
 ghost use Rattle.pac_inputs.specs.Inputs.{mask};
 ghost use Rattle.pac_inputs.specs.Stretches.{total, held};
