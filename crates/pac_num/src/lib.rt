@@ -1,8 +1,9 @@
-//! Bits, bytes and words as the processor and the board read them, as whole numbers.
+//! Bits, bytes and words as the processor and the board read them, as whole numbers, and the pixels of a byte.
 #![tactic(auto)]
 
-ghost use Rattle.std.specs.Prelude.{◌≡◌, ◌<◌};
+ghost use Rattle.std.specs.Prelude.{◌≡◌, ◌<◌, ◌+◌};
 ghost use Rattle.pac_num.specs.Numbers as number;
+ghost use Rattle.pac_num.specs.Pixels as pixels;
 
 /// Bit `place` of a byte, 0 or 1; bit 0 is the lowest.
 #[inline]
@@ -37,6 +38,14 @@ pub fn word(low: u8, high: u8) -> u16
     low as u16 + 256 * high as u16
 }
 
+/// The address so far from another, modulo 65,536.
+#[inline]
+pub fn offset(address: u16, by: u16) -> u16
+    ensures { result ≡ number.address (address + by) }
+{
+    address.wrapping_add(by)
+}
+
 /// A byte read in two's complement, -128 to 127.
 #[inline]
 pub fn signed(byte: u8) -> i8
@@ -67,4 +76,14 @@ pub fn is_even(byte: u8) -> bool
     ensures { result ≡ number.is_even byte }
 {
     byte.count_ones() % 2 == 0
+}
+
+/// The value, 0 to 3, of the pixel in a column of the four that a byte of the tile or the sprite ROM has, from left
+/// to right; columns repeat every four.
+#[inline]
+pub fn pixel_value(byte: u8, x: u8) -> u8
+    ensures value { result ≡ pixels.pixel_value byte x }
+    ensures below { result < 4 }
+{
+    2 * bit(byte, 7 - x % 4) + bit(byte, 3 - x % 4)
 }
