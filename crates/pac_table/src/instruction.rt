@@ -72,7 +72,8 @@ impl Instr {
     pub fn opcode(&self) -> u8
         ensures { result ≡ opcode_of self.now }
     {
-        self.pattern().opcode(self.p, self.q)
+        let pattern = self.pattern();
+        pattern.opcode(self.p, self.q)
     }
 
     /// The number of the row.

@@ -1,4 +1,4 @@
-use Rattle.std.proofs.Common.{◌≡◌, ◌∙◌, ◌<◌, ap, subst, sym}
+use Rattle.std.proofs.Common.{◌∙◌, ◌<◌, ap, subst, sym}
 use Rattle.pac_table.specs.declared.patterns.Pattern.{Pattern}
 use Rattle.pac_table.specs.Patterns.{opcode}
 use Rattle.pac_table.specs.Instructions.{pattern_of}
@@ -9,5 +9,5 @@ pub opcode-requires : goal.opcode-requires
 opcode-requires c =
     let self = c.self.inside in
     let held = fields-held self.row self.p self.q c.self.invariant.row c.self.invariant.first c.self.invariant.second in
-    let is = c.pattern.ensures.value ∙ ap pattern_of (sym c.self.view_is) in
+    let is = c.pattern-pattern.ensures.value ∙ ap pattern_of (sym c.self.view_is) in
     subst (λ (pattern : Pattern). opcode pattern self.p self.q < 256) (sym is) held.is_byte
