@@ -8,10 +8,14 @@ unfoldable pub bit_test_of : ℕ → ℕ → ℕ → ℕ
 bit_test_of byte place f =
     byte_of (record (flags_of f) { zero = bit byte (place % 8) == 0; half_carry = true; subtract = false }) f
 
+-- the weight of the bit at a place
+abbrev pub weight_at : ℕ → ℕ
+weight_at place = 2 ^ (place % 8)
+
 -- SET: the bit is 1, the others stay
 unfoldable pub with_bit : ℕ → ℕ → ℕ
-with_bit byte place = if bit byte (place % 8) == 0 then byte + 2 ^ (place % 8) else byte
+with_bit byte place = if bit byte (place % 8) == 0 then byte + weight_at place else byte
 
 -- RES: the bit is 0, the others stay
 unfoldable pub without_bit : ℕ → ℕ → ℕ
-without_bit byte place = if bit byte (place % 8) == 0 then byte else byte - 2 ^ (place % 8)
+without_bit byte place = if bit byte (place % 8) == 0 then byte else byte - weight_at place

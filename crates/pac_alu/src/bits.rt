@@ -1,5 +1,7 @@
-ghost use Rattle.std.specs.Prelude.{◌≡◌, ◌%◌, ◌^◌};
-ghost use Rattle.pac_alu.specs.Bits.{bit_test_of, with_bit, without_bit};
+//! One bit of a byte: BIT, SET and RES.
+
+ghost use Rattle.std.specs.Prelude.{◌≡◌};
+ghost use Rattle.pac_alu.specs.Bits.{bit_test_of, weight_at, with_bit, without_bit};
 
 use crate::flag_byte::Flags;
 
@@ -21,7 +23,7 @@ pub fn test_bit(byte: u8, place: u8, f: u8) -> u8
 /// The weight of the bit at a place.
 #[inline]
 fn weight_of(place: u8) -> u8
-    ensures { result ≡ 2 ^ (place % 8) }
+    ensures { result ≡ weight_at place }
 {
     1 << (place % 8)
 }

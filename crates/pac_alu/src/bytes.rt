@@ -1,12 +1,16 @@
-ghost use Rattle.std.specs.Prelude.{◌≡◌, ◌+◌, ◌-◌, ◌%◌, ◌<◌, ◌&&◌, ◌||◌, ◌+ℤ◌, ◌-ℤ◌, pos, nat_lt, if◌then◌else◌};
-ghost use Rattle.pac_alu.specs.Flags.{overflows};
-ghost use Rattle.pac_alu.specs.Arithmetic.{sum_of, difference_of, logic_of, operation_of, arithmetic_of, increment_of, decrement_of, negation_of, complement_of, decimal_of};
+//! Operations on bytes: the eight of A and an operand, INC, DEC, NEG, CPL and DAA.
+
+ghost use Rattle.std.specs.Prelude.{◌≡◌, ◌+ℤ◌, ◌-ℤ◌, pos};
+ghost use Rattle.pac_alu.specs.Flags.{IsCarry, overflows};
+ghost use Rattle.pac_alu.specs.Arithmetic.{sum_of, difference_of, logic_of, operation_of, arithmetic_of, increment_of};
+ghost use Rattle.pac_alu.specs.Arithmetic.{decrement_of, negation_of, complement_of, decimal_of};
+ghost use Rattle.pac_alu.specs.Arithmetic.{corrects_low, corrects_high, adjusted_of, adjusted_half_carry};
 ghost use Rattle.pac_num.specs.Numbers.{signed};
 
 use crate::flag_byte::{Flags, parity_flags, weight};
 
 /// An operation of A and an operand, in the order of the codes 0 to 7 (UM0080, "8-Bit Arithmetic Group").
-#[derive(Clone, Copy, Debug, PartialEq, Eq)]
+#[derive(Clone, Copy)]
 pub enum Operation {
     Add,
     /// ADD with the carry.
@@ -22,7 +26,7 @@ pub enum Operation {
 }
 
 /// What an operation on bytes leaves: the value and F.
-#[derive(Clone, Copy, Debug, PartialEq, Eq)]
+#[derive(Clone, Copy)]
 pub struct Outcome {
     /// The byte.
     pub value: u8,
@@ -95,7 +99,7 @@ fn sum(a: u8, operand: u8, carry: u8, f: u8) -> Outcome
 #[inline]
 #[tactic(auto, unfolding(crate::specs::Arithmetic::difference_of))]
 fn difference(a: u8, operand: u8, carry: u8, f: u8) -> Outcome
-    requires { carry < 2 }
+    requires { IsCarry carry }
     ensures { result ≡ difference_of a operand carry f }
 {
     let taken = operand as u16 + carry as u16;
@@ -230,7 +234,7 @@ pub fn complement(a: u8, f: u8) -> Outcome
 /// Whether DAA corrects the low digit.
 #[inline]
 fn corrects_low_digit(a: u8, before: Flags) -> bool
-    ensures { result ≡ (before.half_carry || nat_lt 9 (a % 16)) }
+    ensures { result ≡ corrects_low a before }
 {
     before.half_carry || 9 < a % 16
 }
@@ -238,16 +242,18 @@ fn corrects_low_digit(a: u8, before: Flags) -> bool
 /// Whether DAA corrects the high digit.
 #[inline]
 fn corrects_high_digit(a: u8, before: Flags) -> bool
-    ensures { result ≡ (before.carry || nat_lt 153 a) }
+    ensures { result ≡ corrects_high a before }
 {
     before.carry || 0x99 < a
 }
 
-/// A less the correction where N is set, else with it.
+/// A after DAA: less its correction where N is set, else with it.
 #[inline]
-fn corrected(a: u8, correction: u8, before: Flags) -> u8
-    ensures { result ≡ if before.subtract then (256 + a - correction) % 256 else (a + correction) % 256 }
+fn adjusted(a: u8, before: Flags) -> u8
+    ensures { result ≡ adjusted_of a before }
 {
+    let low = weight(6, corrects_low_digit(a, before));
+    let correction = low + weight(0x60, corrects_high_digit(a, before));
     if before.subtract {
         ((256 + a as u16 - correction as u16) % 256) as u8
     } else {
@@ -257,8 +263,8 @@ fn corrected(a: u8, correction: u8, before: Flags) -> u8
 
 /// H after DAA: a carry or borrow of the low digit.
 #[inline]
-fn adjusted_half_carry(a: u8, before: Flags) -> bool
-    ensures { result ≡ if before.subtract then before.half_carry && nat_lt (a % 16) 6 else nat_lt 9 (a % 16) }
+fn half_carry_of_adjustment(a: u8, before: Flags) -> bool
+    ensures { result ≡ adjusted_half_carry a before }
 {
     if before.subtract {
         before.half_carry && a % 16 < 6
@@ -274,16 +280,14 @@ pub fn decimal_adjust(a: u8, f: u8) -> Outcome
     ensures { result ≡ decimal_of a f }
 {
     let before = Flags::of(f);
-    let high = corrects_high_digit(a, before);
-    let correction = weight(6, corrects_low_digit(a, before)) + weight(96, high);
-    let value = corrected(a, correction, before);
+    let value = adjusted(a, before);
     let flags = Flags {
         sign: 128 <= value,
         zero: value == 0,
-        half_carry: adjusted_half_carry(a, before),
+        half_carry: half_carry_of_adjustment(a, before),
         parity_overflow: pac_num::is_even(value),
         subtract: before.subtract,
-        carry: high,
+        carry: corrects_high_digit(a, before),
     };
     Outcome {
         value,

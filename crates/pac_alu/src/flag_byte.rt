@@ -1,9 +1,11 @@
+//! F as a byte and as six flags, the conditions that ask it, SCF and CCF.
+
 ghost use Rattle.std.specs.Prelude.{◌≡◌};
 ghost use Rattle.pac_alu.specs.Flags.{flags_of, byte_of, weight_if, parity_flags_of, condition_of, is_met};
-ghost use Rattle.pac_alu.specs.Arithmetic.{carry_set_of, carry_turned_of};
+ghost use Rattle.pac_alu.specs.Arithmetic.{carry_set_of, carry_flipped_of};
 
 /// The six flags of F that have a meaning (UM0080, "Z80 Status Indicator Flags").
-#[derive(Clone, Copy, Debug, PartialEq, Eq)]
+#[derive(Clone, Copy)]
 pub struct Flags {
     /// S, bit 7 of F.
     pub sign: bool,
@@ -20,7 +22,7 @@ pub struct Flags {
 }
 
 /// A condition of a jump, call or return, in the order of the codes cc 0 to 7 (UM0080, "Jump Group").
-#[derive(Clone, Copy, Debug, PartialEq, Eq)]
+#[derive(Clone, Copy)]
 pub enum Condition {
     /// NZ.
     NotZero,
@@ -149,11 +151,11 @@ pub fn set_carry(f: u8) -> u8
     flags.byte(f)
 }
 
-/// F after CCF: C turned, H the C before, N clear.
+/// F after CCF: C flipped, H the C before, N clear.
 #[inline]
-#[tactic(auto, unfolding(crate::specs::Arithmetic::carry_turned_of))]
+#[tactic(auto, unfolding(crate::specs::Arithmetic::carry_flipped_of))]
 pub fn complement_carry(f: u8) -> u8
-    ensures { result ≡ carry_turned_of f }
+    ensures { result ≡ carry_flipped_of f }
 {
     let before = Flags::of(f);
     let flags = Flags {

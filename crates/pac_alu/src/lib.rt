@@ -6,8 +6,6 @@ mod bits;
 mod bytes;
 mod flag_byte;
 mod shifts;
-#[cfg(test)]
-mod tests;
 mod transfer;
 mod words;
 

@@ -1,11 +1,15 @@
-ghost use Rattle.std.specs.Prelude.{◌≡◌, ◌<◌};
-ghost use Rattle.pac_alu.specs.Rotate.{kind_of, shifted_of, leaving_bit, shift_of, accumulator_rotation_of, left_digits_of, right_digits_of};
+//! Rotations and shifts of bytes, and RLD and RRD.
+
+ghost use Rattle.std.specs.Prelude.{◌≡◌};
+ghost use Rattle.pac_alu.specs.Flags.{IsCarry};
+ghost use Rattle.pac_alu.specs.Rotate.{kind_of, shifted_of, leaving_bit, shift_of, accumulator_rotation_of};
+ghost use Rattle.pac_alu.specs.Rotate.{left_digits_of, right_digits_of};
 
 use crate::bytes::Outcome;
 use crate::flag_byte::{Flags, parity_flags};
 
 /// A rotation or shift of a byte (UM0080, "Rotate and Shift Group").
-#[derive(Clone, Copy, Debug, PartialEq, Eq)]
+#[derive(Clone, Copy)]
 pub enum Shift {
     /// Left in the byte.
     Rlc,
@@ -24,7 +28,7 @@ pub enum Shift {
 }
 
 /// What RLD and RRD leave: A, the byte in memory and F.
-#[derive(Clone, Copy, Debug, PartialEq, Eq)]
+#[derive(Clone, Copy)]
 pub struct Digits {
     /// A after the rotation.
     pub a: u8,
@@ -57,7 +61,7 @@ impl Shift {
 /// The byte one place further, a carry of 0 or 1 coming in where the shift takes it.
 #[inline]
 fn shifted(shift: Shift, byte: u8, carry: u8) -> u8
-    requires { carry < 2 }
+    requires { IsCarry carry }
     ensures { result ≡ shifted_of shift byte carry }
 {
     let left = (byte as u16 * 2 % 256) as u8;

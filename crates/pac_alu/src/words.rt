@@ -1,11 +1,14 @@
+//! Operations on words: ADD, ADC, SBC, INC and DEC.
+
 ghost use Rattle.std.specs.Prelude.{◌≡◌, ◌+ℤ◌, ◌-ℤ◌, pos};
 ghost use Rattle.pac_alu.specs.Flags.{overflows_word};
-ghost use Rattle.pac_alu.specs.Words.{signed_word, word_sum_of, word_sum_with_carry_of, word_difference_with_carry_of, word_increment_of, word_decrement_of};
+ghost use Rattle.pac_alu.specs.Words.{signed_word, word_sum_of, word_sum_with_carry_of, word_difference_with_carry_of};
+ghost use Rattle.pac_alu.specs.Words.{word_increment_of, word_decrement_of};
 
 use crate::flag_byte::Flags;
 
 /// What an operation on words leaves: the value and F.
-#[derive(Clone, Copy, Debug, PartialEq, Eq)]
+#[derive(Clone, Copy)]
 pub struct WordOutcome {
     /// The word.
     pub value: u16,

@@ -1,4 +1,4 @@
 pub mod Reading
 pub mod RoundTrip
-pub mod Fronts
+pub mod Prefixes
 pub mod Decoding

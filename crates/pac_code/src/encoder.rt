@@ -1,7 +1,7 @@
 //! Instructions to bytes.
 
 ghost use Rattle.std.specs.Prelude.{◌≡◌, ◌+◌, ◌≤◌, ◌++◌, ◌<◌, ◌∷◌, [], ◌==◌, length};
-ghost use Rattle.pac_table.specs.Patterns.{IsDisplacement, immediate_bytes, prefix, word_limit};
+ghost use Rattle.pac_table.specs.Patterns.{IsDisplacement, immediate_bytes, longest_code, prefix, word_limit};
 ghost use Rattle.pac_table.specs.Instructions.{code};
 
 use arrayvec::ArrayVec;
@@ -28,7 +28,7 @@ impl Code {
     #[inline]
     pub fn as_slice(&self) -> &[u8]
         ensures value { result.now ≡ self.now }
-        ensures fits { length result.now ≤ 4 }
+        ensures fits { length result.now ≤ longest_code }
     {
         self.bytes.as_slice()
     }
@@ -37,7 +37,7 @@ impl Code {
     #[inline]
     pub fn len(&self) -> usize
         ensures value { result ≡ length self.now }
-        ensures fits { result ≤ 4 }
+        ensures fits { result ≤ longest_code }
     {
         self.bytes.len()
     }
@@ -51,6 +51,7 @@ impl Code {
     }
 }
 
+/// Puts the bytes of a page's prefix.
 fn put_prefix(bytes: &mut ArrayVec<u8, 4>, page: Page)
     requires { bytes.old.items ≡ [] }
     ensures { bytes.new.items ≡ prefix page }
@@ -72,8 +73,9 @@ fn put_prefix(bytes: &mut ArrayVec<u8, 4>, page: Page)
     }
 }
 
+/// Puts what follows the opcode byte.
 fn put_immediate(bytes: &mut ArrayVec<u8, 4>, immediate: Immediate, word: u16, displacement: i8)
-    requires room { length bytes.old.items + length (immediate_bytes immediate word displacement) ≤ 4 }
+    requires room { length bytes.old.items + length (immediate_bytes immediate word displacement) ≤ longest_code }
     requires word { word < word_limit immediate }
     requires displacement { IsDisplacement immediate displacement }
     ensures { bytes.new.items ≡ bytes.old.items ++ immediate_bytes immediate word displacement }

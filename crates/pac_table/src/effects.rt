@@ -2,7 +2,7 @@
 //! the fields and the immediate of the instruction itself.
 
 /// A place of 8 bits.
-#[derive(Clone, Copy, Debug, PartialEq, Eq)]
+#[derive(Clone, Copy)]
 pub enum Place {
     /// The register in the first field.
     First,
@@ -27,7 +27,7 @@ pub enum Place {
 }
 
 /// A register of 16 bits.
-#[derive(Clone, Copy, Debug, PartialEq, Eq)]
+#[derive(Clone, Copy)]
 pub enum Pair {
     /// The pair in the first field; 3 is SP, and AF where the field is qq.
     First,
@@ -40,7 +40,7 @@ pub enum Pair {
 }
 
 /// A register of the interrupt and refresh logic.
-#[derive(Clone, Copy, Debug, PartialEq, Eq)]
+#[derive(Clone, Copy)]
 pub enum Special {
     /// I, the high byte of mode 2's table.
     Interrupt,
@@ -59,8 +59,8 @@ pub enum InterruptMode {
     Two,
 }
 
-/// A turn of A.
-#[derive(Clone, Copy, Debug, PartialEq, Eq)]
+/// A rotation of A.
+#[derive(Clone, Copy)]
 pub enum Rotation {
     /// RLCA: left within the byte.
     LeftCircular,
@@ -73,7 +73,7 @@ pub enum Rotation {
 }
 
 /// What a block instruction does with one byte.
-#[derive(Clone, Copy, Debug, PartialEq, Eq)]
+#[derive(Clone, Copy)]
 pub enum BlockOperation {
     /// The cell at DE becomes the cell at HL.
     Load,
@@ -86,7 +86,7 @@ pub enum BlockOperation {
 }
 
 /// Where the pointers of a block instruction go.
-#[derive(Clone, Copy, Debug, PartialEq, Eq)]
+#[derive(Clone, Copy)]
 pub enum Direction {
     /// By 1 up.
     Up,
@@ -95,7 +95,7 @@ pub enum Direction {
 }
 
 /// A block instruction: LDI, CPIR, OUTD and the like.
-#[derive(Clone, Copy, Debug, PartialEq, Eq)]
+#[derive(Clone, Copy)]
 pub struct Block {
     /// What is done with each byte.
     pub operation: BlockOperation,
@@ -106,7 +106,7 @@ pub struct Block {
 }
 
 /// What an instruction does (UM0080, "Z80 Instruction Description").
-#[derive(Clone, Copy, Debug, PartialEq, Eq)]
+#[derive(Clone, Copy)]
 pub enum Effect {
     /// NOP.
     Nop,

@@ -1,8 +1,9 @@
 //! Instructions: a row of the table with its fields and its immediate filled in.
 
 ghost use Rattle.std.specs.Prelude.{◌≡◌, ◌<◌, ◌≤◌, ◌↔◌, IsTrue, IsSome, IfSome, length};
-ghost use Rattle.pac_table.specs.Instructions.{IsInstruction, row_count, pattern_of, operands_of, effect_of, ticks_of, ticks_other_of, opcode_of, code};
-ghost use Rattle.pac_table.specs.Patterns.{IsDisplacement, IsSignedByte, word_limit, lists};
+ghost use Rattle.pac_table.specs.Instructions.{IsInstruction, row_count, pattern_of, operands_of, effect_of, opcode_of, code};
+ghost use Rattle.pac_table.specs.Instructions.{least_ticks, most_ticks, ticks_of, ticks_other_of};
+ghost use Rattle.pac_table.specs.Patterns.{IsDisplacement, IsSignedByte, longest_code, word_limit, lists};
 
 use crate::effects::Effect;
 use crate::operands::Operands;
@@ -11,7 +12,7 @@ use crate::table::{row_numbered, rows};
 use std::marker::Model;
 
 /// An instruction of the table.
-#[derive(Clone, Copy, Debug, PartialEq, Eq)]
+#[derive(Clone, Copy, PartialEq, Eq)]
 pub struct Instr {
     row: u16,
     p: u8,
@@ -32,6 +33,7 @@ impl Model for Instr {
     ghost inverse = { λ i. record { row = i.row; p = i.p; q = i.q; word = i.word; disp = i.disp } };
 }
 
+/// Whether there is such a row, and each value is one that it takes.
 fn is_instruction(row: u16, p: u8, q: u8, word: u16, disp: i8) -> bool
     ensures { IsTrue result ↔ IsInstruction (record { row = row; p = p; q = q; word = word; disp = disp }) }
 {
@@ -70,7 +72,8 @@ impl Instr {
     pub fn opcode(&self) -> u8
         ensures { result ≡ opcode_of self.now }
     {
-        row_numbered(self.row).pattern.opcode(self.p, self.q)
+        let pattern = self.pattern();
+        pattern.opcode(self.p, self.q)
     }
 
     /// The number of the row.
@@ -118,9 +121,9 @@ impl Instr {
     pub fn size(&self) -> u8
         ensures value { result ≡ length (code self.now) }
         ensures at_least { 1 ≤ result }
-        ensures at_most { result ≤ 4 }
+        ensures at_most { result ≤ longest_code }
     {
-        let pattern = row_numbered(self.row).pattern;
+        let pattern = self.pattern();
         pattern.page.prefix_size() + 1 + pattern.immediate.size()
     }
 
@@ -149,17 +152,18 @@ impl Instr {
     /// The time in T-states; where there are two, that of a taken or repeating instruction.
     pub fn ticks(&self) -> u8
         ensures value { result ≡ ticks_of self.now }
-        ensures at_least { 4 ≤ result }
-        ensures at_most { result ≤ 23 }
+        ensures at_least { least_ticks ≤ result }
+        ensures at_most { result ≤ most_ticks }
     {
-        row_numbered(self.row).ticks
+        let row = row_numbered(self.row);
+        row.ticks
     }
 
     /// The time in T-states of an instruction that is not taken or does not repeat.
     pub fn ticks_other(&self) -> u8
         ensures value { result ≡ ticks_other_of self.now }
-        ensures at_least { 4 ≤ result }
-        ensures at_most { result ≤ 23 }
+        ensures at_least { least_ticks ≤ result }
+        ensures at_most { result ≤ most_ticks }
     {
         row_numbered(self.row).ticks_other
     }

@@ -11,8 +11,6 @@ mod instruction;
 mod operands;
 mod patterns;
 mod table;
-#[cfg(test)]
-mod tests;
 
 pub use effects::{
     Block, BlockOperation, Direction, Effect, InterruptMode, Pair, Place, Rotation, Special,
@@ -27,8 +25,8 @@ pub fn at_most_one()
     ensures { AtMostOne }
 {}
 
-/// The table has the documented opcodes: 252 without a prefix, 248 behind CB, 58 behind ED, 39
-/// behind DD and behind FD, and 31 behind DD CB and behind FD CB.
+/// The table has the documented opcodes: 252 without a prefix, 248 after CB, 58 after ED, 39 each
+/// after DD and after FD, and 31 each after DD CB and after FD CB.
 pub fn opcode_counts()
     ensures { CountsOpcodes }
 {}

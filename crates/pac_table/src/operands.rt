@@ -2,7 +2,7 @@
 
 /// The name of an operation (UM0080). `Alu` and `Shift` are families: the first field of the code
 /// tells the name.
-#[derive(Clone, Copy, Debug, PartialEq, Eq)]
+#[derive(Clone, Copy, PartialEq, Eq)]
 pub enum Mnemonic {
     Adc,
     Add,
@@ -68,7 +68,7 @@ pub enum Mnemonic {
 /// The shape of an operand: the text that it takes, and the part of the code that it fills. A field
 /// is told by what it lists, so that each shape fills one part: a register in the first or in the
 /// second field, n and nn the immediate, d and e the displacement.
-#[derive(Clone, Copy, Debug, PartialEq, Eq)]
+#[derive(Clone, Copy, PartialEq, Eq)]
 pub enum Shape {
     /// No operand.
     Absent,
@@ -149,7 +149,7 @@ pub enum Shape {
 }
 
 /// The form of an instruction in source.
-#[derive(Clone, Copy, Debug, PartialEq, Eq)]
+#[derive(Clone, Copy, PartialEq, Eq)]
 pub struct Operands {
     /// The operation.
     pub mnemonic: Mnemonic,

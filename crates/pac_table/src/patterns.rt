@@ -1,23 +1,24 @@
 //! The code of an instruction: fixed bits, lettered fields and what follows the opcode byte.
 
 ghost use Rattle.std.specs.Prelude.{◌≡◌, ◌+◌, ◌<◌, ◌≤◌, ◌↔◌, IsTrue, ℕ, ℤ, length};
+ghost use Rattle.pac_table.specs.Patterns.{longest_code, longest_immediate, longest_prefix};
 
 /// The prefix under which an opcode byte stands (UM0080, "Z80 Instruction Set").
-#[derive(Clone, Copy, Debug, PartialEq, Eq)]
+#[derive(Clone, Copy)]
 pub enum Page {
     /// No prefix.
     Plain,
-    /// Behind CB: shifts and single bits.
+    /// After CB: shifts and single bits.
     Cb,
-    /// Behind ED.
+    /// After ED.
     Ed,
-    /// Behind DD: IX.
+    /// After DD: IX.
     Dd,
-    /// Behind FD: IY.
+    /// After FD: IY.
     Fd,
-    /// Behind DD CB and a displacement, the opcode last.
+    /// After DD CB and a displacement, the opcode last.
     DdCb,
-    /// Behind FD CB and a displacement, the opcode last.
+    /// After FD CB and a displacement, the opcode last.
     FdCb,
 }
 
@@ -44,7 +45,7 @@ impl Page {
     #[inline]
     pub fn prefix_size(self) -> u8
         ensures value { result ≡ length (prefix self) }
-        ensures bound { result ≤ 2 }
+        ensures bound { result ≤ longest_prefix }
     {
         match self {
             Page::Plain => 0,
@@ -65,7 +66,7 @@ impl Page {
     #[inline]
     pub fn opcode_place(self) -> usize
         ensures value { result ≡ opcode_place self }
-        ensures bound { result < 4 }
+        ensures bound { result < longest_code }
     {
         match self {
             Page::Plain => 0,
@@ -79,7 +80,7 @@ impl Page {
     #[inline]
     pub fn immediate_place(self) -> usize
         ensures value { result ≡ immediate_place self }
-        ensures bound { result < 3 }
+        ensures bound { result + 1 < longest_code }
     {
         match self {
             Page::Plain => 1,
@@ -90,7 +91,7 @@ impl Page {
 
 /// A lettered field of an opcode byte: its place and the values that it may hold, as UM0080 lists
 /// them. A register is B 0, C 1, D 2, E 3, H 4, L 5, A 7, and never 6.
-#[derive(Clone, Copy, Debug, PartialEq, Eq)]
+#[derive(Clone, Copy)]
 pub enum Field {
     /// No field.
     Absent,
@@ -188,7 +189,7 @@ impl Field {
 }
 
 /// What follows the opcode byte; under DD CB and FD CB the displacement stands before it.
-#[derive(Clone, Copy, Debug, PartialEq, Eq)]
+#[derive(Clone, Copy)]
 pub enum Immediate {
     /// Nothing.
     Absent,
@@ -196,7 +197,7 @@ pub enum Immediate {
     Byte,
     /// nn: a word, low byte first.
     Word,
-    /// e: a signed distance from the address behind the instruction.
+    /// e: a signed distance from the address after the instruction.
     Relative,
     /// d: a signed displacement.
     Displacement,
@@ -211,7 +212,7 @@ impl Immediate {
     #[inline]
     pub fn size(self) -> u8
         ensures value { (word : ℕ) (displacement : ℤ) → length (immediate_bytes self word displacement) ≡ result }
-        ensures bound { result ≤ 2 }
+        ensures bound { result ≤ longest_immediate }
     {
         match self {
             Immediate::Absent => 0,
@@ -246,7 +247,7 @@ impl Immediate {
 
 /// The code of a row: its page, the opcode byte with each field 0, the fields in the order in
 /// which the byte holds them from bit 7 down, and what follows.
-#[derive(Clone, Copy, Debug, PartialEq, Eq)]
+#[derive(Clone, Copy)]
 pub struct Pattern {
     /// The prefix.
     pub page: Page,

@@ -1,5 +1,5 @@
-use Rattle.pac_code.proofs.RoundTrip as round_trip
+use Rattle.pac_code.proofs.RoundTrip.{decodes-back}
 use Rattle.pac_code.proofs.decodes_back.Goals as goal
 
 pub returns : goal.returns
-returns c = round_trip.decodes_back
+returns c = decodes-back

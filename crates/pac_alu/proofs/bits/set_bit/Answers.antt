@@ -2,16 +2,16 @@
 use Rattle.std.proofs.Common.{◌≡◌, ◌+◌, ◌/◌, ◌%◌, ◌^◌, ◌<◌, ℕ, zero, suc, arith}
 use Rattle.pac_alu.proofs.bits.set_bit.Goals as goal
 
-has_room : (byte place : ℕ) → byte < 256 → place < 8 → byte / 2 ^ place % 2 ≡ 0 → byte + 2 ^ place < 256
-has_room byte zero fits below clear = omega arith
-has_room byte (suc zero) fits below clear = omega arith
-has_room byte (suc (suc zero)) fits below clear = omega arith
-has_room byte (suc (suc (suc zero))) fits below clear = omega arith
-has_room byte (suc (suc (suc (suc zero)))) fits below clear = omega arith
-has_room byte (suc (suc (suc (suc (suc zero))))) fits below clear = omega arith
-has_room byte (suc (suc (suc (suc (suc (suc zero)))))) fits below clear = omega arith
-has_room byte (suc (suc (suc (suc (suc (suc (suc zero))))))) fits below clear = omega arith
-has_room byte (suc (suc (suc (suc (suc (suc (suc (suc place)))))))) fits below clear = absurd (omega arith)
+has-room : (byte place : ℕ) → byte < 256 → place < 8 → byte / 2 ^ place % 2 ≡ 0 → byte + 2 ^ place < 256
+has-room byte zero fits below clear = omega arith
+has-room byte (suc zero) fits below clear = omega arith
+has-room byte (suc (suc zero)) fits below clear = omega arith
+has-room byte (suc (suc (suc zero))) fits below clear = omega arith
+has-room byte (suc (suc (suc (suc zero)))) fits below clear = omega arith
+has-room byte (suc (suc (suc (suc (suc zero))))) fits below clear = omega arith
+has-room byte (suc (suc (suc (suc (suc (suc zero)))))) fits below clear = omega arith
+has-room byte (suc (suc (suc (suc (suc (suc (suc zero))))))) fits below clear = omega arith
+has-room byte (suc (suc (suc (suc (suc (suc (suc (suc place)))))))) fits below clear = absurd (omega arith)
 
 pub overflow_add-result : goal.overflow_add-result
-overflow_add-result c = grind (arith, has_room)
+overflow_add-result c = grind (arith, has-room)

@@ -1,8 +1,8 @@
-use Rattle.pac_table.proofs.TableRules.{ticks_in_range}
+use Rattle.pac_table.proofs.TableRules.{ticks-in-range}
 use Rattle.pac_table.proofs.instruction.Instr.ticks_other.Goals as goal
 
 pub returns-clause-at_least : goal.returns-clause-at_least
-returns-clause-at_least c = (ticks_in_range _ _ c.row_numbered.ensures c.self.invariant.row).other_at_least
+returns-clause-at_least c = (ticks-in-range _ _ c.row_numbered.ensures c.self.invariant.row).other_at_least
 
 pub returns-clause-at_most : goal.returns-clause-at_most
-returns-clause-at_most c = (ticks_in_range _ _ c.row_numbered.ensures c.self.invariant.row).other_at_most
+returns-clause-at_most c = (ticks-in-range _ _ c.row_numbered.ensures c.self.invariant.row).other_at_most
