@@ -1,6 +1,7 @@
 pub mod Bytes
 pub mod Numbers
 pub mod Texts
+pub mod Words
 pub mod Codes
 pub mod Tokens
 pub mod Scan

@@ -1,3 +1,5 @@
+//! What can be wrong with a line.
+
 ghost use Rattle.std.specs.Prelude.{◌≡◌, Some};
 ghost use Rattle.pac_lex.specs.declared.fault.LexError.TheVariants as errors;
 

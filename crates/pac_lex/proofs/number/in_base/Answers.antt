@@ -1,6 +1,6 @@
 use Rattle.std.proofs.Common.{◌∙◌, ◌+◌, sym, drop, get_or}
 use Rattle.std.proofs.lemmas.List.{at_drop_more}
-use Rattle.pac_lex.proofs.NumberLemmas.{with_digits, too_large}
+use Rattle.pac_lex.proofs.NumberLemmas.{with_digits, too-large}
 use Rattle.pac_lex.proofs.number.in_base.Goals as goal
 
 pub returns-then-value-gt65535 : goal.returns-then-value-gt65535
@@ -10,4 +10,4 @@ returns-then-value-gt65535 c =
     let digits = c.args.digits.now in
     let at = c.loop-byte.byte-index in
     sym (sym c.loop-byte.invariant.rest ∙ at_drop_more (with_digits base value) digits at 0 c.loop-byte-test.true
-    ∙ too_large base value (get_or digits at 0) (drop (at + 1) digits) c.requires.low (rw (← c.digit-digit.ensures, ← c.from-in-loop-byte.ensures, ← c.from.ensures) c.if-value-gt65535.true))
+    ∙ too-large base value (get_or digits at 0) (drop (at + 1) digits) c.requires.low (rw (← c.digit-digit.ensures, ← c.from-in-loop-byte.ensures, ← c.from.ensures) c.if-value-gt65535.true))
