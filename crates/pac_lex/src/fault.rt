@@ -63,6 +63,6 @@ impl<T: Drop> From<AllocFailed<T>> for LexError {
     ghost from_gives = { λ _ e. e ≡ errors.Memory };
 
     fn from(_error: AllocFailed<T>) -> LexError {
-        LexError::Memory
+        LexError::from(AllocError)
     }
 }
