@@ -52,6 +52,7 @@ fn the_leftmost_fault(rt: HostRuntime) {
         (b"\x01 '", Fault::NoToken),
         (b"A # B", Fault::NoToken),
         (b"NOP\r", Fault::NoToken),
+        (&[b'"'; 256], Fault::LongLine),
     ] {
         assert_eq!(rt;
             fault_of(&rt, line),
@@ -88,27 +89,13 @@ fn a_line_of_every_token(rt: HostRuntime) -> Result<(), Fail> {
         assert_eq!(rt; token.kind, kind);
         assert_eq!(rt; token.text, text);
     }
-    Ok(())
-}
-
-#[test]
-fn names_and_texts_side_by_side(rt: HostRuntime) -> Result<(), Fail> {
     for line in [b"AF 'x'".as_slice(), b"XAF'A'", b"afx'A'"] {
         let found = tokens(rt.alloc(), line)?;
-        assert_eq!(rt; found.len(), 2);
-        assert_eq!(rt; found[0].kind, Kind::Name);
-        assert_eq!(rt; found[1].kind, Kind::Text);
+        assert_eq!(rt; found.len(), 2, "at {line:?}");
+        assert_eq!(rt; found[0].kind, Kind::Name, "at {line:?}");
+        assert_eq!(rt; found[1].kind, Kind::Text, "at {line:?}");
     }
-    Ok(())
-}
-
-#[test]
-fn the_length_of_a_line(rt: HostRuntime) -> Result<(), Fail> {
     assert_eq!(rt; tokens(rt.alloc(), &[b' '; 255])?.len(), 0);
-    assert_eq!(rt;
-        fault_of(&rt, &[b'"'; 256]),
-        Some(LexError::Fault(Fault::LongLine))
-    );
     Ok(())
 }
 
