@@ -27,7 +27,8 @@ nothing-first before (line ∷ lines) = rw (le-ltb before 0 (omega arith)) (noth
 
 -- an entry after others
 pub entry-after : (before : ℕ) (entries : List Entry) (entry : Entry) → Rises before entries
-    → stretches before (entries ++ entry ∷ []) ≡ stretches before entries ++ stretch_after (before + total (stretches before entries)) entry ∷ []
+    → stretches before (entries ++ entry ∷ []) ≡ stretches before entries
+    ++ stretch_after (before + total (stretches before entries)) entry ∷ []
 entry-after before [] entry h = ap (λ n. stretch_after n entry ∷ []) (none before)
   where
     none : (n : ℕ) → n ≡ n + 0
@@ -62,7 +63,8 @@ pub last-ends : (entries : List Entry) (d : Entry) → Rises 0 entries → 0 < l
     → total (stretches 0 entries) ≡ (get_or entries (length entries - 1) d).end
 last-ends [] d h some = absurd (omega (arith, some))
 last-ends (first ∷ entries) d h some =
-    let last : 0 + total (stretches 0 (first ∷ entries)) ≡ (get_or (first ∷ entries) (length entries) d).end = last-of 0 first entries d h in
+    let last : 0 + total (stretches 0 (first ∷ entries)) ≡ (get_or (first ∷ entries) (length entries) d).end =
+    last-of 0 first entries d h in
     rw sub-one (omega (arith, last))
 
 pub ruleset last_entries = (last-ends)

@@ -1,5 +1,6 @@
 -- A text is read as the script that it is, and refused at the fault that it has.
-use Rattle.std.proofs.Common.{◌≡◌, ℕ, ◌+◌, ◌≤◌, List, [], ◌∷◌, ◌++◌, length, Some, None, Result, Ok, Err, refl, sym, ap, ◌∙◌, subst, arith, inl, inr, append-nil, append_assoc}
+use Rattle.std.proofs.Common.{◌≡◌, ℕ, ◌+◌, ◌≤◌, List, [], ◌∷◌, ◌++◌, length, Some, None, Result, Ok, Err, refl, sym, ap, ◌∙◌, subst, arith}
+use Rattle.std.proofs.Common.{inl, inr, append-nil, append_assoc}
 use Rattle.std.specs.Prelude.{IfOk, IfErr}
 use Rattle.std.proofs.lemmas.Bool.{cases_lt, lt-ltb, le-ltb}
 use Rattle.std.specs.Str.Lines.{lines}
@@ -21,16 +22,19 @@ at code number = record { code = code; line = number }
 abbrev Line : Type 0
 Line = List ℕ
 
-read-nothing : (n : ℕ) (before : List Stretch) (line : Line) (more : List Line) → meaning line ≡ Ok None → read n before (line ∷ more) ≡ read (n + 1) before more
+read-nothing : (n : ℕ) (before : List Stretch) (line : Line) (more : List Line) → meaning line ≡ Ok None
+    → read n before (line ∷ more) ≡ read (n + 1) before more
 unfolding read
 read-nothing n before line more e = rw e refl
 
-read-stretch : (n : ℕ) (before : List Stretch) (line : Line) (more : List Line) (s : Stretch) → meaning line ≡ Ok (Some s) → total before + s.frames ≤ 36000
+read-stretch : (n : ℕ) (before : List Stretch) (line : Line) (more : List Line) (s : Stretch) → meaning line ≡ Ok (Some s)
+    → total before + s.frames ≤ 36000
     → read n before (line ∷ more) ≡ read (n + 1) (before ++ s ∷ []) more
 unfolding read
 read-stretch n before line more s e h = rw (e, le-ltb 36000 (total before + s.frames) h) refl
 
-read-fault : (n : ℕ) (before : List Stretch) (line : Line) (more : List Line) (code : Code) → IsFault (total before) line code → read n before (line ∷ more) ≡ Err (at code n)
+read-fault : (n : ℕ) (before : List Stretch) (line : Line) (more : List Line) (code : Code) → IsFault (total before) line code
+    → read n before (line ∷ more) ≡ Err (at code n)
 unfolding read
 read-fault n before line more code (inl e) = rw e refl
 read-fault n before line more code (inr (s, e, long, is)) = rw (e, lt-ltb 36000 (total before + s.frames) long, is) refl
@@ -41,20 +45,25 @@ read-end n before = refl
 
 -- ---- what is so is read
 
-says-on : (n : ℕ) (before : List Stretch) (earlier later : List Line) (said : List Stretch) → Says earlier said → total before + total said ≤ 36000
+says-on : (n : ℕ) (before : List Stretch) (earlier later : List Line) (said : List Stretch) → Says earlier said
+    → total before + total said ≤ 36000
     → read n before (earlier ++ later) ≡ read (length earlier + n) (before ++ said) later
 says-on n before [] later said says h =
     let same : n ≡ 0 + n = omega arith in
-    ap (λ (x : List Stretch). read n x later) (sym (append-nil before) ∙ ap (λ (x : List Stretch). before ++ x) (sym says)) ∙ ap (λ k. read k (before ++ said) later) same
+    ap (λ (x : List Stretch). read n x later) (sym (append-nil before) ∙ ap (λ (x : List Stretch). before ++ x) (sym says))
+    ∙ ap (λ k. read k (before ++ said) later) same
 says-on n before (line ∷ earlier) later said (inl (e, says)) h =
-    read-nothing n before line (earlier ++ later) e ∙ (says-on (n + 1) before earlier later said says h ∙ ap (λ k. read k (before ++ said) later) (omega arith))
+    read-nothing n before line (earlier ++ later) e
+    ∙ (says-on (n + 1) before earlier later said says h ∙ ap (λ k. read k (before ++ said) later) (omega arith))
 says-on n before (line ∷ earlier) later said (inr (s, more, e, parts, says)) h =
     let sum : total said ≡ s.frames + total more = ap total parts in
     let sum' = total-after before s in
-    let same : (before ++ s ∷ []) ++ more ≡ before ++ said = append_assoc before (s ∷ []) more ∙ ap (λ (x : List Stretch). before ++ x) (sym parts) in
+    let same : (before ++ s ∷ []) ++ more ≡ before ++ said = append_assoc before (s ∷ []) more
+    ∙ ap (λ (x : List Stretch). before ++ x) (sym parts) in
     read-stretch n before line (earlier ++ later) s e (omega (arith, sum, h))
     ∙ (says-on (n + 1) (before ++ s ∷ []) earlier later more says (omega (arith, sum, sum', h))
-    ∙ (ap (λ k. read k ((before ++ s ∷ []) ++ more) later) (omega arith) ∙ ap (λ (x : List Stretch). read (length (line ∷ earlier) + n) x later) same))
+    ∙ (ap (λ k. read k ((before ++ s ∷ []) ++ more) later) (omega arith)
+    ∙ ap (λ (x : List Stretch). read (length (line ∷ earlier) + n) x later) same))
 
 pub script-again : (text : List ℕ) (said : List Stretch) → IsScript text said → script_of text ≡ Ok said
 script-again text said h =
@@ -104,7 +113,8 @@ record IsSaid (before : List Stretch) (ls : List Line) (all : List Stretch) : Ty
   parts : before ++ said ≡ all
   within : total before + total said ≤ 36000
 
-is-said : (n : ℕ) (before : List Stretch) (ls : List Line) (all : List Stretch) → total before ≤ 36000 → read n before ls ≡ Ok all → IsSaid before ls all
+is-said : (n : ℕ) (before : List Stretch) (ls : List Line) (all : List Stretch) → total before ≤ 36000 → read n before ls ≡ Ok all
+    → IsSaid before ls all
 is-said n before [] all h e = record {
   said = [];
   says = refl;
@@ -117,10 +127,12 @@ is-said n before (line ∷ ls) all h e = elim (kind line) [
       record { said = more.said; says = inl (is, more.says); parts = more.parts; within = more.within }
   | fails code is ↦ absurd (apart (read n before (line ∷ ls)) all (at code n) e (read-fault n before line ls code (inl is)))
   | adds s is ↦ elim (cases_lt 36000 (total before + s.frames)) [
-    | inl long ↦ absurd (apart (read n before (line ∷ ls)) all (at Length n) e (read-fault n before line ls Length (inr (s, is, long, refl))))
+    | inl long ↦
+        absurd (apart (read n before (line ∷ ls)) all (at Length n) e (read-fault n before line ls Length (inr (s, is, long, refl))))
     | inr fits ↦
         let sum = total-after before s in
-        let more = is-said (n + 1) (before ++ s ∷ []) ls all (omega (arith, sum, fits)) (sym (read-stretch n before line ls s is fits) ∙ e) in
+        let more =
+        is-said (n + 1) (before ++ s ∷ []) ls all (omega (arith, sum, fits)) (sym (read-stretch n before line ls s is fits) ∙ e) in
         record {
           said = s ∷ more.said;
           says = inr (s, more.said, is, refl, more.says);
@@ -147,11 +159,13 @@ record IsTold (n : ℕ) (before : List Stretch) (ls : List Line) (fault : Script
   within : total before + total said ≤ 36000
   faulty : IsFault (total before + total said) wrong fault.code
 
-told-here : (n : ℕ) (before : List Stretch) (line : Line) (ls : List Line) (code : Code) (fault : ScriptFault) → total before ≤ 36000 → IsFault (total before) line code
+told-here : (n : ℕ) (before : List Stretch) (line : Line) (ls : List Line) (code : Code) (fault : ScriptFault) → total before ≤ 36000
+    → IsFault (total before) line code
     → read n before (line ∷ ls) ≡ Err fault → IsTold n before (line ∷ ls) fault
 told-here n before line ls code fault h is e =
     let nothing_more : total before ≡ total before + 0 = omega arith in
-    subst (λ (f : ScriptFault). IsTold n before (line ∷ ls) f) (one-err (read n before (line ∷ ls)) (at code n) fault (read-fault n before line ls code is) e)
+    subst (λ (f : ScriptFault). IsTold n before (line ∷ ls) f)
+    (one-err (read n before (line ∷ ls)) (at code n) fault (read-fault n before line ls code is) e)
     (record {
       earlier = [];
       wrong = line;
@@ -164,7 +178,8 @@ told-here n before line ls code fault h is e =
       faulty = subst (λ k. IsFault k line code) nothing_more is;
     })
 
-is-told : (n : ℕ) (before : List Stretch) (ls : List Line) (fault : ScriptFault) → total before ≤ 36000 → read n before ls ≡ Err fault → IsTold n before ls fault
+is-told : (n : ℕ) (before : List Stretch) (ls : List Line) (fault : ScriptFault) → total before ≤ 36000 → read n before ls ≡ Err fault
+    → IsTold n before ls fault
 is-told n before [] fault h e = absurd (apart (read n before []) before fault (read-end n before) e)
 is-told n before (line ∷ ls) fault h e = elim (kind line) [
   | nothing is ↦
@@ -185,7 +200,8 @@ is-told n before (line ∷ ls) fault h e = elim (kind line) [
     | inl long ↦ told-here n before line ls Length fault h (inr (s, is, long, refl)) e
     | inr fits ↦
         let sum = total-after before s in
-        let more = is-told (n + 1) (before ++ s ∷ []) ls fault (omega (arith, sum, fits)) (sym (read-stretch n before line ls s is fits) ∙ e) in
+        let more =
+        is-told (n + 1) (before ++ s ∷ []) ls fault (omega (arith, sum, fits)) (sym (read-stretch n before line ls s is fits) ∙ e) in
         let all : total (before ++ s ∷ []) + total more.said ≡ total before + (s.frames + total more.said) = omega (arith, sum) in
         record {
           earlier = line ∷ more.earlier;
@@ -220,11 +236,13 @@ has-fault text fault e =
 
 -- ---- the same of an answer
 
-pub read-is-script : (text : List ℕ) (result : Result (List Stretch) ScriptError) → Gives result (script_of text) → IfOk result (IsScript text)
+pub read-is-script : (text : List ℕ) (result : Result (List Stretch) ScriptError) → Gives result (script_of text)
+    → IfOk result (IsScript text)
 read-is-script text (Ok said) h = is-script text said h
 read-is-script text (Err e) h = tt
 
-pub told-is-fault : (text : List ℕ) (result : Result (List Stretch) ScriptError) → Gives result (script_of text) → IfErr result (λ e. OnFault e (HasFault text))
+pub told-is-fault : (text : List ℕ) (result : Result (List Stretch) ScriptError) → Gives result (script_of text)
+    → IfErr result (λ e. OnFault e (HasFault text))
 told-is-fault text (Ok said) h = tt
 told-is-fault text (Err errors.Memory) h = tt
 told-is-fault text (Err (errors.Fault fault)) h = has-fault text fault h

@@ -1,5 +1,6 @@
 -- Names read one after another, and bytes that can be no name.
-use Rattle.std.proofs.Common.{◌≡◌, ℕ, zero, suc, ◌+◌, ◌<◌, get_or, arith, eqb, Bool, true, List, [], ◌∷◌, length, Option, Some, None, refl, sym, ap, ◌∙◌, inl, inr, nat_eq, subst, Bor, option_map, IfNone, IfSome}
+use Rattle.std.proofs.Common.{◌≡◌, ℕ, zero, suc, ◌+◌, ◌<◌, get_or, arith, eqb, Bool, true, List, [], ◌∷◌, length, Option, Some, None, refl}
+use Rattle.std.proofs.Common.{sym, ap, ◌∙◌, inl, inr, nat_eq, subst, Bor, option_map, IfNone, IfSome}
 use Rattle.std.specs.List.{list_all, slice_split}
 use Rattle.std.specs.Str.{IsUtf8}
 use Rattle.std.proofs.lemmas.Str.{IsUtf8-from_ascii}
@@ -49,11 +50,13 @@ abbrev pub left : Option (List ℕ) → ℕ
 left None = 0
 left (Some names) = length names + 1
 
-one-more : (held bit : ℕ) (name : List ℕ) (names : List (List ℕ)) → find_name places name ≡ Some bit → with_names (bit_or held bit) names ≡ with_names held (name ∷ names)
+one-more : (held bit : ℕ) (name : List ℕ) (names : List (List ℕ)) → find_name places name ≡ Some bit
+    → with_names (bit_or held bit) names ≡ with_names held (name ∷ names)
 one-more held bit name names e = rw e refl
 
 read-on : (held bit : ℕ) (names name : List ℕ) (after : Option (Bor (List ℕ)))
-    → IfNone after (slice_split is_comma names ≡ name ∷ []) → IfSome after (λ b. slice_split is_comma names ≡ name ∷ slice_split is_comma b.now)
+    → IfNone after (slice_split is_comma names ≡ name ∷ [])
+    → IfSome after (λ b. slice_split is_comma names ≡ name ∷ slice_split is_comma b.now)
     → find_name places name ≡ Some bit → with_rest (bit_or held bit) (texts after) ≡ with_names held (slice_split is_comma names)
 read-on held bit names name None last more e = one-more held bit name [] e ∙ ap (with_names held) (sym last)
 read-on held bit names name (Some b) last more e = one-more held bit name (slice_split is_comma b.now) e ∙ ap (with_names held) (sym more)
@@ -61,7 +64,8 @@ read-on held bit names name (Some b) last more e = one-more held bit name (slice
 -- What the names come to stays the same, as the first of them is taken.
 pub name-read : (held bit now : ℕ) (old after : Option (Bor (List ℕ))) (names : Bor (List ℕ)) (name : List ℕ) (all : Option ℕ)
     → with_rest held (texts old) ≡ all → old ≡ Some names
-    → IfNone after (slice_split is_comma names.now ≡ name ∷ []) → IfSome after (λ b. slice_split is_comma names.now ≡ name ∷ slice_split is_comma b.now)
+    → IfNone after (slice_split is_comma names.now ≡ name ∷ [])
+    → IfSome after (λ b. slice_split is_comma names.now ≡ name ∷ slice_split is_comma b.now)
     → find_name places name ≡ Some bit → now ≡ bit_or held bit → with_rest now (texts after) ≡ all
 name-read held bit now old after names name all so_far is last more e joined =
     ap (λ bits. with_rest bits (texts after)) joined

@@ -18,7 +18,8 @@ next-rises : (before : ℕ) (entries : List Entry) → Rises before entries → 
 next-rises before [] h k d small = absurd (omega (arith, small))
 next-rises before (entry ∷ []) h k d small = absurd (omega (arith, small))
 next-rises before (entry ∷ second ∷ entries) (first, more) zero d small = more.0
-next-rises before (entry ∷ second ∷ entries) (first, more) (suc k) d small = next-rises entry.end (second ∷ entries) more k d (omega (arith, small))
+next-rises before (entry ∷ second ∷ entries) (first, more) (suc k) d small =
+    next-rises entry.end (second ∷ entries) more k d (omega (arith, small))
 
 pub ends-parted : (entries : List Entry) (frame : ℕ) → Rises 0 entries → IsPartitionedBy (is_over frame) entries
 ends-parted entries frame h =

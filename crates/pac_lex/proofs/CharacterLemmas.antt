@@ -1,5 +1,6 @@
 -- The characters of a text, taken out of its quotes.
-use Rattle.std.proofs.Common.{◌≡◌, ℕ, ◌+◌, ◌-◌, false, ◌&&◌, List, [], ◌∷◌, ◌++◌, length, take, drop, flat_map, refl, sym, ap, ◌∙◌, arith, inl, inr, append_assoc, get_or, ◌≤◌, ◌<◌}
+use Rattle.std.proofs.Common.{◌≡◌, ℕ, ◌+◌, ◌-◌, false, ◌&&◌, List, [], ◌∷◌, ◌++◌, length, take, drop, flat_map, refl, sym, ap, ◌∙◌, arith}
+use Rattle.std.proofs.Common.{inl, inr, append_assoc, get_or, ◌≤◌, ◌<◌}
 use Rattle.std.proofs.lemmas.Bool.{cases_Bool, eqb-true}
 use Rattle.std.proofs.lemmas.List.{take_at, take_all, length-append, append-nil}
 use Rattle.pac_lex.specs.Bytes.{is_quote}
@@ -25,7 +26,9 @@ unquoted-quoted : (characters : List ℕ) → unquoted (flat_map quoted characte
 unquoted-quoted [] = unquoted-nil
 unquoted-quoted (c ∷ characters) = elim (cases_Bool (is_quote c)) [
   | inl e ↦ rw e (unquoted-cons 39 (39 ∷ flat_map quoted characters) ∙ rw (unquoted-quoted characters, eqb-true c 39 e) refl)
-  | inr e ↦ rw e (unquoted-cons c (flat_map quoted characters) ∙ rw (no-quote-after c (flat_map quoted characters) e, unquoted-quoted characters) refl)
+  | inr e ↦
+      rw e (unquoted-cons c (flat_map quoted characters)
+      ∙ rw (no-quote-after c (flat_map quoted characters) e, unquoted-quoted characters) refl)
 ]
 
 pub characters-again : (text characters : List ℕ) → text ≡ spelled characters → characters_of text ≡ characters
@@ -34,13 +37,17 @@ characters-again text characters e =
     let len : length (spelled characters) - 2 ≡ length between = omega (arith, length-append between (39 ∷ [])) in
     rw (e, len, take_at between (39 ∷ []) (length between) refl) (unquoted-quoted characters)
 
-one-more : (found : List ℕ) (b : ℕ) (bytes rest total : List ℕ) → bytes ≡ rest → found ++ unquoted (b ∷ rest) ≡ total → (found ++ b ∷ []) ++ unquoted (after_character b bytes) ≡ total
-one-more found b bytes rest total e so_far = rw e (append_assoc found (b ∷ []) (unquoted (after_character b rest)) ∙ ap (λ (xs : List ℕ). found ++ xs) (sym (unquoted-cons b rest)) ∙ so_far)
+one-more : (found : List ℕ) (b : ℕ) (bytes rest total : List ℕ) → bytes ≡ rest → found ++ unquoted (b ∷ rest) ≡ total
+    → (found ++ b ∷ []) ++ unquoted (after_character b bytes) ≡ total
+one-more found b bytes rest total e so_far =
+    rw e (append_assoc found (b ∷ []) (unquoted (after_character b rest)) ∙ ap (λ (xs : List ℕ). found ++ xs) (sym (unquoted-cons b rest))
+    ∙ so_far)
 
 pub goes-on-unquoted : (found rest total : List ℕ) → 1 ≤ length rest → found ++ unquoted rest ≡ total
     → (found ++ get_or rest 0 0 ∷ []) ++ unquoted (after_character (get_or rest 0 0) (take (length rest - 1) (drop 1 rest))) ≡ total
 goes-on-unquoted found [] total some so_far = absurd (omega arith)
-goes-on-unquoted found (b ∷ rest) total some so_far = one-more found b (take (length (b ∷ rest) - 1) rest) rest total (take_all _ rest (omega arith)) so_far
+goes-on-unquoted found (b ∷ rest) total some so_far =
+    one-more found b (take (length (b ∷ rest) - 1) rest) rest total (take_all _ rest (omega arith)) so_far
 
 pub ends-unquoted : (found rest total : List ℕ) → length rest < 1 → found ++ unquoted rest ≡ total → found ≡ total
 ends-unquoted found [] total none so_far = sym (append-nil found) ∙ ap (λ (xs : List ℕ). found ++ xs) (sym unquoted-nil) ∙ so_far

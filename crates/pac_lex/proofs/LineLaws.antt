@@ -1,5 +1,6 @@
 -- A line is read as the tokens that it is made of, and refused at the fault that it has.
-use Rattle.std.proofs.Common.{◌≡◌, ℕ, zero, suc, ◌<◌, ◌≤◌, true, false, not, ltb, List, [], ◌∷◌, ◌++◌, length, take, drop, Result, Ok, Err, refl, sym, ap, ◌∙◌, subst, arith, inl, inr, ◌⊎◌}
+use Rattle.std.proofs.Common.{◌≡◌, ℕ, zero, suc, ◌<◌, ◌≤◌, true, false, not, ltb, List, [], ◌∷◌, ◌++◌, length, take, drop, Result, Ok, Err}
+use Rattle.std.proofs.Common.{refl, sym, ap, ◌∙◌, subst, arith, inl, inr, ◌⊎◌}
 use Rattle.std.specs.List.{prefix_len, list_all}
 use Rattle.std.proofs.lemmas.Bool.{cases_Bool, lt-ltb, le-ltb, ltb-true, ltb-false, eqb-true, not-false, true≢false}
 use Rattle.std.proofs.lemmas.List.{take-append-drop, take_at, drop_at, length-drop, length-append}
@@ -15,7 +16,8 @@ use Rattle.pac_lex.proofs.TokenLaws.{token-is, token-again, fault-is, fault-agai
 use Rattle.pac_lex.proofs.ByteLemmas.{chosen}
 
 -- a line as its blanks and what stands after them
-after-blanks : (line gap rest : List ℕ) → line ≡ gap ++ rest → list_all is_blank gap ≡ true → begins is_blank rest ≡ false → AfterGap line rest
+after-blanks : (line gap rest : List ℕ) → line ≡ gap ++ rest → list_all is_blank gap ≡ true → begins is_blank rest ≡ false
+    → AfterGap line rest
 after-blanks line gap rest parts blank stop =
     let len : length gap ≡ prefix_len is_blank line = rw parts (sym (prefix-of-all is_blank gap rest blank stop)) in
     gap-skipped line rest (rw (← len) (rw parts (sym (drop_at gap rest (length gap) refl))))
@@ -38,7 +40,8 @@ split line = let n = prefix_len is_blank line in record {
 
 -- ---- what is so is read
 
-comment-stops : (comment : List ℕ) → begins (λ b. not (is_comment b)) comment ≡ false → (begins is_blank comment ≡ false) × (is_end comment ≡ true)
+comment-stops : (comment : List ℕ) → begins (λ b. not (is_comment b)) comment ≡ false
+    → (begins is_blank comment ≡ false) × (is_end comment ≡ true)
 comment-stops [] e = (refl, refl)
 comment-stops (c ∷ comment) e =
     let is : c ≡ 59 = eqb-true c 59 (not-false (is_comment c) e) in
@@ -53,7 +56,8 @@ first-again : (line : List ℕ) (token : Lexeme) (rest : List ℕ) → TokenFirs
 first-again line token rest h =
     let found = token-again token.kind token.text rest h.is_token in
     let text = token.text in
-    next-some line (text ++ rest) token.kind (length text) (after-blanks line h.gap (text ++ rest) h.parts h.blank found.starts.no_blank) found.starts.no_end found.found found.some
+    next-some line (text ++ rest) token.kind (length text)
+    (after-blanks line h.gap (text ++ rest) h.parts h.blank found.starts.no_blank) found.starts.no_end found.found found.some
     ∙ rw (take_at text rest (length text) refl, drop_at text rest (length text) refl) refl
 
 scan-again : (line : List ℕ) (tokens : List Lexeme) → Reads line tokens → scan 0 line ≡ Ok tokens
@@ -64,7 +68,8 @@ break-again : (line : List ℕ) (tokens : List Lexeme) (fault : Fault) → Break
 break-again line [] fault h =
     let told = fault-again h.rest fault h.is_fault in
     next-fault line h.rest fault (after-blanks line h.gap h.rest h.parts h.blank told.starts.no_blank) told.starts.no_end told.told
-break-again line (token ∷ tokens) fault (rest, first, more) = first-again line token rest first ∙ ap (before token) (break-again rest tokens fault more)
+break-again line (token ∷ tokens) fault (rest, first, more) = first-again line token rest first
+    ∙ ap (before token) (break-again rest tokens fault more)
 
 -- ---- what is read is so
 
@@ -91,7 +96,8 @@ before-err token (Err f) fault e = cc
 data First (line : List ℕ) : Type 0 where
   none : NoTokenLeft line → scan 0 line ≡ Ok [] → First line
   fault : (f : Fault) → FaultFirst line f → scan 0 line ≡ Err f → First line
-  token : (t : Lexeme) (rest : List ℕ) → TokenFirst line t rest → length rest < length line → scan 0 line ≡ before t (scan 0 rest) → First line
+  token : (t : Lexeme) (rest : List ℕ) → TokenFirst line t rest → length rest < length line → scan 0 line ≡ before t (scan 0 rest)
+      → First line
 
 some-left : (rest : List ℕ) → is_end rest ≡ false → 0 < length rest
 some-left [] e = absurd (true≢false e)
@@ -101,21 +107,29 @@ found-or-not : (found : Result (Kind × ℕ) Fault) → ((x : Kind × ℕ) × (f
 found-or-not (Ok x) = inl (x, refl)
 found-or-not (Err f) = inr (f, refl)
 
-first-token : (line : List ℕ) (s : Split line) (kind : Kind) (len : ℕ) → is_end s.rest ≡ false → token_at s.rest ≡ Ok (kind, len) → First line
+first-token : (line : List ℕ) (s : Split line) (kind : Kind) (len : ℕ) → is_end s.rest ≡ false → token_at s.rest ≡ Ok (kind, len)
+    → First line
 first-token line s kind len more e =
     let found = token-is s.rest kind len e in
     let text = take len s.rest in
     let after = drop len s.rest in
     let parts : line ≡ s.gap ++ (text ++ after) = s.parts ∙ ap (λ (xs : List ℕ). s.gap ++ xs) (sym (take-append-drop len s.rest)) in
-    let shorter : length after < length line = omega (arith, some-left s.rest more, length-drop len s.rest, length-append s.gap s.rest, ap length s.parts, found.some) in
-    token (cut kind len s.rest) after (record { gap = s.gap; blank = s.blank; parts = parts; is_token = found.is_token }) shorter (next-some line s.rest kind len s.reads more e found.some)
+    let shorter : length after < length line =
+    omega (arith, some-left s.rest more, length-drop len s.rest, length-append s.gap s.rest, ap length s.parts, found.some) in
+    token (cut kind len s.rest) after (record { gap = s.gap; blank = s.blank; parts = parts; is_token = found.is_token }) shorter
+    (next-some line s.rest kind len s.reads more e found.some)
 
 first-of : (line : List ℕ) → First line
 first-of line = let s = split line in elim (cases_Bool (is_end s.rest)) [
-  | inl e ↦ none (record { gap = s.gap; comment = s.rest; blank = s.blank; parts = s.parts; ends = end-is-comment s.rest e }) (next-none line s.rest s.reads e)
+  | inl e ↦
+      none (record { gap = s.gap; comment = s.rest; blank = s.blank; parts = s.parts; ends = end-is-comment s.rest e })
+      (next-none line s.rest s.reads e)
   | inr e ↦ elim (found-or-not (token_at s.rest)) [
     | inl ((kind, len), is) ↦ first-token line s kind len e is
-    | inr (f, is) ↦ fault f (record { gap = s.gap; rest = s.rest; blank = s.blank; parts = s.parts; is_fault = fault-is s.rest f (record { no_blank = s.reads.no_blank; no_end = e }) is }) (next-fault line s.rest f s.reads e is)
+    | inr (f, is) ↦
+        let told = fault-is s.rest f (record { no_blank = s.reads.no_blank; no_end = e }) is in
+        fault f (record { gap = s.gap; rest = s.rest; blank = s.blank; parts = s.parts; is_fault = told })
+        (next-fault line s.rest f s.reads e is)
   ]
 ]
 

@@ -1,5 +1,6 @@
 -- A list of bytes cut at those that pass a test.
-use Rattle.std.proofs.Common.{◌≡◌, ℕ, suc, ◌<◌, Bool, true, false, not, List, [], ◌∷◌, length, take, drop, refl, sym, ap, ◌∙◌, arith, one-add, inl, inr}
+use Rattle.std.proofs.Common.{◌≡◌, ℕ, suc, ◌<◌, Bool, true, false, not, List, [], ◌∷◌, length, take, drop, refl, sym, ap, ◌∙◌, arith}
+use Rattle.std.proofs.Common.{one-add, inl, inr}
 use Rattle.std.specs.List.{prefix_len, slice_split}
 use Rattle.std.proofs.lemmas.Bool.{cases_Bool}
 
@@ -12,7 +13,8 @@ abbrev pub parts_after : (ℕ → Bool) → List ℕ → List (List ℕ)
 parts_after p [] = []
 parts_after p (b ∷ bytes) = slice_split p bytes
 
-pub first-part : (p : ℕ → Bool) (bytes : List ℕ) → slice_split p bytes ≡ take (part_end p bytes) bytes ∷ parts_after p (drop (part_end p bytes) bytes)
+pub first-part : (p : ℕ → Bool) (bytes : List ℕ)
+    → slice_split p bytes ≡ take (part_end p bytes) bytes ∷ parts_after p (drop (part_end p bytes) bytes)
 first-part p [] = refl
 first-part p (b ∷ bytes) = elim (cases_Bool (p b)) [
   | inl e ↦ rw e refl

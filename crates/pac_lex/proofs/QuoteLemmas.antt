@@ -1,5 +1,6 @@
 -- Where a text ends.
-use Rattle.std.proofs.Common.{◌≡◌, ℕ, ◌+◌, ◌<◌, ◌≢◌, inl, inr, true, false, List, [], ◌∷◌, drop, get_or, length, Option, Some, None, option_map, refl, ap, ◌∙◌, arith}
+use Rattle.std.proofs.Common.{◌≡◌, ℕ, ◌+◌, ◌<◌, ◌≢◌, inl, inr, true, false, List, [], ◌∷◌, drop, get_or, length, Option, Some, None}
+use Rattle.std.proofs.Common.{option_map, refl, ap, ◌∙◌, arith}
 use Rattle.std.proofs.lemmas.Bool.{ne_eqb, eq-eqb, cases_lt}
 use Rattle.std.proofs.lemmas.List.{drop_more, at_drop_more, at_drop_all}
 use Rattle.pac_lex.specs.Bytes.{is_quote}
@@ -28,19 +29,23 @@ closing-single b (c ∷ bytes) e f = rw (e, f) refl
 here : (bytes : List ℕ) (at : ℕ) → at < length bytes → closing (drop at bytes) ≡ closing (get_or bytes at 0 ∷ drop (at + 1) bytes)
 here bytes at lt = at_drop_more closing bytes at 0 lt
 
-pub other-at : (bytes : List ℕ) (at : ℕ) → at < length bytes → get_or bytes at 0 ≢ 39 → closing bytes ≡ more at (closing (drop at bytes)) → closing bytes ≡ more (at + 1) (closing (drop (at + 1) bytes))
+pub other-at : (bytes : List ℕ) (at : ℕ) → at < length bytes → get_or bytes at 0 ≢ 39 → closing bytes ≡ more at (closing (drop at bytes))
+    → closing bytes ≡ more (at + 1) (closing (drop (at + 1) bytes))
 other-at bytes at lt ne so_far =
     so_far ∙ ap (more at) (here bytes at lt ∙ closing-other _ (drop (at + 1) bytes) (ne_eqb _ 39 ne)) ∙ more-more at 1 _
 
 plus-two : (n : ℕ) → n + 1 + 1 ≡ n + 2
 plus-two n = omega arith
 
-pub doubled-at : (bytes : List ℕ) (at : ℕ) → at + 1 < length bytes → get_or bytes at 0 ≡ 39 → get_or bytes (at + 1) 0 ≡ 39 → closing bytes ≡ more at (closing (drop at bytes))
+pub doubled-at : (bytes : List ℕ) (at : ℕ) → at + 1 < length bytes → get_or bytes at 0 ≡ 39 → get_or bytes (at + 1) 0 ≡ 39
+    → closing bytes ≡ more at (closing (drop at bytes))
     → closing bytes ≡ more (at + 2) (closing (drop (at + 2) bytes))
 doubled-at bytes at lt e f so_far =
-    let two : drop (at + 1) bytes ≡ get_or bytes (at + 1) 0 ∷ drop (at + 2) bytes = drop_more bytes (at + 1) 0 lt ∙ ap (λ (k : ℕ). get_or bytes (at + 1) 0 ∷ drop k bytes) (plus-two at) in
+    let two : drop (at + 1) bytes ≡ get_or bytes (at + 1) 0 ∷ drop (at + 2) bytes = drop_more bytes (at + 1) 0 lt
+    ∙ ap (λ (k : ℕ). get_or bytes (at + 1) 0 ∷ drop k bytes) (plus-two at) in
     let both : closing (get_or bytes at 0 ∷ drop (at + 1) bytes) ≡ more 2 (closing (drop (at + 2) bytes)) =
-    ap (λ (xs : List ℕ). closing (get_or bytes at 0 ∷ xs)) two ∙ closing-doubled _ _ (drop (at + 2) bytes) (eq-eqb _ 39 e) (eq-eqb _ 39 f) in
+    ap (λ (xs : List ℕ). closing (get_or bytes at 0 ∷ xs)) two
+    ∙ closing-doubled _ _ (drop (at + 2) bytes) (eq-eqb _ 39 e) (eq-eqb _ 39 f) in
     so_far ∙ ap (more at) (here bytes at (omega arith) ∙ both) ∙ more-more at 2 _
 
 begins-at : (bytes : List ℕ) (at : ℕ) → (at < length bytes → get_or bytes at 0 ≡ 39 → ⊥) → begins is_quote (drop at bytes) ≡ false
@@ -50,6 +55,9 @@ begins-at bytes at ne =
       | inr le ↦ at_drop_all (begins is_quote) bytes at le
     ]
 
-pub ends-at : (bytes : List ℕ) (at : ℕ) → at < length bytes → get_or bytes at 0 ≡ 39 → (at + 1 < length bytes → get_or bytes (at + 1) 0 ≡ 39 → ⊥) → closing bytes ≡ more at (closing (drop at bytes)) → closing bytes ≡ Some (at + 1)
+pub ends-at : (bytes : List ℕ) (at : ℕ) → at < length bytes → get_or bytes at 0 ≡ 39
+    → (at + 1 < length bytes → get_or bytes (at + 1) 0 ≡ 39 → ⊥) → closing bytes ≡ more at (closing (drop at bytes))
+    → closing bytes ≡ Some (at + 1)
 ends-at bytes at lt e ne so_far =
-    so_far ∙ ap (more at) (here bytes at lt ∙ closing-single _ (drop (at + 1) bytes) (eq-eqb _ 39 e) (begins-at bytes (at + 1) ne)) ∙ ap (λ (x : ℕ). Some x) (omega arith)
+    so_far ∙ ap (more at) (here bytes at lt ∙ closing-single _ (drop (at + 1) bytes) (eq-eqb _ 39 e) (begins-at bytes (at + 1) ne))
+    ∙ ap (λ (x : ℕ). Some x) (omega arith)

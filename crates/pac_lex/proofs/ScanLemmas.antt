@@ -1,5 +1,6 @@
 -- A line read token by token.
-use Rattle.std.proofs.Common.{◌≡◌, ℕ, zero, suc, ◌<◌, Bool, true, false, List, [], ◌∷◌, ◌++◌, drop, Result, Ok, Err, refl, sym, ap, ◌∙◌, arith, append_assoc, sub-one, one-add, append-nil, inl, inr}
+use Rattle.std.proofs.Common.{◌≡◌, ℕ, zero, suc, ◌<◌, Bool, true, false, List, [], ◌∷◌, ◌++◌, drop, Result, Ok, Err, refl, sym, ap, ◌∙◌}
+use Rattle.std.proofs.Common.{arith, append_assoc, sub-one, one-add, append-nil, inl, inr}
 use Rattle.std.proofs.lemmas.Bool.{cases_Bool}
 use Rattle.pac_lex.specs.declared.token.Kind.{Kind}
 use Rattle.pac_lex.specs.declared.fault.Fault.{Fault}
@@ -26,11 +27,13 @@ pub scan-comment : (b : ℕ) (bytes : List ℕ) → is_blank b ≡ false → is_
 unfolding scan
 scan-comment b bytes e f = rw (e, f) refl
 
-pub scan-fault : (b : ℕ) (bytes : List ℕ) (fault : Fault) → is_blank b ≡ false → is_comment b ≡ false → token_at (b ∷ bytes) ≡ Err fault → scan 0 (b ∷ bytes) ≡ Err fault
+pub scan-fault : (b : ℕ) (bytes : List ℕ) (fault : Fault) → is_blank b ≡ false → is_comment b ≡ false → token_at (b ∷ bytes) ≡ Err fault
+    → scan 0 (b ∷ bytes) ≡ Err fault
 unfolding scan
 scan-fault b bytes fault e f g = rw (e, f, g) refl
 
-scan-token : (b : ℕ) (bytes : List ℕ) (kind : Kind) (len : ℕ) → is_blank b ≡ false → is_comment b ≡ false → token_at (b ∷ bytes) ≡ Ok (kind, len) → 0 < len
+scan-token : (b : ℕ) (bytes : List ℕ) (kind : Kind) (len : ℕ) → is_blank b ≡ false → is_comment b ≡ false
+    → token_at (b ∷ bytes) ≡ Ok (kind, len) → 0 < len
     → scan 0 (b ∷ bytes) ≡ before (cut kind len (b ∷ bytes)) (scan 0 (drop len (b ∷ bytes)))
 unfolding scan
 scan-token b bytes kind zero e f g h = absurd (omega arith)
@@ -55,11 +58,13 @@ pub next-none : (line rest : List ℕ) → AfterGap line rest → is_end rest �
 next-none line [] g e = g.same ∙ scan-end
 next-none line (b ∷ rest) g e = g.same ∙ scan-comment b rest g.no_blank e
 
-pub next-fault : (line rest : List ℕ) (fault : Fault) → AfterGap line rest → is_end rest ≡ false → token_at rest ≡ Err fault → scan 0 line ≡ Err fault
+pub next-fault : (line rest : List ℕ) (fault : Fault) → AfterGap line rest → is_end rest ≡ false → token_at rest ≡ Err fault
+    → scan 0 line ≡ Err fault
 next-fault line [] fault g e f = absurd cc
 next-fault line (b ∷ rest) fault g e f = g.same ∙ scan-fault b rest fault g.no_blank e f
 
-pub next-some : (line rest : List ℕ) (kind : Kind) (len : ℕ) → AfterGap line rest → is_end rest ≡ false → token_at rest ≡ Ok (kind, len) → 0 < len
+pub next-some : (line rest : List ℕ) (kind : Kind) (len : ℕ) → AfterGap line rest → is_end rest ≡ false → token_at rest ≡ Ok (kind, len)
+    → 0 < len
     → scan 0 line ≡ before (cut kind len rest) (scan 0 (drop len rest))
 next-some line [] kind len g e f h = absurd cc
 next-some line (b ∷ rest) kind len g e f h = g.same ∙ scan-token b rest kind len g.no_blank e f h
@@ -69,16 +74,20 @@ abbrev pub with_earlier : List Lexeme → Result (List Lexeme) Fault → Result 
 with_earlier earlier (Ok tokens) = Ok (earlier ++ tokens)
 with_earlier earlier (Err fault) = Err fault
 
-regroup : (earlier : List Lexeme) (token : Lexeme) (read : Result (List Lexeme) Fault) → with_earlier earlier (before token read) ≡ with_earlier (earlier ++ token ∷ []) read
+regroup : (earlier : List Lexeme) (token : Lexeme) (read : Result (List Lexeme) Fault)
+    → with_earlier earlier (before token read) ≡ with_earlier (earlier ++ token ∷ []) read
 regroup earlier token (Ok tokens) = ap (λ (ts : List Lexeme). Ok ts) (simp append_assoc)
 regroup earlier token (Err fault) = refl
 
 pub goes-on : (earlier : List Lexeme) (token : Lexeme) (line after : List ℕ) (total : Result (List Lexeme) Fault)
-    → scan 0 line ≡ before token (scan 0 after) → with_earlier earlier (scan 0 line) ≡ total → with_earlier (earlier ++ token ∷ []) (scan 0 after) ≡ total
+    → scan 0 line ≡ before token (scan 0 after) → with_earlier earlier (scan 0 line) ≡ total
+    → with_earlier (earlier ++ token ∷ []) (scan 0 after) ≡ total
 goes-on earlier token line after total e so_far = sym (regroup earlier token (scan 0 after)) ∙ ap (with_earlier earlier) (sym e) ∙ so_far
 
-pub ends : (earlier : List Lexeme) (read total : Result (List Lexeme) Fault) → read ≡ Ok [] → with_earlier earlier read ≡ total → total ≡ Ok earlier
+pub ends : (earlier : List Lexeme) (read total : Result (List Lexeme) Fault) → read ≡ Ok [] → with_earlier earlier read ≡ total
+    → total ≡ Ok earlier
 ends earlier read total e so_far = sym so_far ∙ rw e (ap (λ (ts : List Lexeme). Ok ts) (append-nil earlier))
 
-pub breaks : (earlier : List Lexeme) (read total : Result (List Lexeme) Fault) (fault : Fault) → read ≡ Err fault → with_earlier earlier read ≡ total → total ≡ Err fault
+pub breaks : (earlier : List Lexeme) (read total : Result (List Lexeme) Fault) (fault : Fault) → read ≡ Err fault
+    → with_earlier earlier read ≡ total → total ≡ Err fault
 breaks earlier read total fault e so_far = sym so_far ∙ rw e refl

@@ -1,5 +1,6 @@
 -- A text ends where its characters, each quote doubled, end in one quote.
-use Rattle.std.proofs.Common.{◌≡◌, ℕ, suc, ◌+◌, Bool, true, false, cond, List, [], ◌∷◌, ◌++◌, length, take, drop, Option, Some, None, refl, ap, ◌∙◌, arith, inl, inr, ◌⊎◌, subst, flat_map}
+use Rattle.std.proofs.Common.{◌≡◌, ℕ, suc, ◌+◌, Bool, true, false, cond, List, [], ◌∷◌, ◌++◌, length, take, drop, Option, Some, None, refl}
+use Rattle.std.proofs.Common.{ap, ◌∙◌, arith, inl, inr, ◌⊎◌, subst, flat_map}
 use Rattle.std.specs.List.{list_all}
 use Rattle.std.proofs.lemmas.Bool.{cases_Bool, eqb-true}
 use Rattle.std.proofs.lemmas.Option.{same_Some, none-some}
@@ -52,7 +53,8 @@ closing-is (b ∷ c ∷ bytes) n e =
         | inl (r, t) ↦
             let (m, is, sum) = more-some 2 (closing bytes) n t in
             let two : suc (suc m) ≡ n = omega arith in
-            subst (λ (k : ℕ). Closes (b ∷ c ∷ bytes) k) two (closes-doubled b c bytes m (quote-is b q) (quote-is c r) (closing-is bytes m is))
+            subst (λ (k : ℕ). Closes (b ∷ c ∷ bytes) k) two
+            (closes-doubled b c bytes m (quote-is b q) (quote-is c r) (closing-is bytes m is))
         | inr (r, t) ↦ subst (λ (k : ℕ). Closes (b ∷ c ∷ bytes) k) (same_Some 1 n t) (closes-here b (c ∷ bytes) (quote-is b q) r)
       ]
       | inr (q, s) ↦
@@ -67,16 +69,22 @@ plus-two n = omega arith
 plus-one : (n : ℕ) → n + 1 + 1 ≡ suc n + 1
 plus-one n = omega arith
 
-pub closing-again : (characters rest : List ℕ) → begins is_quote rest ≡ false → closing (flat_map quoted characters ++ (39 ∷ rest)) ≡ Some (length (flat_map quoted characters) + 1)
+pub closing-again : (characters rest : List ℕ) → begins is_quote rest ≡ false
+    → closing (flat_map quoted characters ++ (39 ∷ rest)) ≡ Some (length (flat_map quoted characters) + 1)
 closing-again [] rest stop = closing-single 39 rest refl stop
 closing-again (c ∷ characters) rest stop =
     let h = closing-again characters rest stop in
     elim (cases_Bool (is_quote c)) [
-      | inl q ↦ rw q (closing-doubled 39 39 (flat_map quoted characters ++ (39 ∷ rest)) refl refl ∙ ap (more 2) h ∙ ap (λ (k : ℕ). Some k) (plus-two (length (flat_map quoted characters))))
-      | inr q ↦ rw q (closing-other c (flat_map quoted characters ++ (39 ∷ rest)) q ∙ ap (more 1) h ∙ ap (λ (k : ℕ). Some k) (plus-one (length (flat_map quoted characters))))
+      | inl q ↦
+          rw q (closing-doubled 39 39 (flat_map quoted characters ++ (39 ∷ rest)) refl refl ∙ ap (more 2) h
+          ∙ ap (λ (k : ℕ). Some k) (plus-two (length (flat_map quoted characters))))
+      | inr q ↦
+          rw q (closing-other c (flat_map quoted characters ++ (39 ∷ rest)) q ∙ ap (more 1) h
+          ∙ ap (λ (k : ℕ). Some k) (plus-one (length (flat_map quoted characters))))
     ]
 
-pub printable-quoted : (characters : List ℕ) → list_all is_printable (flat_map quoted characters ++ 39 ∷ []) ≡ list_all is_printable characters
+pub printable-quoted : (characters : List ℕ)
+    → list_all is_printable (flat_map quoted characters ++ 39 ∷ []) ≡ list_all is_printable characters
 printable-quoted [] = refl
 printable-quoted (c ∷ characters) = elim (cases_Bool (is_quote c)) [
   | inl q ↦ rw (q, printable-quoted characters, quote-is c q) refl

@@ -1,12 +1,15 @@
 -- What is found where the bytes begin is a token or a fault there, and what is there is found.
-use Rattle.std.proofs.Common.{◌≡◌, ℕ, zero, suc, ◌+◌, ◌<◌, Bool, true, false, not, eqb, ◌||◌, ◌&&◌, List, [], ◌∷◌, ◌++◌, length, take, drop, Option, Some, None, Result, Ok, Err, refl, sym, ap, ◌∙◌, arith, inl, inr, ◌⊎◌, add-one, subst, flat_map, append_assoc, is_some}
+use Rattle.std.proofs.Common.{◌≡◌, ℕ, zero, suc, ◌+◌, ◌<◌, Bool, true, false, not, eqb, ◌||◌, ◌&&◌, List, [], ◌∷◌, ◌++◌, length, take, drop}
+use Rattle.std.proofs.Common.{Option, Some, None, Result, Ok, Err, refl, sym, ap, ◌∙◌, arith, inl, inr, ◌⊎◌, add-one, subst, flat_map}
+use Rattle.std.proofs.Common.{append_assoc, is_some}
 use Rattle.std.specs.List.{prefix_len, list_all}
 use Rattle.std.specs.Char.{is_ascii_digit, is_ascii_alphanumeric}
 use Rattle.std.proofs.lemmas.Bool.{eqb-true, and_parts, or_cases, or_parts, not-true, true≢false}
 use Rattle.std.proofs.lemmas.Option.{same_Some, none-some}
 use Rattle.std.proofs.lemmas.List.{take_at, drop_at, take-append-drop, length-append}
 use Rattle.pac_lex.specs.declared.token.Kind.{Kind}
-use Rattle.pac_lex.specs.declared.token.Kind.TheVariants.{Name, Number, Text, AlternateAf, Dollar, Colon, Comma, Open, Close, Plus, Minus, Star, Slash}
+use Rattle.pac_lex.specs.declared.token.Kind.TheVariants.{Name, Number, Text, AlternateAf, Dollar, Colon, Comma, Open, Close, Plus, Minus}
+use Rattle.pac_lex.specs.declared.token.Kind.TheVariants.{Star, Slash}
 use Rattle.pac_lex.specs.declared.fault.Fault.{Fault}
 use Rattle.pac_lex.specs.declared.fault.Fault.TheVariants.{NoToken, WrongNumber, OpenText, LongLine}
 use Rattle.pac_lex.specs.Bytes.{is_blank, is_comment, is_quote, is_name_start, is_name_byte, is_printable}
@@ -15,7 +18,8 @@ use Rattle.pac_lex.specs.Texts.{quoted, spelled, closing}
 use Rattle.pac_lex.specs.Tokens.{symbol, is_af, begins, begins_nothing, IsToken, IsFault}
 use Rattle.pac_lex.specs.Scan.{name_at, number_at, text_at, text_of, one_byte, numbered, token_at}
 use Rattle.pac_lex.proofs.Prefixes.{all-of-prefix, prefix-of-all, begins-after, begins-take}
-use Rattle.pac_lex.proofs.ByteLemmas.{chosen, Starts, digit-no-start, digit-no-blank, digit-no-comment, start-no-blank, start-no-comment, is_mark, symbol-is-mark, symbol-parts}
+use Rattle.pac_lex.proofs.ByteLemmas.{chosen, Starts, digit-no-start, digit-no-blank, digit-no-comment, start-no-blank, start-no-comment}
+use Rattle.pac_lex.proofs.ByteLemmas.{is_mark, symbol-is-mark, symbol-parts}
 use Rattle.pac_lex.proofs.NameLemmas.{name-has-bytes, number-has-bytes}
 use Rattle.pac_lex.proofs.TextLaws.{closing-is, closing-again, printable-quoted}
 
@@ -45,10 +49,12 @@ take-quote zero (b ∷ bytes) e = ap (λ (x : ℕ). x ∷ []) (eqb-true b 39 e)
 take-quote (suc n) [] e = absurd cc
 take-quote (suc n) (b ∷ bytes) e = ap (λ (xs : List ℕ). b ∷ xs) (take-quote n bytes e)
 
-found-at : (bytes : List ℕ) (kind kind' : Kind) (len len' : ℕ) → pair kind len ≡ pair kind' len' → IsFound bytes kind len → IsFound bytes kind' len'
+found-at : (bytes : List ℕ) (kind kind' : Kind) (len len' : ℕ) → pair kind len ≡ pair kind' len' → IsFound bytes kind len
+    → IsFound bytes kind' len'
 found-at bytes kind kind' len len' e h = subst (λ (p : Kind × ℕ). IsFound bytes p.0 p.1) e h
 
-name-is : (bytes : List ℕ) (kind : Kind) (len : ℕ) → begins is_name_start bytes ≡ true → name_at bytes ≡ (kind, len) → IsFound bytes kind len
+name-is : (bytes : List ℕ) (kind : Kind) (len : ℕ) → begins is_name_start bytes ≡ true → name_at bytes ≡ (kind, len)
+    → IsFound bytes kind len
 unfolding name_at
 name-is bytes kind len start e =
     let n = prefix_len is_name_byte bytes in
@@ -56,12 +62,16 @@ name-is bytes kind len start e =
     elim (chosen (is_af (take n bytes) && begins is_quote (drop n bytes)) (AlternateAf, n + 1) (Name, n) (kind, len) e) [
       | inl (t, p) ↦
           let both = and_parts (is_af (take n bytes)) (begins is_quote (drop n bytes)) t in
-          found-at bytes AlternateAf kind (n + 1) len p (record { some = omega arith; is_token = (take n bytes, both.0, rw add-one (take-quote n bytes both.1)) })
+          found-at bytes AlternateAf kind (n + 1) len p
+          (record { some = omega arith; is_token = (take n bytes, both.0, rw add-one (take-quote n bytes both.1)) })
       | inr (t, p) ↦
-          found-at bytes Name kind n len p (record { some = some; is_token = (begins-take is_name_start n bytes some ∙ start, all-of-prefix is_name_byte bytes, begins-after is_name_byte bytes, t) })
+          let begins_so = begins-take is_name_start n bytes some ∙ start in
+          found-at bytes Name kind n len p
+          (record { some = some; is_token = (begins_so, all-of-prefix is_name_byte bytes, begins-after is_name_byte bytes, t) })
     ]
 
-numbered-ok : (o : Option ℕ) (n : ℕ) (kind : Kind) (len : ℕ) → numbered o n ≡ Ok (kind, len) → (v : ℕ) × (o ≡ Some v) × (pair (Number v) n ≡ pair kind len)
+numbered-ok : (o : Option ℕ) (n : ℕ) (kind : Kind) (len : ℕ) → numbered o n ≡ Ok (kind, len)
+    → (v : ℕ) × (o ≡ Some v) × (pair (Number v) n ≡ pair kind len)
 numbered-ok None n kind len e = absurd cc
 numbered-ok (Some v) n kind len e = (v, refl, ok-is _ _ e)
 
@@ -69,15 +79,20 @@ numbered-err : (o : Option ℕ) (n : ℕ) (fault : Fault) → numbered o n ≡ E
 numbered-err None n fault e = (refl, err-is _ _ e)
 numbered-err (Some v) n fault e = absurd cc
 
-number-is : (bytes : List ℕ) (kind : Kind) (len : ℕ) → begins is_ascii_digit bytes ≡ true → number_at bytes ≡ Ok (kind, len) → IsFound bytes kind len
+number-is : (bytes : List ℕ) (kind : Kind) (len : ℕ) → begins is_ascii_digit bytes ≡ true → number_at bytes ≡ Ok (kind, len)
+    → IsFound bytes kind len
 unfolding number_at
 number-is bytes kind len start e =
     let n = prefix_len is_ascii_alphanumeric bytes in
     let some : 0 < n = number-has-bytes bytes start in
     let (v, is, p) = numbered-ok (numeral (take n bytes)) n kind len e in
-    found-at bytes (Number v) kind n len p (record { some = some; is_token = (begins-take is_ascii_digit n bytes some ∙ start, all-of-prefix is_ascii_alphanumeric bytes, begins-after is_ascii_alphanumeric bytes, is) })
+    let begins_so = begins-take is_ascii_digit n bytes some ∙ start in
+    let run_ends = begins-after is_ascii_alphanumeric bytes in
+    found-at bytes (Number v) kind n len p
+    (record { some = some; is_token = (begins_so, all-of-prefix is_ascii_alphanumeric bytes, run_ends, is) })
 
-text-ok : (o : Option ℕ) (bytes : List ℕ) (kind : Kind) (len : ℕ) → text_of o bytes ≡ Ok (kind, len) → (n : ℕ) × (o ≡ Some n) × (list_all is_printable (take n bytes) ≡ true) × (pair Text (n + 1) ≡ pair kind len)
+text-ok : (o : Option ℕ) (bytes : List ℕ) (kind : Kind) (len : ℕ) → text_of o bytes ≡ Ok (kind, len)
+    → (n : ℕ) × (o ≡ Some n) × (list_all is_printable (take n bytes) ≡ true) × (pair Text (n + 1) ≡ pair kind len)
 text-ok None bytes kind len e = absurd cc
 text-ok (Some n) bytes kind len e =
     elim (chosen (list_all is_printable (take n bytes)) (Ok (Text, n + 1)) (Err NoToken) (Ok (kind, len)) e) [
@@ -94,13 +109,16 @@ text-err (Some n) bytes fault e =
       | inr (t, p) ↦ inr (n, refl, t, err-is _ _ p)
     ]
 
-text-is : (b : ℕ) (bytes : List ℕ) (kind : Kind) (len : ℕ) → is_quote b ≡ true → text_at bytes ≡ Ok (kind, len) → IsFound (b ∷ bytes) kind len
+text-is : (b : ℕ) (bytes : List ℕ) (kind : Kind) (len : ℕ) → is_quote b ≡ true → text_at bytes ≡ Ok (kind, len)
+    → IsFound (b ∷ bytes) kind len
 unfolding text_at
 text-is b bytes kind len q e =
     let (n, is, printable, p) = text-ok (closing bytes) bytes kind len e in
     let h = closing-is bytes n is in
-    let all : list_all is_printable h.characters ≡ true = sym (printable-quoted h.characters) ∙ ap (list_all is_printable) (sym h.text) ∙ printable in
-    found-at (b ∷ bytes) Text kind (n + 1) len p (rw add-one (record { some = omega arith; is_token = (h.characters, rw (eqb-true b 39 q, h.text) refl, all, h.stops) }))
+    let all : list_all is_printable h.characters ≡ true = sym (printable-quoted h.characters) ∙ ap (list_all is_printable) (sym h.text)
+    ∙ printable in
+    found-at (b ∷ bytes) Text kind (n + 1) len p
+    (rw add-one (record { some = omega arith; is_token = (h.characters, rw (eqb-true b 39 q, h.text) refl, all, h.stops) }))
 
 one-ok : (o : Option Kind) (kind : Kind) (len : ℕ) → one_byte o ≡ Ok (kind, len) → (k : Kind) × (o ≡ Some k) × (pair k 1 ≡ pair kind len)
 one-ok None kind len e = absurd cc
@@ -131,7 +149,8 @@ token-is (b ∷ bytes) kind len e =
                   | inl (v, r) ↦ text-is b bytes kind len v r
                   | inr (v, r) ↦
                       let (k, is, p) = one-ok (symbol b) kind len r in
-                      found-at (b ∷ bytes) k kind 1 len p (record { some = omega arith; is_token = symbol-is k b bytes (symbol-is-mark b k is) is })
+                      found-at (b ∷ bytes) k kind 1 len p
+                      (record { some = omega arith; is_token = symbol-is k b bytes (symbol-is-mark b k is) is })
                 ]
           ]
     ]
@@ -142,7 +161,8 @@ pub record IsFoundAgain (kind : Kind) (text rest : List ℕ) : Type 0 where
   pub found : token_at (text ++ rest) ≡ Ok (kind, length text)
   pub some : 0 < length text
 
-name-at-name : (text rest : List ℕ) → list_all is_name_byte text ≡ true → begins is_name_byte rest ≡ false → (is_af text && begins is_quote rest) ≡ false → name_at (text ++ rest) ≡ (Name, length text)
+name-at-name : (text rest : List ℕ) → list_all is_name_byte text ≡ true → begins is_name_byte rest ≡ false
+    → (is_af text && begins is_quote rest) ≡ false → name_at (text ++ rest) ≡ (Name, length text)
 unfolding name_at
 name-at-name text rest all stop af =
     rw (prefix-of-all is_name_byte text rest all stop, take_at text rest (length text) refl, drop_at text rest (length text) refl, af) refl
@@ -156,7 +176,8 @@ name-again (b ∷ text) rest (start, all, stop, af) = record {
   some = omega arith;
 }
 
-number-at-number : (text rest : List ℕ) (n : ℕ) → list_all is_ascii_alphanumeric text ≡ true → begins is_ascii_alphanumeric rest ≡ false → numeral text ≡ Some n → number_at (text ++ rest) ≡ Ok (Number n, length text)
+number-at-number : (text rest : List ℕ) (n : ℕ) → list_all is_ascii_alphanumeric text ≡ true → begins is_ascii_alphanumeric rest ≡ false
+    → numeral text ≡ Some n → number_at (text ++ rest) ≡ Ok (Number n, length text)
 unfolding number_at
 number-at-number text rest n all stop is =
     rw (prefix-of-all is_ascii_alphanumeric text rest all stop, take_at text rest (length text) refl, is) refl
@@ -170,12 +191,14 @@ number-again n (b ∷ text) rest (start, all, stop, is) = record {
   some = omega arith;
 }
 
-text-at-text : (characters rest : List ℕ) → list_all is_printable characters ≡ true → begins is_quote rest ≡ false → text_at ((flat_map quoted characters ++ 39 ∷ []) ++ rest) ≡ Ok (Text, length (spelled characters))
+text-at-text : (characters rest : List ℕ) → list_all is_printable characters ≡ true → begins is_quote rest ≡ false
+    → text_at ((flat_map quoted characters ++ 39 ∷ []) ++ rest) ≡ Ok (Text, length (spelled characters))
 unfolding text_at
 text-at-text characters rest all stop =
     let inside = flat_map quoted characters ++ 39 ∷ [] in
     let len : length inside ≡ length (flat_map quoted characters) + 1 = length-append (flat_map quoted characters) (39 ∷ []) in
-    let ends : closing (inside ++ rest) ≡ Some (length inside) = rw (append_assoc (flat_map quoted characters) (39 ∷ []) rest, len) (closing-again characters rest stop) in
+    let ends : closing (inside ++ rest) ≡ Some (length inside) =
+    rw (append_assoc (flat_map quoted characters) (39 ∷ []) rest, len) (closing-again characters rest stop) in
     rw (ends, take_at inside rest (length inside) refl, printable-quoted characters, all, add-one) refl
 
 text-again : (text rest : List ℕ) → IsToken Text text rest → IsFoundAgain Text text rest
@@ -193,7 +216,8 @@ either-case b c d p e f g = elim (or_cases (eqb b c) (eqb b d) e) [
   | inr h ↦ subst (λ (x : ℕ). p x ≡ true) (sym (eqb-true b d h)) g
 ]
 
-name-at-af : (a f : ℕ) (rest : List ℕ) → is_name_byte a ≡ true → is_name_byte f ≡ true → is_af (a ∷ f ∷ []) ≡ true → name_at (a ∷ f ∷ 39 ∷ rest) ≡ (AlternateAf, 3)
+name-at-af : (a f : ℕ) (rest : List ℕ) → is_name_byte a ≡ true → is_name_byte f ≡ true → is_af (a ∷ f ∷ []) ≡ true
+    → name_at (a ∷ f ∷ 39 ∷ rest) ≡ (AlternateAf, 3)
 unfolding name_at
 name-at-af a f rest e g h = rw (e, g, h) refl
 
@@ -207,7 +231,9 @@ af-again (a ∷ f ∷ []) rest e =
     let start : is_name_start a ≡ true = either-case a 65 97 is_name_start both.0 refl refl in
     record {
       starts = record { no_blank = start-no-blank a start; no_end = start-no-comment a start };
-      found = rw start (ap done (name-at-af a f rest (either-case a 65 97 is_name_byte both.0 refl refl) (either-case f 70 102 is_name_byte both.1 refl refl) e));
+      found = rw start
+          (ap done (name-at-af a f rest (either-case a 65 97 is_name_byte both.0 refl refl)
+          (either-case f 70 102 is_name_byte both.1 refl refl) e));
       some = omega arith;
     }
 
@@ -231,15 +257,19 @@ token-again Text text rest h = text-again text rest h
 token-again AlternateAf text rest (name, e, is) = rw is (af-again name rest e)
 token-again kind text rest h = marks-again kind text rest h
 
-begins-no : (b : ℕ) → is_blank b ≡ false → is_comment b ≡ false → is_name_start b ≡ false → is_ascii_digit b ≡ false → is_quote b ≡ false → symbol b ≡ None → begins_nothing b ≡ true
+begins-no : (b : ℕ) → is_blank b ≡ false → is_comment b ≡ false → is_name_start b ≡ false → is_ascii_digit b ≡ false → is_quote b ≡ false
+    → symbol b ≡ None → begins_nothing b ≡ true
 begins-no b e1 e2 e3 e4 e5 e6 = six-true _ _ _ _ _ _ e1 e2 e3 e4 e5 (ap is_some e6)
   where
-    six-true : (u v w x y z : Bool) → u ≡ false → v ≡ false → w ≡ false → x ≡ false → y ≡ false → z ≡ false → not (u || v || w || x || y || z) ≡ true
+    six-true : (u v w x y z : Bool) → u ≡ false → v ≡ false → w ≡ false → x ≡ false → y ≡ false → z ≡ false
+        → not (u || v || w || x || y || z) ≡ true
     six-true u v w x y z a b c d e f = rw (a, b, c, d, e, f) refl
 
-unclosed : (b : ℕ) (bytes : List ℕ) → closing bytes ≡ None → (characters rest : List ℕ) → b ∷ bytes ≡ spelled characters ++ rest → begins is_quote rest ≡ false → ⊥
+unclosed : (b : ℕ) (bytes : List ℕ) → closing bytes ≡ None → (characters rest : List ℕ) → b ∷ bytes ≡ spelled characters ++ rest
+    → begins is_quote rest ≡ false → ⊥
 unclosed b bytes e characters rest is stop =
-    let tail : bytes ≡ flat_map quoted characters ++ (39 ∷ rest) = ap (drop 1) is ∙ append_assoc (flat_map quoted characters) (39 ∷ []) rest in
+    let tail : bytes ≡ flat_map quoted characters ++ (39 ∷ rest) = ap (drop 1) is
+    ∙ append_assoc (flat_map quoted characters) (39 ∷ []) rest in
     none-some _ (sym e ∙ ap closing tail ∙ closing-again characters rest stop)
 
 text-fault-is : (b : ℕ) (bytes : List ℕ) (fault : Fault) → is_quote b ≡ true → text_at bytes ≡ Err fault → IsFault fault (b ∷ bytes)
@@ -248,8 +278,10 @@ text-fault-is b bytes fault q e = elim (text-err (closing bytes) bytes fault e) 
   | inl (is, f) ↦ subst (λ (x : Fault). IsFault x (b ∷ bytes)) f (q, unclosed b bytes is)
   | inr (n, is, printable, f) ↦
       let h = closing-is bytes n is in
-      let all : list_all is_printable h.characters ≡ false = sym (printable-quoted h.characters) ∙ ap (list_all is_printable) (sym h.text) ∙ printable in
-      let parts : b ∷ bytes ≡ spelled h.characters ++ drop n bytes = rw (← h.text, eqb-true b 39 q) (ap (λ (xs : List ℕ). 39 ∷ xs) (sym (take-append-drop n bytes))) in
+      let all : list_all is_printable h.characters ≡ false = sym (printable-quoted h.characters) ∙ ap (list_all is_printable) (sym h.text)
+      ∙ printable in
+      let parts : b ∷ bytes ≡ spelled h.characters ++ drop n bytes =
+      rw (← h.text, eqb-true b 39 q) (ap (λ (xs : List ℕ). 39 ∷ xs) (sym (take-append-drop n bytes))) in
       subst (λ (x : Fault). IsFault x (b ∷ bytes)) f (inr (h.characters, drop n bytes, parts, h.stops, all))
 ]
 
@@ -258,8 +290,16 @@ unfolding number_at
 number-fault-is bytes fault start e =
     let n = prefix_len is_ascii_alphanumeric bytes in
     let (is, f) = numbered-err (numeral (take n bytes)) n fault e in
-    subst (λ (x : Fault). IsFault x bytes) f
-    (take n bytes, drop n bytes, sym (take-append-drop n bytes), begins-take is_ascii_digit n bytes (number-has-bytes bytes start) ∙ start, all-of-prefix is_ascii_alphanumeric bytes, begins-after is_ascii_alphanumeric bytes, is)
+    subst (λ (x : Fault). IsFault x bytes) f (
+      take n bytes,
+      drop n bytes,
+      sym (take-append-drop n bytes),
+      begins-take is_ascii_digit n bytes (number-has-bytes bytes start)
+          ∙ start,
+      all-of-prefix is_ascii_alphanumeric bytes,
+      begins-after is_ascii_alphanumeric bytes,
+      is,
+    )
 
 pub fault-is : (bytes : List ℕ) (fault : Fault) → Starts bytes → token_at bytes ≡ Err fault → IsFault fault bytes
 unfolding token_at
@@ -288,7 +328,8 @@ pub record IsTold (fault : Fault) (bytes : List ℕ) : Type 0 where
 nothing-told : (b : ℕ) (bytes : List ℕ) → begins_nothing b ≡ true → IsTold NoToken (b ∷ bytes)
 unfolding token_at
 nothing-told b bytes e =
-    let p1 = or_parts (is_blank b || is_comment b || is_name_start b || is_ascii_digit b || is_quote b) (is_some (symbol b)) (not-true _ e) in
+    let p1 = or_parts (is_blank b || is_comment b || is_name_start b || is_ascii_digit b || is_quote b) (is_some (symbol b))
+    (not-true _ e) in
     let p2 = or_parts (is_blank b || is_comment b || is_name_start b || is_ascii_digit b) (is_quote b) p1.0 in
     let p3 = or_parts (is_blank b || is_comment b || is_name_start b) (is_ascii_digit b) p2.0 in
     let p4 = or_parts (is_blank b || is_comment b) (is_name_start b) p3.0 in
@@ -302,23 +343,29 @@ nothing-told b bytes e =
     no-kind None f = refl
     no-kind (Some kind) f = absurd cc
 
-text-at-bad : (characters rest : List ℕ) → list_all is_printable characters ≡ false → begins is_quote rest ≡ false → text_at ((flat_map quoted characters ++ 39 ∷ []) ++ rest) ≡ Err NoToken
+text-at-bad : (characters rest : List ℕ) → list_all is_printable characters ≡ false → begins is_quote rest ≡ false
+    → text_at ((flat_map quoted characters ++ 39 ∷ []) ++ rest) ≡ Err NoToken
 unfolding text_at
 text-at-bad characters rest all stop =
     let inside = flat_map quoted characters ++ 39 ∷ [] in
     let len : length inside ≡ length (flat_map quoted characters) + 1 = length-append (flat_map quoted characters) (39 ∷ []) in
-    let ends : closing (inside ++ rest) ≡ Some (length inside) = rw (append_assoc (flat_map quoted characters) (39 ∷ []) rest, len) (closing-again characters rest stop) in
+    let ends : closing (inside ++ rest) ≡ Some (length inside) =
+    rw (append_assoc (flat_map quoted characters) (39 ∷ []) rest, len) (closing-again characters rest stop) in
     rw (ends, take_at inside rest (length inside) refl, printable-quoted characters, all) refl
 
-text-told : (characters rest : List ℕ) → list_all is_printable characters ≡ false → begins is_quote rest ≡ false → IsTold NoToken (spelled characters ++ rest)
+text-told : (characters rest : List ℕ) → list_all is_printable characters ≡ false → begins is_quote rest ≡ false
+    → IsTold NoToken (spelled characters ++ rest)
 unfolding token_at
-text-told characters rest all stop = record { starts = record { no_blank = refl; no_end = refl }; told = text-at-bad characters rest all stop }
+text-told characters rest all stop =
+    record { starts = record { no_blank = refl; no_end = refl }; told = text-at-bad characters rest all stop }
 
-number-at-bad : (run rest : List ℕ) → list_all is_ascii_alphanumeric run ≡ true → begins is_ascii_alphanumeric rest ≡ false → numeral run ≡ None → number_at (run ++ rest) ≡ Err WrongNumber
+number-at-bad : (run rest : List ℕ) → list_all is_ascii_alphanumeric run ≡ true → begins is_ascii_alphanumeric rest ≡ false
+    → numeral run ≡ None → number_at (run ++ rest) ≡ Err WrongNumber
 unfolding number_at
 number-at-bad run rest all stop is = rw (prefix-of-all is_ascii_alphanumeric run rest all stop, take_at run rest (length run) refl, is) refl
 
-number-told : (run rest : List ℕ) → begins is_ascii_digit run ≡ true → list_all is_ascii_alphanumeric run ≡ true → begins is_ascii_alphanumeric rest ≡ false → numeral run ≡ None → IsTold WrongNumber (run ++ rest)
+number-told : (run rest : List ℕ) → begins is_ascii_digit run ≡ true → list_all is_ascii_alphanumeric run ≡ true
+    → begins is_ascii_alphanumeric rest ≡ false → numeral run ≡ None → IsTold WrongNumber (run ++ rest)
 unfolding token_at
 number-told [] rest start all stop is = absurd cc
 number-told (b ∷ run) rest start all stop is = record {
@@ -330,14 +377,16 @@ none-or-some : (o : Option ℕ) → (o ≡ None) ⊎ ((n : ℕ) × (o ≡ Some n
 none-or-some None = inl refl
 none-or-some (Some n) = inr (n, refl)
 
-open-told : (b : ℕ) (bytes : List ℕ) → is_quote b ≡ true → ((characters rest : List ℕ) → b ∷ bytes ≡ spelled characters ++ rest → begins is_quote rest ≡ false → ⊥) → IsTold OpenText (b ∷ bytes)
+open-told : (b : ℕ) (bytes : List ℕ) → is_quote b ≡ true
+    → ((characters rest : List ℕ) → b ∷ bytes ≡ spelled characters ++ rest → begins is_quote rest ≡ false → ⊥) → IsTold OpenText (b ∷ bytes)
 unfolding token_at text_at
 open-told b bytes q never =
     let none : closing bytes ≡ None = elim (none-or-some (closing bytes)) [
       | inl is ↦ is
       | inr (n, is) ↦
           let h = closing-is bytes n is in
-          let parts : b ∷ bytes ≡ spelled h.characters ++ drop n bytes = rw (← h.text, eqb-true b 39 q) (ap (λ (xs : List ℕ). 39 ∷ xs) (sym (take-append-drop n bytes))) in
+          let parts : b ∷ bytes ≡ spelled h.characters ++ drop n bytes =
+          rw (← h.text, eqb-true b 39 q) (ap (λ (xs : List ℕ). 39 ∷ xs) (sym (take-append-drop n bytes))) in
           absurd (never h.characters (drop n bytes) parts h.stops)
     ] in
     rw (eqb-true b 39 q) record { starts = record { no_blank = refl; no_end = refl }; told = rw none refl }

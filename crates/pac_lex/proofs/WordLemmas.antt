@@ -1,5 +1,6 @@
 -- The first word of a line, and the words after it.
-use Rattle.std.proofs.Common.{◌≡◌, ℕ, ◌<◌, true, false, List, [], ◌∷◌, length, take, drop, refl, sym, ap, ◌∙◌, arith, one-add, suc, inl, inr, subst}
+use Rattle.std.proofs.Common.{◌≡◌, ℕ, ◌<◌, true, false, List, [], ◌∷◌, length, take, drop, refl, sym, ap, ◌∙◌, arith, one-add, suc, inl}
+use Rattle.std.proofs.Common.{inr, subst}
 use Rattle.std.specs.List.{prefix_len, filter}
 use Rattle.std.proofs.lemmas.Bool.{cases_Bool}
 use Rattle.pac_lex.specs.Bytes.{is_blank, after_gap}
@@ -68,7 +69,8 @@ next-word-is line rest e h = subst (λ xs. BeginsWord line xs) (sym e) (word-lef
 
 -- a word has a byte at least, so less is left after it
 pub shorter-after : (line rest : List ℕ) → rest ≡ after_gap line → 0 < length rest → 0 < part_end is_blank rest
-shorter-after line rest e h = subst (λ (xs : List ℕ). 0 < part_end is_blank xs) (sym e) (some line (subst (λ (xs : List ℕ). 0 < length xs) e h))
+shorter-after line rest e h =
+    subst (λ (xs : List ℕ). 0 < part_end is_blank xs) (sym e) (some line (subst (λ (xs : List ℕ). 0 < length xs) e h))
   where
     some : (xs : List ℕ) → 0 < length (after_gap xs) → 0 < part_end is_blank (after_gap xs)
     some [] g = absurd (omega (arith, g))

@@ -3,6 +3,9 @@
 ghost use Rattle.std.specs.Prelude.{◌≡◌, ◌<◌, ◌≤◌};
 ghost use Rattle.pac_lex.specs.Numbers.{digit, in_base, numeral};
 
+/// The greatest number.
+const GREATEST: u32 = 65_535;
+
 /// The number that a run of letters and digits is: `None` where it has a wrong digit or is above
 /// 65,535.
 pub(crate) fn numeral(run: &[u8]) -> Option<u16>
@@ -30,7 +33,7 @@ fn in_base(base: u8, digits: &[u8]) -> Option<u16>
             return None;
         }
         value = value * u32::from(base) + u32::from(digit);
-        if value > 65_535 {
+        if value > GREATEST {
             return None;
         }
     }

@@ -11,5 +11,7 @@ loop-at-preserved-then-bytes-at-ne39 c = record {
 pub loop-at-preserved : goal.loop-at-preserved
 loop-at-preserved c = record {
   within = omega arith;
-  rest = doubled-at c.args.bytes.now c.loop-at.at c.if-at-bytes.true c.if-bytes-at-ne39.false c.if-bytes-at-eq39.true c.loop-at.invariant.rest;
+  rest =
+      doubled-at c.args.bytes.now c.loop-at.at c.if-at-bytes.true c.if-bytes-at-ne39.false c.if-bytes-at-eq39.true
+      c.loop-at.invariant.rest;
 }
