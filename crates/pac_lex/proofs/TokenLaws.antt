@@ -1,10 +1,10 @@
 -- What is found where the bytes begin is a token or a fault there, and what is there is found.
 use Rattle.std.proofs.Common.{◌≡◌, ℕ, zero, suc, ◌+◌, ◌<◌, Bool, true, false, not, eqb, ◌||◌, ◌&&◌, List, [], ◌∷◌, ◌++◌, length, take, drop}
 use Rattle.std.proofs.Common.{Option, Some, None, Result, Ok, Err, refl, sym, ap, ◌∙◌, arith, inl, inr, ◌⊎◌, add-one, subst, flat_map}
-use Rattle.std.proofs.Common.{append_assoc, is_some}
+use Rattle.std.proofs.Common.{append_assoc, is_some, cond}
 use Rattle.std.specs.List.{prefix_len, list_all}
 use Rattle.std.specs.Char.{is_ascii_digit, is_ascii_alphanumeric}
-use Rattle.std.proofs.lemmas.Bool.{eqb-true, and_parts, or_cases, or_parts, not-true, true≢false}
+use Rattle.std.proofs.lemmas.Bool.{cond-true, cond-false, eqb-true, and_parts, or_cases, or_parts, not-true, true≢false}
 use Rattle.std.proofs.lemmas.Option.{same_Some, none-some}
 use Rattle.std.proofs.lemmas.List.{take_at, drop_at, take-append-drop, length-append}
 use Rattle.pac_lex.specs.declared.token.Kind.{Kind}
@@ -191,21 +191,22 @@ number-again n (b ∷ text) rest (start, all, stop, is) = record {
   some = omega arith;
 }
 
-text-at-text : (characters rest : List ℕ) → list_all is_printable characters ≡ true → begins is_quote rest ≡ false
-    → text_at ((flat_map quoted characters ++ 39 ∷ []) ++ rest) ≡ Ok (Text, length (spelled characters))
+text-at-closed : (characters rest : List ℕ) → begins is_quote rest ≡ false
+    → text_at ((flat_map quoted characters ++ 39 ∷ []) ++ rest)
+    ≡ cond (list_all is_printable characters) (Ok (Text, length (spelled characters))) (Err NoToken)
 unfolding text_at
-text-at-text characters rest all stop =
+text-at-closed characters rest stop =
     let inside = flat_map quoted characters ++ 39 ∷ [] in
     let len : length inside ≡ length (flat_map quoted characters) + 1 = length-append (flat_map quoted characters) (39 ∷ []) in
     let ends : closing (inside ++ rest) ≡ Some (length inside) =
     rw (append_assoc (flat_map quoted characters) (39 ∷ []) rest, len) (closing-again characters rest stop) in
-    rw (ends, take_at inside rest (length inside) refl, printable-quoted characters, all, add-one) refl
+    rw (ends, take_at inside rest (length inside) refl, printable-quoted characters, add-one) refl
 
 text-again : (text rest : List ℕ) → IsToken Text text rest → IsFoundAgain Text text rest
 unfolding token_at
 text-again text rest (characters, is, all, stop) = rw is record {
   starts = record { no_blank = refl; no_end = refl };
-  found = text-at-text characters rest all stop;
+  found = text-at-closed characters rest stop ∙ cond-true (list_all is_printable characters) _ _ all;
   some = omega arith;
 }
 
@@ -343,21 +344,11 @@ nothing-told b bytes e =
     no-kind None f = refl
     no-kind (Some kind) f = absurd cc
 
-text-at-bad : (characters rest : List ℕ) → list_all is_printable characters ≡ false → begins is_quote rest ≡ false
-    → text_at ((flat_map quoted characters ++ 39 ∷ []) ++ rest) ≡ Err NoToken
-unfolding text_at
-text-at-bad characters rest all stop =
-    let inside = flat_map quoted characters ++ 39 ∷ [] in
-    let len : length inside ≡ length (flat_map quoted characters) + 1 = length-append (flat_map quoted characters) (39 ∷ []) in
-    let ends : closing (inside ++ rest) ≡ Some (length inside) =
-    rw (append_assoc (flat_map quoted characters) (39 ∷ []) rest, len) (closing-again characters rest stop) in
-    rw (ends, take_at inside rest (length inside) refl, printable-quoted characters, all) refl
-
 text-told : (characters rest : List ℕ) → list_all is_printable characters ≡ false → begins is_quote rest ≡ false
     → IsTold NoToken (spelled characters ++ rest)
 unfolding token_at
 text-told characters rest all stop =
-    record { starts = record { no_blank = refl; no_end = refl }; told = text-at-bad characters rest all stop }
+    record { starts = record { no_blank = refl; no_end = refl }; told = text-at-closed characters rest stop ∙ cond-false (list_all is_printable characters) _ _ all }
 
 number-at-bad : (run rest : List ℕ) → list_all is_ascii_alphanumeric run ≡ true → begins is_ascii_alphanumeric rest ≡ false
     → numeral run ≡ None → number_at (run ++ rest) ≡ Err WrongNumber

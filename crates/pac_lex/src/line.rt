@@ -1,7 +1,8 @@
 //! The lines of a text.
 
-ghost use Rattle.std.specs.Prelude.{◌≡◌, ◌<◌, ◌==◌, [], ◌∷◌, length, IfSome, IfNone, position};
+ghost use Rattle.std.specs.Prelude.{◌≡◌, ◌<◌, ◌==◌, [], ◌∷◌, length, IfSome, IfNone, position, option_map};
 ghost use Rattle.std.specs.Str.Lines.{lines, strip_carriage_return};
+ghost use Rattle.pac_lex.specs.Lines.{first_line};
 
 /// The first line of a text without its ending, and the text after that ending; `None` where the text
 /// is empty. A line ends at a line feed, with one carriage return before it dropped, or at the end of
@@ -10,6 +11,8 @@ pub fn first_line(bytes: &[u8]) -> Option<(&[u8], &[u8])>
     ensures none { IfNone result (bytes.now ≡ []) }
     ensures some { IfSome result (λ found. lines bytes.now ≡ found.0.now ∷ lines found.1.now) }
     ensures shorter { IfSome result (λ found. length found.1.now < length bytes.now) }
+    // Which bytes, as a function of the text.
+    ensures exact { option_map (λ found. (found.0.now, found.1.now)) result ≡ first_line bytes.now }
 {
     if bytes.is_empty() {
         return None;

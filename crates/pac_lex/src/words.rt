@@ -1,9 +1,9 @@
 //! The words of a line.
 
-ghost use Rattle.std.specs.Prelude.{◌≡◌, ◌<◌, ◌≤◌, [], ◌∷◌, length, IfSome, IfNone, not};
+ghost use Rattle.std.specs.Prelude.{◌≡◌, ◌<◌, ◌≤◌, [], ◌∷◌, length, IfSome, IfNone, not, option_map};
 ghost use Rattle.std.specs.List.{prefix_len};
 ghost use Rattle.pac_lex.specs.Bytes.{is_blank};
-ghost use Rattle.pac_lex.specs.Words.{words, first_word};
+ghost use Rattle.pac_lex.specs.Words.{words, next_word, first_word};
 
 use crate::bytes::{after_gap, is_blank, name_len};
 
@@ -14,6 +14,8 @@ pub fn next_word(line: &[u8]) -> Option<(&[u8], &[u8])>
     ensures none { IfNone result (words line.now ≡ []) }
     ensures some { IfSome result (λ found. words line.now ≡ found.0.now ∷ words found.1.now) }
     ensures shorter { IfSome result (λ found. length found.1.now < length line.now) }
+    // Which bytes, as a function of the line.
+    ensures exact { option_map (λ found. (found.0.now, found.1.now)) result ≡ next_word line.now }
 {
     let rest = after_gap(line);
     if rest.is_empty() {
