@@ -1,5 +1,5 @@
 -- What the first byte of a token is, and what it isn't.
-use Rattle.std.proofs.Common.{◌≡◌, ℕ, Bool, true, false, not, eqb, cond, ◌||◌, List, [], ◌∷◌, Option, Some, refl, arith, inl, inr, ◌⊎◌}
+use Rattle.std.proofs.Common.{◌≡◌, ℕ, Bool, true, false, not, eqb, cond, ◌||◌, List, [], ◌∷◌, Some, refl, arith, inl, inr, ◌⊎◌}
 use Rattle.std.proofs.Common.{subst}
 use Rattle.std.specs.List.{list_all}
 use Rattle.std.specs.Map.{lookup}

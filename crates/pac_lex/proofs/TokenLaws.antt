@@ -5,11 +5,10 @@ use Rattle.std.proofs.Common.{append_assoc, is_some, cond}
 use Rattle.std.specs.List.{prefix_len, list_all}
 use Rattle.std.specs.Char.{is_ascii_digit, is_ascii_alphanumeric}
 use Rattle.std.proofs.lemmas.Bool.{cond-true, cond-false, eqb-true, and_parts, or_cases, or_parts, not-true, true≢false}
-use Rattle.std.proofs.lemmas.Option.{same_Some, none-some}
+use Rattle.std.proofs.lemmas.Option.{none-some}
 use Rattle.std.proofs.lemmas.List.{take_at, drop_at, take-append-drop, length-append}
 use Rattle.pac_lex.specs.declared.token.Kind.{Kind}
-use Rattle.pac_lex.specs.declared.token.Kind.TheVariants.{Name, Number, Text, AlternateAf, Dollar, Colon, Comma, Open, Close, Plus, Minus}
-use Rattle.pac_lex.specs.declared.token.Kind.TheVariants.{Star, Slash}
+use Rattle.pac_lex.specs.declared.token.Kind.TheVariants.{Name, Number, Text, AlternateAf}
 use Rattle.pac_lex.specs.declared.fault.Fault.{Fault}
 use Rattle.pac_lex.specs.declared.fault.Fault.TheVariants.{NoToken, WrongNumber, OpenText, LongLine}
 use Rattle.pac_lex.specs.Bytes.{is_blank, is_comment, is_quote, is_name_start, is_name_byte, is_printable}
@@ -348,7 +347,9 @@ text-told : (characters rest : List ℕ) → list_all is_printable characters �
     → IsTold NoToken (spelled characters ++ rest)
 unfolding token_at
 text-told characters rest all stop =
-    record { starts = record { no_blank = refl; no_end = refl }; told = text-at-closed characters rest stop ∙ cond-false (list_all is_printable characters) _ _ all }
+    let told : text_at ((flat_map quoted characters ++ 39 ∷ []) ++ rest) ≡ Err NoToken =
+    text-at-closed characters rest stop ∙ cond-false (list_all is_printable characters) _ _ all in
+    record { starts = record { no_blank = refl; no_end = refl }; told = told }
 
 number-at-bad : (run rest : List ℕ) → list_all is_ascii_alphanumeric run ≡ true → begins is_ascii_alphanumeric rest ≡ false
     → numeral run ≡ None → number_at (run ++ rest) ≡ Err WrongNumber

@@ -1,4 +1,4 @@
-use Rattle.std.proofs.Common.{length, ◌<◌, ◌∙◌, sym, ap, subst, arith, rules}
+use Rattle.std.proofs.Common.{length, ◌<◌, ◌∙◌, sym, arith, rules}
 use Rattle.std.specs.List.{AllWithin}
 use Rattle.std.proofs.lemmas.List.Sorted.{IsPartitionPoint-from_clause}
 use Rattle.pac_inputs.proofs.Searches.{is_over, IsOver, ends-parted, none-open, first-open}
