@@ -92,6 +92,7 @@ comes (joined operator l r) n waiting rest (low, p, q) most =
     (comes r (rank operator - 1) (left operator l ∷ waiting) rest q (omega arith))
 
 given-back : (t : Tree) → IsRanked sum_rank t → tree_of (spelling t) ≡ Some t
+unfolding tree_of
 given-back t r =
     let h = comes t sum_rank [] [] r (omega arith) in
     ap tree_of (sym (append-nil (spelling t))) ∙ h.runs ∙ ap whole (h.settles sum_rank (omega arith))

@@ -170,4 +170,5 @@ reads-on (Some state) (m ∷ ms) u taken h is =
 
 -- a tree that is found is ranked and spells the tokens
 pub found : (ms : List Mark) (t : Tree) → tree_of ms ≡ Some t → IsRanked sum_rank t × (ms ≡ spelling t)
+unfolding tree_of
 found ms t is = reads-on (Some (needs [])) ms t [] (tt, refl) is

@@ -51,9 +51,9 @@ popped n k items old new last result same is count taken rest low =
     taken ∙ ap (λ (j : ℕ). Some (get_or old j last)) before ∙ ap Some (get_or_from_slice_get old (length old - 1) last last there) in
     rw is_last (λ t. ap (settled n t) all ∙ settled-more n t (waiting_of last) (stack new) low)
 
-pub left : (n : ℕ) (items old : List Pending) (last : Pending) → items ≡ old → Some last ≡ slice_get items (length items - 1)
+pub kept : (n : ℕ) (items old : List Pending) (last : Pending) → items ≡ old → Some last ≡ slice_get items (length items - 1)
     → n < waiting_rank (waiting_of last) → (t : Tree) → settled n t (stack old) ≡ (t, stack old)
-left n items old last same is high t =
+kept n items old last same is high t =
     let top = stack-last old last (rw same at (sym is)) in
     ap (settled n t) top ∙ settled-here n t (waiting_of last) (stack (take (length old - 1) old)) high
     ∙ ap (λ (w : List Waiting). (t, w)) (sym top)

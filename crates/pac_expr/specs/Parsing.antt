@@ -22,7 +22,7 @@ completed (sign s) t = signed s t
 completed (left operator l) t = joined operator l t
 completed parenthesis t = group t
 
--- A sign binds tighter than each operator, and a parenthesis waits for what each of them makes.
+-- A sign binds tighter than each operator. No operator's rank reaches an open parenthesis, which waits for its closing one.
 abbrev pub waiting_rank : Waiting → ℕ
 waiting_rank (sign s) = 0
 waiting_rank (left operator l) = rank operator
@@ -38,15 +38,16 @@ pub data State : Type 0 where
   needs : List Waiting → State
   stands : Tree → List Waiting → State
 
--- an operand becomes the left one of an operator
+-- after an operator, whose left operand is all that binds as tight
 abbrev pub operated : Operator → Tree → List Waiting → State
 operated operator t waiting = let s = settled (rank operator) t waiting in needs (left operator s.0 ∷ s.1)
 
--- a closing parenthesis: behind a whole sum it is an open one that waits, if anything does
+-- after a closing parenthesis: what is left before a whole sum is an open one, if anything
 abbrev pub closed : Tree × List Waiting → Option State
 closed (t, []) = None
 closed (t, w ∷ waiting) = Some (stands (completed w t) waiting)
 
+-- after one token more, if an expression can go on with it
 abbrev pub next : State → Mark → Option State
 next (needs waiting) (single a) = Some (stands (atom a) waiting)
 next (needs waiting) opening = Some (needs (parenthesis ∷ waiting))
@@ -59,7 +60,7 @@ next (stands t waiting) slash = Some (operated Divide t waiting)
 next (stands t waiting) closing = closed (settled sum_rank t waiting)
 next state m = None
 
--- nothing waits at the end
+-- the tree, if nothing is left before it
 abbrev pub whole : Tree × List Waiting → Option Tree
 whole (t, []) = Some t
 whole (t, w ∷ waiting) = None
@@ -74,9 +75,9 @@ onward None ms = None
 onward (Some state) [] = finished state
 onward (Some state) (m ∷ ms) = onward (next state m) ms
 
--- The tree that the tokens spell, if they spell one. That it is that tree, and the only one, is proved:
--- tree_of ms is Some t exactly where t is ranked and ms is its spelling.
-abbrev pub tree_of : List Mark → Option Tree
+-- The tree that the tokens spell, if they spell one: the law is that tree_of ms is Some t exactly where t
+-- is ranked (IsRanked) and ms is its spelling.
+unfoldable pub tree_of : List Mark → Option Tree
 tree_of ms = onward (Some (needs [])) ms
 
 -- A call found what it says, or refused since nothing is to be found, or had no memory.

@@ -53,6 +53,7 @@ pub fn parse<'a>(alloc: Global, tokens: &[Token<'a>]) -> Result<Expr<'a>, ParseE
 }
 
 /// The same, by its last clause alone.
+#[tactic(auto, unfolding(crate::specs::Parsing::tree_of))]
 fn parsed<'a>(alloc: Global, tokens: &[Token<'a>]) -> Result<Expr<'a>, ParseError>
     ensures { Finds result (λ e. tree_of (marks tokens.now) ≡ Some (view e)) (tree_of (marks tokens.now) ≡ None) }
 {

@@ -55,7 +55,7 @@ fn last_up_to<'a>(rank: u8, pending: &mut Vec<Pending<'a>>) -> Option<Pending<'a
     }
 }
 
-/// How tight it binds.
+/// The rank of what waits: the lower, the tighter it binds.
 fn rank_of(waiting: &Pending<'_>) -> u8
     ensures { result ≡ waiting_rank (waiting_of waiting.now) }
 {

@@ -1,6 +1,6 @@
 use Rattle.std.proofs.Common.{◌-◌, sym, length, vec_len, arith}
 use Rattle.std.proofs.lemmas.Option.{slice_get_within}
-use Rattle.pac_expr.proofs.Stack.{popped, left}
+use Rattle.pac_expr.proofs.Stack.{popped, kept}
 use Rattle.pac_expr.proofs.pending.last_up_to.Goals as goal
 
 pub returns-then-rank_of-rank-clause-settles : goal.returns-then-rank_of-rank-clause-settles
@@ -16,5 +16,5 @@ returns-then-rank_of-rank-clause-settles c =
 
 pub returns-else-rank_of-rank-clause-settles : goal.returns-else-rank_of-rank-clause-settles
 returns-else-rank_of-rank-clause-settles c =
-    left c.args.rank c.deref.result.now c.args.pending.now.items c.in_ok-last.last.now c.deref.ensures.value c.in_ok-last.ensures.value
+    kept c.args.rank c.deref.result.now c.args.pending.now.items c.in_ok-last.last.now c.deref.ensures.value c.in_ok-last.ensures.value
     (omega arith)
