@@ -10,36 +10,37 @@ use Rattle.pac_expr.specs.declared.evaluation.ValueError.TheVariants.{Undefined,
 use Rattle.pac_expr.specs.Trees.{number, character, name, here, Tree, atom, group, signed, joined}
 use Rattle.pac_expr.specs.Values.{Answer, ranged, defined, operate, sign_value, joined_value, value_of, HasUndefined}
 
-abbrev Is : Answer → Type 0
-Is answer = answer ≡ Err Undefined
+abbrev IsUndefined : Answer → Type 0
+IsUndefined answer = answer ≡ Err Undefined
 
-in-range-is : (b : Bool) (z : ℤ) → Is (cond b (Ok z) (Err OutOfRange)) → ⊥
+in-range-is : (b : Bool) (z : ℤ) → IsUndefined (cond b (Ok z) (Err OutOfRange)) → ⊥
 in-range-is true z h = cc
 in-range-is false z h = cc
 
-ranged-is : (z : ℤ) → Is (ranged z) → ⊥
+ranged-is : (z : ℤ) → IsUndefined (ranged z) → ⊥
 ranged-is z e = in-range-is (int_le (negsuc 2147483647) z && int_le z (pos 2147483647)) z e
 
-divided-is : (b : Bool) (z : ℤ) → Is (cond b (Err DivisionByZero) (ranged z)) → ⊥
+divided-is : (b : Bool) (z : ℤ) → IsUndefined (cond b (Err DivisionByZero) (ranged z)) → ⊥
 divided-is true z e = cc
 divided-is false z e = ranged-is z e
 
-operate-is : (operator : Operator) (x y : ℤ) → Is (operate operator x y) → ⊥
+operate-is : (operator : Operator) (x y : ℤ) → IsUndefined (operate operator x y) → ⊥
 operate-is Add x y e = ranged-is (x +ℤ y) e
 operate-is Subtract x y e = ranged-is (x -ℤ y) e
 operate-is Multiply x y e = ranged-is (x *ℤ y) e
 operate-is Divide x y e = divided-is (int_eq y (pos 0)) (int_div x y) e
 
-defined-is : (o : Option ℤ) → Is (defined o) → o ≡ None
+defined-is : (o : Option ℤ) → IsUndefined (defined o) → o ≡ None
 defined-is None e = refl
 defined-is (Some z) e = absurd cc
 
-sign-is : (sign : Sign) (answer : Answer) → Is (sign_value sign answer) → Is answer
+sign-is : (sign : Sign) (answer : Answer) → IsUndefined (sign_value sign answer) → IsUndefined answer
 sign-is signs.Plus answer e = e
 sign-is signs.Minus (Ok z) e = absurd (ranged-is (neg_ℤ z) e)
 sign-is signs.Minus (Err fault) e = e
 
-joined-is : (operator : Operator) (left right : Answer) → Is (joined_value operator left right) → Is left ⊎ Is right
+joined-is : (operator : Operator) (left right : Answer) → IsUndefined (joined_value operator left right)
+    → IsUndefined left ⊎ IsUndefined right
 joined-is operator (Ok x) (Ok y) e = absurd (operate-is operator x y e)
 joined-is operator (Ok x) (Err fault) e = inr e
 joined-is operator (Err fault) (Ok y) e = inl e
@@ -49,21 +50,21 @@ joined-is operator (Err OutOfRange) (Err OutOfRange) e = absurd cc
 joined-is operator (Err OutOfRange) (Err DivisionByZero) e = absurd cc
 joined-is operator (Err DivisionByZero) (Err other) e = inr e
 
-left-is : (operator : Operator) (right : Answer) → Is (joined_value operator (Err Undefined) right)
+left-is : (operator : Operator) (right : Answer) → IsUndefined (joined_value operator (Err Undefined) right)
 left-is operator (Ok y) = refl
 left-is operator (Err other) = refl
 
-right-is : (operator : Operator) (left : Answer) → Is (joined_value operator left (Err Undefined))
+right-is : (operator : Operator) (left : Answer) → IsUndefined (joined_value operator left (Err Undefined))
 right-is operator (Ok y) = refl
 right-is operator (Err Undefined) = refl
 right-is operator (Err OutOfRange) = refl
 right-is operator (Err DivisionByZero) = refl
 
-signed-back : (sign : Sign) → Is (sign_value sign (Err Undefined))
+signed-back : (sign : Sign) → IsUndefined (sign_value sign (Err Undefined))
 signed-back signs.Plus = refl
 signed-back signs.Minus = refl
 
-pub found : (names : List ℕ → Option ℤ) (line : ℕ) (t : Tree) → Is (value_of names line t) → HasUndefined names t
+pub found : (names : List ℕ → Option ℤ) (line : ℕ) (t : Tree) → IsUndefined (value_of names line t) → HasUndefined names t
 found names line (atom (number n)) e = absurd cc
 found names line (atom (character c)) e = absurd cc
 found names line (atom (name text)) e = defined-is (names text) e
@@ -75,7 +76,7 @@ found names line (joined operator left right) e = elim (joined-is operator (valu
   | inr r ↦ inr (found names line right r)
 ]
 
-pub told : (names : List ℕ → Option ℤ) (line : ℕ) (t : Tree) → HasUndefined names t → Is (value_of names line t)
+pub told : (names : List ℕ → Option ℤ) (line : ℕ) (t : Tree) → HasUndefined names t → IsUndefined (value_of names line t)
 told names line (atom (number n)) h = absurd h
 told names line (atom (character c)) h = absurd h
 told names line (atom (name text)) h = ap defined h
@@ -86,5 +87,5 @@ told names line (joined operator left right) (inl l) = rw (told names line left 
 told names line (joined operator left right) (inr r) = rw (told names line right r) (right-is operator (value_of names line left))
 
 pub undefined-told : (names : List ℕ → Option ℤ) (line : ℕ) (t : Tree) (answer : Answer) → answer ≡ value_of names line t
-    → Is answer ↔ HasUndefined names t
+    → IsUndefined answer ↔ HasUndefined names t
 undefined-told names line t answer e = rw e (found names line t, told names line t)

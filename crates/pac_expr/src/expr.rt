@@ -34,8 +34,12 @@ pub enum Operator {
 /// source, which has at most 255 bytes, has at most 255 levels.
 #[derive(Drop)]
 pub enum Expr<'a> {
+    /// An operand by itself.
     Value(Operand<'a>),
+    /// An expression in parentheses.
     Group(Box<Expr<'a>>),
+    /// A sign with its operand.
     Signed(Sign, Box<Expr<'a>>),
+    /// An operator with its left and its right operand.
     Joined(Operator, Box<Expr<'a>>, Box<Expr<'a>>),
 }

@@ -17,6 +17,7 @@ const PRODUCT_RANK: u8 = 1;
 /// What waits for an operand.
 #[derive(Drop)]
 pub(crate) enum Pending<'a> {
+    /// A sign, which stands before it.
     Sign(Sign),
     /// An operator, with its left operand.
     Left(Operator, Expr<'a>),
