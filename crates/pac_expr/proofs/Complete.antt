@@ -1,7 +1,7 @@
--- The machine takes the tokens of each tree, and gives the tree back: so no two trees have one spelling.
-use Rattle.std.proofs.Common.{◌≡◌, ◌-◌, ◌≤◌, Bool, true, false, List, [], ◌∷◌, ◌++◌, Option, Some, None, Err, refl, sym, ap, ◌∙◌, arith, append_assoc, append-nil, length, ◌<◌}
+-- The tokens of each ranked tree give that tree back: so no two of them have one spelling.
+use Rattle.std.proofs.Common.{◌≡◌, ◌↔◌, ℕ, ◌-◌, ◌<◌, ◌≤◌, List, [], ◌∷◌, ◌++◌, Some, None, Result, Ok, Err, IfOk, refl, sym, ap, ◌∙◌, arith}
+use Rattle.std.proofs.Common.{append_assoc, append-nil}
 use Rattle.std.proofs.lemmas.Option.{same_Some, none-some}
-use Rattle.pac_lex.specs.declared.token.Token.{Token}
 use Rattle.pac_expr.specs.declared.expr.Sign.{Sign}
 use Rattle.pac_expr.specs.declared.expr.Sign.TheVariants as signs
 use Rattle.pac_expr.specs.declared.expr.Operator.{Operator}
@@ -9,141 +9,107 @@ use Rattle.pac_expr.specs.declared.expr.Operator.TheVariants.{Add, Subtract, Mul
 use Rattle.pac_expr.specs.declared.expr.Expr.{Expr}
 use Rattle.pac_expr.specs.declared.parsing.ParseError.{ParseError}
 use Rattle.pac_expr.specs.declared.parsing.ParseError.TheVariants as errors
-use Rattle.pac_expr.specs.Trees.{Tree, atom, group, signed, joined, Mark, closing, plus, minus, star, slash, operator_mark, spelling, rank, IsRanked, marks, view}
-use Rattle.pac_expr.specs.Machine.{product_at, sum_at, is_closing, Half, half, Waiting, nothing, State, needs, stands, settled, operator_step, run, product_ends, ReadsSum, NoSum, Finds}
-use Rattle.pac_expr.proofs.Steps.{joins}
+use Rattle.pac_expr.specs.Trees.{Tree, atom, group, signed, joined, Mark, closing, sign_mark, operator_mark, spelling, rank, sum_rank}
+use Rattle.pac_expr.specs.Trees.{IsRanked, view}
+use Rattle.pac_expr.specs.Parsing.{Waiting, sign, left, parenthesis, settled, needs, stands, operated, closed, whole, onward, tree_of}
+use Rattle.pac_expr.specs.Parsing.{Finds}
+use Rattle.pac_expr.proofs.Stack.{settled-more, settled-here}
+use Rattle.pac_expr.proofs.Sound.{room, found}
 
--- what the machine makes of a tree's tokens, at each rank
-record IsTaken (t : Tree) : Type 0 where
-  factor : IsRanked 0 t → (w : Waiting) (outer : List Waiting) (rest : List Mark) → run (Some (needs w outer)) (spelling t ++ rest) ≡ run (Some (settled w t outer)) rest
-  product : IsRanked 1 t → (sum : Option Half) (outer : List Waiting) (rest : List Mark) → run (Some (needs (nothing None sum) outer)) (spelling t ++ rest) ≡ run (Some (stands t sum outer)) rest
-  sum : IsRanked 2 t → (outer : List Waiting) (rest : List Mark) → product_ends rest → run (Some (needs (nothing None None) outer)) (spelling t ++ rest) ≡ run (Some (stands t None outer)) rest
+-- nothing is completed that binds looser
+settled-stays : (n : ℕ) (t : Tree) (waiting : List Waiting) → 0 < n → n ≤ room waiting → settled n t waiting ≡ (t, waiting)
+settled-stays n t [] some low = refl
+settled-stays n t (sign s ∷ waiting) some low = absurd (omega arith)
+settled-stays n t (left operator l ∷ waiting) some low = settled-here n t (left operator l) waiting (omega arith)
+settled-stays n t (parenthesis ∷ waiting) some low = settled-here n t parenthesis waiting (omega arith)
 
--- a tree with no operator outside its groups
-single_taken : (t : Tree) → ((w : Waiting) (outer : List Waiting) (rest : List Mark) → run (Some (needs w outer)) (spelling t ++ rest) ≡ run (Some (settled w t outer)) rest) → IsTaken t
-single_taken t f = record {
-  factor = λ _ w outer rest. f w outer rest;
-  product = λ _ sum outer rest. f (nothing None sum) outer rest;
-  sum = λ _ outer rest _. f (nothing None None) outer rest;
+-- what the tokens of a tree come to, where it has this rank at most: something that completes as the tree does
+record Comes (t : Tree) (n : ℕ) (waiting : List Waiting) (rest : List Mark) : Type 0 where
+  tree : Tree
+  before : List Waiting
+  runs : onward (Some (needs waiting)) (spelling t ++ rest) ≡ onward (Some (stands tree before)) rest
+  settles : (k : ℕ) → n ≤ k → settled k tree before ≡ settled k t waiting
+
+sign-runs : (s : Sign) (waiting : List Waiting) (ms : List Mark)
+    → onward (Some (needs waiting)) (sign_mark s ∷ ms) ≡ onward (Some (needs (sign s ∷ waiting))) ms
+sign-runs signs.Plus waiting ms = refl
+sign-runs signs.Minus waiting ms = refl
+
+operator-runs : (operator : Operator) (t : Tree) (waiting : List Waiting) (ms : List Mark)
+    → onward (Some (stands t waiting)) (operator_mark operator ∷ ms) ≡ onward (Some (operated operator t waiting)) ms
+operator-runs Add t waiting ms = refl
+operator-runs Subtract t waiting ms = refl
+operator-runs Multiply t waiting ms = refl
+operator-runs Divide t waiting ms = refl
+
+some-rank : (operator : Operator) → 0 < rank operator
+some-rank Add = omega arith
+some-rank Subtract = omega arith
+some-rank Multiply = omega arith
+some-rank Divide = omega arith
+
+group-comes : (t : Tree) (n : ℕ) (waiting : List Waiting) (rest : List Mark) → Comes t sum_rank (parenthesis ∷ waiting) (closing ∷ rest)
+    → Comes (group t) n waiting rest
+group-comes t n waiting rest h = record {
+  tree = group t;
+  before = waiting;
+  runs = ap (onward (Some (needs (parenthesis ∷ waiting)))) (append_assoc (spelling t) (closing ∷ []) rest) ∙ h.runs
+      ∙ ap (λ (s : Tree × List Waiting). onward (closed s) rest) (h.settles sum_rank (omega arith));
+  settles = λ k low. refl;
 }
 
--- a product's operator, with what is on both sides of it
-both_sides : (operator : Operator) (left right : Tree) (rest : List Mark) → spelling (joined operator left right) ++ rest ≡ spelling left ++ (operator_mark operator ∷ (spelling right ++ rest))
-both_sides operator left right rest = append_assoc (spelling left) (operator_mark operator ∷ spelling right) rest
-
-product_joined : (operator : Operator) (left right : Tree) → rank operator ≡ 1 → IsTaken left → IsTaken right → IsRanked 1 left → IsRanked 0 right
-    → (sum : Option Half) (outer : List Waiting) (rest : List Mark) → run (Some (needs (nothing None sum) outer)) (spelling (joined operator left right) ++ rest) ≡ run (Some (stands (joined operator left right) sum outer)) rest
-product_joined Add left right e l r p q sum outer rest = absurd (omega arith)
-product_joined Subtract left right e l r p q sum outer rest = absurd (omega arith)
-product_joined Multiply left right e l r p q sum outer rest =
-    ap (run (Some (needs (nothing None sum) outer))) (both_sides Multiply left right rest)
-    ∙ l.product p sum outer (star ∷ (spelling right ++ rest)) ∙ r.factor q (nothing (half Multiply left) sum) outer rest
-product_joined Divide left right e l r p q sum outer rest =
-    ap (run (Some (needs (nothing None sum) outer))) (both_sides Divide left right rest)
-    ∙ l.product p sum outer (slash ∷ (spelling right ++ rest)) ∙ r.factor q (nothing (half Divide left) sum) outer rest
-
-sum_joined : (operator : Operator) (left right : Tree) → IsTaken left → IsTaken right → IsRanked (rank operator) left → IsRanked (rank operator - 1) right
-    → (outer : List Waiting) (rest : List Mark) → product_ends rest → run (Some (needs (nothing None None) outer)) (spelling (joined operator left right) ++ rest) ≡ run (Some (stands (joined operator left right) None outer)) rest
-sum_joined Multiply left right l r p q outer rest ends = product_joined Multiply left right refl l r p q None outer rest
-sum_joined Divide left right l r p q outer rest ends = product_joined Divide left right refl l r p q None outer rest
-sum_joined Add left right l r p q outer rest ends =
-    ap (run (Some (needs (nothing None None) outer))) (both_sides Add left right rest)
-    ∙ l.sum p outer (plus ∷ (spelling right ++ rest)) refl ∙ r.product q (half Add left) outer rest ∙ joins right (half Add left) outer rest ends
-sum_joined Subtract left right l r p q outer rest ends =
-    ap (run (Some (needs (nothing None None) outer))) (both_sides Subtract left right rest)
-    ∙ l.sum p outer (minus ∷ (spelling right ++ rest)) refl ∙ r.product q (half Subtract left) outer rest ∙ joins right (half Subtract left) outer rest ends
-
-low_product : (operator : Operator) (left right : Tree) → IsTaken left → IsTaken right → IsRanked 1 (joined operator left right)
-    → (sum : Option Half) (outer : List Waiting) (rest : List Mark) → run (Some (needs (nothing None sum) outer)) (spelling (joined operator left right) ++ rest) ≡ run (Some (stands (joined operator left right) sum outer)) rest
-low_product Multiply left right l r (low, p, q) sum outer rest = product_joined Multiply left right refl l r p q sum outer rest
-low_product Divide left right l r (low, p, q) sum outer rest = product_joined Divide left right refl l r p q sum outer rest
-low_product Add left right l r (low, p, q) sum outer rest = absurd (omega arith)
-low_product Subtract left right l r (low, p, q) sum outer rest = absurd (omega arith)
-
-no_low_factor : (operator : Operator) → rank operator ≤ 0 → ⊥
-no_low_factor Multiply e = omega arith
-no_low_factor Divide e = omega arith
-no_low_factor Add e = omega arith
-no_low_factor Subtract e = omega arith
-
-group_taken : (t : Tree) → IsTaken t → IsRanked 2 t → (w : Waiting) (outer : List Waiting) (rest : List Mark) → run (Some (needs w outer)) (spelling (group t) ++ rest) ≡ run (Some (settled w (group t) outer)) rest
-group_taken t h r w outer rest =
-    ap (run (Some (needs (nothing None None) (w ∷ outer)))) (append_assoc (spelling t) (closing ∷ []) rest) ∙ h.sum r (w ∷ outer) (closing ∷ rest) refl
-
-group_is : (t : Tree) → IsTaken t → IsTaken (group t)
-group_is t h = record {
-  factor = λ r w outer rest. group_taken t h r w outer rest;
-  product = λ r sum outer rest. group_taken t h r (nothing None sum) outer rest;
-  sum = λ r outer rest _. group_taken t h r (nothing None None) outer rest;
+sign-comes : (s : Sign) (t : Tree) (n : ℕ) (waiting : List Waiting) (rest : List Mark) → Comes t 0 (sign s ∷ waiting) rest
+    → Comes (signed s t) n waiting rest
+sign-comes s t n waiting rest h = record {
+  tree = h.tree;
+  before = h.before;
+  runs = sign-runs s waiting (spelling t ++ rest) ∙ h.runs;
+  settles = λ k low. h.settles k (omega arith) ∙ settled-more k t (sign s) waiting (omega arith);
 }
 
-sign_taken : (sign : Sign) (t : Tree) → IsTaken t → IsRanked 0 t → (w : Waiting) (outer : List Waiting) (rest : List Mark) → run (Some (needs w outer)) (spelling (signed sign t) ++ rest) ≡ run (Some (settled w (signed sign t) outer)) rest
-sign_taken signs.Plus t h r w outer rest = h.factor r (record { signs = signs.Plus ∷ w.signs; product = w.product; sum = w.sum }) outer rest
-sign_taken signs.Minus t h r w outer rest = h.factor r (record { signs = signs.Minus ∷ w.signs; product = w.product; sum = w.sum }) outer rest
-
-signed_is : (sign : Sign) (t : Tree) → IsTaken t → IsTaken (signed sign t)
-signed_is sign t h = record {
-  factor = λ r w outer rest. sign_taken sign t h r w outer rest;
-  product = λ r sum outer rest. sign_taken sign t h r (nothing None sum) outer rest;
-  sum = λ r outer rest _. sign_taken sign t h r (nothing None None) outer rest;
+joined-comes : (operator : Operator) (l r : Tree) (n : ℕ) (waiting : List Waiting) (rest : List Mark) → rank operator ≤ n → n ≤ room waiting
+    → Comes l (rank operator) waiting (operator_mark operator ∷ (spelling r ++ rest))
+    → Comes r (rank operator - 1) (left operator l ∷ waiting) rest → Comes (joined operator l r) n waiting rest
+joined-comes operator l r n waiting rest low most hl hr = record {
+  tree = hr.tree;
+  before = hr.before;
+  runs = ap (onward (Some (needs waiting))) (append_assoc (spelling l) (operator_mark operator ∷ spelling r) rest) ∙ hl.runs
+      ∙ operator-runs operator hl.tree hl.before (spelling r ++ rest)
+      ∙ ap (λ (s : Tree × List Waiting). onward (Some (needs (left operator s.0 ∷ s.1))) (spelling r ++ rest))
+      (hl.settles (rank operator) (omega arith) ∙ settled-stays (rank operator) l waiting (some-rank operator) (omega arith))
+      ∙ hr.runs;
+  settles = λ k high. hr.settles k (omega arith) ∙ settled-more k r (left operator l) waiting (omega arith);
 }
 
-taken : (t : Tree) → IsTaken t
-taken (atom a) = single_taken (atom a) (λ w outer rest. refl)
-taken (group t) = group_is t (taken t)
-taken (signed sign t) = signed_is sign t (taken t)
-taken (joined operator left right) =
-    let l = taken left in
-    let r = taken right in
-    record {
-      factor = λ (low, p, q) w outer rest. absurd (no_low_factor operator low);
-      product = λ h sum outer rest. low_product operator left right l r h sum outer rest;
-      sum = λ (low, p, q) outer rest ends. sum_joined operator left right l r p q outer rest ends;
-    }
+comes : (t : Tree) (n : ℕ) (waiting : List Waiting) (rest : List Mark) → IsRanked n t → n ≤ room waiting → Comes t n waiting rest
+comes (atom a) n waiting rest r most = record { tree = atom a; before = waiting; runs = refl; settles = λ k low. refl }
+comes (group t) n waiting rest r most =
+    group-comes t n waiting rest (comes t sum_rank (parenthesis ∷ waiting) (closing ∷ rest) r (omega arith))
+comes (signed s t) n waiting rest r most = sign-comes s t n waiting rest (comes t 0 (sign s ∷ waiting) rest r (omega arith))
+comes (joined operator l r) n waiting rest (low, p, q) most =
+    joined-comes operator l r n waiting rest low most
+    (comes l (rank operator) waiting (operator_mark operator ∷ (spelling r ++ rest)) p (omega arith))
+    (comes r (rank operator - 1) (left operator l ∷ waiting) rest q (omega arith))
 
--- ---- the whole expression
+given-back : (t : Tree) → IsRanked sum_rank t → tree_of (spelling t) ≡ Some t
+unfolding tree_of
+given-back t r =
+    let h = comes t sum_rank [] [] r (omega arith) in
+    ap tree_of (sym (append-nil (spelling t))) ∙ h.runs ∙ ap whole (h.settles sum_rank (omega arith))
 
-abbrev start : Option State
-start = Some (needs (nothing None None) [])
+-- The function of the tokens gives the ranked tree that they spell, and nothing where there is none.
+pub tree-of-spelling : (ms : List Mark) (t : Tree) → (tree_of ms ≡ Some t) ↔ (IsRanked sum_rank t × (ms ≡ spelling t))
+tree-of-spelling ms t = (found ms t, λ (ranked, is). ap tree_of is ∙ given-back t ranked)
 
-tree_taken : (t : Tree) → IsRanked 2 t → run start (spelling t) ≡ Some t
-tree_taken t r = ap (run start) (sym (append-nil (spelling t))) ∙ (taken t).sum r [] [] tt
+-- ---- what `parse` says
 
-pub expression_is : (ms rest : List Mark) (t : Tree) → ReadsSum ms t rest → rest ≡ [] → IsRanked 2 t × (ms ≡ spelling t)
-expression_is ms rest t h e = (h.ranked, h.spells ∙ ap (λ (xs : List Mark). spelling t ++ xs) e ∙ append-nil (spelling t))
+pub found-by : (ms : List Mark) (result : Result Expr ParseError) → Finds result (λ e. tree_of ms ≡ Some (view e)) (tree_of ms ≡ None)
+    → IfOk result (λ e. IsRanked sum_rank (view e) × (ms ≡ spelling (view e)))
+found-by ms (Ok e) h = found ms (view e) h
+found-by ms (Err fault) h = tt
 
-pub only_tree : (ms rest : List Mark) (t u : Tree) → ReadsSum ms t rest → rest ≡ [] → IsRanked 2 u × (ms ≡ spelling u) → t ≡ u
-only_tree ms rest t u h e (ranked, is) =
-    let ours : run start ms ≡ Some t = h.runs [] ∙ ap (run (Some (stands t None []))) e in
-    let theirs : run start ms ≡ Some u = ap (run start) is ∙ tree_taken u ranked in
-    same_Some t u (sym ours ∙ theirs)
-
-pub no_tree : (ms : List Mark) (u : Tree) → NoSum ms → IsRanked 2 u × (ms ≡ spelling u) → ⊥
-no_tree ms u h (ranked, is) = none-some u (sym (h []) ∙ ap (run start) is ∙ tree_taken u ranked)
-
-left_over : (t : Tree) (m : Mark) (rest : List Mark) → product_at m ≡ None → sum_at m ≡ None → run (Some (stands t None [])) (m ∷ rest) ≡ None
-left_over t m rest p s = ap (λ (x : Option State). run x rest) refused
-  where
-    none : (b : Bool) → operator_step t None [] None None b ≡ None
-    none true = refl
-    none false = refl
-
-    refused : operator_step t None [] (product_at m) (sum_at m) (is_closing m) ≡ None
-    refused = rw (p, s) (none (is_closing m))
-
-pub more_left : (ms rest : List Mark) (t u : Tree) → ReadsSum ms t rest → 0 < length rest → IsRanked 2 u × (ms ≡ spelling u) → ⊥
-more_left ms [] t u h some g = absurd (omega arith)
-more_left ms (m ∷ rest) t u h some (ranked, is) =
-    none-some u (sym (h.runs [] ∙ left_over t m rest h.ends.0 h.ends.1) ∙ ap (run start) is ∙ tree_taken u ranked)
-
-pub refused_or_memory : {X : Type 0} (e : ParseError) (ms : List Mark) (P : X → Type 0) → Finds {X = X} (Err e) P (NoSum ms) → (u : Tree) → IsRanked 2 u × (ms ≡ spelling u) → Finds {X = Expr} (Err e) (λ x. view x ≡ u) ⊥
-refused_or_memory errors.Memory ms P h u g = tt
-refused_or_memory errors.Syntax ms P h u g = no_tree ms u h g
-
-pub no_tokens : (tokens : List Token) → length tokens ≡ 0 → marks tokens ≡ []
-no_tokens [] e = refl
-no_tokens (t ∷ tokens) e = absurd (omega arith)
-
-pub some_tokens : (tokens : List Token) → (length tokens ≡ 0 → ⊥) → 0 < length (marks tokens)
-some_tokens [] some = absurd (some refl)
-some_tokens (t ∷ tokens) some = omega arith
+pub only-by : (ms : List Mark) (result : Result Expr ParseError) → Finds result (λ e. tree_of ms ≡ Some (view e)) (tree_of ms ≡ None)
+    → (t : Tree) → IsRanked sum_rank t × (ms ≡ spelling t) → Finds result (λ e. view e ≡ t) ⊥
+only-by ms (Ok e) h t is = same_Some (view e) t (sym h ∙ (tree-of-spelling ms t).1 is)
+only-by ms (Err errors.Memory) h t is = tt
+only-by ms (Err errors.Syntax) h t is = none-some t (sym h ∙ (tree-of-spelling ms t).1 is)

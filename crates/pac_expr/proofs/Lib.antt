@@ -1,3 +1,4 @@
-pub mod Steps
+pub mod Stack
+pub mod Sound
 pub mod Complete
 pub mod Undefined

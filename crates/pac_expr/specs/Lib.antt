@@ -1,4 +1,5 @@
 pub mod Trees
 pub mod Values
-pub mod Machine
+pub mod Parsing
+pub mod Stack
 pub mod Codes

@@ -1,4 +1,5 @@
--- Expressions as trees, and the tokens that spell them.
+-- Expressions as trees, and the tokens that spell them: the assembler's notation of this profile, whose
+-- operators bind as in arithmetic.
 use Rattle.std.specs.Prelude.{◌≡◌, ℕ, ◌-◌, ◌≤◌, List, [], ◌∷◌, ◌++◌, Option, Some, None, map}
 use Rattle.pac_lex.specs.declared.token.Kind.{Kind}
 use Rattle.pac_lex.specs.declared.token.Kind.TheVariants as kinds
@@ -91,21 +92,27 @@ spelling (signed sign t) = sign_mark sign ∷ spelling t
 spelling (joined operator left right) = spelling left ++ (operator_mark operator ∷ spelling right)
 
 -- products bind tighter than sums
+abbrev pub product_rank : ℕ
+product_rank = 1
+
+abbrev pub sum_rank : ℕ
+sum_rank = 2
+
 abbrev pub rank : Operator → ℕ
-rank Add = 2
-rank Subtract = 2
-rank Multiply = 1
-rank Divide = 1
+rank Add = sum_rank
+rank Subtract = sum_rank
+rank Multiply = product_rank
+rank Divide = product_rank
 
 -- The tree is one whose operators outside its groups have this rank at most. The left operand of an
 -- operator may have its rank, the right one only a lower rank, so operators of one rank join from left
 -- to right. A sign stands before an operand without operators, and a group may hold any tree.
 abbrev pub IsRanked : ℕ → Tree → Type 0
 IsRanked n (atom a) = Unit {0}
-IsRanked n (group t) = IsRanked 2 t
+IsRanked n (group t) = IsRanked sum_rank t
 IsRanked n (signed sign t) = IsRanked 0 t
 IsRanked n (joined operator left right) = (rank operator ≤ n) × IsRanked (rank operator) left × IsRanked (rank operator - 1) right
 
 -- an expression of the source: a tree with its parentheses where they are needed, and its tokens
 abbrev pub IsExpression : List Token → Tree → Type 0
-IsExpression tokens t = IsRanked 2 t × (marks tokens ≡ spelling t)
+IsExpression tokens t = IsRanked sum_rank t × (marks tokens ≡ spelling t)

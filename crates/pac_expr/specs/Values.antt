@@ -1,5 +1,6 @@
--- The value of an expression, in whole numbers of 32 bits.
-use Rattle.std.specs.Prelude.{◌≡◌, ◌⊎◌, ℕ, ℤ, pos, negsuc, ◌+ℤ◌, ◌-ℤ◌, ◌*ℤ◌, neg_ℤ, int_le, int_div, ◌&&◌, List, Option, Some, None, Result, Ok, Err, if◌then◌else◌}
+-- The value of an expression, in whole numbers of 32 bits, and why there is none: E1, E2 or E3 (this profile).
+use Rattle.std.specs.Prelude.{◌≡◌, ◌⊎◌, ℕ, ℤ, pos, negsuc, ◌+ℤ◌, ◌-ℤ◌, ◌*ℤ◌, neg_ℤ, int_le, int_div, ◌&&◌, List, Option, Some, None, Result}
+use Rattle.std.specs.Prelude.{Ok, Err, if◌then◌else◌}
 use Rattle.std.specs.Ordering.{int_eq}
 use Rattle.pac_expr.specs.declared.expr.Sign.{Sign}
 use Rattle.pac_expr.specs.declared.expr.Sign.TheVariants as signs
@@ -17,6 +18,7 @@ Answer = Result ℤ ValueError
 abbrev pub ranged : ℤ → Answer
 ranged z = if int_le (negsuc 2147483647) z && int_le z (pos 2147483647) then Ok z else Err OutOfRange
 
+-- what a name stands for
 abbrev pub defined : Option ℤ → Answer
 defined None = Err Undefined
 defined (Some z) = Ok z
@@ -29,12 +31,14 @@ first OutOfRange OutOfRange = OutOfRange
 first OutOfRange DivisionByZero = OutOfRange
 first DivisionByZero fault = fault
 
+-- what an operator makes of two numbers; a quotient is cut toward zero
 abbrev pub operate : Operator → ℤ → ℤ → Answer
 operate Add x y = ranged (x +ℤ y)
 operate Subtract x y = ranged (x -ℤ y)
 operate Multiply x y = ranged (x *ℤ y)
 operate Divide x y = if int_eq y (pos 0) then Err DivisionByZero else ranged (int_div x y)
 
+-- what a sign makes of its operand's value, and an operator of its operands'
 abbrev pub sign_value : Sign → Answer → Answer
 sign_value signs.Plus answer = answer
 sign_value signs.Minus (Ok z) = ranged (neg_ℤ z)

@@ -1,3 +1,5 @@
+//! The value of an expression.
+
 ghost use Rattle.std.specs.Prelude.{◌≡◌, ◌↔◌, ℕ, ℤ, List, Option, Some, Err};
 ghost use Rattle.pac_expr.specs.Trees.{view, atom_of};
 ghost use Rattle.pac_expr.specs.Values.{value_of, atom_value, sign_value, joined_value, operate, first, HasUndefined};
@@ -21,6 +23,7 @@ impl fmt::Display for ValueError {
 
     ghost output = { λ fault. Some (code fault) };
 
+    /// Its code.
     fn fmt<W: fmt::Write>(&self, f: &mut fmt::Formatter<W>) -> fmt::Result {
         match self {
             ValueError::Undefined => write!(f, "E1"),
@@ -41,7 +44,7 @@ pub trait Symbols {
 }
 
 /// The value of an expression, where `here` is the address of its line. A quotient is rounded toward
-/// zero.
+/// zero. It calls itself once for a level of the tree.
 pub fn value<S: Symbols>(expr: &Expr<'_>, symbols: &S, here: u16) -> Result<i32, ValueError>
     ensures exact { result ≡ value_of (S.lookup symbols.now) here (view expr.now) }
     // E1 comes exactly where some name isn't defined, whatever else is wrong.
@@ -50,6 +53,7 @@ pub fn value<S: Symbols>(expr: &Expr<'_>, symbols: &S, here: u16) -> Result<i32,
     evaluated(expr, symbols, here)
 }
 
+/// The same, by its first clause alone.
 fn evaluated<S: Symbols>(expr: &Expr<'_>, symbols: &S, here: u16) -> Result<i32, ValueError>
     ensures { result ≡ value_of (S.lookup symbols.now) here (view expr.now) }
 {
@@ -65,6 +69,7 @@ fn evaluated<S: Symbols>(expr: &Expr<'_>, symbols: &S, here: u16) -> Result<i32,
     }
 }
 
+/// The value of an operand.
 fn operand_value<S: Symbols>(
     operand: &Operand<'_>,
     symbols: &S,
@@ -80,6 +85,7 @@ fn operand_value<S: Symbols>(
     }
 }
 
+/// What a sign makes of its operand's value.
 fn signed(sign: Sign, operand: Result<i32, ValueError>) -> Result<i32, ValueError>
     ensures { result ≡ sign_value sign operand }
 {
@@ -92,6 +98,7 @@ fn signed(sign: Sign, operand: Result<i32, ValueError>) -> Result<i32, ValueErro
     }
 }
 
+/// What an operator makes of its operands' values, or the first fault of the two.
 fn joined(
     operator: Operator,
     left: Result<i32, ValueError>,
@@ -107,6 +114,7 @@ fn joined(
     }
 }
 
+/// What an operator makes of two numbers.
 fn operated(operator: Operator, left: i32, right: i32) -> Result<i32, ValueError>
     ensures { result ≡ operate operator left right }
 {
@@ -123,7 +131,7 @@ fn operated(operator: Operator, left: i32, right: i32) -> Result<i32, ValueError
     }
 }
 
-// The first of two faults, in the order of their codes.
+/// The first of two faults, in the order of their codes.
 fn first(fault: ValueError, other: ValueError) -> ValueError
     ensures { result ≡ first fault other }
 {

@@ -4,11 +4,8 @@
 mod evaluation;
 mod expr;
 mod parsing;
-mod words;
+mod pending;
 
 pub use evaluation::{Symbols, ValueError, value};
 pub use expr::{Expr, Operand, Operator, Sign};
 pub use parsing::{ParseError, parse};
-
-#[cfg(test)]
-mod tests;
