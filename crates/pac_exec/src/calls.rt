@@ -1,4 +1,4 @@
-//! Calls and returns (UM0080, "Call and Return Group"). PC stands behind the code. Each gives its time in
+//! Calls and returns (UM0080, "Call and Return Group"). PC stands after the code. Each gives its time in
 //! T-states, the shorter one where a condition isn't met.
 
 ghost use Rattle.std.specs.Prelude.{◌≡◌, ◌*◌};

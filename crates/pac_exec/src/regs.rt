@@ -5,6 +5,7 @@ ghost use Rattle.pac_exec.specs.Registers as registers;
 
 use pac_num::offset;
 use pac_table::InterruptMode;
+use std::mem::swap;
 
 /// The second set of the eight registers A, F, B, C, D, E, H and L (UM0080, "Z80 CPU Register
 /// Description"); EX AF,AF' and EXX bring it in.
@@ -29,7 +30,7 @@ pub struct Alternate {
 }
 
 /// The registers of the processor (UM0080, "Z80 CPU Register Description") with the two states that
-/// outlive an instruction: halted, and just behind EI.
+/// outlive an instruction: halted, and just after EI.
 #[derive(Clone, Copy, Debug, PartialEq, Eq)]
 pub struct Regs {
     /// The accumulator.
@@ -70,7 +71,7 @@ pub struct Regs {
     pub mode: InterruptMode,
     /// Whether HALT has stopped the processor until an interrupt.
     pub halted: bool,
-    /// Whether the last step was EI, behind which no interrupt is accepted.
+    /// Whether the last step was EI, after which no interrupt is accepted.
     pub after_ei: bool,
 }
 
@@ -144,38 +145,20 @@ impl Regs {
     pub fn exchange_af(&mut self)
         ensures { self.new ≡ registers.with_other_af self.old }
     {
-        let Regs { a, f, .. } = *self;
-        self.a = self.alternate.a;
-        self.f = self.alternate.f;
-        self.alternate.a = a;
-        self.alternate.f = f;
+        swap(&mut self.a, &mut self.alternate.a);
+        swap(&mut self.f, &mut self.alternate.f);
     }
 
     /// Exchanges B, C, D, E, H and L with their second set.
     pub fn exchange_bank(&mut self)
         ensures { self.new ≡ registers.with_other_bank self.old }
     {
-        let Regs {
-            b,
-            c,
-            d,
-            e,
-            h,
-            l,
-            ..
-        } = *self;
-        self.b = self.alternate.b;
-        self.c = self.alternate.c;
-        self.d = self.alternate.d;
-        self.e = self.alternate.e;
-        self.h = self.alternate.h;
-        self.l = self.alternate.l;
-        self.alternate.b = b;
-        self.alternate.c = c;
-        self.alternate.d = d;
-        self.alternate.e = e;
-        self.alternate.h = h;
-        self.alternate.l = l;
+        swap(&mut self.b, &mut self.alternate.b);
+        swap(&mut self.c, &mut self.alternate.c);
+        swap(&mut self.d, &mut self.alternate.d);
+        swap(&mut self.e, &mut self.alternate.e);
+        swap(&mut self.h, &mut self.alternate.h);
+        swap(&mut self.l, &mut self.alternate.l);
     }
 }
 
