@@ -7,7 +7,7 @@ ghost use Rattle.pac_exec.specs.Jumps.{jump_transition, jump_if_transition, jump
 ghost use Rattle.pac_exec.specs.Transition.{DidInRegisters};
 
 use crate::pairs::get_pair;
-use crate::regs::{Regs, displaced};
+use crate::regs::{Regs, b_left, displaced};
 use pac_alu::Condition;
 use pac_table::{Instr, Pair};
 
@@ -69,7 +69,7 @@ pub fn jump_relative_if(instr: &Instr, regs: &mut Regs) -> u8
 pub fn decrement_and_jump(instr: &Instr, regs: &mut Regs) -> u8
     ensures { DidInRegisters (decrement_and_jump_transition instr.now regs.old) regs.new result }
 {
-    regs.b = ((regs.b as u16 + 255) % 256) as u8;
+    regs.b = b_left(regs);
     if regs.b != 0 {
         jump_relative(instr, regs)
     } else {

@@ -162,6 +162,14 @@ impl Regs {
     }
 }
 
+/// B less 1, modulo 256.
+#[inline]
+pub(crate) fn b_left(regs: &Regs) -> u8
+    ensures { result ≡ registers.b_left regs.now }
+{
+    regs.b.wrapping_add(255)
+}
+
 /// The address IX+d or IY+d, from -128 to 127 away, modulo 65,536.
 #[inline]
 pub fn displaced(base: u16, d: i8) -> u16
