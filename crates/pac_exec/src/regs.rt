@@ -1,6 +1,6 @@
 //! The registers of the processor.
 
-ghost use Rattle.std.specs.Prelude.{◌≡◌, ◌≤◌, ◌<◌, pos, negsuc};
+ghost use Rattle.std.specs.Prelude.{◌≡◌};
 ghost use Rattle.pac_exec.specs.Registers as registers;
 
 use pac_num::offset;

@@ -1,6 +1,5 @@
 //! Loads of 16 bits, the stack's among them (UM0080, "16-Bit Load Group"). Each gives its time in T-states.
 
-ghost use Rattle.std.specs.Prelude.{◌≡◌};
 ghost use Rattle.pac_exec.specs.WordLoads.{load_pair_transition, load_pair_from_memory_transition, store_pair_transition, load_stack_pointer_transition, push_transition, pop_transition};
 ghost use Rattle.pac_exec.specs.Transition.{Did, DidInRegisters};
 
