@@ -2,8 +2,9 @@
 
 ghost use Rattle.std.specs.Prelude.{◌≡◌};
 ghost use Rattle.pac_exec.specs.Registers as registers;
+ghost use Rattle.pac_exec.specs.Pairs as pairs;
 
-use pac_num::offset;
+use pac_num::{high_byte, low_byte, offset};
 use pac_table::InterruptMode;
 use std::mem::swap;
 
@@ -130,6 +131,76 @@ impl Regs {
         ensures { result ≡ registers.hl self.now }
     {
         pac_num::word(self.l, self.h)
+    }
+
+    /// Puts a word into BC.
+    #[inline]
+    pub fn set_bc(&mut self, word: u16)
+        ensures { self.new ≡ pairs.with_bc self.old word }
+    {
+        self.b = high_byte(word);
+        self.c = low_byte(word);
+    }
+
+    /// Puts a word into DE.
+    #[inline]
+    pub fn set_de(&mut self, word: u16)
+        ensures { self.new ≡ pairs.with_de self.old word }
+    {
+        self.d = high_byte(word);
+        self.e = low_byte(word);
+    }
+
+    /// Puts a word into HL.
+    #[inline]
+    pub fn set_hl(&mut self, word: u16)
+        ensures { self.new ≡ pairs.with_hl self.old word }
+    {
+        self.h = high_byte(word);
+        self.l = low_byte(word);
+    }
+
+    /// AF as a word.
+    #[inline]
+    pub fn af(&self) -> u16
+        ensures { result ≡ pairs.af self.now }
+    {
+        pac_num::word(self.f, self.a)
+    }
+
+    /// Puts a word into AF; all eight bits of F change.
+    #[inline]
+    pub fn set_af(&mut self, word: u16)
+        ensures { self.new ≡ pairs.with_af self.old word }
+    {
+        self.a = high_byte(word);
+        self.f = low_byte(word);
+    }
+
+    /// The pair that a field dd or ss names: BC 0, DE 1, HL 2, SP 3.
+    #[inline]
+    pub fn pair(&self, dd: u8) -> u16
+        ensures { result ≡ pairs.pair_numbered self.now dd }
+    {
+        match dd {
+            0 => self.bc(),
+            1 => self.de(),
+            2 => self.hl(),
+            _ => self.sp,
+        }
+    }
+
+    /// Puts a word into the pair that a field dd or ss names.
+    #[inline]
+    pub fn set_pair(&mut self, dd: u8, word: u16)
+        ensures { self.new ≡ pairs.with_pair_numbered self.old dd word }
+    {
+        match dd {
+            0 => self.set_bc(word),
+            1 => self.set_de(word),
+            2 => self.set_hl(word),
+            _ => self.sp = word,
+        }
     }
 
     /// Enables interrupts, or disables them.
