@@ -2,7 +2,6 @@
 
 ghost use Rattle.std.specs.Prelude.{◌≡◌};
 ghost use Rattle.pac_exec.specs.Registers as registers;
-ghost use Rattle.pac_exec.specs.Pairs as pairs;
 
 use pac_num::{high_byte, low_byte, offset};
 use pac_table::InterruptMode;
@@ -136,7 +135,7 @@ impl Regs {
     /// Puts a word into BC.
     #[inline]
     pub fn set_bc(&mut self, word: u16)
-        ensures { self.new ≡ pairs.with_bc self.old word }
+        ensures { self.new ≡ registers.with_bc self.old word }
     {
         self.b = high_byte(word);
         self.c = low_byte(word);
@@ -145,7 +144,7 @@ impl Regs {
     /// Puts a word into DE.
     #[inline]
     pub fn set_de(&mut self, word: u16)
-        ensures { self.new ≡ pairs.with_de self.old word }
+        ensures { self.new ≡ registers.with_de self.old word }
     {
         self.d = high_byte(word);
         self.e = low_byte(word);
@@ -154,7 +153,7 @@ impl Regs {
     /// Puts a word into HL.
     #[inline]
     pub fn set_hl(&mut self, word: u16)
-        ensures { self.new ≡ pairs.with_hl self.old word }
+        ensures { self.new ≡ registers.with_hl self.old word }
     {
         self.h = high_byte(word);
         self.l = low_byte(word);
@@ -163,7 +162,7 @@ impl Regs {
     /// AF as a word.
     #[inline]
     pub fn af(&self) -> u16
-        ensures { result ≡ pairs.af self.now }
+        ensures { result ≡ registers.af self.now }
     {
         pac_num::word(self.f, self.a)
     }
@@ -171,7 +170,7 @@ impl Regs {
     /// Puts a word into AF; all eight bits of F change.
     #[inline]
     pub fn set_af(&mut self, word: u16)
-        ensures { self.new ≡ pairs.with_af self.old word }
+        ensures { self.new ≡ registers.with_af self.old word }
     {
         self.a = high_byte(word);
         self.f = low_byte(word);
@@ -180,7 +179,7 @@ impl Regs {
     /// The pair that a field dd or ss names: BC 0, DE 1, HL 2, SP 3.
     #[inline]
     pub fn pair(&self, dd: u8) -> u16
-        ensures { result ≡ pairs.pair_numbered self.now dd }
+        ensures { result ≡ registers.pair_numbered self.now dd }
     {
         match dd {
             0 => self.bc(),
@@ -193,7 +192,7 @@ impl Regs {
     /// Puts a word into the pair that a field dd or ss names.
     #[inline]
     pub fn set_pair(&mut self, dd: u8, word: u16)
-        ensures { self.new ≡ pairs.with_pair_numbered self.old dd word }
+        ensures { self.new ≡ registers.with_pair_numbered self.old dd word }
     {
         match dd {
             0 => self.set_bc(word),

@@ -40,7 +40,7 @@ pub fn shift<B: Bus>(place: Place, instr: &Instr, regs: &mut Regs, bus: &mut B) 
     put_in_place(outcome, place, instr, regs, bus)
 }
 
-/// Puts digits that went round into A, F and the cell at HL; the instruction's time.
+/// Puts rotated digits into A, F and the cell at HL; the instruction's time.
 fn put_digits<B: Bus>(digits: Digits, instr: &Instr, regs: &mut Regs, bus: &mut B) -> u8
     ensures { Did B.after (in_digits digits instr.now regs.old) bus.old regs.new bus.new result }
 {
