@@ -1,9 +1,11 @@
 pub mod Registers
-pub mod Done
+pub mod Transition
 pub mod Places
 pub mod Pairs
+pub mod Control
 pub mod ByteLoads
 pub mod WordLoads
+pub mod Exchanges
 pub mod ByteArithmetic
 pub mod WordArithmetic
 pub mod Shifts

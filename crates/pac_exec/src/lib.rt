@@ -7,6 +7,8 @@ mod blocks;
 mod byte_arithmetic;
 mod byte_loads;
 mod calls;
+mod control;
+mod exchanges;
 mod instructions;
 mod jumps;
 mod pairs;
@@ -19,6 +21,7 @@ mod word_arithmetic;
 mod word_loads;
 
 pub use instructions::perform;
+pub use pairs::push_word;
 pub use regs::{Alternate, Regs, displaced};
 
 #[cfg(test)]

@@ -1,8 +1,9 @@
 //! The places of 8 bits that instructions read and write.
 
 ghost use Rattle.std.specs.Prelude.{◌≡◌};
-ghost use Rattle.pac_bus.specs.Action.{behind};
-ghost use Rattle.pac_exec.specs.Places.{source, regs_with, writes_to};
+ghost use Rattle.pac_bus.specs.Action.{after_all};
+ghost use Rattle.pac_exec.specs.Places.{source, regs_with, writes_to, byte_put};
+ghost use Rattle.pac_exec.specs.Transition.{Did};
 
 use crate::regs::{Regs, displaced};
 use pac_bus::Bus;
@@ -31,7 +32,7 @@ pub(crate) fn get<B: Bus>(place: Place, instr: &Instr, regs: &Regs, bus: &B) -> 
 #[inline]
 pub(crate) fn put<B: Bus>(place: Place, byte: u8, instr: &Instr, regs: &mut Regs, bus: &mut B)
     ensures regs { regs.new ≡ regs_with place instr.now regs.old byte }
-    ensures bus { bus.new ≡ behind B.after bus.old (writes_to place instr.now regs.old byte) }
+    ensures bus { bus.new ≡ after_all B.after bus.old (writes_to place instr.now regs.old byte) }
 {
     match place {
         Place::First => regs.set_register(instr.p(), byte),
@@ -45,4 +46,19 @@ pub(crate) fn put<B: Bus>(place: Place, byte: u8, instr: &Instr, regs: &mut Regs
         Place::AtIx => bus.write(displaced(regs.ix, instr.disp()), byte),
         Place::AtIy => bus.write(displaced(regs.iy, instr.disp()), byte),
     }
+}
+
+/// Brings a byte to a place; the instruction's time in T-states.
+#[inline]
+pub(crate) fn put_byte<B: Bus>(
+    place: Place,
+    byte: u8,
+    instr: &Instr,
+    regs: &mut Regs,
+    bus: &mut B,
+) -> u8
+    ensures { Did B.after (byte_put byte place instr.now regs.old) bus.old regs.new bus.new result }
+{
+    put(place, byte, instr, regs, bus);
+    instr.ticks()
 }
