@@ -76,10 +76,12 @@ impl Cpu {
     /// or in mode 0 the vector byte is no RST, nothing is done and the stop is told, as often as it is
     /// asked for.
     pub fn step<B: Bus>(&mut self, bus: &mut B, request: Option<u8>) -> Once
-        ensures did { Did B.after (cpu_step (surroundings_of B.byte_at B.input_at B.after bus.old) self.old request) self.old bus.old self.new bus.new result }
+        ensures did { Did B.after (cpu_step (surroundings_of B.byte_at B.input_at B.after bus.old) self.old request)
+            self.old bus.old self.new bus.new result }
         ensures time { IfStepped result (λ ticks kind. (shortest_ticks ≤ ticks) × (ticks ≤ longest_ticks)) }
         ensures stop { IfStopped result (λ stop. (self.new ≡ self.old) × (bus.new ≡ bus.old)) }
-        ensures again { IfStopped result (λ stop. cpu_step (surroundings_of B.byte_at B.input_at B.after bus.new) self.new request ≡ Stops stop) }
+        ensures again { IfStopped result (λ stop.
+            cpu_step (surroundings_of B.byte_at B.input_at B.after bus.new) self.new request ≡ Stops stop) }
     {
         advance(&mut self.regs, bus, request)
     }
