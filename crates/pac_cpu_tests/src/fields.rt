@@ -4,7 +4,7 @@ use pac_exec::Regs;
 use pac_table::InterruptMode;
 
 /// The number that hexadecimal digits in upper case spell.
-pub fn hexadecimal(digits: &str) -> Option<u16> {
+pub(crate) fn hexadecimal(digits: &str) -> Option<u16> {
     let mut number = 0u16;
     for digit in digits.as_bytes() {
         let value = match digit {
@@ -18,12 +18,12 @@ pub fn hexadecimal(digits: &str) -> Option<u16> {
 }
 
 /// The byte that hexadecimal digits in upper case spell.
-pub fn byte(digits: &str) -> Option<u8> {
+pub(crate) fn byte(digits: &str) -> Option<u8> {
     u8::try_from(hexadecimal(digits)?).ok()
 }
 
 /// Puts a word into the register or pair of 16 bits of this name.
-pub fn set_word(regs: &mut Regs, name: &str, word: u16) -> Option<()> {
+pub(crate) fn set_word(regs: &mut Regs, name: &str, word: u16) -> Option<()> {
     match name {
         "BC" => regs.set_bc(word),
         "DE" => regs.set_de(word),
@@ -47,7 +47,7 @@ pub fn set_word(regs: &mut Regs, name: &str, word: u16) -> Option<()> {
 }
 
 /// Puts a byte into the register of 8 bits of this name.
-pub fn set_byte(regs: &mut Regs, name: &str, byte: u8) -> Option<()> {
+pub(crate) fn set_byte(regs: &mut Regs, name: &str, byte: u8) -> Option<()> {
     match name {
         "A" => regs.a = byte,
         "F" => regs.f = byte,
@@ -67,7 +67,7 @@ pub fn set_byte(regs: &mut Regs, name: &str, byte: u8) -> Option<()> {
 }
 
 /// Sets the flip-flop or the mode of this name.
-pub fn set_control(regs: &mut Regs, name: &str, value: u8) -> Option<()> {
+pub(crate) fn set_control(regs: &mut Regs, name: &str, value: u8) -> Option<()> {
     match name {
         "IFF1" => regs.iff1 = value == 1,
         "IFF2" => regs.iff2 = value == 1,

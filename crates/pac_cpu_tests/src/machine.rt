@@ -33,7 +33,12 @@ fn is_called(once: Once, word: &str) -> bool {
 
 impl Machine {
     /// What a line finds: these fields, and a code where PC is.
-    pub fn of(alloc: Global, usual: &str, before: &str, code: &str) -> Result<Machine, Fail> {
+    pub(crate) fn of(
+        alloc: Global,
+        usual: &str,
+        before: &str,
+        code: &str,
+    ) -> Result<Machine, Fail> {
         let mut machine = Machine {
             regs: Cpu::power_on().regs(),
             bus: Flat::new(alloc)?,
@@ -50,7 +55,7 @@ impl Machine {
     }
 
     /// Takes each of some fields as it says, as `A=15 (4800)=27`.
-    pub fn set_all(&mut self, fields: &str) -> Result<(), Fail> {
+    pub(crate) fn set_all(&mut self, fields: &str) -> Result<(), Fail> {
         for field in fields.split(' ') {
             if !field.is_empty() {
                 self.set(field).ok_or("no field")?;
@@ -62,40 +67,52 @@ impl Machine {
     /// Takes a field as it says.
     fn set(&mut self, field: &str) -> Option<()> {
         let (name, digits) = field.split_once('=')?;
-        if let Some(cell) = name.strip_prefix('(') {
-            let at = hexadecimal(cell.strip_suffix(')')?)?;
-            self.bus.write(at, byte(digits)?);
-            return Some(());
-        }
-        if let Some(port) = name.strip_prefix('[') {
-            let port = byte(port.strip_suffix(']')?)?;
-            self.bus.output(port, byte(digits)?);
-            return Some(());
-        }
-        if name == "INT" {
-            self.request = Some(byte(digits)?);
-            return Some(());
-        }
-        if digits.len() == 4 {
-            return set_word(&mut self.regs, name, hexadecimal(digits)?);
-        }
-        let value = byte(digits)?;
-        if digits.len() == 2 {
-            set_byte(&mut self.regs, name, value)
-        } else {
-            set_control(&mut self.regs, name, value)
+        match name.as_bytes() {
+            [b'(', ..] => self.set_cell(name, digits),
+            [b'[', ..] => self.set_port(name, digits),
+            [b'I', b'N', b'T'] => self.set_request(digits),
+            _ => self.set_register(name, digits),
         }
     }
 
-    /// What each step leaves that isn't a stop: R grown by some fetches, and EI's delay over.
-    pub fn refresh(&mut self, fetches: u8) {
+    /// Puts a byte into a cell of memory, as `(4800)`.
+    fn set_cell(&mut self, name: &str, digits: &str) -> Option<()> {
+        let at = name.strip_prefix('(')?.strip_suffix(')')?;
+        self.bus.write(hexadecimal(at)?, byte(digits)?);
+        Some(())
+    }
+
+    /// Gives a byte to a port, as `[10]`.
+    fn set_port(&mut self, name: &str, digits: &str) -> Option<()> {
+        let port = name.strip_prefix('[')?.strip_suffix(']')?;
+        self.bus.output(byte(port)?, byte(digits)?);
+        Some(())
+    }
+
+    /// Requests an interrupt with a vector byte.
+    fn set_request(&mut self, digits: &str) -> Option<()> {
+        self.request = Some(byte(digits)?);
+        Some(())
+    }
+
+    /// Puts a number into a register, by its count of digits.
+    fn set_register(&mut self, name: &str, digits: &str) -> Option<()> {
+        match digits.len() {
+            4 => set_word(&mut self.regs, name, hexadecimal(digits)?),
+            2 => set_byte(&mut self.regs, name, byte(digits)?),
+            _ => set_control(&mut self.regs, name, byte(digits)?),
+        }
+    }
+
+    /// What each step leaves but a stop: R grown by some fetches, and EI's delay over.
+    fn refresh(&mut self, fetches: u8) {
         let r = self.regs.r;
         self.regs.r = r / 128 * 128 + r.wrapping_add(fetches) % 128;
         self.regs.after_ei = false;
     }
 
     /// What each code leaves: PC after it, R grown by its opcode fetches, and EI's delay over.
-    pub fn pass(&mut self, code: &str) {
+    fn pass_code(&mut self, code: &str) {
         for _ in code.split(' ') {
             self.regs.pc = self.regs.pc.wrapping_add(1);
         }
@@ -103,6 +120,23 @@ impl Machine {
             [b'C', b'B', ..] | [b'D' | b'F', b'D', ..] | [b'E', b'D', ..] => 2,
             _ => 1,
         });
+    }
+
+    /// What a step leaves whose answer is called by this word.
+    fn pass_step(&mut self, code: &str, word: &str) {
+        match word.as_bytes() {
+            [b'S', _] => (),
+            [_, b'-', ..] | [_, _, b'-', ..] => self.refresh(1),
+            _ => self.pass_code(code),
+        }
+    }
+
+    /// What a single step leaves; several of them, nothing that their line doesn't name.
+    pub(crate) fn pass(&mut self, code: &str, words: &str) {
+        match words.split_once(' ') {
+            None => self.pass_step(code, words),
+            Some(_) => (),
+        }
     }
 
     /// A stop here.
@@ -118,7 +152,7 @@ impl Machine {
     }
 
     /// Does a step; whether its answer is what a word calls it.
-    pub fn steps_as(&mut self, word: &str) -> bool {
+    fn steps_as(&mut self, word: &str) -> bool {
         let at_code = self.stop(Cause::Opcode);
         let at_vector = self.stop(Cause::Vector(self.request.unwrap_or(0)));
         let mut cpu = Cpu::with_regs(self.regs);
@@ -131,8 +165,17 @@ impl Machine {
         }
     }
 
+    /// Does a step for each of some words; whether each answer is what its word calls it.
+    pub(crate) fn answers_as(&mut self, words: &str) -> bool {
+        let mut answers = true;
+        for word in words.split(' ') {
+            answers = self.steps_as(word) && answers;
+        }
+        answers
+    }
+
     /// Whether all registers, cells and ports are those of another.
-    pub fn is(&self, other: &Machine) -> bool {
+    pub(crate) fn is(&self, other: &Machine) -> bool {
         self.regs == other.regs
             && (0..=0xFFFF).all(|at| self.bus.read(at) == other.bus.read(at))
             && (0..=0xFF).all(|port| self.bus.input(port) == other.bus.input(port))

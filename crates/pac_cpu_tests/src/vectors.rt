@@ -35,18 +35,6 @@ pub struct Steps {
     pub lines: &'static str,
 }
 
-/// What a line wants of its machine before its own fields: what each step changes.
-fn pass(wanted: &mut Machine, code: &str, times: &str) {
-    if times.contains(' ') || times.starts_with('S') {
-        return;
-    }
-    if times.contains('-') {
-        wanted.refresh(1);
-    } else {
-        wanted.pass(code);
-    }
-}
-
 /// Whether a line holds, where `usual` is what its steps find too.
 fn holds(alloc: Global, usual: &str, line: &str) -> Result<bool, Fail> {
     let mut parts = line.split('|').skip(1);
@@ -56,13 +44,9 @@ fn holds(alloc: Global, usual: &str, line: &str) -> Result<bool, Fail> {
     let after = parts.next().ok_or("nothing after")?.trim();
     let mut found = Machine::of(alloc, usual, before, code)?;
     let mut wanted = Machine::of(alloc, usual, before, code)?;
-    pass(&mut wanted, code, times);
+    wanted.pass(code, times);
     wanted.set_all(after)?;
-    let mut is_in_time = true;
-    for time in times.split(' ') {
-        is_in_time = found.steps_as(time) && is_in_time;
-    }
-    Ok(is_in_time && found.is(&wanted))
+    Ok(found.answers_as(times) && found.is(&wanted))
 }
 
 /// Holds each of some steps against the processor.
