@@ -35,18 +35,40 @@ pub struct Steps {
     pub lines: &'static str,
 }
 
+/// The parts of a line after its first.
+#[derive(Clone, Copy)]
+struct Line<'a> {
+    code: &'a str,
+    before: &'a str,
+    times: &'a str,
+    after: &'a str,
+}
+
+/// A line's parts.
+fn parts(line: &str) -> Option<Line<'_>> {
+    let mut parts = line.split('|').skip(1);
+    Some(Line {
+        code: parts.next()?.trim(),
+        before: parts.next()?.trim(),
+        times: parts.next()?.trim(),
+        after: parts.next()?.trim(),
+    })
+}
+
+/// What a line wants to be found after it.
+fn wanted(alloc: Global, usual: &str, line: &Line<'_>) -> Result<Machine, Fail> {
+    let mut wanted = Machine::of(alloc, usual, line.before, line.code)?;
+    wanted.pass(line.code, line.times);
+    wanted.set_all(line.after)?;
+    Ok(wanted)
+}
+
 /// Whether a line holds, where `usual` is what its steps find too.
 fn holds(alloc: Global, usual: &str, line: &str) -> Result<bool, Fail> {
-    let mut parts = line.split('|').skip(1);
-    let code = parts.next().ok_or("no code")?.trim();
-    let before = parts.next().ok_or("nothing before")?.trim();
-    let times = parts.next().ok_or("no time")?.trim();
-    let after = parts.next().ok_or("nothing after")?.trim();
-    let mut found = Machine::of(alloc, usual, before, code)?;
-    let mut wanted = Machine::of(alloc, usual, before, code)?;
-    wanted.pass(code, times);
-    wanted.set_all(after)?;
-    Ok(found.answers_as(times) && found.is(&wanted))
+    let line = parts(line).ok_or("five parts")?;
+    let mut found = Machine::of(alloc, usual, line.before, line.code)?;
+    let wanted = wanted(alloc, usual, &line)?;
+    Ok(found.answers_as(line.times) && found.is(&wanted))
 }
 
 /// Holds each of some steps against the processor.
