@@ -3,10 +3,6 @@
 use Rattle.std.specs.Prelude.{false}
 use Rattle.pac_table.specs.declared.effects.InterruptMode.TheVariants.{Zero}
 use Rattle.pac_exec.specs.declared.regs.Regs.{Regs}
-use Rattle.pac_exec.specs.declared.regs.Alternate.{Alternate}
-
-abbrev pub blank_set : Alternate
-blank_set = record { a = 0; f = 0; b = 0; c = 0; d = 0; e = 0; h = 0; l = 0 }
 
 abbrev pub at_power_on : Regs
 at_power_on =
@@ -19,7 +15,7 @@ at_power_on =
       e = 0;
       h = 0;
       l = 0;
-      alternate = blank_set;
+      alternate = record { a = 0; f = 0; b = 0; c = 0; d = 0; e = 0; h = 0; l = 0 };
       ix = 0;
       iy = 0;
       sp = 0;
