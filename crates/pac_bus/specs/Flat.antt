@@ -20,7 +20,10 @@ after cells (Output port byte) = record cells { ports = slice_set cells.ports po
 -- every byte and every port is 0
 abbrev pub IsBlank : Cells → Type 0
 IsBlank cells =
-    (length cells.memory ≡ 65536) × (length cells.ports ≡ 256) × ((address : ℕ) → byte_at cells address ≡ 0) × ((port : ℕ) → input_at cells port ≡ 0)
+    (length cells.memory ≡ 65536)
+    × (length cells.ports ≡ 256)
+    × ((address : ℕ) → byte_at cells address ≡ 0)
+    × ((port : ℕ) → input_at cells port ≡ 0)
 
 -- bytes put into memory from an address on
 abbrev pub loaded : Cells → ℕ → List ℕ → Cells

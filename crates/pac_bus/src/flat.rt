@@ -64,7 +64,8 @@ impl Bus for Flat {
     }
 
     fn write(&mut self, address: u16, byte: u8) {
-        self.memory[address as usize] = byte;
+        let at = address as usize;
+        self.memory[at] = byte;
     }
 
     fn input(&self, port: u8) -> u8 {
@@ -72,7 +73,8 @@ impl Bus for Flat {
     }
 
     fn output(&mut self, port: u8, byte: u8) {
-        self.ports[port as usize] = byte;
+        let at = port as usize;
+        self.ports[at] = byte;
     }
 }
 

@@ -2,8 +2,10 @@ pub mod Registers
 pub mod Transition
 pub mod Places
 pub mod Pairs
+pub mod Control
 pub mod ByteLoads
 pub mod WordLoads
+pub mod Exchanges
 pub mod ByteArithmetic
 pub mod WordArithmetic
 pub mod Shifts

@@ -1,11 +1,10 @@
 //! Single bits of registers and cells (UM0080, "Bit Set, Reset, and Test Group"). Each gives its time in
 //! T-states.
 
-ghost use Rattle.std.specs.Prelude.{◌≡◌};
 ghost use Rattle.pac_exec.specs.BitOperations.{test_bit_transition, reset_bit_transition, set_bit_transition};
 ghost use Rattle.pac_exec.specs.Transition.{Did, DidInRegisters};
 
-use crate::places::{get, put};
+use crate::places::{get, put_byte};
 use crate::regs::Regs;
 use pac_bus::Bus;
 use pac_table::{Instr, Place};
@@ -24,8 +23,7 @@ pub fn reset_bit<B: Bus>(place: Place, instr: &Instr, regs: &mut Regs, bus: &mut
     ensures { Did B.after (reset_bit_transition place instr.now regs.old (B.byte_at bus.old)) bus.old regs.new bus.new result }
 {
     let byte = pac_alu::reset_bit(get(place, instr, regs, bus), instr.p());
-    put(place, byte, instr, regs, bus);
-    instr.ticks()
+    put_byte(place, byte, instr, regs, bus)
 }
 
 /// SET.
@@ -33,6 +31,5 @@ pub fn set_bit<B: Bus>(place: Place, instr: &Instr, regs: &mut Regs, bus: &mut B
     ensures { Did B.after (set_bit_transition place instr.now regs.old (B.byte_at bus.old)) bus.old regs.new bus.new result }
 {
     let byte = pac_alu::set_bit(get(place, instr, regs, bus), instr.p());
-    put(place, byte, instr, regs, bus);
-    instr.ticks()
+    put_byte(place, byte, instr, regs, bus)
 }

@@ -1,15 +1,38 @@
 //! Arithmetic of 8 bits and of the carry (UM0080, "8-Bit Arithmetic Group" and "General-Purpose Arithmetic
 //! and CPU Control Groups"). Each gives its time in T-states.
 
-ghost use Rattle.std.specs.Prelude.{◌≡◌};
-ghost use Rattle.pac_exec.specs.ByteArithmetic.{alu_transition, increment_transition, decrement_transition, decimal_adjust_transition, complement_transition, negate_transition, set_carry_transition, complement_carry_transition};
+ghost use Rattle.pac_exec.specs.ByteArithmetic.{in_accumulator, in_place, alu_transition, increment_transition, decrement_transition, decimal_adjust_transition, complement_transition, negate_transition, set_carry_transition, complement_carry_transition};
 ghost use Rattle.pac_exec.specs.Transition.{Did, DidInRegisters};
 
 use crate::places::{get, put};
 use crate::regs::Regs;
-use pac_alu::Operation;
+use pac_alu::{Operation, Outcome};
 use pac_bus::Bus;
 use pac_table::{Instr, Place};
+
+/// Puts what an operation leaves into A and F; the instruction's time.
+pub fn put_in_accumulator(outcome: Outcome, instr: &Instr, regs: &mut Regs) -> u8
+    ensures { DidInRegisters (in_accumulator outcome instr.now regs.old) regs.new result }
+{
+    regs.a = outcome.value;
+    regs.f = outcome.f;
+    instr.ticks()
+}
+
+/// Puts what an operation leaves into a place and F; the instruction's time.
+pub fn put_in_place<B: Bus>(
+    outcome: Outcome,
+    place: Place,
+    instr: &Instr,
+    regs: &mut Regs,
+    bus: &mut B,
+) -> u8
+    ensures { Did B.after (in_place outcome place instr.now regs.old) bus.old regs.new bus.new result }
+{
+    put(place, outcome.value, instr, regs, bus);
+    regs.f = outcome.f;
+    instr.ticks()
+}
 
 /// ADD, ADC, SUB, SBC, AND, XOR, OR and CP.
 pub fn alu<B: Bus>(place: Place, instr: &Instr, regs: &mut Regs, bus: &B) -> u8
@@ -18,9 +41,7 @@ pub fn alu<B: Bus>(place: Place, instr: &Instr, regs: &mut Regs, bus: &B) -> u8
     let operand = get(place, instr, regs, bus);
     let operation = Operation::from_field(instr.p());
     let outcome = pac_alu::arithmetic(operation, regs.a, operand, regs.f);
-    regs.a = outcome.value;
-    regs.f = outcome.f;
-    instr.ticks()
+    put_in_accumulator(outcome, instr, regs)
 }
 
 /// INC of a byte.
@@ -28,9 +49,7 @@ pub fn increment<B: Bus>(place: Place, instr: &Instr, regs: &mut Regs, bus: &mut
     ensures { Did B.after (increment_transition place instr.now regs.old (B.byte_at bus.old)) bus.old regs.new bus.new result }
 {
     let outcome = pac_alu::increment(get(place, instr, regs, bus), regs.f);
-    put(place, outcome.value, instr, regs, bus);
-    regs.f = outcome.f;
-    instr.ticks()
+    put_in_place(outcome, place, instr, regs, bus)
 }
 
 /// DEC of a byte.
@@ -38,9 +57,7 @@ pub fn decrement<B: Bus>(place: Place, instr: &Instr, regs: &mut Regs, bus: &mut
     ensures { Did B.after (decrement_transition place instr.now regs.old (B.byte_at bus.old)) bus.old regs.new bus.new result }
 {
     let outcome = pac_alu::decrement(get(place, instr, regs, bus), regs.f);
-    put(place, outcome.value, instr, regs, bus);
-    regs.f = outcome.f;
-    instr.ticks()
+    put_in_place(outcome, place, instr, regs, bus)
 }
 
 /// DAA.
@@ -48,9 +65,7 @@ pub fn decimal_adjust(instr: &Instr, regs: &mut Regs) -> u8
     ensures { DidInRegisters (decimal_adjust_transition instr.now regs.old) regs.new result }
 {
     let outcome = pac_alu::decimal_adjust(regs.a, regs.f);
-    regs.a = outcome.value;
-    regs.f = outcome.f;
-    instr.ticks()
+    put_in_accumulator(outcome, instr, regs)
 }
 
 /// CPL.
@@ -58,9 +73,7 @@ pub fn complement(instr: &Instr, regs: &mut Regs) -> u8
     ensures { DidInRegisters (complement_transition instr.now regs.old) regs.new result }
 {
     let outcome = pac_alu::complement(regs.a, regs.f);
-    regs.a = outcome.value;
-    regs.f = outcome.f;
-    instr.ticks()
+    put_in_accumulator(outcome, instr, regs)
 }
 
 /// NEG.
@@ -68,9 +81,7 @@ pub fn negate(instr: &Instr, regs: &mut Regs) -> u8
     ensures { DidInRegisters (negate_transition instr.now regs.old) regs.new result }
 {
     let outcome = pac_alu::negate(regs.a, regs.f);
-    regs.a = outcome.value;
-    regs.f = outcome.f;
-    instr.ticks()
+    put_in_accumulator(outcome, instr, regs)
 }
 
 /// SCF.

@@ -1,10 +1,9 @@
 //! Loads of bytes (UM0080, "8-Bit Load Group").
 
-ghost use Rattle.std.specs.Prelude.{◌≡◌};
 ghost use Rattle.pac_exec.specs.ByteLoads.{load_transition};
 ghost use Rattle.pac_exec.specs.Transition.{Did};
 
-use crate::places::{get, put};
+use crate::places::{get, put_byte};
 use crate::regs::Regs;
 use pac_bus::Bus;
 use pac_table::{Instr, Place};
@@ -14,6 +13,5 @@ pub fn load<B: Bus>(to: Place, from: Place, instr: &Instr, regs: &mut Regs, bus:
     ensures { Did B.after (load_transition to from instr.now regs.old (B.byte_at bus.old)) bus.old regs.new bus.new result }
 {
     let byte = get(from, instr, regs, bus);
-    put(to, byte, instr, regs, bus);
-    instr.ticks()
+    put_byte(to, byte, instr, regs, bus)
 }

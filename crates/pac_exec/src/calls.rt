@@ -1,7 +1,6 @@
-//! Calls and returns (UM0080, "Call and Return Group"). PC stands behind the code. Each gives its time in
+//! Calls and returns (UM0080, "Call and Return Group"). PC stands after the code. Each gives its time in
 //! T-states, the shorter one where a condition isn't met.
 
-ghost use Rattle.std.specs.Prelude.{◌≡◌, ◌*◌};
 ghost use Rattle.pac_exec.specs.Calls.{called, call_transition, call_if_transition, restart_transition, return_transition, return_if_transition, return_from_interrupt_transition, return_from_non_maskable_transition};
 ghost use Rattle.pac_exec.specs.Transition.{Did, DidInRegisters};
 
@@ -31,8 +30,7 @@ pub fn call<B: Bus>(instr: &Instr, regs: &mut Regs, bus: &mut B) -> u8
 pub fn call_if<B: Bus>(instr: &Instr, regs: &mut Regs, bus: &mut B) -> u8
     ensures { Did B.after (call_if_transition instr.now regs.old) bus.old regs.new bus.new result }
 {
-    let calls = meets_condition(instr, regs);
-    if calls {
+    if meets_condition(instr, regs) {
         call(instr, regs, bus)
     } else {
         instr.ticks_other()
@@ -58,8 +56,7 @@ pub fn return_to_caller<B: Bus>(instr: &Instr, regs: &mut Regs, bus: &B) -> u8
 pub fn return_if<B: Bus>(instr: &Instr, regs: &mut Regs, bus: &B) -> u8
     ensures { DidInRegisters (return_if_transition instr.now regs.old (B.byte_at bus.now)) regs.new result }
 {
-    let returns = meets_condition(instr, regs);
-    if returns {
+    if meets_condition(instr, regs) {
         return_to_caller(instr, regs, bus)
     } else {
         instr.ticks_other()

@@ -1,13 +1,13 @@
-//! Jumps (UM0080, "Jump Group"). PC stands behind the code. Each gives its time in T-states, the shorter one
+//! Jumps (UM0080, "Jump Group"). PC stands after the code. Each gives its time in T-states, the shorter one
 //! where a condition isn't met.
 
 ghost use Rattle.std.specs.Prelude.{◌≡◌};
 ghost use Rattle.pac_alu.specs.Flags.{condition_of, is_met};
-ghost use Rattle.pac_exec.specs.Jumps.{jump_if_transition, jump_to_pair_transition, jump_relative_transition, jump_relative_if_transition, decrement_and_jump_transition};
+ghost use Rattle.pac_exec.specs.Jumps.{jump_transition, jump_if_transition, jump_to_pair_transition, jump_relative_transition, jump_relative_if_transition, decrement_and_jump_transition};
 ghost use Rattle.pac_exec.specs.Transition.{DidInRegisters};
 
 use crate::pairs::get_pair;
-use crate::regs::{Regs, displaced};
+use crate::regs::{Regs, b_left, displaced};
 use pac_alu::Condition;
 use pac_table::{Instr, Pair};
 
@@ -19,14 +19,20 @@ pub fn meets_condition(instr: &Instr, regs: &Regs) -> bool
     Condition::from_field(instr.p()).is_met(regs.f)
 }
 
+/// JP nn.
+pub fn jump(instr: &Instr, regs: &mut Regs) -> u8
+    ensures { DidInRegisters (jump_transition instr.now regs.old) regs.new result }
+{
+    regs.pc = instr.word();
+    instr.ticks()
+}
+
 /// JP cc,nn.
 pub fn jump_if(instr: &Instr, regs: &mut Regs) -> u8
     ensures { DidInRegisters (jump_if_transition instr.now regs.old) regs.new result }
 {
-    let jumps = meets_condition(instr, regs);
-    if jumps {
-        regs.pc = instr.word();
-        instr.ticks()
+    if meets_condition(instr, regs) {
+        jump(instr, regs)
     } else {
         instr.ticks_other()
     }
@@ -63,7 +69,7 @@ pub fn jump_relative_if(instr: &Instr, regs: &mut Regs) -> u8
 pub fn decrement_and_jump(instr: &Instr, regs: &mut Regs) -> u8
     ensures { DidInRegisters (decrement_and_jump_transition instr.now regs.old) regs.new result }
 {
-    regs.b = ((regs.b as u16 + 255) % 256) as u8;
+    regs.b = b_left(regs);
     if regs.b != 0 {
         jump_relative(instr, regs)
     } else {

@@ -7,6 +7,8 @@ mod blocks;
 mod byte_arithmetic;
 mod byte_loads;
 mod calls;
+mod control;
+mod exchanges;
 mod instructions;
 mod jumps;
 mod pairs;

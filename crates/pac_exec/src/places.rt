@@ -2,7 +2,8 @@
 
 ghost use Rattle.std.specs.Prelude.{◌≡◌};
 ghost use Rattle.pac_bus.specs.Action.{after_all};
-ghost use Rattle.pac_exec.specs.Places.{source, regs_with, writes_to};
+ghost use Rattle.pac_exec.specs.Places.{source, regs_with, writes_to, byte_put};
+ghost use Rattle.pac_exec.specs.Transition.{Did};
 
 use crate::regs::{Regs, displaced};
 use pac_bus::Bus;
@@ -45,4 +46,19 @@ pub(crate) fn put<B: Bus>(place: Place, byte: u8, instr: &Instr, regs: &mut Regs
         Place::AtIx => bus.write(displaced(regs.ix, instr.disp()), byte),
         Place::AtIy => bus.write(displaced(regs.iy, instr.disp()), byte),
     }
+}
+
+/// Brings a byte to a place; the instruction's time in T-states.
+#[inline]
+pub(crate) fn put_byte<B: Bus>(
+    place: Place,
+    byte: u8,
+    instr: &Instr,
+    regs: &mut Regs,
+    bus: &mut B,
+) -> u8
+    ensures { Did B.after (byte_put byte place instr.now regs.old) bus.old regs.new bus.new result }
+{
+    put(place, byte, instr, regs, bus);
+    instr.ticks()
 }

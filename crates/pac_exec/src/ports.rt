@@ -1,7 +1,6 @@
 //! Input and output (UM0080, "Input and Output Group"), without the block instructions. Each gives its time
 //! in T-states.
 
-ghost use Rattle.std.specs.Prelude.{◌≡◌};
 ghost use Rattle.pac_exec.specs.Ports.{input_byte_transition, output_byte_transition, input_transition, output_transition};
 ghost use Rattle.pac_exec.specs.Transition.{Did, DidInRegisters};
 

@@ -1,10 +1,11 @@
 //! The registers of the processor.
 
-ghost use Rattle.std.specs.Prelude.{◌≡◌, ◌≤◌, ◌<◌, pos, negsuc};
+ghost use Rattle.std.specs.Prelude.{◌≡◌};
 ghost use Rattle.pac_exec.specs.Registers as registers;
 
-use pac_num::offset;
+use pac_num::{high_byte, low_byte, offset};
 use pac_table::InterruptMode;
+use std::mem::swap;
 
 /// The second set of the eight registers A, F, B, C, D, E, H and L (UM0080, "Z80 CPU Register
 /// Description"); EX AF,AF' and EXX bring it in.
@@ -29,7 +30,7 @@ pub struct Alternate {
 }
 
 /// The registers of the processor (UM0080, "Z80 CPU Register Description") with the two states that
-/// outlive an instruction: halted, and just behind EI.
+/// outlive an instruction: halted, and just after EI.
 #[derive(Clone, Copy, Debug, PartialEq, Eq)]
 pub struct Regs {
     /// The accumulator.
@@ -70,7 +71,7 @@ pub struct Regs {
     pub mode: InterruptMode,
     /// Whether HALT has stopped the processor until an interrupt.
     pub halted: bool,
-    /// Whether the last step was EI, behind which no interrupt is accepted.
+    /// Whether the last step was EI, after which no interrupt is accepted.
     pub after_ei: bool,
 }
 
@@ -131,6 +132,76 @@ impl Regs {
         pac_num::word(self.l, self.h)
     }
 
+    /// Puts a word into BC.
+    #[inline]
+    pub fn set_bc(&mut self, word: u16)
+        ensures { self.new ≡ registers.with_bc self.old word }
+    {
+        self.b = high_byte(word);
+        self.c = low_byte(word);
+    }
+
+    /// Puts a word into DE.
+    #[inline]
+    pub fn set_de(&mut self, word: u16)
+        ensures { self.new ≡ registers.with_de self.old word }
+    {
+        self.d = high_byte(word);
+        self.e = low_byte(word);
+    }
+
+    /// Puts a word into HL.
+    #[inline]
+    pub fn set_hl(&mut self, word: u16)
+        ensures { self.new ≡ registers.with_hl self.old word }
+    {
+        self.h = high_byte(word);
+        self.l = low_byte(word);
+    }
+
+    /// AF as a word.
+    #[inline]
+    pub fn af(&self) -> u16
+        ensures { result ≡ registers.af self.now }
+    {
+        pac_num::word(self.f, self.a)
+    }
+
+    /// Puts a word into AF; all eight bits of F change.
+    #[inline]
+    pub fn set_af(&mut self, word: u16)
+        ensures { self.new ≡ registers.with_af self.old word }
+    {
+        self.a = high_byte(word);
+        self.f = low_byte(word);
+    }
+
+    /// The pair that a field dd or ss names: BC 0, DE 1, HL 2, SP 3.
+    #[inline]
+    pub fn pair(&self, dd: u8) -> u16
+        ensures { result ≡ registers.pair_numbered self.now dd }
+    {
+        match dd {
+            0 => self.bc(),
+            1 => self.de(),
+            2 => self.hl(),
+            _ => self.sp,
+        }
+    }
+
+    /// Puts a word into the pair that a field dd or ss names.
+    #[inline]
+    pub fn set_pair(&mut self, dd: u8, word: u16)
+        ensures { self.new ≡ registers.with_pair_numbered self.old dd word }
+    {
+        match dd {
+            0 => self.set_bc(word),
+            1 => self.set_de(word),
+            2 => self.set_hl(word),
+            _ => self.sp = word,
+        }
+    }
+
     /// Enables interrupts, or disables them.
     #[inline]
     pub fn set_interrupts(&mut self, enabled: bool)
@@ -144,39 +215,29 @@ impl Regs {
     pub fn exchange_af(&mut self)
         ensures { self.new ≡ registers.with_other_af self.old }
     {
-        let Regs { a, f, .. } = *self;
-        self.a = self.alternate.a;
-        self.f = self.alternate.f;
-        self.alternate.a = a;
-        self.alternate.f = f;
+        swap(&mut self.a, &mut self.alternate.a);
+        swap(&mut self.f, &mut self.alternate.f);
     }
 
     /// Exchanges B, C, D, E, H and L with their second set.
     pub fn exchange_bank(&mut self)
         ensures { self.new ≡ registers.with_other_bank self.old }
     {
-        let Regs {
-            b,
-            c,
-            d,
-            e,
-            h,
-            l,
-            ..
-        } = *self;
-        self.b = self.alternate.b;
-        self.c = self.alternate.c;
-        self.d = self.alternate.d;
-        self.e = self.alternate.e;
-        self.h = self.alternate.h;
-        self.l = self.alternate.l;
-        self.alternate.b = b;
-        self.alternate.c = c;
-        self.alternate.d = d;
-        self.alternate.e = e;
-        self.alternate.h = h;
-        self.alternate.l = l;
+        swap(&mut self.b, &mut self.alternate.b);
+        swap(&mut self.c, &mut self.alternate.c);
+        swap(&mut self.d, &mut self.alternate.d);
+        swap(&mut self.e, &mut self.alternate.e);
+        swap(&mut self.h, &mut self.alternate.h);
+        swap(&mut self.l, &mut self.alternate.l);
     }
+}
+
+/// B less 1, modulo 256.
+#[inline]
+pub(crate) fn b_left(regs: &Regs) -> u8
+    ensures { result ≡ registers.b_left regs.now }
+{
+    regs.b.wrapping_add(255)
 }
 
 /// The address IX+d or IY+d, from -128 to 127 away, modulo 65,536.

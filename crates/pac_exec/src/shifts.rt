@@ -1,12 +1,13 @@
 //! Rotations and shifts (UM0080, "Rotate and Shift Group"). Each gives its time in T-states.
 
 ghost use Rattle.std.specs.Prelude.{◌≡◌};
-ghost use Rattle.pac_exec.specs.Shifts.{named_after, rotate_accumulator_transition, shift_transition, rotate_digit_left_transition, rotate_digit_right_transition};
+ghost use Rattle.pac_exec.specs.Shifts.{named_after, rotate_accumulator_transition, shift_transition, in_digits, rotate_digit_left_transition, rotate_digit_right_transition};
 ghost use Rattle.pac_exec.specs.Transition.{Did, DidInRegisters};
 
-use crate::places::{get, put};
+use crate::byte_arithmetic::{put_in_accumulator, put_in_place};
+use crate::places::get;
 use crate::regs::Regs;
-use pac_alu::Shift;
+use pac_alu::{Digits, Shift};
 use pac_bus::Bus;
 use pac_table::{Instr, Place, Rotation};
 
@@ -27,9 +28,7 @@ pub fn rotate_accumulator(rotation: Rotation, instr: &Instr, regs: &mut Regs) ->
     ensures { DidInRegisters (rotate_accumulator_transition rotation instr.now regs.old) regs.new result }
 {
     let outcome = pac_alu::rotate_accumulator(shift_of_rotation(rotation), regs.a, regs.f);
-    regs.a = outcome.value;
-    regs.f = outcome.f;
-    instr.ticks()
+    put_in_accumulator(outcome, instr, regs)
 }
 
 /// RLC, RRC, RL, RR, SLA, SRA and SRL.
@@ -38,8 +37,16 @@ pub fn shift<B: Bus>(place: Place, instr: &Instr, regs: &mut Regs, bus: &mut B) 
 {
     let byte = get(place, instr, regs, bus);
     let outcome = pac_alu::shift_byte(Shift::from_field(instr.p()), byte, regs.f);
-    put(place, outcome.value, instr, regs, bus);
-    regs.f = outcome.f;
+    put_in_place(outcome, place, instr, regs, bus)
+}
+
+/// Puts rotated digits into A, F and the cell at HL; the instruction's time.
+fn put_digits<B: Bus>(digits: Digits, instr: &Instr, regs: &mut Regs, bus: &mut B) -> u8
+    ensures { Did B.after (in_digits digits instr.now regs.old) bus.old regs.new bus.new result }
+{
+    bus.write(regs.hl(), digits.memory);
+    regs.a = digits.a;
+    regs.f = digits.f;
     instr.ticks()
 }
 
@@ -48,10 +55,7 @@ pub fn rotate_digit_left<B: Bus>(instr: &Instr, regs: &mut Regs, bus: &mut B) ->
     ensures { Did B.after (rotate_digit_left_transition instr.now regs.old (B.byte_at bus.old)) bus.old regs.new bus.new result }
 {
     let digits = pac_alu::rotate_digits_left(regs.a, bus.read(regs.hl()), regs.f);
-    bus.write(regs.hl(), digits.memory);
-    regs.a = digits.a;
-    regs.f = digits.f;
-    instr.ticks()
+    put_digits(digits, instr, regs, bus)
 }
 
 /// RRD.
@@ -59,8 +63,5 @@ pub fn rotate_digit_right<B: Bus>(instr: &Instr, regs: &mut Regs, bus: &mut B) -
     ensures { Did B.after (rotate_digit_right_transition instr.now regs.old (B.byte_at bus.old)) bus.old regs.new bus.new result }
 {
     let digits = pac_alu::rotate_digits_right(regs.a, bus.read(regs.hl()), regs.f);
-    bus.write(regs.hl(), digits.memory);
-    regs.a = digits.a;
-    regs.f = digits.f;
-    instr.ticks()
+    put_digits(digits, instr, regs, bus)
 }

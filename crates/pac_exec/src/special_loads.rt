@@ -1,6 +1,5 @@
 //! Loads between A and the registers I and R (UM0080, "8-Bit Load Group"). Each gives its time in T-states.
 
-ghost use Rattle.std.specs.Prelude.{◌≡◌};
 ghost use Rattle.pac_exec.specs.SpecialLoads.{load_from_special_transition, load_special_transition};
 ghost use Rattle.pac_exec.specs.Transition.{DidInRegisters};
 

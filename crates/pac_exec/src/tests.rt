@@ -1,4 +1,5 @@
-//! An instruction by UM0080's page, and the registers by its tables of r. The vectors of all families stand in pac_cpu.
+//! An instruction by UM0080's page, and the registers by its tables of r. The vectors of all families stand in
+//! pac_cpu_tests.
 
 use crate::{Alternate, Regs, displaced, perform};
 use pac_bus::{Bus, Flat};
@@ -62,7 +63,7 @@ fn performs_a_store(rt: HostRuntime) -> Result<(), Fail> {
 }
 
 #[test]
-fn names_registers(rt: HostRuntime) {
+fn names_and_exchanges_registers(rt: HostRuntime) {
     let mut regs = different();
     for (r, byte) in [(0, 3), (1, 4), (2, 5), (3, 6), (4, 7), (5, 8), (7, 1)] {
         assert_eq!(rt; regs.register(r), byte, "r {r}");
@@ -70,47 +71,27 @@ fn names_registers(rt: HostRuntime) {
         assert_eq!(rt; regs.register(r), byte + 100, "r {r}");
     }
     assert_eq!(rt; (regs.bc(), regs.de(), regs.hl()), (0x6768, 0x696A, 0x6B6C));
-}
-
-#[test]
-fn exchanges_sets(rt: HostRuntime) {
-    let mut regs = different();
     regs.exchange_af();
+    regs.exchange_bank();
     assert_eq!(rt;
-        (regs.a, regs.f, regs.b, regs.alternate.a, regs.alternate.f),
-        (11, 12, 3, 1, 2)
+        (regs.af(), regs.bc(), regs.de(), regs.hl()),
+        (0x0B0C, 0x0D0E, 0x0F10, 0x1112)
     );
     regs.exchange_bank();
     assert_eq!(rt;
-        (regs.b, regs.c, regs.d, regs.e, regs.h, regs.l),
-        (13, 14, 15, 16, 17, 18)
-    );
-    assert_eq!(rt;
-        (regs.alternate.b, regs.alternate.c, regs.alternate.d),
-        (3, 4, 5)
-    );
-    assert_eq!(rt;
-        (regs.alternate.e, regs.alternate.h, regs.alternate.l),
-        (6, 7, 8)
-    );
-    regs.exchange_bank();
-    regs.exchange_af();
-    assert_eq!(rt; regs, different());
-    regs.set_interrupts(true);
-    assert_eq!(rt;
-        regs,
-        Regs {
-            iff1: true,
-            iff2: true,
-            ..different()
-        }
+        (regs.af(), regs.bc(), regs.de(), regs.hl()),
+        (0x0B0C, 0x6768, 0x696A, 0x6B6C)
     );
 }
 
 #[test]
-fn displaces_round_the_ends(rt: HostRuntime) {
-    assert_eq!(rt; displaced(0x4000, 127), 0x407F);
-    assert_eq!(rt; displaced(0x4000, -128), 0x3F80);
-    assert_eq!(rt; displaced(0x0000, -1), 0xFFFF);
-    assert_eq!(rt; displaced(0xFFFF, 1), 0x0000);
+fn displaces_past_the_ends(rt: HostRuntime) {
+    for (base, d, address) in [
+        (0x4000, 127, 0x407F),
+        (0x4000, -128, 0x3F80),
+        (0x0000, -1, 0xFFFF),
+        (0xFFFF, 1, 0x0000),
+    ] {
+        assert_eq!(rt; displaced(base, d), address);
+    }
 }

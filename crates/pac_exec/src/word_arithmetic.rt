@@ -1,13 +1,14 @@
 //! Arithmetic of 16 bits (UM0080, "16-Bit Arithmetic Group"). Each gives its time in T-states.
 
 ghost use Rattle.std.specs.Prelude.{◌≡◌};
-ghost use Rattle.pac_exec.specs.WordArithmetic.{addend, add_pair_transition, add_pair_with_carry_transition, subtract_pair_with_carry_transition, increment_pair_transition, decrement_pair_transition};
+ghost use Rattle.pac_exec.specs.WordArithmetic.{addend, in_pair, add_pair_transition, add_pair_with_carry_transition, subtract_pair_with_carry_transition, increment_pair_transition, decrement_pair_transition};
 ghost use Rattle.pac_exec.specs.Transition.{DidInRegisters};
 
 use crate::pairs::{get_pair, set_pair};
 use crate::regs::Regs;
 use pac_alu::{
-    add_words, add_words_with_carry, decrement_word, increment_word, subtract_words_with_carry,
+    WordOutcome, add_words, add_words_with_carry, decrement_word, increment_word,
+    subtract_words_with_carry,
 };
 use pac_table::{Instr, Pair};
 
@@ -22,6 +23,15 @@ fn addend_of(pair: Pair, instr: &Instr, regs: &Regs) -> u16
     }
 }
 
+/// Puts what an operation leaves into a pair and F; the instruction's time.
+fn put_in_pair(outcome: WordOutcome, pair: Pair, instr: &Instr, regs: &mut Regs) -> u8
+    ensures { DidInRegisters (in_pair outcome pair instr.now regs.old) regs.new result }
+{
+    set_pair(pair, outcome.value, instr, regs);
+    regs.f = outcome.f;
+    instr.ticks()
+}
+
 /// ADD HL,ss and ADD IX,pp.
 pub fn add_pair(pair: Pair, instr: &Instr, regs: &mut Regs) -> u8
     ensures { DidInRegisters (add_pair_transition pair instr.now regs.old) regs.new result }
@@ -31,9 +41,7 @@ pub fn add_pair(pair: Pair, instr: &Instr, regs: &mut Regs) -> u8
         addend_of(pair, instr, regs),
         regs.f,
     );
-    set_pair(pair, sum.value, instr, regs);
-    regs.f = sum.f;
-    instr.ticks()
+    put_in_pair(sum, pair, instr, regs)
 }
 
 /// ADC HL,ss.
@@ -41,9 +49,7 @@ pub fn add_pair_with_carry(instr: &Instr, regs: &mut Regs) -> u8
     ensures { DidInRegisters (add_pair_with_carry_transition instr.now regs.old) regs.new result }
 {
     let sum = add_words_with_carry(regs.hl(), regs.pair(instr.p()), regs.f);
-    regs.set_hl(sum.value);
-    regs.f = sum.f;
-    instr.ticks()
+    put_in_pair(sum, Pair::Hl, instr, regs)
 }
 
 /// SBC HL,ss.
@@ -51,9 +57,7 @@ pub fn subtract_pair_with_carry(instr: &Instr, regs: &mut Regs) -> u8
     ensures { DidInRegisters (subtract_pair_with_carry_transition instr.now regs.old) regs.new result }
 {
     let difference = subtract_words_with_carry(regs.hl(), regs.pair(instr.p()), regs.f);
-    regs.set_hl(difference.value);
-    regs.f = difference.f;
-    instr.ticks()
+    put_in_pair(difference, Pair::Hl, instr, regs)
 }
 
 /// INC of a pair.

@@ -1,8 +1,6 @@
-//! Loads of 16 bits, the stack's among them, and the exchanges of pairs (UM0080, "16-Bit Load Group" and
-//! "Exchange, Block Transfer, and Search Group"). Each gives its time in T-states.
+//! Loads of 16 bits, the stack's among them (UM0080, "16-Bit Load Group"). Each gives its time in T-states.
 
-ghost use Rattle.std.specs.Prelude.{◌≡◌};
-ghost use Rattle.pac_exec.specs.WordLoads.{load_pair_transition, load_pair_from_memory_transition, store_pair_transition, load_stack_pointer_transition, push_transition, pop_transition, exchange_de_hl_transition, exchange_stack_top_transition};
+ghost use Rattle.pac_exec.specs.WordLoads.{load_pair_transition, load_pair_from_memory_transition, store_pair_transition, load_stack_pointer_transition, push_transition, pop_transition};
 ghost use Rattle.pac_exec.specs.Transition.{Did, DidInRegisters};
 
 use crate::pairs::{
@@ -63,29 +61,5 @@ pub fn pop<B: Bus>(pair: Pair, instr: &Instr, regs: &mut Regs, bus: &B) -> u8
 {
     let word = pop_word(regs, bus);
     set_stack_pair(pair, word, instr, regs);
-    instr.ticks()
-}
-
-/// EX DE,HL.
-pub fn exchange_de_hl(instr: &Instr, regs: &mut Regs) -> u8
-    ensures { DidInRegisters (exchange_de_hl_transition instr.now regs.old) regs.new result }
-{
-    let Regs { d, e, h, l, .. } = *regs;
-    regs.d = h;
-    regs.e = l;
-    regs.h = d;
-    regs.l = e;
-    instr.ticks()
-}
-
-/// EX (SP),HL.
-pub fn exchange_stack_top<B: Bus>(pair: Pair, instr: &Instr, regs: &mut Regs, bus: &mut B) -> u8
-    ensures { Did B.after (exchange_stack_top_transition pair instr.now regs.old (B.byte_at bus.old)) bus.old regs.new bus.new result }
-{
-    let top = read_word(regs.sp, bus);
-    let word = get_pair(pair, instr, regs);
-    bus.write(offset(regs.sp, 1), high_byte(word));
-    bus.write(regs.sp, low_byte(word));
-    set_pair(pair, top, instr, regs);
     instr.ticks()
 }

@@ -1,0 +1,41 @@
+//! The processor's states (UM0080, "General-Purpose Arithmetic and CPU Control Groups"). Each gives its time in
+//! T-states.
+
+ghost use Rattle.pac_exec.specs.Control.{halt_transition, disable_interrupts_transition, enable_interrupts_transition, set_interrupt_mode_transition};
+ghost use Rattle.pac_exec.specs.Transition.{DidInRegisters};
+
+use crate::regs::Regs;
+use pac_table::{Instr, InterruptMode};
+
+/// HALT.
+pub fn halt(instr: &Instr, regs: &mut Regs) -> u8
+    ensures { DidInRegisters (halt_transition instr.now regs.old) regs.new result }
+{
+    regs.halted = true;
+    instr.ticks()
+}
+
+/// DI.
+pub fn disable_interrupts(instr: &Instr, regs: &mut Regs) -> u8
+    ensures { DidInRegisters (disable_interrupts_transition instr.now regs.old) regs.new result }
+{
+    regs.set_interrupts(false);
+    instr.ticks()
+}
+
+/// EI.
+pub fn enable_interrupts(instr: &Instr, regs: &mut Regs) -> u8
+    ensures { DidInRegisters (enable_interrupts_transition instr.now regs.old) regs.new result }
+{
+    regs.set_interrupts(true);
+    regs.after_ei = true;
+    instr.ticks()
+}
+
+/// IM.
+pub fn set_interrupt_mode(mode: InterruptMode, instr: &Instr, regs: &mut Regs) -> u8
+    ensures { DidInRegisters (set_interrupt_mode_transition mode instr.now regs.old) regs.new result }
+{
+    regs.mode = mode;
+    instr.ticks()
+}

@@ -1,0 +1,48 @@
+//! The exchanges (UM0080, "Exchange, Block Transfer, and Search Group"). Each gives its time in T-states.
+
+ghost use Rattle.pac_exec.specs.Exchanges.{exchange_de_hl_transition, exchange_af_transition, exchange_banks_transition, exchange_stack_top_transition};
+ghost use Rattle.pac_exec.specs.Transition.{Did, DidInRegisters};
+
+use crate::pairs::{get_pair, read_word, set_pair};
+use crate::regs::Regs;
+use pac_bus::Bus;
+use pac_num::{high_byte, low_byte, offset};
+use pac_table::{Instr, Pair};
+use std::mem::swap;
+
+/// EX DE,HL.
+pub fn exchange_de_hl(instr: &Instr, regs: &mut Regs) -> u8
+    ensures { DidInRegisters (exchange_de_hl_transition instr.now regs.old) regs.new result }
+{
+    swap(&mut regs.d, &mut regs.h);
+    swap(&mut regs.e, &mut regs.l);
+    instr.ticks()
+}
+
+/// EX AF,AF'.
+pub fn exchange_af(instr: &Instr, regs: &mut Regs) -> u8
+    ensures { DidInRegisters (exchange_af_transition instr.now regs.old) regs.new result }
+{
+    regs.exchange_af();
+    instr.ticks()
+}
+
+/// EXX.
+pub fn exchange_banks(instr: &Instr, regs: &mut Regs) -> u8
+    ensures { DidInRegisters (exchange_banks_transition instr.now regs.old) regs.new result }
+{
+    regs.exchange_bank();
+    instr.ticks()
+}
+
+/// EX (SP),HL.
+pub fn exchange_stack_top<B: Bus>(pair: Pair, instr: &Instr, regs: &mut Regs, bus: &mut B) -> u8
+    ensures { Did B.after (exchange_stack_top_transition pair instr.now regs.old (B.byte_at bus.old)) bus.old regs.new bus.new result }
+{
+    let top = read_word(regs.sp, bus);
+    let word = get_pair(pair, instr, regs);
+    bus.write(offset(regs.sp, 1), high_byte(word));
+    bus.write(regs.sp, low_byte(word));
+    set_pair(pair, top, instr, regs);
+    instr.ticks()
+}
