@@ -1,12 +1,8 @@
--- The registers at power-on and behind a reset (UM0080, "RESET"). That all are 0 at power-on, and that a
+-- The registers at power-on and after a reset (UM0080, "RESET"). That all are 0 at power-on, and that a
 -- reset keeps what it doesn't clear, is this profile's.
 use Rattle.std.specs.Prelude.{false}
 use Rattle.pac_table.specs.declared.effects.InterruptMode.TheVariants.{Zero}
 use Rattle.pac_exec.specs.declared.regs.Regs.{Regs}
-use Rattle.pac_exec.specs.declared.regs.Alternate.{Alternate}
-
-abbrev pub blank_set : Alternate
-blank_set = record { a = 0; f = 0; b = 0; c = 0; d = 0; e = 0; h = 0; l = 0 }
 
 abbrev pub at_power_on : Regs
 at_power_on =
@@ -19,7 +15,7 @@ at_power_on =
       e = 0;
       h = 0;
       l = 0;
-      alternate = blank_set;
+      alternate = record { a = 0; f = 0; b = 0; c = 0; d = 0; e = 0; h = 0; l = 0 };
       ix = 0;
       iy = 0;
       sp = 0;
@@ -33,15 +29,6 @@ at_power_on =
       after_ei = false;
     }
 
-abbrev pub behind_reset : Regs → Regs
-behind_reset regs =
-    record regs {
-      pc = 0;
-      i = 0;
-      r = 0;
-      mode = Zero;
-      iff1 = false;
-      iff2 = false;
-      halted = false;
-      after_ei = false;
-    }
+abbrev pub after_reset : Regs → Regs
+after_reset regs =
+    record regs { pc = 0; i = 0; r = 0; mode = Zero; iff1 = false; iff2 = false; halted = false; after_ei = false }
