@@ -1,7 +1,9 @@
 //! The board: processor, bus, ROMs and the vertical counter as one value.
 
-ghost use Rattle.std.specs.Prelude.{◌≡◌, ◌↔◌, ◌≤◌, ◌<◌, ◌+◌, ◌^◌, ◌/◌, length, IsErr, OnOk, OnErr, IfOk};
-ghost use Rattle.pac_board.specs.Trace.{Roms};
+ghost use Rattle.std.specs.Prelude.{◌≡◌, ◌↔◌, ◌≤◌, ◌/◌, length, IsErr, OnOk, OnErr, IfOk};
+ghost use Rattle.pac_map.specs.Place.{program_size, ram_size};
+ghost use Rattle.pac_board.specs.Step.{frame_ticks};
+ghost use Rattle.pac_board.specs.Trace.{tiles_size};
 ghost use Rattle.pac_board.specs.State as state;
 
 use pac_cpu::{Cpu, Once};
@@ -32,8 +34,9 @@ pub struct Board {
 }
 
 impl Model for Board {
-    ghost use Rattle.std.specs.Prelude.{◌≡◌, ◌≤◌, ◌*◌, ◌+◌, ◌^◌, length};
-    ghost use Rattle.pac_board.specs.State.{State};
+    ghost use Rattle.std.specs.Prelude.{◌≡◌, ◌≤◌, ◌*◌, length};
+    ghost use Rattle.pac_board.specs.Trace.{tiles_size};
+    ghost use Rattle.pac_board.specs.State.{State, latest_end};
 
     ghost Value = { State };
 
@@ -43,9 +46,9 @@ impl Model for Board {
     } };
 
     ghost invariant = { λ board. record {
-      tiles : length board.tiles.items ≡ 4096;
+      tiles : length board.tiles.items ≡ tiles_size;
       steps : 4 * board.steps ≤ board.time;
-      time : board.time ≤ 2 ^ 52 + 22;
+      time : board.time ≤ latest_end;
     } };
 }
 
@@ -58,8 +61,8 @@ impl Board {
         tiles: Vec<u8>,
         switches: u8,
     ) -> Result<Board, AllocError>
-        requires program { length program.items ≡ 16384 }
-        requires tiles { length tiles.items ≡ 4096 }
+        requires program { length program.items ≡ program_size }
+        requires tiles { length tiles.items ≡ tiles_size }
         ensures { IfOk result (λ board. board ≡ state.at_power_on (record { program = program.items; tiles = tiles.items }) switches) }
     {
         let map = Map::new(alloc, program, switches)?;
@@ -76,7 +79,7 @@ impl Board {
     #[inline]
     pub fn time(&self) -> u64
         ensures time { result ≡ self.now.now.time }
-        ensures bound { self.now.now.time ≤ 2 ^ 52 + 22 }
+        ensures bound { self.now.now.time ≤ state.latest_end }
     {
         self.time
     }
@@ -92,18 +95,19 @@ impl Board {
     /// The frames whose vertical blank has come.
     #[inline]
     pub fn frames(&self) -> u64
-        ensures { result ≡ self.now.now.time / 50688 }
+        ensures { result ≡ self.now.now.time / frame_ticks }
     {
         self.time / TICKS_A_FRAME
     }
 
     /// Does one step, with the events that fall in it. No request is made yet.
     pub fn step_once(&mut self) -> Result<Once, TooFar>
-        ensures late { IsErr result ↔ (2 ^ 52 ≤ self.old.now.time) }
+        ensures late { IsErr result ↔ (state.latest ≤ self.old.now.time) }
         ensures unchanged { OnErr result (self.new ≡ self.old) }
-        ensures state { OnOk result (self.new ≡ state.behind (state.next_of self.old) self.old) }
+        ensures state { OnOk result (self.new ≡ state.state_after (state.next_of self.old) self.old) }
         ensures once { IfOk result (λ once. once ≡ state.once_of (state.next_of self.old) self.old) }
-        ensures pictures { OnOk result (state.pictures_in (state.next_of self.old) ≡ state.due_since (self.old.now.time / 50688) self.new) }
+        ensures pictures { OnOk result (state.pictures_in (state.next_of self.old)
+            ≡ state.due_since (self.old.now.time / frame_ticks) self.new) }
     {
         if self.time >= LATEST {
             return Err(TooFar);
@@ -118,7 +122,7 @@ impl Board {
     #[inline]
     pub fn tiles(&self) -> &[u8]
         ensures bytes { result.now ≡ self.now.roms.tiles }
-        ensures size { length self.now.roms.tiles ≡ 4096 }
+        ensures size { length self.now.roms.tiles ≡ tiles_size }
     {
         &self.tiles
     }
@@ -127,7 +131,7 @@ impl Board {
     #[inline]
     pub fn tile_ram(&self) -> &[u8]
         ensures bytes { result.now ≡ self.now.now.board.tile }
-        ensures size { length self.now.now.board.tile ≡ 1024 }
+        ensures size { length self.now.now.board.tile ≡ ram_size }
     {
         self.map.tile_ram()
     }
