@@ -3,7 +3,7 @@
 use super::Steps;
 
 /// Rotations and shifts (UM0080, "Rotate and Shift Group").
-pub const TURNS: [Steps; 4] = [
+pub const ROTATIONS_AND_SHIFTS: [Steps; 4] = [
     Steps {
         usual: "H=48 IX=4880 IY=4781",
         lines: "
