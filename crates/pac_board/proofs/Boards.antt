@@ -2,11 +2,12 @@
 use Rattle.std.proofs.Common.{◌≡◌, ℕ, zero, suc, ◌+◌, ◌-◌, ◌/◌, ◌<◌, ◌≤◌, List, [], ◌∷◌, Option, None, fold, cond, false, nat_lt}
 use Rattle.std.proofs.Common.{refl, sym, ap, ◌∙◌, arith}
 use Rattle.std.proofs.lemmas.Bool.Decides.{nat_tests}
-use Rattle.pac_bus.specs.Action.{Action, behind as behind_actions}
+use Rattle.pac_bus.specs.Action.{Action, after_all}
 use Rattle.pac_exec.specs.declared.regs.Regs.{Regs}
 use Rattle.pac_cpu.specs.declared.once.Once.{Once}
 use Rattle.pac_cpu.specs.declared.once.Once.TheVariants.{Stepped, Stopped}
-use Rattle.pac_cpu.specs.Step.{Seen, Half, Steps, Stops, half, seen_on, regs_behind, actions_of, IsInTime, once_of as cpu_once_of}
+use Rattle.pac_cpu.specs.Step.{Did, Surroundings, CpuStep, Steps, Stops, cpu_step, surroundings_of, regs_after, actions_of, IsInTime, once_of as cpu_once_of}
+use Rattle.pac_exec.specs.Transition.{longest_ticks}
 use Rattle.pac_map.specs.Entry.{Entry, View, view_after, entries_of, Contents, byte_at, input_at, after}
 use Rattle.pac_map.specs.Lookups.{port_byte}
 use Rattle.pac_board.specs.Step.{Questions, Moment, Next, Goes, Ends, put_all, put_actions, composed, surroundings, events, frame_ticks}
@@ -20,38 +21,38 @@ use Rattle.pac_board.proofs.Whole.{timed}
 abbrev contents_of : State → Contents
 contents_of state = record { program = state.roms.program; view = state.now.board }
 
--- the processor's half of a state's step, as the bus shows it and as the view does
-abbrev bus_step : State → Half
-bus_step state = half (seen_on byte_at input_at after (contents_of state)) state.now.regs None
+-- the processor's part of a state's step, as the bus shows it and as the view does
+abbrev pub bus_step : State → CpuStep
+bus_step state = cpu_step (surroundings_of byte_at input_at after (contents_of state)) state.now.regs None
 
-abbrev view_step : State → Half
-view_step state = half (surroundings (by_view state.roms) state.now.board) state.now.regs None
+abbrev view_step : State → CpuStep
+view_step state = cpu_step (surroundings (by_view state.roms) state.now.board) state.now.regs None
 
--- what the board is after such a half, and the answer told
-abbrev next_by : State → Half → Next View
-next_by state h = after_cpu_step (by_view state.roms) state.now h
+-- what that part comes to on the board
+abbrev next_by : State → CpuStep → Next View
+next_by state part = after_cpu_step (by_view state.roms) state.now part
 
 put-folds : (roms : Roms) (view : View) (entries : List Entry) → fold view_after view entries ≡ put_all (by_view roms) view entries
 put-folds roms view [] = refl
 put-folds roms view (entry ∷ entries) = put-folds roms (view_after view entry) entries
 
 acted-folds : (roms : Roms) (program : List ℕ) (view : View) (actions : List Action)
-    → behind_actions after (record { program = program; view = view }) actions
+    → after_all after (record { program = program; view = view }) actions
     ≡ record { program = program; view = put_actions (by_view roms) view actions }
 acted-folds roms program view [] = refl
 acted-folds roms program view (action ∷ actions) =
-    ap (λ v. behind_actions after (record { program = program; view = v }) actions) (put-folds roms view (entries_of action))
+    ap (λ v. after_all after (record { program = program; view = v }) actions) (put-folds roms view (entries_of action))
     ∙ acted-folds roms program (put_all (by_view roms) view (entries_of action)) actions
 
 surroundings-agree : (roms : Roms) (view : View)
-    → seen_on byte_at input_at after (record { program = roms.program; view = view }) ≡ surroundings (by_view roms) view
+    → surroundings_of byte_at input_at after (record { program = roms.program; view = view }) ≡ surroundings (by_view roms) view
 surroundings-agree roms view = λ i. record {
   byte_at = λ actions at. byte_at (acted-folds roms roms.program view actions i) at;
   input_at = port_byte;
   instruction_at = λ at. (by_view roms).instruction view at;
 }
 
-kept-short : (roms : Roms) (view : View) (time ticks : ℕ) → ticks ≤ 23 → put_all (by_view roms) view (events time ticks) ≡ view
+kept-short : (roms : Roms) (view : View) (time ticks : ℕ) → ticks ≤ longest_ticks → put_all (by_view roms) view (events time ticks) ≡ view
 kept-short roms view time ticks short =
     let below : ticks < frame_ticks = omega arith in
     ap (put_all (by_view roms) view) (events-short time ticks below) ∙ view-kept roms view time (time + ticks)
@@ -63,11 +64,11 @@ fields contents tiles regs time steps = record {
   now = record { regs = regs; board = contents.view; time = time; steps = steps };
 }
 
--- the board after a half of the processor, as its fields are then
-fields-agree : (state : State) (h : Half) → IsInTime h → (regs : Regs) → regs ≡ regs_behind h state.now.regs → (contents : Contents)
-    → contents ≡ behind_actions after (contents_of state) (actions_of h) → (once : Once) → once ≡ cpu_once_of h
+-- the board after the processor's part, as its fields are then
+fields-agree : (state : State) (part : CpuStep) → IsInTime part → (regs : Regs) → regs ≡ regs_after part state.now.regs → (contents : Contents)
+    → contents ≡ after_all after (contents_of state) (actions_of part) → (once : Once) → once ≡ cpu_once_of part
     → fields contents state.roms.tiles regs (state.now.time + ticks_in once) (state.now.steps + steps_in once)
-    ≡ state_after (next_by state h) state
+    ≡ state_after (next_by state part) state
 fields-agree state (Steps after_regs actions ticks kind) times regs r contents c once o =
     let acted = c ∙ acted-folds state.roms state.roms.program state.now.board actions in
     let kept = kept-short state.roms (put_actions (by_view state.roms) state.now.board actions) state.now.time ticks times.1 in
@@ -91,14 +92,14 @@ fields-agree state (Stops stop) times regs r contents c once o =
       now = record { regs = r i; board = (c i).view; time = time i; steps = steps i };
     }
 
-once-agrees : (state : State) (h : Half) → cpu_once_of h ≡ once_of (next_by state h) state
+once-agrees : (state : State) (part : CpuStep) → cpu_once_of part ≡ once_of (next_by state part) state
 once-agrees state (Steps regs actions ticks kind) =
     let same : ticks ≡ state.now.time + ticks - state.now.time = omega arith in ap (λ t. Stepped t kind) same
 once-agrees state (Stops stop) = refl
 
 -- the pictures of a step are those due since the frame before it
-pictures-due : (state : State) (h : Half) → IsInTime h
-    → pictures_in (next_by state h) ≡ due_since (state.now.time / frame_ticks) (state_after (next_by state h) state)
+pictures-due : (state : State) (part : CpuStep) → IsInTime part
+    → pictures_in (next_by state part) ≡ due_since (state.now.time / frame_ticks) (state_after (next_by state part) state)
 pictures-due state (Steps regs actions ticks kind) times =
     let below : ticks < frame_ticks = omega (arith, times.1) in
     let acted = put_actions (by_view state.roms) state.now.board actions in
@@ -119,21 +120,20 @@ pub record Agreed (state new : State) (once : Once) : Type 0 where
   pub pictures_are : pictures_in (next_of state) ≡ due_since (state.now.time / frame_ticks) new
 
 pub steps-agree : (state : State) (regs : Regs) (contents : Contents) (once : Once) (ticks count : ℕ)
-    → regs ≡ regs_behind (bus_step state) state.now.regs → contents ≡ behind_actions after (contents_of state) (actions_of (bus_step state))
-    → once ≡ cpu_once_of (bus_step state) → ticks ≡ ticks_in once → count ≡ steps_in once
+    → Did after (bus_step state) state.now.regs (contents_of state) regs contents once → ticks ≡ ticks_in once → count ≡ steps_in once
     → Agreed state (fields contents state.roms.tiles regs (state.now.time + ticks) (state.now.steps + count)) once
-steps-agree state regs contents once ticks count r c o t n =
-    let h = view_step state in
-    let same = ap (λ (s : Seen). half s state.now.regs None) (surroundings-agree state.roms state.now.board) in
-    let times : IsInTime h = timed (by_view state.roms) state.now in
-    let told = o ∙ ap cpu_once_of same in
-    let agreed = fields-agree state h times regs (r ∙ ap (λ x. regs_behind x state.now.regs) same) contents
-    (c ∙ ap (λ x. behind_actions after (contents_of state) (actions_of x)) same) once told in
+steps-agree state regs contents once ticks count did t n =
+    let part = view_step state in
+    let same = ap (λ (s : Surroundings). cpu_step s state.now.regs None) (surroundings-agree state.roms state.now.board) in
+    let times : IsInTime part = timed (by_view state.roms) state.now in
+    let told = did.once ∙ ap cpu_once_of same in
+    let agreed = fields-agree state part times regs (did.regs ∙ ap (λ x. regs_after x state.now.regs) same) contents
+    (did.bus ∙ ap (λ x. after_all after (contents_of state) (actions_of x)) same) once told in
     let grown = λ (x : ℕ × ℕ). fields contents state.roms.tiles regs (state.now.time + x.0) (state.now.steps + x.1) in
     let counted = ap grown (λ i. (t i, n i)) in
     let whole = counted ∙ agreed in
     record {
       state_is = whole;
-      once_is = told ∙ once-agrees state h;
-      pictures_are = pictures-due state h times ∙ ap (due_since (state.now.time / frame_ticks)) (sym whole);
+      once_is = told ∙ once-agrees state part;
+      pictures_are = pictures-due state part times ∙ ap (due_since (state.now.time / frame_ticks)) (sym whole);
     }

@@ -7,7 +7,7 @@ use Rattle.pac_bus.specs.Action.{Action}
 use Rattle.pac_table.specs.Instructions.{Instruction}
 use Rattle.pac_exec.specs.declared.regs.Regs.{Regs}
 use Rattle.pac_cpu.specs.declared.once.Stop.{Stop}
-use Rattle.pac_cpu.specs.Step.{Seen, Half, Steps, Stops, half}
+use Rattle.pac_cpu.specs.Step.{Surroundings, CpuStep, Steps, Stops, cpu_step}
 use Rattle.pac_board.specs.Step.{Questions, Moment, Picture, Next, Goes, Ends, put_all, put_actions, surroundings, composed, step}
 use Rattle.pac_board.specs.Step.{after_cpu_step, events, frame_ticks}
 use Rattle.pac_board.specs.Walk.{Walk, walk, onward, onward_if, after_step}
@@ -47,7 +47,7 @@ module _ {From To : Type 0} (view : From → To) (ask : Questions From) (told : 
   composed-carried (entry ∷ entries) board =
       composed-carried entries (ask.put board entry) ∙ ap (λ b. composed told b entries) (carries.put board entry)
 
-  cpu-step-carried : (now : Moment From) (h : Half)
+  cpu-step-carried : (now : Moment From) (h : CpuStep)
       → next_view view (after_cpu_step ask now h) ≡ after_cpu_step told (moment_view view now) h
   cpu-step-carried now (Stops stop) = refl
   cpu-step-carried now (Steps regs actions ticks kind) =
@@ -60,8 +60,8 @@ module _ {From To : Type 0} (view : From → To) (ask : Questions From) (told : 
 
   pub step-carried : (now : Moment From) → next_view view (step ask now) ≡ step told (moment_view view now)
   step-carried now =
-      cpu-step-carried now (half (surroundings ask now.board) now.regs None)
-      ∙ ap (λ s. after_cpu_step told (moment_view view now) (half s now.regs None)) (surroundings-carried now.board)
+      cpu-step-carried now (cpu_step (surroundings ask now.board) now.regs None)
+      ∙ ap (λ s. after_cpu_step told (moment_view view now) (cpu_step s now.regs None)) (surroundings-carried now.board)
 
   next-carried : (w : Walk From) (next : Next From)
       → walk_view view (after_step w next) ≡ after_step (walk_view view w) (next_view view next)

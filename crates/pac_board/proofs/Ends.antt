@@ -4,7 +4,7 @@ use Rattle.std.proofs.Common.{false}
 use Rattle.std.proofs.Common.{◌||◌, is_some, nat_le, refl, sym, ap, ◌∙◌, arith}
 use Rattle.std.proofs.lemmas.Bool.Decides.{nat_tests}
 use Rattle.pac_cpu.specs.declared.once.Stop.{Stop}
-use Rattle.pac_cpu.specs.Step.{Seen, Half, Steps, Stops, half, IsInTime}
+use Rattle.pac_cpu.specs.Step.{Surroundings, CpuStep, Steps, Stops, cpu_step, IsInTime}
 use Rattle.pac_exec.specs.declared.regs.Regs.{Regs}
 use Rattle.pac_board.specs.Step.{Questions, Moment, Picture, Next, Goes, Ends, surroundings, step, after_cpu_step}
 use Rattle.pac_board.specs.Walk.{Walk, walk, onward, onward_if, after_step, has_ended}
@@ -44,12 +44,12 @@ module _ {Board : Type 0} (ask : Questions Board) (limit : ℕ) where
           let d : n ≡ m + (n - m) = omega arith in
           ended-for-good start m (n - m) n d hm
 
-  module _ (long : (now : Moment Board) → IsInTime (half (surroundings ask now.board) now.regs None)) where
+  module _ (long : (now : Moment Board) → IsInTime (cpu_step (surroundings ask now.board) now.regs None)) where
     -- where a walk is after n steps: it has ended, or 4 n T-states have gone by
     Far : ℕ → Walk Board → Type 0
     Far n w = (has_ended limit w ≡ true) ⊎ (4 * n ≤ w.now.time)
 
-    cpu-step-far : (n : ℕ) (w : Walk Board) (h : Half) → IsInTime h → 4 * n ≤ w.now.time
+    cpu-step-far : (n : ℕ) (w : Walk Board) (h : CpuStep) → IsInTime h → 4 * n ≤ w.now.time
         → Far (suc n) (after_step w (after_cpu_step ask w.now h))
     unfolding Far
     cpu-step-far n w (Steps regs actions ticks kind) longer far = inr (omega (arith, longer.0))
@@ -61,7 +61,7 @@ module _ {Board : Type 0} (ask : Questions Board) (limit : ℕ) where
     onward-far n w (Some stop) late s l far = inl (ap (λ x. is_some x || nat_le limit w.now.time) s)
     onward-far n w None true s l far = inl (ap (λ x. is_some x || nat_le limit w.now.time) s ∙ l)
     onward-far n w None false s l (inl ended) = not-both (sym ended ∙ ap (λ x. is_some x || nat_le limit w.now.time) s ∙ l)
-    onward-far n w None false s l (inr far) = cpu-step-far n w (half (surroundings ask w.now.board) w.now.regs None) (long w.now) far
+    onward-far n w None false s l (inr far) = cpu-step-far n w (cpu_step (surroundings ask w.now.board) w.now.regs None) (long w.now) far
 
     walk-far : (start : Moment Board) (n : ℕ) → Far n (walk ask limit start n)
     unfolding Far

@@ -6,7 +6,7 @@ use Rattle.std.proofs.lemmas.Bool.Decides.{nat_tests}
 use Rattle.std.proofs.lemmas.List.{length-append, append-nil}
 use mathlib.Core.List.{IsPrefix, prefix-append}
 use Rattle.pac_cpu.specs.declared.once.Stop.{Stop}
-use Rattle.pac_cpu.specs.Step.{Half, Steps, Stops, half, IsInTime}
+use Rattle.pac_cpu.specs.Step.{CpuStep, Steps, Stops, cpu_step, IsInTime}
 use Rattle.pac_board.specs.Step.{Questions, Moment, Picture, Next, Goes, Ends, put_actions, composed, events, step, after_cpu_step}
 use Rattle.pac_board.specs.Step.{surroundings}
 use Rattle.pac_board.specs.Step.{frame_ticks}
@@ -14,7 +14,7 @@ use Rattle.pac_board.specs.Walk.{Walk, walk, onward, onward_if, after_step}
 use Rattle.pac_board.proofs.Moments.{events-short, short_events, composed-short}
 
 module _ {Board : Type 0} (ask : Questions Board) (limit : ℕ)
-    (timed : (now : Moment Board) → IsInTime (half (surroundings ask now.board) now.regs None)) where
+    (timed : (now : Moment Board) → IsInTime (cpu_step (surroundings ask now.board) now.regs None)) where
   short-count : (board : Board) (time ticks : ℕ) → ticks < frame_ticks
       → time / frame_ticks + length (composed ask board (events time ticks)) ≡ (time + ticks) / frame_ticks
   short-count board time ticks short =
@@ -27,7 +27,7 @@ module _ {Board : Type 0} (ask : Questions Board) (limit : ℕ)
       choose true e = grind (arith, nat_tests)
       choose false e = grind (arith, nat_tests)
 
-  cpu-step-count : (w : Walk Board) (h : Half) → IsInTime h → length w.pictures ≡ w.now.time / frame_ticks
+  cpu-step-count : (w : Walk Board) (h : CpuStep) → IsInTime h → length w.pictures ≡ w.now.time / frame_ticks
       → length (after_step w (after_cpu_step ask w.now h)).pictures ≡ (after_step w (after_cpu_step ask w.now h)).now.time / frame_ticks
   cpu-step-count w (Stops stop) times so_far = so_far
   cpu-step-count w (Steps regs actions ticks kind) times so_far =
@@ -41,7 +41,7 @@ module _ {Board : Type 0} (ask : Questions Board) (limit : ℕ)
       → length (onward_if ask w stop late).pictures ≡ (onward_if ask w stop late).now.time / frame_ticks
   onward-count w (Some stop) late so_far = so_far
   onward-count w None true so_far = so_far
-  onward-count w None false so_far = cpu-step-count w (half (surroundings ask w.now.board) w.now.regs None) (timed w.now) so_far
+  onward-count w None false so_far = cpu-step-count w (cpu_step (surroundings ask w.now.board) w.now.regs None) (timed w.now) so_far
 
   pub walk-count : (start : Moment Board) → start.time ≡ 0 → (n : ℕ)
       → length (walk ask limit start n).pictures ≡ (walk ask limit start n).now.time / frame_ticks

@@ -3,7 +3,7 @@ use Rattle.std.proofs.Common.{◌≡◌, ℕ, suc, ◌+◌, ◌-◌, ◌<◌, �
 use Rattle.std.proofs.Common.{add-one, arith}
 use Rattle.std.proofs.lemmas.Bool.Decides.{nat_tests}
 use Rattle.pac_cpu.specs.declared.once.Stop.{Stop}
-use Rattle.pac_cpu.specs.Step.{Half, Steps, Stops, half, IsInTime}
+use Rattle.pac_cpu.specs.Step.{CpuStep, Steps, Stops, cpu_step, IsInTime}
 use Rattle.pac_map.specs.Entry.{View}
 use Rattle.pac_board.specs.Step.{Questions, Moment, Picture, Next, Goes, Ends, step, surroundings, after_cpu_step}
 use Rattle.pac_board.specs.Walk.{Walk, walk, onward, onward_if, after_step}
@@ -39,7 +39,7 @@ abbrev FollowsBy : State → Walk View → Next View → Type 0
 FollowsBy state before next =
     Follows before (after_step before next) state (state_after next state) (pictures_in next) (once_of next state)
 
-cpu-step-follows : (state : State) (before : Walk View) (h : Half) → IsInTime h → StandsAt before state
+cpu-step-follows : (state : State) (before : Walk View) (h : CpuStep) → IsInTime h → StandsAt before state
     → FollowsBy state before (after_cpu_step (by_view state.roms) state.now h)
 cpu-step-follows state before (Steps regs actions ticks kind) times stands =
     let same : state.now.time + ticks - state.now.time ≡ ticks = omega arith in
@@ -63,4 +63,4 @@ steps-follow-walks state from limit count stands early =
     let after = walk-opened ask limit from count stands.open_yet in_time ∙ ap (λ now. after_step before (step ask now)) stands.now in
     let next = next_of state in
     subst (λ (w : Walk View). Follows before w state (state_after next state) (pictures_in next) (once_of next state)) (sym after)
-    (cpu-step-follows state before (half (surroundings ask state.now.board) state.now.regs None) (timed ask state.now) stands)
+    (cpu-step-follows state before (cpu_step (surroundings ask state.now.board) state.now.regs None) (timed ask state.now) stands)

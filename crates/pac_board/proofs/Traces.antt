@@ -6,7 +6,7 @@ use Rattle.pac_bus.specs.Action.{Action, Write as Written, Output}
 use Rattle.pac_exec.specs.declared.regs.Regs.{Regs}
 use Rattle.pac_code.specs.Items.{Item}
 use Rattle.pac_cpu.specs.declared.once.Stop.{Stop}
-use Rattle.pac_cpu.specs.Step.{Half, Steps, Stops, half}
+use Rattle.pac_cpu.specs.Step.{CpuStep, Steps, Stops, cpu_step}
 use Rattle.pac_map.specs.Entry.{Entry, Write, Vector, Blank, View, entries_of}
 use Rattle.pac_tiles.specs.Tiles.{picture_of}
 use Rattle.pac_board.specs.History.{tile_at}
@@ -48,7 +48,7 @@ module _ (roms : Roms) (items : List Item) (start : View) where
   abbrev IsTold : Walk (List Entry) → Type 0
   IsTold w = w.pictures ≡ pictures w.now.board
 
-  cpu-step-pictures : (w : Walk (List Entry)) → IsTold w → (h : Half) → IsTold (after_step w (after_cpu_step ask w.now h))
+  cpu-step-pictures : (w : Walk (List Entry)) → IsTold w → (h : CpuStep) → IsTold (after_step w (after_cpu_step ask w.now h))
   cpu-step-pictures w so_far (Stops stop) = so_far
   cpu-step-pictures w so_far (Steps regs actions ticks kind) =
       let acted = put_actions ask w.now.board actions in
@@ -59,7 +59,7 @@ module _ (roms : Roms) (items : List Item) (start : View) where
   onward-pictures : (w : Walk (List Entry)) → IsTold w → (stop : Option Stop) (ended : Bool) → IsTold (onward_if ask w stop ended)
   onward-pictures w so_far (Some stop) ended = so_far
   onward-pictures w so_far None true = so_far
-  onward-pictures w so_far None false = cpu-step-pictures w so_far (half (surroundings ask w.now.board) w.now.regs None)
+  onward-pictures w so_far None false = cpu-step-pictures w so_far (cpu_step (surroundings ask w.now.board) w.now.regs None)
 
   pub walk-pictures : (limit : ℕ) (regs : Regs) (time steps count : ℕ)
       → let first : Moment (List Entry) = record { regs = regs; board = []; time = time; steps = steps } in

@@ -8,8 +8,8 @@ use mathlib.Core.List.{IsPrefix}
 use Rattle.pac_table.proofs.Lengths.{length-code}
 use Rattle.pac_code.proofs.RoundTrip.{decodes_front}
 use Rattle.pac_cpu.specs.Power.{at_power_on}
-use Rattle.pac_cpu.specs.Step.{half, IsInTime}
-use Rattle.pac_cpu.proofs.Halves.{half-in_time}
+use Rattle.pac_cpu.specs.Step.{cpu_step, IsInTime}
+use Rattle.pac_cpu.proofs.CpuSteps.{cpu-step-in-time}
 use Rattle.pac_map.specs.Entry.{Entry, Blank, View, power_on}
 use Rattle.pac_map.proofs.Sizes.{power-on-sized}
 use Rattle.pac_board.specs.History.{view_of}
@@ -25,8 +25,8 @@ use Rattle.pac_board.proofs.Items.{view-carries}
 
 -- each step over whatever stands for the board is in time
 pub timed : {Board : Type 0} (ask : Questions Board) (now : Moment Board)
-    → IsInTime (half (surroundings ask now.board) now.regs None)
-timed ask now = half-in_time (surroundings ask now.board) now.regs None
+    → IsInTime (cpu_step (surroundings ask now.board) now.regs None)
+timed ask now = cpu-step-in-time (surroundings ask now.board) now.regs None
 
 pub traces-agree : TracesAgree
 traces-agree roms items switches frames whole lie =

@@ -4,6 +4,7 @@ use Rattle.pac_cpu.specs.declared.once.Once.{Once}
 use Rattle.pac_cpu.specs.declared.once.Once.TheVariants.{Stepped, Stopped}
 use Rattle.pac_cpu.specs.declared.once.Kind.{Kind}
 use Rattle.pac_cpu.specs.declared.once.Stop.{Stop}
+use Rattle.pac_exec.specs.Transition.{shortest_ticks, longest_ticks}
 use Rattle.pac_map.specs.Entry.{View}
 use Rattle.pac_board.specs.Step.{Moment, Picture, Next}
 use Rattle.pac_board.specs.Walk.{Walk, walk}
@@ -22,8 +23,8 @@ pub record GoesOn (before after : Walk View) (old new : State) (given : List Pic
   pub roms : new.roms ≡ old.roms
   pub steps : new.now.steps ≡ old.now.steps + 1
   pub time : new.now.time ≡ old.now.time + ticks
-  pub long : 4 ≤ ticks
-  pub short : ticks ≤ 23
+  pub long : shortest_ticks ≤ ticks
+  pub short : ticks ≤ longest_ticks
 
 pub record Stays (before after : Walk View) (old new : State) (given : List Picture) (stop : Stop) : Type 0 where
   pub now : after.now ≡ old.now

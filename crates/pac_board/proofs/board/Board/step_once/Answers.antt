@@ -10,8 +10,8 @@ returns c =
     let step = c.step-once in
     let old : State = fields board.map board.tiles.items board.cpu board.time board.steps in
     let new : State = fields step.new.bus board.tiles.items step.new.self (board.time + c.from.result) (board.steps + c.from-2.result) in
-    let agreed = steps-agree old step.new.self step.new.bus step.result c.from.result c.from-2.result step.ensures.regs step.ensures.bus
-    step.ensures.result (c.from.ensures ∙ c.ticks_in.ensures) (c.from-2.ensures ∙ c.steps_in.ensures) in
+    let agreed = steps-agree old step.new.self step.new.bus step.result c.from.result c.from-2.result step.ensures.did
+    (c.from.ensures ∙ c.ticks_in.ensures) (c.from-2.ensures ∙ c.steps_in.ensures) in
     let seen = subst (λ (s : State). Agreed s new step.result) c.self.view_is agreed in
     record {
       late = search rules;
