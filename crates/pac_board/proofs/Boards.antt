@@ -1,17 +1,18 @@
 -- The board's own step is the step of its view.
-use Rattle.std.proofs.Common.{◌≡◌, ℕ, zero, suc, ◌+◌, ◌-◌, ◌/◌, ◌<◌, ◌≤◌, List, [], ◌∷◌, Option, None, fold, cond, false, nat_lt}
+use Rattle.std.proofs.Common.{◌≡◌, ℕ, ◌+◌, ◌-◌, ◌/◌, ◌<◌, ◌≤◌, List, [], ◌∷◌, None, fold, cond, false, nat_lt}
 use Rattle.std.proofs.Common.{refl, sym, ap, ◌∙◌, arith}
 use Rattle.std.proofs.lemmas.Bool.Decides.{nat_tests}
 use Rattle.pac_bus.specs.Action.{Action, after_all}
 use Rattle.pac_exec.specs.declared.regs.Regs.{Regs}
 use Rattle.pac_cpu.specs.declared.once.Once.{Once}
-use Rattle.pac_cpu.specs.declared.once.Once.TheVariants.{Stepped, Stopped}
-use Rattle.pac_cpu.specs.Step.{Did, Surroundings, CpuStep, Steps, Stops, cpu_step, surroundings_of, regs_after, actions_of, IsInTime, once_of as cpu_once_of}
+use Rattle.pac_cpu.specs.declared.once.Once.TheVariants.{Stepped}
+use Rattle.pac_cpu.specs.Step.{Did, Surroundings, CpuStep, Steps, Stops, cpu_step, surroundings_of, regs_after, actions_of, IsInTime}
+use Rattle.pac_cpu.specs.Step.{once_of as cpu_once_of}
 use Rattle.pac_exec.specs.Transition.{longest_ticks}
 use Rattle.pac_map.specs.Entry.{Entry, View, view_after, entries_of, Contents, byte_at, input_at, after}
 use Rattle.pac_map.specs.Lookups.{port_byte}
-use Rattle.pac_board.specs.Step.{Questions, Moment, Next, Goes, Ends, put_all, put_actions, composed, surroundings, events, frame_ticks}
-use Rattle.pac_board.specs.Step.{after_cpu_step, step}
+use Rattle.pac_board.specs.Step.{Next, put_all, put_actions, composed, surroundings, events, frame_ticks}
+use Rattle.pac_board.specs.Step.{after_cpu_step}
 use Rattle.pac_board.specs.Trace.{Roms, by_view}
 use Rattle.pac_board.specs.State.{State, next_of, state_after, once_of, ticks_in, steps_in, picture, pictures_in, due_since}
 use Rattle.pac_board.proofs.Moments.{events-short, view-kept, composed-short}
@@ -65,7 +66,8 @@ fields contents tiles regs time steps = record {
 }
 
 -- the board after the processor's part, as its fields are then
-fields-agree : (state : State) (part : CpuStep) → IsInTime part → (regs : Regs) → regs ≡ regs_after part state.now.regs → (contents : Contents)
+fields-agree : (state : State) (part : CpuStep) → IsInTime part → (regs : Regs) → regs ≡ regs_after part state.now.regs
+    → (contents : Contents)
     → contents ≡ after_all after (contents_of state) (actions_of part) → (once : Once) → once ≡ cpu_once_of part
     → fields contents state.roms.tiles regs (state.now.time + ticks_in once) (state.now.steps + steps_in once)
     ≡ state_after (next_by state part) state
@@ -119,18 +121,18 @@ pub record Agreed (state new : State) (once : Once) : Type 0 where
   pub once_is : once ≡ once_of (next_of state) state
   pub pictures_are : pictures_in (next_of state) ≡ due_since (state.now.time / frame_ticks) new
 
-pub steps-agree : (state : State) (regs : Regs) (contents : Contents) (once : Once) (ticks count : ℕ)
-    → Did after (bus_step state) state.now.regs (contents_of state) regs contents once → ticks ≡ ticks_in once → count ≡ steps_in once
-    → Agreed state (fields contents state.roms.tiles regs (state.now.time + ticks) (state.now.steps + count)) once
-steps-agree state regs contents once ticks count did t n =
+pub steps-agree : (state : State) (regs : Regs) (contents : Contents) (once : Once) (time steps : ℕ)
+    → Did after (bus_step state) state.now.regs (contents_of state) regs contents once
+    → time ≡ state.now.time + ticks_in once → steps ≡ state.now.steps + steps_in once
+    → Agreed state (fields contents state.roms.tiles regs time steps) once
+steps-agree state regs contents once time steps did time_is steps_are =
     let part = view_step state in
     let same = ap (λ (s : Surroundings). cpu_step s state.now.regs None) (surroundings-agree state.roms state.now.board) in
     let times : IsInTime part = timed (by_view state.roms) state.now in
     let told = did.once ∙ ap cpu_once_of same in
     let agreed = fields-agree state part times regs (did.regs ∙ ap (λ x. regs_after x state.now.regs) same) contents
     (did.bus ∙ ap (λ x. after_all after (contents_of state) (actions_of x)) same) once told in
-    let grown = λ (x : ℕ × ℕ). fields contents state.roms.tiles regs (state.now.time + x.0) (state.now.steps + x.1) in
-    let counted = ap grown (λ i. (t i, n i)) in
+    let counted = ap (λ (x : ℕ × ℕ). fields contents state.roms.tiles regs x.0 x.1) (λ i. (time_is i, steps_are i)) in
     let whole = counted ∙ agreed in
     record {
       state_is = whole;

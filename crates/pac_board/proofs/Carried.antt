@@ -1,15 +1,13 @@
 -- A walk over one account of the board is the walk over the other, seen through the view.
-use Rattle.std.proofs.Common.{◌≡◌, ℕ, zero, suc, List, [], ◌∷◌, ◌++◌, ◌+◌, Option, None, Some, Bool, true, false, nat_le, refl, sym, ap}
+use Rattle.std.proofs.Common.{◌≡◌, ℕ, zero, suc, List, [], ◌∷◌, ◌+◌, Option, None, Some, Bool, true, false, nat_le, refl, ap}
 use Rattle.std.proofs.Common.{◌∙◌}
 use Rattle.pac_map.specs.Entry.{Entry, Blank, entries_of}
 use Rattle.pac_map.specs.Lookups.{port_byte}
 use Rattle.pac_bus.specs.Action.{Action}
-use Rattle.pac_table.specs.Instructions.{Instruction}
-use Rattle.pac_exec.specs.declared.regs.Regs.{Regs}
 use Rattle.pac_cpu.specs.declared.once.Stop.{Stop}
-use Rattle.pac_cpu.specs.Step.{Surroundings, CpuStep, Steps, Stops, cpu_step}
-use Rattle.pac_board.specs.Step.{Questions, Moment, Picture, Next, Goes, Ends, put_all, put_actions, surroundings, composed, step}
-use Rattle.pac_board.specs.Step.{after_cpu_step, events, frame_ticks}
+use Rattle.pac_cpu.specs.Step.{CpuStep, Steps, Stops, cpu_step}
+use Rattle.pac_board.specs.Step.{Questions, Moment, Next, Goes, Ends, put_all, put_actions, surroundings, composed, step}
+use Rattle.pac_board.specs.Step.{after_cpu_step, events}
 use Rattle.pac_board.specs.Walk.{Walk, walk, onward, onward_if, after_step}
 use Rattle.pac_board.specs.Carried.{Carries, moment_view, next_view, walk_view}
 

@@ -1,12 +1,11 @@
 -- Each trace ends: a step takes 4 T-states at least, and what has ended stays.
-use Rattle.std.proofs.Common.{◌≡◌, ℕ, zero, suc, ◌+◌, ◌-◌, ◌*◌, ◌≤◌, ◌⊎◌, inl, inr, List, [], ◌∷◌, ◌++◌, Option, None, Some, Bool, true}
+use Rattle.std.proofs.Common.{◌≡◌, ℕ, zero, suc, ◌+◌, ◌-◌, ◌*◌, ◌≤◌, ◌⊎◌, inl, inr, Option, None, Some, Bool, true}
 use Rattle.std.proofs.Common.{false}
 use Rattle.std.proofs.Common.{◌||◌, is_some, nat_le, refl, sym, ap, ◌∙◌, arith}
 use Rattle.std.proofs.lemmas.Bool.Decides.{nat_tests}
 use Rattle.pac_cpu.specs.declared.once.Stop.{Stop}
-use Rattle.pac_cpu.specs.Step.{Surroundings, CpuStep, Steps, Stops, cpu_step, IsInTime}
-use Rattle.pac_exec.specs.declared.regs.Regs.{Regs}
-use Rattle.pac_board.specs.Step.{Questions, Moment, Picture, Next, Goes, Ends, surroundings, step, after_cpu_step}
+use Rattle.pac_cpu.specs.Step.{CpuStep, Steps, Stops, cpu_step, IsInTime}
+use Rattle.pac_board.specs.Step.{Questions, Moment, surroundings, after_cpu_step}
 use Rattle.pac_board.specs.Walk.{Walk, walk, onward, onward_if, after_step, has_ended}
 
 not-both : {A : Type 0} → true ≡ false → A

@@ -1,5 +1,5 @@
 -- The pictures of a walk that began at time 0 are as many as the frames that its time has seen.
-use Rattle.std.proofs.Common.{◌≡◌, ℕ, zero, suc, ◌+◌, ◌-◌, ◌*◌, ◌/◌, ◌%◌, ◌<◌, ◌≤◌, ◌==◌, nat_lt, List, [], ◌∷◌, ◌++◌, Bool, true, false}
+use Rattle.std.proofs.Common.{◌≡◌, ℕ, zero, suc, ◌+◌, ◌/◌, ◌<◌, nat_lt, List, [], ◌∷◌, ◌++◌, Bool, true, false}
 use Rattle.std.proofs.Common.{cond}
 use Rattle.std.proofs.Common.{Option, None, Some, length, nat_le, refl, sym, ap, ◌∙◌, append_assoc, arith}
 use Rattle.std.proofs.lemmas.Bool.Decides.{nat_tests}
@@ -7,11 +7,11 @@ use Rattle.std.proofs.lemmas.List.{length-append, append-nil}
 use mathlib.Core.List.{IsPrefix, prefix-append}
 use Rattle.pac_cpu.specs.declared.once.Stop.{Stop}
 use Rattle.pac_cpu.specs.Step.{CpuStep, Steps, Stops, cpu_step, IsInTime}
-use Rattle.pac_board.specs.Step.{Questions, Moment, Picture, Next, Goes, Ends, put_actions, composed, events, step, after_cpu_step}
+use Rattle.pac_board.specs.Step.{Questions, Moment, Next, Goes, Ends, put_actions, composed, events, step, after_cpu_step}
 use Rattle.pac_board.specs.Step.{surroundings}
 use Rattle.pac_board.specs.Step.{frame_ticks}
 use Rattle.pac_board.specs.Walk.{Walk, walk, onward, onward_if, after_step}
-use Rattle.pac_board.proofs.Moments.{events-short, short_events, composed-short}
+use Rattle.pac_board.proofs.Moments.{events-short, composed-short}
 
 module _ {Board : Type 0} (ask : Questions Board) (limit : ℕ)
     (timed : (now : Moment Board) → IsInTime (cpu_step (surroundings ask now.board) now.regs None)) where

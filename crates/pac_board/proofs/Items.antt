@@ -18,10 +18,9 @@ use Rattle.pac_map.specs.declared.bus_table.Place.{Place}
 use Rattle.pac_map.specs.declared.bus_table.Place.TheVariants.{Program, Tile, Colour, Work, Nothing, Inputs0, Inputs1, Switches, Kick}
 use Rattle.pac_map.specs.Place.{read_place, read_port, ram_place, program_size}
 use Rattle.pac_map.specs.Lookups.{answer}
-use Rattle.pac_map.specs.Entry.{Entry, View, view_after, read_of, lookups_of}
+use Rattle.pac_map.specs.Entry.{View, read_of, lookups_of}
 use Rattle.pac_map.specs.Sizes.{IsSized}
-use Rattle.pac_tiles.specs.Tiles.{picture_of}
-use Rattle.pac_board.specs.History.{read, tile_at, view_of}
+use Rattle.pac_board.specs.History.{tile_at, view_of}
 use Rattle.pac_board.specs.Trace.{Roms, item_in, by_history, by_view}
 use Rattle.pac_board.specs.Carried.{Carries}
 use Rattle.pac_board.proofs.Views.{read-viewed, tile-viewed, picture-agrees}

@@ -1,15 +1,15 @@
 -- A step of the board is a step along its walk.
-use Rattle.std.proofs.Common.{◌≡◌, ℕ, suc, ◌+◌, ◌-◌, ◌<◌, ◌≤◌, Option, None, Some, Bool, true, false, nat_le, refl, sym, ap, subst, ◌∙◌}
+use Rattle.std.proofs.Common.{◌≡◌, ℕ, suc, ◌+◌, ◌-◌, ◌<◌, Option, None, Some, Bool, true, false, nat_le, refl, sym, ap, subst, ◌∙◌}
 use Rattle.std.proofs.Common.{add-one, arith}
 use Rattle.std.proofs.lemmas.Bool.Decides.{nat_tests}
 use Rattle.pac_cpu.specs.declared.once.Stop.{Stop}
 use Rattle.pac_cpu.specs.Step.{CpuStep, Steps, Stops, cpu_step, IsInTime}
 use Rattle.pac_map.specs.Entry.{View}
-use Rattle.pac_board.specs.Step.{Questions, Moment, Picture, Next, Goes, Ends, step, surroundings, after_cpu_step}
-use Rattle.pac_board.specs.Walk.{Walk, walk, onward, onward_if, after_step}
+use Rattle.pac_board.specs.Step.{Questions, Moment, Next, step, surroundings, after_cpu_step}
+use Rattle.pac_board.specs.Walk.{Walk, walk, onward_if, after_step}
 use Rattle.pac_board.specs.Trace.{by_view}
 use Rattle.pac_board.specs.State.{State, next_of, state_after, once_of, pictures_in}
-use Rattle.pac_board.specs.Onward.{StandsAt, GoesOn, Stays, Follows, StepsFollowWalks}
+use Rattle.pac_board.specs.Onward.{StandsAt, Follows, StepsFollowWalks}
 use Rattle.pac_board.proofs.Whole.{timed}
 
 -- a walk that goes on before its limit takes the next step

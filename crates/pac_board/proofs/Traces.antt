@@ -1,6 +1,6 @@
 -- What holds of every trace: the pictures given are those of the history.
-use Rattle.std.proofs.Common.{◌≡◌, ℕ, zero, suc, ◌+◌, ◌==◌, List, [], ◌∷◌, ◌++◌, Option, None, Some, Bool, true, false, cond, nat_le}
-use Rattle.std.proofs.Common.{refl, sym, ap, ◌∙◌, append_assoc, arith}
+use Rattle.std.proofs.Common.{◌≡◌, ℕ, zero, suc, ◌==◌, List, [], ◌∷◌, ◌++◌, Option, None, Some, Bool, true, false, cond, nat_le}
+use Rattle.std.proofs.Common.{refl, sym, ap, ◌∙◌, append_assoc}
 use Rattle.std.proofs.lemmas.List.{append-nil}
 use Rattle.pac_bus.specs.Action.{Action, Write as Written, Output}
 use Rattle.pac_exec.specs.declared.regs.Regs.{Regs}
@@ -8,9 +8,7 @@ use Rattle.pac_code.specs.Items.{Item}
 use Rattle.pac_cpu.specs.declared.once.Stop.{Stop}
 use Rattle.pac_cpu.specs.Step.{CpuStep, Steps, Stops, cpu_step}
 use Rattle.pac_map.specs.Entry.{Entry, Write, Vector, Blank, View, entries_of}
-use Rattle.pac_tiles.specs.Tiles.{picture_of}
-use Rattle.pac_board.specs.History.{tile_at}
-use Rattle.pac_board.specs.Step.{Questions, Moment, Picture, put_all, put_actions, surroundings, composed, step, after_cpu_step, events}
+use Rattle.pac_board.specs.Step.{Questions, Moment, Picture, put_all, put_actions, surroundings, composed, after_cpu_step, events}
 use Rattle.pac_board.specs.Walk.{Walk, walk, onward_if, after_step}
 use Rattle.pac_board.specs.Trace.{Roms, by_history, pictures_of}
 

@@ -8,7 +8,7 @@ use borrow.Author.Tests.{ltb-true}
 use Rattle.pac_map.specs.declared.bus_table.Place.{Place}
 use Rattle.pac_map.specs.declared.bus_table.Place.TheVariants.{Program, Tile, Colour, Work, Nothing, Inputs0, Inputs1, Switches, Kick}
 use Rattle.pac_map.specs.Place.{read_place, ram_place, read_port, IsInRange, ram_size}
-use Rattle.pac_map.specs.Lookups.{Lookups, answer, in0, in1}
+use Rattle.pac_map.specs.Lookups.{answer, in0, in1}
 use Rattle.pac_map.specs.Entry.{Entry, Write, Hold, View, view_after, written, lookups_of, read_of}
 use Rattle.pac_map.specs.Sizes.{IsSized}
 use Rattle.pac_map.proofs.Sizes.{view-after-sized}

@@ -1,5 +1,5 @@
 -- Whole traces, from power-on to their end.
-use Rattle.std.proofs.Common.{◌≡◌, ℕ, ◌+◌, ◌-◌, ◌*◌, ◌/◌, ◌≤◌, Bool, true, false, nat_le, List, [], ◌∷◌, ◌++◌, length, None, refl, sym, ap}
+use Rattle.std.proofs.Common.{◌≡◌, ℕ, ◌+◌, ◌-◌, ◌*◌, ◌≤◌, Bool, true, false, nat_le, List, [], ◌∷◌, length, None, refl, sym, ap}
 use Rattle.std.proofs.Common.{◌∙◌}
 use Rattle.std.proofs.Common.{arith, length-append}
 use Rattle.std.proofs.lemmas.Bool.Decides.{nat_tests}
@@ -14,7 +14,7 @@ use Rattle.pac_map.specs.Entry.{Entry, Blank, View, power_on}
 use Rattle.pac_map.proofs.Sizes.{power-on-sized}
 use Rattle.pac_board.specs.History.{view_of}
 use Rattle.pac_board.specs.Step.{Questions, Moment, surroundings, frame_ticks}
-use Rattle.pac_board.specs.Walk.{Walk, walk, has_ended}
+use Rattle.pac_board.specs.Walk.{Walk, has_ended}
 use Rattle.pac_board.specs.Trace.{Roms, by_history, by_view, pictures_of, blanks, start, trace, view_walk, view_trace, frame_steps}
 use Rattle.pac_board.specs.Laws.{TracesAgree, PicturesAreOfTheHistory, BlanksAreFrames, TracesEnd, EndedWalksAreTraces, WalksArePrefixes}
 use Rattle.pac_board.proofs.Carried.{walk-carried}

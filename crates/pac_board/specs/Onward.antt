@@ -1,12 +1,11 @@
 -- One step of the board is one step along each walk that stands where the board stands.
-use Rattle.std.specs.Prelude.{◌≡◌, ◌≤◌, ◌<◌, ℕ, ◌+◌, ◌++◌, List, [], Option, None, Some}
+use Rattle.std.specs.Prelude.{◌≡◌, ◌≤◌, ◌<◌, ℕ, ◌+◌, ◌++◌, List, [], None, Some}
 use Rattle.pac_cpu.specs.declared.once.Once.{Once}
 use Rattle.pac_cpu.specs.declared.once.Once.TheVariants.{Stepped, Stopped}
-use Rattle.pac_cpu.specs.declared.once.Kind.{Kind}
 use Rattle.pac_cpu.specs.declared.once.Stop.{Stop}
 use Rattle.pac_exec.specs.Transition.{shortest_ticks, longest_ticks}
 use Rattle.pac_map.specs.Entry.{View}
-use Rattle.pac_board.specs.Step.{Moment, Picture, Next}
+use Rattle.pac_board.specs.Step.{Moment, Picture}
 use Rattle.pac_board.specs.Walk.{Walk, walk}
 use Rattle.pac_board.specs.Trace.{by_view}
 use Rattle.pac_board.specs.State.{State, next_of, state_after, once_of, pictures_in}

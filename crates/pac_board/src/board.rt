@@ -1,6 +1,6 @@
 //! The board: processor, bus, ROMs and the vertical counter as one value.
 
-ghost use Rattle.std.specs.Prelude.{◌≡◌, ◌↔◌, ◌≤◌, ◌/◌, length, IsErr, OnOk, OnErr, IfOk};
+ghost use Rattle.std.specs.Prelude.{◌≡◌, ◌↔◌, ◌<◌, ◌≤◌, ◌+◌, ◌^◌, ◌/◌, length, IsErr, OnOk, OnErr, IfOk};
 ghost use Rattle.pac_map.specs.Place.{program_size, ram_size};
 ghost use Rattle.pac_board.specs.Step.{frame_ticks};
 ghost use Rattle.pac_board.specs.Trace.{tiles_size};
@@ -19,7 +19,7 @@ pub const TICKS_A_FRAME: u64 = 50_688;
 const LATEST: u64 = 1 << 52;
 
 /// The time is so late that no step is begun.
-#[derive(Clone, Copy, Debug, PartialEq, Eq, Error)]
+#[derive(Clone, Copy, Debug, Error)]
 #[error("the board's time is over")]
 pub struct TooFar;
 
@@ -29,7 +29,7 @@ pub struct Board {
     cpu: Cpu,
     map: Map,
     tiles: Vec<u8>,
-    time: u64,
+    clock: u64,
     steps: u64,
 }
 
@@ -43,13 +43,13 @@ impl Model for Board {
 
     ghost view = { λ board. record {
       roms = record { program = board.map.program; tiles = board.tiles.items };
-      now = record { regs = board.cpu; board = board.map.view; time = board.time; steps = board.steps };
+      now = record { regs = board.cpu; board = board.map.view; time = board.clock; steps = board.steps };
     } };
 
     ghost invariant = { λ board. record {
       tiles : length board.tiles.items ≡ tiles_size;
-      steps : shortest_ticks * board.steps ≤ board.time;
-      time : board.time ≤ latest_end;
+      steps : shortest_ticks * board.steps ≤ board.clock;
+      time : board.clock ≤ latest_end;
     } };
 }
 
@@ -71,7 +71,7 @@ impl Board {
             cpu: Cpu::power_on(),
             map,
             tiles,
-            time: 0,
+            clock: 0,
             steps: 0,
         })
     }
@@ -82,7 +82,7 @@ impl Board {
         ensures time { result ≡ self.now.now.time }
         ensures bound { self.now.now.time ≤ state.latest_end }
     {
-        self.time
+        self.clock
     }
 
     /// The steps since power-on.
@@ -98,7 +98,7 @@ impl Board {
     pub fn frames(&self) -> u64
         ensures { result ≡ self.now.now.time / frame_ticks }
     {
-        self.time / TICKS_A_FRAME
+        self.time() / TICKS_A_FRAME
     }
 
     /// Does one step, with the events that fall in it. No request is made yet.
@@ -110,12 +110,12 @@ impl Board {
         ensures pictures { OnOk result (state.pictures_in (state.next_of self.old)
             ≡ state.due_since (self.old.now.time / frame_ticks) self.new) }
     {
-        if self.time >= LATEST {
+        if self.time() >= LATEST {
             return Err(TooFar);
         }
         let once = self.cpu.step(&mut self.map, None);
-        self.time += u64::from(ticks_in(&once));
-        self.steps += u64::from(steps_in(&once));
+        add(&mut self.clock, ticks_in(&once));
+        add(&mut self.steps, steps_in(&once));
         Ok(once)
     }
 
@@ -136,6 +136,15 @@ impl Board {
     {
         self.map.tile_ram()
     }
+}
+
+/// Adds to a count.
+#[inline]
+fn add(count: &mut u64, more: u8)
+    requires { count.old + more < 2 ^ 64 }
+    ensures { count.new ≡ count.old + more }
+{
+    *count += u64::from(more);
 }
 
 /// The time of a step, 0 for a stop.

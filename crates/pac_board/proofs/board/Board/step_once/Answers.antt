@@ -1,5 +1,5 @@
 -- The step of the fields is the step of the state that callers see.
-use Rattle.std.proofs.Common.{◌∙◌, ◌+◌, subst, rules}
+use Rattle.std.proofs.Common.{◌+◌, ◌∙◌, ap, subst, rules}
 use Rattle.pac_board.specs.State.{State}
 use Rattle.pac_board.proofs.Boards.{Agreed, fields, steps-agree}
 use Rattle.pac_board.proofs.board.Board.step_once.Goals as goal
@@ -8,15 +8,15 @@ pub returns : goal.returns
 returns c =
     let board = c.self.inside in
     let step = c.step-once in
-    let old : State = fields board.map board.tiles.items board.cpu board.time board.steps in
-    let new : State = fields step.new.bus board.tiles.items step.new.self (board.time + c.from.result) (board.steps + c.from-2.result) in
-    let agreed = steps-agree old step.new.self step.new.bus step.result c.from.result c.from-2.result step.ensures.did
-    (c.from.ensures ∙ c.ticks_in.ensures) (c.from-2.ensures ∙ c.steps_in.ensures) in
-    let seen = subst (λ (s : State). Agreed s new step.result) c.self.view_is agreed in
+    let old : State = fields board.map board.tiles.items board.cpu board.clock board.steps in
+    let new : State = fields step.new.bus board.tiles.items step.new.self c.add.new.count c.add-2.new.count in
+    let agreed = steps-agree old step.new.self step.new.bus step.result c.add.new.count c.add-2.new.count step.ensures.did
+    (c.add.ensures ∙ ap (λ n. board.clock + n) c.ticks_in.ensures) (c.add-2.ensures ∙ ap (λ n. board.steps + n) c.steps_in.ensures) in
+    let viewed = subst (λ (state : State). Agreed state new step.result) c.self.view_is agreed in
     record {
       late = search rules;
       unchanged = search rules;
-      state = seen.state_is;
-      once = seen.once_is;
-      pictures = seen.pictures_are;
+      state = viewed.state_is;
+      once = viewed.once_is;
+      pictures = viewed.pictures_are;
     }
