@@ -8,7 +8,7 @@ use borrow.Author.Tests.{ltb-true}
 use Rattle.pac_map.specs.declared.bus_table.Place.{Place}
 use Rattle.pac_map.specs.declared.bus_table.Place.TheVariants.{Program, Tile, Colour, Work, Nothing, Inputs0, Inputs1, Switches, Kick}
 use Rattle.pac_map.specs.Place.{read_place, ram_place, read_port, IsInRange, ram_size}
-use Rattle.pac_map.specs.Lookups.{answer, in0, in1}
+use Rattle.pac_map.specs.Lookups.{answer}
 use Rattle.pac_map.specs.Entry.{Entry, Write, Hold, View, view_after, written, lookups_of, read_of}
 use Rattle.pac_map.specs.Sizes.{IsSized}
 use Rattle.pac_map.proofs.Sizes.{view-after-sized}
@@ -106,14 +106,18 @@ switches-viewed start [] = refl
 switches-viewed start (Write place byte ∷ older) = written-switches (view_of start older) place byte ∙ switches-viewed start older
 switches-viewed start (entry ∷ older) = switches-viewed start older
 
+-- what a place gives where another mask of inputs is held
+abbrev with_held : List ℕ → View → List Entry → Place → ℕ → ℕ
+with_held program start entries place mask = answer (record (history_lookups program start entries) { held = mask }) place
+
 answer-viewed : (program : List ℕ) (start : View) (entries : List Entry) (place : Place) → IsSized start → IsInRange place
     → answer (history_lookups program start entries) place ≡ answer (lookups_of program (view_of start entries)) place
 answer-viewed program start entries (Program cell) sized lt = refl
 answer-viewed program start entries (Tile cell) sized lt = sym (tile-viewed start entries cell sized lt)
 answer-viewed program start entries (Colour cell) sized lt = sym (colour-viewed start entries cell sized lt)
 answer-viewed program start entries (Work cell) sized lt = sym (work-viewed start entries cell sized lt)
-answer-viewed program start entries Inputs0 sized lt = ap in0 (sym (held-viewed start entries))
-answer-viewed program start entries Inputs1 sized lt = ap in1 (sym (held-viewed start entries))
+answer-viewed program start entries Inputs0 sized lt = ap (with_held program start entries Inputs0) (sym (held-viewed start entries))
+answer-viewed program start entries Inputs1 sized lt = ap (with_held program start entries Inputs1) (sym (held-viewed start entries))
 answer-viewed program start entries Switches sized lt = sym (switches-viewed start entries)
 answer-viewed program start entries _ sized lt = refl
 

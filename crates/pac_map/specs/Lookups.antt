@@ -1,7 +1,7 @@
 -- What the places of the bus give, over what a read asks of the board, however that is kept (Namco Pac-Man service
 -- schematics; what this profile adds is named).
-use Rattle.std.specs.Prelude.{ℕ, ◌-◌}
-use Rattle.pac_num.specs.Numbers.{low_byte, high_byte}
+use Rattle.std.specs.Prelude.{ℕ}
+use Rattle.pac_inputs.specs.Ports.{in0, in1}
 use Rattle.pac_map.specs.declared.bus_table.Place.{Place}
 use Rattle.pac_map.specs.declared.bus_table.Place.TheVariants.{Program, Tile, Colour, Work, Nothing, Inputs0, Inputs1, Switches}
 use Rattle.pac_map.specs.Place.{read_place}
@@ -14,13 +14,6 @@ pub record Lookups : Type 0 where
   pub work : ℕ → ℕ
   pub held : ℕ
   pub switches : ℕ
-
--- a held input reads 0: the two ports show the complements of the mask's low and high byte
-abbrev pub in0 : ℕ → ℕ
-in0 held = 0xFF - low_byte held
-
-abbrev pub in1 : ℕ → ℕ
-in1 held = 0xFF - high_byte held
 
 -- the byte that a place gives: the block with no chip reads BFH, and the watchdog's address FFH, as does what is
 -- only written (this profile)
