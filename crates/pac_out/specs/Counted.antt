@@ -20,7 +20,8 @@ pub record HasTaken {W : Type 0} (took : W → List ℕ → W → Type 0) (start
 
 -- The file, whose writer was `start` before its first byte, was offered this text, and its writer refused
 -- after the first `taken` bytes of it.
-pub record HasStopped {W : Type 0} (took : W → List ℕ → W → Type 0) (refused : W → W → Type 0) (start : W) (text : List ℕ) (file : Counted W)
+pub record HasStopped {W : Type 0} (took : W → List ℕ → W → Type 0) (refused : W → W → Type 0) (start : W) (text : List ℕ)
+    (file : Counted W)
     : Type 0 where
   pub taken : ℕ
   pub stopped : StopsAfter took refused start text taken file.writer
@@ -33,12 +34,14 @@ pub record Takes {W : Type 0} (took : W → List ℕ → W → Type 0) (old : Co
 
 -- Whatever text the file had taken, its writer has now refused within that text and these bytes, and the fault
 -- tells the file's count.
-pub record Refuses {W : Type 0} (took : W → List ℕ → W → Type 0) (refused : W → W → Type 0) (old : Counted W) (bytes : List ℕ) (fault : WriteFault)
+pub record Refuses {W : Type 0} (took : W → List ℕ → W → Type 0) (refused : W → W → Type 0) (old : Counted W) (bytes : List ℕ)
+    (fault : WriteFault)
     (new : Counted W) : Type 0 where
   pub told : fault.count ≡ new.count
   pub after : (start : W) (text : List ℕ) → HasTaken took start text old → HasStopped took refused start (text ++ bytes) new
 
 -- What putting bytes into a file leaves of it, by the answer.
-abbrev pub Puts : {W A : Type 0} → (W → List ℕ → W → Type 0) → (W → W → Type 0) → Counted W → List ℕ → Result A WriteFault → Counted W → Type 0
+abbrev pub Puts : {W A : Type 0} → (W → List ℕ → W → Type 0) → (W → W → Type 0) → Counted W → List ℕ → Result A WriteFault → Counted W
+    → Type 0
 Puts took refused old bytes (Ok done) new = Takes took old bytes new
 Puts took refused old bytes (Err fault) new = Refuses took refused old bytes fault new

@@ -9,7 +9,8 @@ use Rattle.pac_out.specs.Faulty.{Weak, Passes}
 pub adds-nothing : (writer : Space) → Adds writer [] writer
 adds-nothing writer = record { after = sym (append-nil writer.bytes); used = omega arith }
 
-pub adds-joined : (first second third : Space) (prefix suffix : List ℕ) → Adds first prefix second → Adds second suffix third → Adds first (prefix ++ suffix) third
+pub adds-joined : (first second third : Space) (prefix suffix : List ℕ) → Adds first prefix second → Adds second suffix third
+    → Adds first (prefix ++ suffix) third
 adds-joined first second third prefix suffix one other =
     record {
       after = other.after ∙ (ap (λ held. held ++ suffix) one.after ∙ append_assoc first.bytes prefix suffix);
@@ -35,7 +36,8 @@ pub appends-nothing : (known : Option (List ℕ)) → Appends known known []
 appends-nothing None = tt
 appends-nothing (Some held) = sym (append-nil held)
 
-pub appends-joined : (first second third : Option (List ℕ)) (prefix suffix : List ℕ) → Appends first second prefix → Appends second third suffix
+pub appends-joined : (first second third : Option (List ℕ)) (prefix suffix : List ℕ) → Appends first second prefix
+    → Appends second third suffix
     → Appends first third (prefix ++ suffix)
 appends-joined None second third prefix suffix one other = tt
 appends-joined (Some a) None third prefix suffix one other = absurd one

@@ -14,7 +14,8 @@ IsWrite took refused old bytes (Ok count) new = record {
 IsWrite took refused old bytes (Err fault) new = refused old new
 
 -- The writer `old` took the first `count` of these bytes, fewer than all, then refused, and is `new`.
-pub record StopsAfter {W : Type 0} (took : W → List ℕ → W → Type 0) (refused : W → W → Type 0) (old : W) (bytes : List ℕ) (count : ℕ) (new : W)
+pub record StopsAfter {W : Type 0} (took : W → List ℕ → W → Type 0) (refused : W → W → Type 0) (old : W) (bytes : List ℕ) (count : ℕ)
+    (new : W)
     : Type 0 where
   pub some_left : count < length bytes
   pub asked : W

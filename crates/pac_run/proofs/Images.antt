@@ -1,5 +1,6 @@
 -- An image, row by row.
-use Rattle.std.proofs.Common.{◌≡◌, ℕ, zero, suc, ◌+◌, ◌-◌, ◌<◌, ◌/◌, List, [], ◌∷◌, ◌++◌, cond, true, nat_lt, slice_index, refl, sym, ap, ◌∙◌, append_assoc, add-one, arith}
+use Rattle.std.proofs.Common.{◌≡◌, ℕ, ◌+◌, ◌-◌, ◌<◌, ◌/◌, List, [], ◌∷◌, ◌++◌, cond, true, nat_lt, slice_index, refl, sym, ap}
+use Rattle.std.proofs.Common.{◌∙◌, append_assoc, add-one, arith}
 use Rattle.std.proofs.lemmas.Bool.Decides.{nat_tests}
 use Rattle.std.proofs.lemmas.List.{append-nil}
 use Rattle.std.proofs.lemmas.Grind.{flat_map-append}
@@ -41,7 +42,8 @@ image-rest row y lt =
     ∙ ap (λ n. image (tabulate n row)) all
 
 -- where a frame ended, its image is all that is due
-pub one-due : (shown : ℕ) (state : State) (tiles tile_ram : List ℕ) → shown < state.now.time / frame_ticks → tiles ≡ state.roms.tiles → tile_ram ≡ state.now.board.tile
+pub one-due : (shown : ℕ) (state : State) (tiles tile_ram : List ℕ) → shown < state.now.time / frame_ticks → tiles ≡ state.roms.tiles
+    → tile_ram ≡ state.now.board.tile
     → image (picture_of tiles (slice_index tile_ram)) ≡ images (due_since shown state)
 one-due shown state tiles tile_ram lt t r =
     let test : nat_lt shown (state.now.time / frame_ticks) ≡ true = grind (arith, nat_tests) in

@@ -1,5 +1,6 @@
 -- A run's loop stands on the walk of its board from power-on.
-use Rattle.std.proofs.Common.{◌≡◌, ℕ, ◌+◌, ◌*◌, ◌<◌, ◌≤◌, ◌++◌, List, [], Option, None, Some, is_some, ◌||◌, nat_le, true, refl, sym, ap, subst, ◌∙◌, arith}
+use Rattle.std.proofs.Common.{◌≡◌, ℕ, ◌+◌, ◌*◌, ◌<◌, ◌≤◌, ◌++◌, List, Option, None, Some, is_some, ◌||◌, nat_le, true, refl, sym, ap}
+use Rattle.std.proofs.Common.{subst, ◌∙◌, arith}
 use Rattle.std.proofs.lemmas.Bool.Decides.{nat_tests}
 use Rattle.std.proofs.lemmas.List.{append-nil}
 use Rattle.std.proofs.lemmas.Grind.{flat_map-append}
@@ -43,10 +44,12 @@ images-append : (prefix suffix : List Picture) → images (prefix ++ suffix) ≡
 images-append prefix suffix = flat_map-append image prefix suffix
 
 -- a walk that has ended is the whole trace
-ended-text : (roms : Roms) (frames count : ℕ) → has_ended (frame_ticks * frames) (along roms frames count) ≡ true → text_along roms frames count ≡ whole_text roms frames
+ended-text : (roms : Roms) (frames count : ℕ) → has_ended (frame_ticks * frames) (along roms frames count) ≡ true
+    → text_along roms frames count ≡ whole_text roms frames
 ended-text roms frames count ended = ap (λ (w : Walk View). images w.pictures) (ended-traces roms switches frames count ended)
 
-ended-done : (first new : State) (frames count : ℕ) (stop : Option Stop) → has_ended (frame_ticks * frames) (along first.roms frames count) ≡ true
+ended-done : (first new : State) (frames count : ℕ) (stop : Option Stop)
+    → has_ended (frame_ticks * frames) (along first.roms frames count) ≡ true
     → new.now ≡ (along first.roms frames count).now → stop ≡ (along first.roms frames count).stop → IsDone first new frames stop
 ended-done first new frames count stop ended now met =
     let same = ended-traces first.roms switches frames count ended in
@@ -69,8 +72,10 @@ module _ (first : State) (frames : ℕ) (from : first ≡ at_power_on first.roms
         time = omega (arith, time);
       }
 
-  pub takes-start : {W : Type 0} (took : W → List ℕ → W → Type 0) (file : Counted W) → Takes took file (text_along first.roms frames first.now.steps) file
-  takes-start took file = subst (λ (text : List ℕ). Takes took file text file) (ap (text_along first.roms frames) (sym no-steps)) (takes-nothing file)
+  pub takes-start : {W : Type 0} (took : W → List ℕ → W → Type 0) (file : Counted W)
+      → Takes took file (text_along first.roms frames first.now.steps) file
+  takes-start took file = subst (λ (text : List ℕ). Takes took file text file) (ap (text_along first.roms frames) (sym no-steps))
+      (takes-nothing file)
 
 -- the loop's end by its time
 module _ (first now : State) (frames : ℕ) (on : IsOn first now frames) (late : frame_ticks * frames ≤ now.now.time) where
@@ -96,37 +101,48 @@ module _ (first now : State) (frames : ℕ) (on : IsOn first now frames) (early 
   unfolding Answered
   answered =
       let stands = subst (λ (r : Roms). StandsAt (along r frames now.now.steps) now) (sym on.roms) on.stands in
-      subst (λ (r : Roms). Follows (along r frames now.now.steps) (along r frames (now.now.steps + 1)) now (behind (next_of now) now) (pictures_in (next_of now)) (once_of (next_of now) now))
+      subst (λ (r : Roms). Follows (along r frames now.now.steps) (along r frames (now.now.steps + 1)) now (behind (next_of now) now)
+      (pictures_in (next_of now)) (once_of (next_of now) now))
       on.roms (steps-follow_walks now (start (power_on switches)) (frame_ticks * frames) now.now.steps stands early)
 
   more-by : (new : State) (given : List Picture) (once : Once) → Answered new given once
       → text_along first.roms frames (now.now.steps + 1) ≡ text_along first.roms frames now.now.steps ++ images given
   unfolding Answered
-  more-by new given (Stepped ticks kind) went = ap images went.pictures ∙ images-append (along first.roms frames now.now.steps).pictures given
+  more-by new given (Stepped ticks kind) went = ap images went.pictures
+      ∙ images-append (along first.roms frames now.now.steps).pictures given
   more-by new given (Stopped stop) stayed =
       ap images stayed.pictures ∙ sym (append-nil (text_along first.roms frames now.now.steps))
       ∙ ap (λ (ps : List Picture). text_along first.roms frames now.now.steps ++ images ps) (sym stayed.none)
 
   -- its images are those so far, and those of the step
-  text-more : text_along first.roms frames (now.now.steps + 1) ≡ text_along first.roms frames now.now.steps ++ images (pictures_in (next_of now))
+  text-more : text_along first.roms frames (now.now.steps + 1)
+      ≡ text_along first.roms frames now.now.steps ++ images (pictures_in (next_of now))
   text-more = more-by (behind (next_of now) now) (pictures_in (next_of now)) (once_of (next_of now) now) answered
 
-  pub takes-more : {W : Type 0} {took : W → List ℕ → W → Type 0} {before after later : Counted W} → Takes took before (text_along first.roms frames now.now.steps) after
-      → Takes took after (images (pictures_in (next_of now))) later → Takes took before (text_along first.roms frames (now.now.steps + 1)) later
+  pub takes-more : {W : Type 0} {took : W → List ℕ → W → Type 0} {before after later : Counted W}
+      → Takes took before (text_along first.roms frames now.now.steps) after
+      → Takes took after (images (pictures_in (next_of now))) later
+      → Takes took before (text_along first.roms frames (now.now.steps + 1)) later
   takes-more {took = took} {before = before} {later = later} so_far step =
       subst (λ (text : List ℕ). Takes took before text later) (sym text-more) (takes-joined so_far step)
 
-  pub refuses-more : {W : Type 0} {took : W → List ℕ → W → Type 0} {refused : W → W → Type 0} {before after later : Counted W} {fault : WriteFault}
-      → Takes took before (text_along first.roms frames now.now.steps) after → Refuses took refused after (images (pictures_in (next_of now))) fault later
+  pub refuses-more : {W : Type 0} {took : W → List ℕ → W → Type 0} {refused : W → W → Type 0} {before after later : Counted W}
+      {fault : WriteFault}
+      → Takes took before (text_along first.roms frames now.now.steps) after
+      → Refuses took refused after (images (pictures_in (next_of now))) fault later
       → Refuses took refused before (whole_text first.roms frames) fault later
   refuses-more {took = took} {refused = refused} {before = before} {later = later} {fault = fault} so_far stop =
       let prefix = walks-fronts first.roms switches frames (now.now.steps + 1) in
-      let whole : (text_along first.roms frames now.now.steps ++ images (pictures_in (next_of now))) ++ images prefix.rest ≡ whole_text first.roms frames =
-      ap (λ bytes. bytes ++ images prefix.rest) (sym text-more) ∙ sym (images-append (along first.roms frames (now.now.steps + 1)).pictures prefix.rest) ∙ ap images (sym prefix.joined) in
-      subst (λ (text : List ℕ). Refuses took refused before text fault later) whole (refuses-within (refuses-after so_far stop) (images prefix.rest))
+      let whole : (text_along first.roms frames now.now.steps ++ images (pictures_in (next_of now))) ++ images prefix.rest
+      ≡ whole_text first.roms frames =
+      ap (λ bytes. bytes ++ images prefix.rest) (sym text-more)
+      ∙ sym (images-append (along first.roms frames (now.now.steps + 1)).pictures prefix.rest) ∙ ap images (sym prefix.joined) in
+      subst (λ (text : List ℕ). Refuses took refused before text fault later) whole
+      (refuses-within (refuses-after so_far stop) (images prefix.rest))
 
   -- a step that was done
-  module _ (new : State) (ticks : ℕ) (kind : Kind) (new_is : new ≡ behind (next_of now) now) (once_is : once_of (next_of now) now ≡ Stepped ticks kind) where
+  module _ (new : State) (ticks : ℕ) (kind : Kind) (new_is : new ≡ behind (next_of now) now)
+      (once_is : once_of (next_of now) now ≡ Stepped ticks kind) where
     went : Answered new (pictures_in (next_of now)) (Stepped ticks kind)
     went =
         subst (λ (once : Once). Answered new (pictures_in (next_of now)) once) once_is
@@ -162,7 +178,8 @@ module _ (first now : State) (frames : ℕ) (on : IsOn first now frames) (early 
 
     pub stop-done : IsDone first new frames (Some stop)
     unfolding Answered
-    stop-done = ended-done first new frames (now.now.steps + 1) (Some stop) stop-ended (ap (λ (s : State). s.now) stayed.same ∙ sym stayed.now) (sym stayed.met)
+    stop-done = ended-done first new frames (now.now.steps + 1) (Some stop) stop-ended
+        (ap (λ (s : State). s.now) stayed.same ∙ sym stayed.now) (sym stayed.met)
 
     pub stop-text : text_along first.roms frames (now.now.steps + 1) ≡ whole_text first.roms frames
     stop-text = ended-text first.roms frames (now.now.steps + 1) stop-ended

@@ -1,9 +1,9 @@
 -- How long the texts of a run are: far shorter than what a file counts exactly.
-use Rattle.std.proofs.Common.{◌≡◌, ℕ, zero, suc, ◌+◌, ◌*◌, ◌/◌, ◌^◌, ◌<◌, ◌≤◌, List, [], ◌∷◌, ◌++◌, map, Bool, true, false, Option, None, Some, length, nat_le, refl, sym, ap, subst, ◌∙◌, arith, length-append}
+use Rattle.std.proofs.Common.{◌≡◌, ℕ, zero, suc, ◌+◌, ◌*◌, ◌^◌, ◌<◌, ◌≤◌, List, [], ◌∷◌, ◌++◌, map, Bool, true, false, Option, None}
+use Rattle.std.proofs.Common.{Some, length, nat_le, refl, ap, ◌∙◌, arith, length-append}
 use Rattle.std.specs.List.{flat_map}
 use Rattle.std.proofs.lemmas.Grind.{flat_map-append}
 use Rattle.std.proofs.lemmas.Fmt.{length-decimal-le}
-use Rattle.std.specs.Fmt.{decimal}
 use Rattle.pac_cpu.specs.declared.once.Stop.{Stop}
 use Rattle.pac_cpu.specs.declared.once.Cause.{Cause}
 use Rattle.pac_cpu.specs.declared.once.Cause.TheVariants.{Opcode, Vector}
@@ -15,7 +15,7 @@ use Rattle.pac_tiles.proofs.Tabulated.{length-tabulate}
 use Rattle.pac_board.specs.History.{tile_at}
 use Rattle.pac_board.specs.Step.{Questions, Moment, seen, behind_half, frame_ticks}
 use Rattle.pac_board.specs.Walk.{Walk, walk, onward_if, behind_step}
-use Rattle.pac_board.specs.Trace.{Roms, Item, by_history, by_view, pictures_of, blanks, start, trace, view_trace}
+use Rattle.pac_board.specs.Trace.{Roms, by_history, by_view, pictures_of, blanks, start, view_trace}
 use Rattle.pac_board.proofs.Whole.{timed, blanks-frames}
 use Rattle.pac_run.specs.Texts.{grey, image, images, counts_text, cause_text, end_text, report, hex_word, hex_byte}
 use Rattle.pac_run.specs.Turns.{switches, most_frames}
@@ -24,12 +24,15 @@ use Rattle.pac_run.specs.Run.{board_item, roms, run_trace, frames_text}
 use Rattle.pac_run.proofs.Images.{image-none, image-more}
 
 -- a step takes 23 T-states at most
-module _ {Board : Type 0} (ask : Questions Board) (limit : ℕ) (times : (now : Moment Board) → IsInTime (half (seen ask now.board) now.regs None)) where
-  step-slow : (n : ℕ) (w : Walk Board) (h : Half) → IsInTime h → w.now.time ≤ 23 * n → (behind_step w (behind_half ask w.now h)).now.time ≤ 23 * suc n
+module _ {Board : Type 0} (ask : Questions Board) (limit : ℕ)
+    (times : (now : Moment Board) → IsInTime (half (seen ask now.board) now.regs None)) where
+  step-slow : (n : ℕ) (w : Walk Board) (h : Half) → IsInTime h → w.now.time ≤ 23 * n
+      → (behind_step w (behind_half ask w.now h)).now.time ≤ 23 * suc n
   step-slow n w (Steps regs actions ticks kind) in_time slow = omega (arith, in_time.1, slow)
   step-slow n w (Stops stop) in_time slow = omega (arith, slow)
 
-  onward-slow : (n : ℕ) (w : Walk Board) (stop : Option Stop) (late : Bool) → w.now.time ≤ 23 * n → (onward_if ask w stop late).now.time ≤ 23 * suc n
+  onward-slow : (n : ℕ) (w : Walk Board) (stop : Option Stop) (late : Bool) → w.now.time ≤ 23 * n
+      → (onward_if ask w stop late).now.time ≤ 23 * suc n
   onward-slow n w (Some stop) late slow = omega (arith, slow)
   onward-slow n w None true slow = omega (arith, slow)
   onward-slow n w None false slow = step-slow n w (half (seen ask w.now.board) w.now.regs None) (times w.now) slow
@@ -58,12 +61,14 @@ length-rows row wide (suc count) =
     let next : suc count ≡ count + 1 = omega arith in
     rw next (omega (arith, before, more, length-greys (row count), wide count))
 
-length-pictures : (tiles : List ℕ) (view : View) (entries : List Entry) → length (images (pictures_of tiles view entries)) ≡ 193551 * blanks entries
+length-pictures : (tiles : List ℕ) (view : View) (entries : List Entry)
+    → length (images (pictures_of tiles view entries)) ≡ 193551 * blanks entries
 length-pictures tiles view [] = refl
 length-pictures tiles view (Blank frame ∷ older) =
     let before = length-pictures tiles view older in
     let row = row_of tiles (λ cell. tile_at view older cell) in
-    let one : length (image (tabulate 224 row)) ≡ 193551 = length-rows row (λ y. length-tabulate 288 (λ x. dot_of tiles (λ cell. tile_at view older cell) x y)) 224 in
+    let one : length (image (tabulate 224 row)) ≡ 193551 = length-rows row
+    (λ y. length-tabulate 288 (λ x. dot_of tiles (λ cell. tile_at view older cell) x y)) 224 in
     ap length (flat_map-append image (pictures_of tiles view older) (tabulate 224 row ∷ []))
     ∙ length-append (images (pictures_of tiles view older)) (image (tabulate 224 row) ++ [])
     ∙ (let last = length-append (image (tabulate 224 row)) [] in omega (arith, before, one, last))
@@ -75,10 +80,18 @@ frames-short source tiles frames few =
     let entries = (run_trace source tiles frames).now.board in
     let slow = walk-slow (by_history (roms source tiles) (map board_item (items_of source)) (power_on switches)) (frame_ticks * frames)
     (timed (by_history (roms source tiles) (map board_item (items_of source)) (power_on switches))) (start []) refl (12672 * frames) in
-    omega (arith, slow, few, length-pictures tiles (power_on switches) entries, blanks-frames (roms source tiles) (map board_item (items_of source)) switches frames)
+    omega (
+      arith,
+      slow,
+      few,
+      length-pictures tiles (power_on switches) entries,
+      blanks-frames (roms source tiles)
+          (map board_item (items_of source)) switches frames,
+    )
 
 -- its report
-length-counts : (shown total steps ticks : ℕ) → shown < 2 ^ 64 → total < 2 ^ 64 → steps < 2 ^ 64 → ticks < 2 ^ 64 → length (counts_text shown total steps ticks) ≤ 200
+length-counts : (shown total steps ticks : ℕ) → shown < 2 ^ 64 → total < 2 ^ 64 → steps < 2 ^ 64 → ticks < 2 ^ 64
+    → length (counts_text shown total steps ticks) ≤ 200
 length-counts shown total steps ticks shown_fits total_fits steps_fits ticks_fits =
     let one = length-decimal-le 20 shown (omega arith) (omega arith) shown_fits in
     let two = length-decimal-le 20 total (omega arith) (omega arith) total_fits in
@@ -98,4 +111,10 @@ length-end (Some stop) = length-cause stop.pc stop.bytes stop.cause
 pub report-short : (shown total steps ticks : ℕ) (stop : Option Stop) → shown < 2 ^ 64 → total < 2 ^ 64 → steps < 2 ^ 64 → ticks < 2 ^ 64
     → length (report shown total steps ticks stop) < 2 ^ 64
 report-short shown total steps ticks stop shown_fits total_fits steps_fits ticks_fits =
-    omega (arith, length-append (counts_text shown total steps ticks) (end_text stop), length-counts shown total steps ticks shown_fits total_fits steps_fits ticks_fits, length-end stop)
+    omega (
+      arith,
+      length-append (counts_text shown total steps ticks)
+          (end_text stop),
+      length-counts shown total steps ticks shown_fits total_fits steps_fits ticks_fits,
+      length-end stop,
+    )

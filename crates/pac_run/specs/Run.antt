@@ -8,9 +8,7 @@ use Rattle.pac_board.specs.State.{State, at_power_on}
 use Rattle.pac_run.specs.Source.{Placed, items_of, rom_of, fault_of}
 use Rattle.pac_run.specs.Texts.{images, report}
 use Rattle.pac_run.specs.Turns.{switches}
-use Rattle.pac_run.specs.declared.source.AsmFault.{AsmFault}
 use Rattle.pac_run.specs.declared.run.Outcome.{Outcome}
-use Rattle.pac_run.specs.declared.run.Output.{Output}
 use Rattle.pac_run.specs.declared.run.Output.TheVariants.{Frames, Report}
 use Rattle.pac_run.specs.declared.run.RunFault.{RunFault}
 use Rattle.pac_run.specs.declared.run.RunFault.TheVariants as fault

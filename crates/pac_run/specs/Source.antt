@@ -1,6 +1,7 @@
 -- The items, the fault and the ROM of a source: its lines say operations of the Z80, which stand one
--- behind another from address 0 in a ROM of 16,384 bytes.
-use Rattle.std.specs.Prelude.{◌≡◌, ℕ, ◌+◌, ◌-◌, ◌≤◌, ◌&&◌, Bool, nat_lt, nat_le, if◌then◌else◌, Option, Some, None, List, [], ◌∷◌, ◌++◌, length, take, drop, map, slice_index, slice_get, All}
+-- after another from address 0 in a ROM of 16,384 bytes.
+use Rattle.std.specs.Prelude.{◌≡◌, ℕ, ◌+◌, ◌-◌, ◌≤◌, ◌&&◌, Bool, nat_lt, nat_le, if◌then◌else◌, Option, Some, None, List, [], ◌∷◌, ◌++◌}
+use Rattle.std.specs.Prelude.{length, take, drop, map, slice_index, slice_get, All}
 use Rattle.std.specs.List.{sum_by, filter_map, range_with_len}
 use Rattle.std.specs.Str.Lines.{lines}
 use Rattle.pac_table.specs.Instructions.{Instruction, IsInstruction, code}
@@ -44,15 +45,15 @@ number line = length line.above + 1
 abbrev pub address : Line → ℕ
 address line = sum_by size line.above
 
--- statements as lines behind other statements
-abbrev pub behind : List Statement → List Statement → List Line
-behind above [] = []
-behind above (statement ∷ below) =
-    record { above = above; statement = statement } ∷ behind (above ++ statement ∷ []) below
+-- statements as lines after other statements
+abbrev pub lines_after : List Statement → List Statement → List Line
+lines_after above [] = []
+lines_after above (statement ∷ below) =
+    record { above = above; statement = statement } ∷ lines_after (above ++ statement ∷ []) below
 
 -- The lines of a source. They end at LF, and one CR before it is dropped.
 abbrev pub lines_of : List ℕ → List Line
-lines_of source = behind [] (map statement_of (lines source))
+lines_of source = lines_after [] (map statement_of (lines source))
 
 -- what is wrong with a statement in the line of a number at an address: that it is none of the
 -- source, or that it has bytes past the end of the ROM

@@ -29,7 +29,7 @@ abbrev pub IsRefusal : List ℕ → AsmError → Type 0
 IsRefusal source error.Memory = Unit {0}
 IsRefusal source (error.Fault fault) = fault_of source ≡ Some fault
 
--- A program without its zeros behind the last item.
+-- A program without its zeros after the last item.
 pub record IsRead (source : List ℕ) (program : Program) : Type 0 where
   pub faultless : fault_of source ≡ None
   pub items_are : items program ≡ items_of source

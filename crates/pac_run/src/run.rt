@@ -62,7 +62,7 @@ impl fmt::Display for Output {
 pub enum RunFault {
     /// The source has a fault; nothing was written.
     Source(AsmFault),
-    /// The writer of an output refused behind this count of its bytes.
+    /// The writer of an output refused after this count of its bytes.
     Write(Output, u64),
     /// Memory ran out; nothing was written.
     NoMemory,
@@ -139,7 +139,7 @@ fn make_board(alloc: Global, source: &[u8], tiles: &[u8]) -> Result<Board, RunFa
 }
 
 /// Runs a source on the board with a tile ROM of 4,096 bytes, for 1 to 15 frames or to a stop: to one output
-/// go the images of the frames whose vertical blank came, as binary PPM one behind another, to the other the
+/// go the images of the frames whose vertical blank came, as binary PPM one after another, to the other the
 /// report. The source is judged and all memory is found before anything is written.
 pub fn run_first<F: Out, R: Out>(
     alloc: Global,

@@ -9,8 +9,6 @@ ghost use Rattle.std.specs.Str.Lines.{lines};
 mod forms;
 mod lines;
 mod statement;
-#[cfg(test)]
-mod tests;
 mod tokens;
 
 use lines::{first_line, has_too_many_lines};
@@ -107,7 +105,7 @@ impl<T: Drop> From<AllocFailed<T>> for AsmError {
 /// The program of a source, or its first fault.
 ///
 /// Lines end at LF, and one CR before it is dropped. A line is empty but for blanks and a comment
-/// behind `;`, or one of `NOP`, `LD A,n`, `LD (nn),A`, `JP nn` and `HALT` in either case; numbers are
+/// after `;`, or one of `NOP`, `LD A,n`, `LD (nn),A`, `JP nn` and `HALT` in either case; numbers are
 /// decimal, or hexadecimal with an H, n to 255 and nn to 65,535. Every other line is A2, bytes past
 /// 3FFFH are A5, and more than 65,535 lines A7 at line 65,536, before all others.
 pub fn assemble(alloc: Global, source: &[u8]) -> Result<Program, AsmError>
@@ -143,7 +141,7 @@ fn read_items(alloc: Global, source: &[u8]) -> Result<Program, AsmError>
 }
 
 impl Program {
-    /// Puts what the line of a number says behind the items so far.
+    /// Puts what the line of a number says after the items so far.
     fn place(&mut self, statement: Statement, number: u32) -> Result<(), AsmError>
         requires { length self.old.rom.items ≤ spec.rom_size }
         ensures { MatchResult result (λ _. answer.Adds self.old self.new number statement)

@@ -10,6 +10,8 @@ pub returns-in_err-put : goal.returns-in_err-put
 returns-in_err-put g c =
     let rest = flat_map (λ piece. piece.now) (drop (c.loop-piece.piece-index + 1) c.args.pieces.now) in
     let p = err_from_is_err_and c.from_residual.result c.from_residual.ensures.1 in
-    rw (p.1, p.2) (subst (λ (text : List ℕ). Refuses g.W.Out.took g.W.Out.refused c.args.output.now text c.in_err-put.field-0.0 c.put.new.self)
-    (pieces-split (λ piece. piece.now) c.args.pieces.now c.loop-piece.piece-index (record { ref_ptr = (0, 0); now = [] }) c.loop-piece-test.true)
+    rw (p.1, p.2)
+    (subst (λ (text : List ℕ). Refuses g.W.Out.took g.W.Out.refused c.args.output.now text c.in_err-put.field-0.0 c.put.new.self)
+    (pieces-split (λ piece. piece.now) c.args.pieces.now c.loop-piece.piece-index
+    (record { ref_ptr = (0, 0); now = [] }) c.loop-piece-test.true)
     (refuses-within (refuses-after c.loop-piece.invariant c.in_err-put.ensures.put) rest))

@@ -12,11 +12,13 @@ returns-then-has_too_many_lines-clause-exact c = rw c.fault.ensures (cond-true _
 pub returns-clause-exact : goal.returns-clause-exact
 returns-clause-exact c =
     let read = c.in_ok-program.ensures in
-    let full = filled_up c.args.source.now c.in_ok-program.program.rom.items c.fill.new.bytes.items read.rom read.inside c.in_ok-fill.ensures in
+    let full = filled_up c.args.source.now c.in_ok-program.program.rom.items c.fill.new.bytes.items read.rom read.inside
+    c.in_ok-fill.ensures in
     record { faultless = read.faultless; items_are = read.items_are; rom = full.rom; size = full.size_is }
 
 pub returns-clause-held : goal.returns-clause-held
 returns-clause-held c =
     let read = c.in_ok-program.ensures in
-    let full = filled_up c.args.source.now c.in_ok-program.program.rom.items c.fill.new.bytes.items read.rom read.inside c.in_ok-fill.ensures in
+    let full = filled_up c.args.source.now c.in_ok-program.program.rom.items c.fill.new.bytes.items read.rom read.inside
+    c.in_ok-fill.ensures in
     subst (λ (items : List Placed). All (IsHeld c.fill.new.bytes.items) items) (sym read.items_are) full.held_each
