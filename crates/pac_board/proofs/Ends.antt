@@ -1,55 +1,66 @@
 -- Each trace ends: a step takes 4 T-states at least, and what has ended stays.
-use Rattle.std.proofs.Common.{◌≡◌, ℕ, zero, suc, ◌+◌, ◌-◌, ◌*◌, ◌<◌, ◌≤◌, ◌⊎◌, inl, inr, List, [], ◌∷◌, ◌++◌, Option, None, Some, Bool, true, false, ◌||◌, is_some, nat_le, refl, sym, ap, ◌∙◌, arith}
+use Rattle.std.proofs.Common.{◌≡◌, ℕ, zero, suc, ◌+◌, ◌-◌, ◌*◌, ◌≤◌, ◌⊎◌, inl, inr, Option, None, Some, Bool, true}
+use Rattle.std.proofs.Common.{false}
+use Rattle.std.proofs.Common.{◌||◌, is_some, nat_le, refl, sym, ap, ◌∙◌, arith}
 use Rattle.std.proofs.lemmas.Bool.Decides.{nat_tests}
 use Rattle.pac_cpu.specs.declared.once.Stop.{Stop}
-use Rattle.pac_cpu.specs.Step.{Seen, Half, Steps, Stops, half, IsInTime}
-use Rattle.pac_exec.specs.declared.regs.Regs.{Regs}
-use Rattle.pac_board.specs.Step.{Questions, Moment, Picture, Next, Goes, Ends, seen, step, behind_half}
-use Rattle.pac_board.specs.Walk.{Walk, walk, onward, onward_if, behind_step, has_ended}
+use Rattle.pac_cpu.specs.Step.{CpuStep, Steps, Stops, cpu_step, IsInTime}
+use Rattle.pac_board.specs.Step.{Questions, Moment, surroundings, after_cpu_step}
+use Rattle.pac_board.specs.Walk.{Walk, walk, onward, onward_if, after_step, has_ended}
 
-not_both : {A : Type 0} → true ≡ false → A
-not_both e = cc
+not-both : {A : Type 0} → true ≡ false → A
+not-both e = cc
 
 module _ {Board : Type 0} (ask : Questions Board) (limit : ℕ) where
   stays : (w : Walk Board) (stop : Option Stop) (late : Bool) → (is_some stop || late) ≡ true → onward_if ask w stop late ≡ w
   stays w (Some stop) late h = refl
   stays w None true h = refl
-  stays w None false h = not_both (sym h)
+  stays w None false h = not-both (sym h)
 
   pub ended-stays : (w : Walk Board) → has_ended limit w ≡ true → onward ask limit w ≡ w
   ended-stays w h = stays w w.stop (nat_le limit w.now.time) h
 
-  pub ended-for_good : (start : Moment Board) (n more m : ℕ) → m ≡ n + more → has_ended limit (walk ask limit start n) ≡ true → walk ask limit start m ≡ walk ask limit start n
-  ended-for_good start n zero m e h = let e' : m ≡ n = omega arith in ap (walk ask limit start) e'
-  ended-for_good start n (suc more) m e h =
+  pub ended-for-good : (start : Moment Board) (n more m : ℕ) → m ≡ n + more → has_ended limit (walk ask limit start n) ≡ true
+      → walk ask limit start m ≡ walk ask limit start n
+  ended-for-good start n zero m e h = let e' : m ≡ n = omega arith in ap (walk ask limit start) e'
+  ended-for-good start n (suc more) m e h =
       let e' : m ≡ suc (n + more) = omega arith in
-      let before = ended-for_good start n more (n + more) refl h in
+      let before = ended-for-good start n more (n + more) refl h in
       ap (walk ask limit start) e' ∙ ap (onward ask limit) before ∙ ended-stays (walk ask limit start n) h
 
   -- two counts at which the walk has ended leave the same
-  pub ended-same : (start : Moment Board) (n m : ℕ) → has_ended limit (walk ask limit start n) ≡ true → has_ended limit (walk ask limit start m) ≡ true → walk ask limit start n ≡ walk ask limit start m
+  pub ended-same : (start : Moment Board) (n m : ℕ) → has_ended limit (walk ask limit start n) ≡ true
+      → has_ended limit (walk ask limit start m) ≡ true → walk ask limit start n ≡ walk ask limit start m
   ended-same start n m hn hm = choose (nat_le n m) refl
     where
       choose : (b : Bool) → nat_le n m ≡ b → walk ask limit start n ≡ walk ask limit start m
-      choose true e = let le : n ≤ m = grind (arith, nat_tests) in let d : m ≡ n + (m - n) = omega arith in sym (ended-for_good start n (m - n) m d hn)
-      choose false e = let le : m ≤ n = grind (arith, nat_tests) in let d : n ≡ m + (n - m) = omega arith in ended-for_good start m (n - m) n d hm
+      choose true e =
+          let le : n ≤ m = grind (arith, nat_tests) in
+          let d : m ≡ n + (m - n) = omega arith in
+          sym (ended-for-good start n (m - n) m d hn)
+      choose false e =
+          let le : m ≤ n = grind (arith, nat_tests) in
+          let d : n ≡ m + (n - m) = omega arith in
+          ended-for-good start m (n - m) n d hm
 
-  module _ (long : (now : Moment Board) → IsInTime (half (seen ask now.board) now.regs None)) where
-    -- where a walk is behind n steps: it has ended, or 4 n T-states have gone by
+  module _ (long : (now : Moment Board) → IsInTime (cpu_step (surroundings ask now.board) now.regs None)) where
+    -- where a walk is after n steps: it has ended, or 4 n T-states have gone by
     Far : ℕ → Walk Board → Type 0
     Far n w = (has_ended limit w ≡ true) ⊎ (4 * n ≤ w.now.time)
 
-    half-far : (n : ℕ) (w : Walk Board) (h : Half) → IsInTime h → 4 * n ≤ w.now.time → Far (suc n) (behind_step w (behind_half ask w.now h))
+    cpu-step-far : (n : ℕ) (w : Walk Board) (h : CpuStep) → IsInTime h → 4 * n ≤ w.now.time
+        → Far (suc n) (after_step w (after_cpu_step ask w.now h))
     unfolding Far
-    half-far n w (Steps regs actions ticks kind) longer far = inr (omega (arith, longer.0))
-    half-far n w (Stops stop) longer far = inl refl
+    cpu-step-far n w (Steps regs actions ticks kind) longer far = inr (omega (arith, longer.0))
+    cpu-step-far n w (Stops stop) longer far = inl refl
 
-    onward-far : (n : ℕ) (w : Walk Board) (stop : Option Stop) (late : Bool) → w.stop ≡ stop → nat_le limit w.now.time ≡ late → Far n w → Far (suc n) (onward_if ask w stop late)
+    onward-far : (n : ℕ) (w : Walk Board) (stop : Option Stop) (late : Bool) → w.stop ≡ stop → nat_le limit w.now.time ≡ late
+        → Far n w → Far (suc n) (onward_if ask w stop late)
     unfolding Far
     onward-far n w (Some stop) late s l far = inl (ap (λ x. is_some x || nat_le limit w.now.time) s)
     onward-far n w None true s l far = inl (ap (λ x. is_some x || nat_le limit w.now.time) s ∙ l)
-    onward-far n w None false s l (inl ended) = not_both (sym ended ∙ ap (λ x. is_some x || nat_le limit w.now.time) s ∙ l)
-    onward-far n w None false s l (inr far) = half-far n w (half (seen ask w.now.board) w.now.regs None) (long w.now) far
+    onward-far n w None false s l (inl ended) = not-both (sym ended ∙ ap (λ x. is_some x || nat_le limit w.now.time) s ∙ l)
+    onward-far n w None false s l (inr far) = cpu-step-far n w (cpu_step (surroundings ask w.now.board) w.now.regs None) (long w.now) far
 
     walk-far : (start : Moment Board) (n : ℕ) → Far n (walk ask limit start n)
     unfolding Far

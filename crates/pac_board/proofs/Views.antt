@@ -1,31 +1,38 @@
 -- The view that a history leaves answers as the history does.
-use Rattle.std.proofs.Common.{◌≡◌, ℕ, ◌+◌, ◌<◌, zero, suc, ◌*◌, ◌/◌, ◌++◌, ◌&&◌, nat_le, ◌-◌, ◌%◌, ◌==◌, nat_lt, List, [], ◌∷◌, Bool, true, false, cond, Option, Some, None, unwrap_or, refl, sym, ap, ◌∙◌, slice_index, slice_set, length, arith}
+use Rattle.std.proofs.Common.{◌≡◌, ℕ, ◌+◌, ◌<◌, zero, suc, ◌*◌, ◌/◌, ◌++◌, ◌&&◌, nat_le, ◌-◌, ◌%◌, ◌==◌, nat_lt, List, [], ◌∷◌, Bool, true}
+use Rattle.std.proofs.Common.{false, cond, Option, Some, None, unwrap_or, refl, sym, ap, ◌∙◌, slice_index, slice_set, length, arith}
 use Rattle.std.proofs.lemmas.Bool.Decides.{nat_tests}
 use Rattle.std.proofs.lemmas.Grind.{get_or-set_at}
 use Rattle.std.proofs.lemmas.List.{get_or-set_other}
 use borrow.Author.Tests.{ltb-true}
-use Rattle.pac_num.specs.Numbers.{low_byte, high_byte}
 use Rattle.pac_map.specs.declared.bus_table.Place.{Place}
-use Rattle.pac_map.specs.declared.bus_table.Place.TheVariants.{Program, Tile, Colour, Work, Nothing, Inputs0, Inputs1, Switches, Kick, Latch, Wave, Coordinate}
-use Rattle.pac_map.specs.Place.{read_place, ram_place, read_port, IsInRange}
-use Rattle.pac_map.specs.Entry.{Entry, Write, Vector, Sample, Blank, Accept, Reset, Hold, View, view_after, written, byte_of, read_of}
-use Rattle.pac_map.specs.Sizes.{IsSized, view_after-sized}
+use Rattle.pac_map.specs.declared.bus_table.Place.TheVariants.{Program, Tile, Colour, Work, Nothing, Inputs0, Inputs1, Switches, Kick}
+use Rattle.pac_map.specs.Place.{read_place, ram_place, read_port, IsInRange, ram_size}
+use Rattle.pac_map.specs.Lookups.{answer}
+use Rattle.pac_map.specs.Entry.{Entry, Write, Hold, View, view_after, written, lookups_of, read_of}
+use Rattle.pac_map.specs.Sizes.{IsSized}
+use Rattle.pac_map.proofs.Sizes.{view-after-sized}
 use Rattle.pac_tiles.specs.Tabulate.{tabulate}
 use Rattle.pac_tiles.specs.Tiles.{pixel_of, offset_of, dot_of, row_of, picture_of}
-use Rattle.pac_board.specs.History.{is_tile, is_colour, is_work, last_written, last_held, tile_at, colour_at, work_at, held, answer, read, view_of}
+use Rattle.pac_board.specs.History.{is_tile, is_colour, is_work, last_written, tile_at, colour_at, work_at, held, history_lookups, read}
+use Rattle.pac_board.specs.History.{view_of}
 
-pub view_of-sized : (start : View) (entries : List Entry) → IsSized start → IsSized (view_of start entries)
-view_of-sized start [] sized = sized
-view_of-sized start (entry ∷ older) sized = view_after-sized (view_of start older) entry (view_of-sized start older sized)
+pub view-of-sized : (start : View) (entries : List Entry) → IsSized start → IsSized (view_of start entries)
+view-of-sized start [] sized = sized
+view-of-sized start (entry ∷ older) sized = view-after-sized (view_of start older) entry (view-of-sized start older sized)
 
--- a cell behind a write to a cell of the same RAM
-pub cell-set : (cells : List ℕ) (other cell byte : ℕ) → cell < length cells → slice_index (slice_set cells other byte) cell ≡ cond (other == cell) byte (slice_index cells cell)
+-- a cell after a write to a cell of the same RAM
+pub cell-set : (cells : List ℕ) (other cell byte : ℕ) → cell < length cells
+    → slice_index (slice_set cells other byte) cell ≡ cond (other == cell) byte (slice_index cells cell)
 cell-set cells other cell byte lt = grind (arith, nat_tests, get_or-set_at, get_or-set_other)
 
 -- one RAM: its cells in the view, and the test for a cell's place
-module _ (ram : View → List ℕ) (here : ℕ → Place → Bool) (write : (view : View) (place : Place) (byte cell : ℕ) → cell < length (ram view) → slice_index (ram (written view place byte)) cell ≡ cond (here cell place) byte (slice_index (ram view) cell))
+module _ (ram : View → List ℕ) (here : ℕ → Place → Bool)
+    (write : (view : View) (place : Place) (byte cell : ℕ) → cell < length (ram view)
+    → slice_index (ram (written view place byte)) cell ≡ cond (here cell place) byte (slice_index (ram view) cell))
     (hold : (view : View) (mask : ℕ) → ram (view_after view (Hold mask)) ≡ ram view) where
-  decided : (place : Bool) (byte : ℕ) (older : Option ℕ) (first : ℕ) → cond place byte (unwrap_or older first) ≡ unwrap_or (cond place (Some byte) older) first
+  decided : (place : Bool) (byte : ℕ) (older : Option ℕ) (first : ℕ)
+      → cond place byte (unwrap_or older first) ≡ unwrap_or (cond place (Some byte) older) first
   decided true byte older first = refl
   decided false byte older first = refl
 
@@ -36,32 +43,45 @@ module _ (ram : View → List ℕ) (here : ℕ → Place → Bool) (write : (vie
       write (view_of start older) place byte cell (lt older)
       ∙ ap (cond (here cell place) byte) (cell-viewed start older cell lt)
       ∙ decided (here cell place) byte (last_written (here cell) older) (slice_index (ram start) cell)
-  cell-viewed start (Hold mask ∷ older) cell lt = ap (λ cells. slice_index cells cell) (hold (view_of start older) mask) ∙ cell-viewed start older cell lt
+  cell-viewed start (Hold mask ∷ older) cell lt =
+      ap (λ cells. slice_index cells cell) (hold (view_of start older) mask) ∙ cell-viewed start older cell lt
   cell-viewed start (entry ∷ older) cell lt = cell-viewed start older cell lt
 
-tile-written : (view : View) (place : Place) (byte cell : ℕ) → cell < length view.tile → slice_index (written view place byte).tile cell ≡ cond (is_tile cell place) byte (slice_index view.tile cell)
+tile-written : (view : View) (place : Place) (byte cell : ℕ) → cell < length view.tile
+    → slice_index (written view place byte).tile cell ≡ cond (is_tile cell place) byte (slice_index view.tile cell)
 tile-written view (Tile other) byte cell lt = cell-set view.tile other cell byte lt
 tile-written view (Colour other) byte cell lt = refl
 tile-written view _ byte cell lt = refl
 
-colour-written : (view : View) (place : Place) (byte cell : ℕ) → cell < length view.colour → slice_index (written view place byte).colour cell ≡ cond (is_colour cell place) byte (slice_index view.colour cell)
+colour-written : (view : View) (place : Place) (byte cell : ℕ) → cell < length view.colour
+    → slice_index (written view place byte).colour cell ≡ cond (is_colour cell place) byte (slice_index view.colour cell)
 colour-written view (Colour other) byte cell lt = cell-set view.colour other cell byte lt
 colour-written view (Tile other) byte cell lt = refl
 colour-written view _ byte cell lt = refl
 
-work-written : (view : View) (place : Place) (byte cell : ℕ) → cell < length view.work → slice_index (written view place byte).work cell ≡ cond (is_work cell place) byte (slice_index view.work cell)
+work-written : (view : View) (place : Place) (byte cell : ℕ) → cell < length view.work
+    → slice_index (written view place byte).work cell ≡ cond (is_work cell place) byte (slice_index view.work cell)
 work-written view (Work other) byte cell lt = cell-set view.work other cell byte lt
 work-written view (Tile other) byte cell lt = refl
 work-written view _ byte cell lt = refl
 
-pub tile-viewed : (start : View) (entries : List Entry) (cell : ℕ) → IsSized start → cell < 1024 → slice_index (view_of start entries).tile cell ≡ tile_at start entries cell
-tile-viewed start entries cell sized lt = cell-viewed (λ view. view.tile) is_tile tile-written (λ view mask. refl) start entries cell (λ older. let e = (view_of-sized start older sized).tile in omega arith)
+pub tile-viewed : (start : View) (entries : List Entry) (cell : ℕ) → IsSized start → cell < ram_size
+    → slice_index (view_of start entries).tile cell ≡ tile_at start entries cell
+tile-viewed start entries cell sized lt =
+    cell-viewed (λ view. view.tile) is_tile tile-written (λ view mask. refl) start entries cell
+    (λ older. let e = (view-of-sized start older sized).tile in omega arith)
 
-colour-viewed : (start : View) (entries : List Entry) (cell : ℕ) → IsSized start → cell < 1024 → slice_index (view_of start entries).colour cell ≡ colour_at start entries cell
-colour-viewed start entries cell sized lt = cell-viewed (λ view. view.colour) is_colour colour-written (λ view mask. refl) start entries cell (λ older. let e = (view_of-sized start older sized).colour in omega arith)
+colour-viewed : (start : View) (entries : List Entry) (cell : ℕ) → IsSized start → cell < ram_size
+    → slice_index (view_of start entries).colour cell ≡ colour_at start entries cell
+colour-viewed start entries cell sized lt =
+    cell-viewed (λ view. view.colour) is_colour colour-written (λ view mask. refl) start entries cell
+    (λ older. let e = (view-of-sized start older sized).colour in omega arith)
 
-work-viewed : (start : View) (entries : List Entry) (cell : ℕ) → IsSized start → cell < 1024 → slice_index (view_of start entries).work cell ≡ work_at start entries cell
-work-viewed start entries cell sized lt = cell-viewed (λ view. view.work) is_work work-written (λ view mask. refl) start entries cell (λ older. let e = (view_of-sized start older sized).work in omega arith)
+work-viewed : (start : View) (entries : List Entry) (cell : ℕ) → IsSized start → cell < ram_size
+    → slice_index (view_of start entries).work cell ≡ work_at start entries cell
+work-viewed start entries cell sized lt =
+    cell-viewed (λ view. view.work) is_work work-written (λ view mask. refl) start entries cell
+    (λ older. let e = (view-of-sized start older sized).work in omega arith)
 
 written-held : (view : View) (place : Place) (byte : ℕ) → (written view place byte).held ≡ view.held
 written-held view (Tile cell) byte = refl
@@ -86,28 +106,34 @@ switches-viewed start [] = refl
 switches-viewed start (Write place byte ∷ older) = written-switches (view_of start older) place byte ∙ switches-viewed start older
 switches-viewed start (entry ∷ older) = switches-viewed start older
 
-answer-viewed : (program : List ℕ) (start : View) (entries : List Entry) (place : Place) → IsSized start → IsInRange place → answer program start entries place ≡ byte_of program (view_of start entries) place
+-- what a place gives where another mask of inputs is held
+abbrev with_held : List ℕ → View → List Entry → Place → ℕ → ℕ
+with_held program start entries place mask = answer (record (history_lookups program start entries) { held = mask }) place
+
+answer-viewed : (program : List ℕ) (start : View) (entries : List Entry) (place : Place) → IsSized start → IsInRange place
+    → answer (history_lookups program start entries) place ≡ answer (lookups_of program (view_of start entries)) place
 answer-viewed program start entries (Program cell) sized lt = refl
 answer-viewed program start entries (Tile cell) sized lt = sym (tile-viewed start entries cell sized lt)
 answer-viewed program start entries (Colour cell) sized lt = sym (colour-viewed start entries cell sized lt)
 answer-viewed program start entries (Work cell) sized lt = sym (work-viewed start entries cell sized lt)
-answer-viewed program start entries Inputs0 sized lt = ap (λ mask. 255 - low_byte mask) (sym (held-viewed start entries))
-answer-viewed program start entries Inputs1 sized lt = ap (λ mask. 255 - high_byte mask) (sym (held-viewed start entries))
+answer-viewed program start entries Inputs0 sized lt = ap (with_held program start entries Inputs0) (sym (held-viewed start entries))
+answer-viewed program start entries Inputs1 sized lt = ap (with_held program start entries Inputs1) (sym (held-viewed start entries))
 answer-viewed program start entries Switches sized lt = sym (switches-viewed start entries)
 answer-viewed program start entries _ sized lt = refl
 
 -- each place that a read asks has its cell in range
-ram-in_range : (offset : ℕ) → offset < 4096 → IsInRange (ram_place offset)
-ram-in_range offset lt = choose (nat_lt offset 1024) refl (nat_lt offset 2048) refl (nat_lt offset 3072) refl
+ram-in-range : (offset : ℕ) → offset < 4096 → IsInRange (ram_place offset)
+ram-in-range offset lt = choose (nat_lt offset 1024) refl (nat_lt offset 2048) refl (nat_lt offset 3072) refl
   where
-    choose : (a : Bool) → nat_lt offset 1024 ≡ a → (b : Bool) → nat_lt offset 2048 ≡ b → (c : Bool) → nat_lt offset 3072 ≡ c → IsInRange (cond a (Tile offset) (cond b (Colour (offset - 1024)) (cond c Nothing (Work (offset - 3072)))))
+    choose : (a : Bool) → nat_lt offset 1024 ≡ a → (b : Bool) → nat_lt offset 2048 ≡ b → (c : Bool) → nat_lt offset 3072 ≡ c
+        → IsInRange (cond a (Tile offset) (cond b (Colour (offset - 1024)) (cond c Nothing (Work (offset - 3072)))))
     choose true p b q c r = ltb-true offset 1024 p
     choose false p true q c r = let u = ltb-true offset 2048 q in omega arith
     choose false p false q true r = tt
     choose false p false q false r = omega arith
 
-port-in_range : (offset : ℕ) → IsInRange (read_port offset)
-port-in_range offset = choose (nat_lt offset 64) (nat_lt offset 128) (nat_lt offset 192)
+port-in-range : (offset : ℕ) → IsInRange (read_port offset)
+port-in-range offset = choose (nat_lt offset 64) (nat_lt offset 128) (nat_lt offset 192)
   where
     choose : (a b c : Bool) → IsInRange (cond a Inputs0 (cond b Inputs1 (cond c Switches Kick)))
     choose true b c = tt
@@ -115,34 +141,41 @@ port-in_range offset = choose (nat_lt offset 64) (nat_lt offset 128) (nat_lt off
     choose false false true = tt
     choose false false false = tt
 
-read-in_range : (address : ℕ) → IsInRange (read_place address)
-read-in_range address = choose (nat_lt (address % 32768) 16384) refl (nat_lt (address % 8192) 4096) refl
+read-in-range : (address : ℕ) → IsInRange (read_place address)
+read-in-range address = choose (nat_lt (address % 32768) 16384) refl (nat_lt (address % 8192) 4096) refl
   where
-    choose : (a : Bool) → nat_lt (address % 32768) 16384 ≡ a → (b : Bool) → nat_lt (address % 8192) 4096 ≡ b → IsInRange (cond a (Program (address % 32768)) (cond b (ram_place (address % 8192)) (read_port (address % 256))))
+    choose : (a : Bool) → nat_lt (address % 32768) 16384 ≡ a → (b : Bool) → nat_lt (address % 8192) 4096 ≡ b
+        → IsInRange (unwrap_or (cond a (Some (Program (address % 32768))) (cond b (Some (ram_place (address % 8192))) None))
+        (read_port (address % 256)))
     choose true p b q = ltb-true (address % 32768) 16384 p
-    choose false p true q = ram-in_range (address % 8192) (ltb-true (address % 8192) 4096 q)
-    choose false p false q = port-in_range (address % 256)
+    choose false p true q = ram-in-range (address % 8192) (ltb-true (address % 8192) 4096 q)
+    choose false p false q = port-in-range (address % 256)
 
-pub read-viewed : (program : List ℕ) (start : View) (entries : List Entry) (address : ℕ) → IsSized start → read program start entries address ≡ read_of program (view_of start entries) address
-read-viewed program start entries address sized = answer-viewed program start entries (read_place address) sized (read-in_range address)
+pub read-viewed : (program : List ℕ) (start : View) (entries : List Entry) (address : ℕ) → IsSized start
+    → read program start entries address ≡ read_of program (view_of start entries) address
+read-viewed program start entries address sized =
+    answer-viewed program start entries (read_place address) sized (read-in-range address)
 
 -- pictures of cells that agree in tile RAM
 tabulate-agrees : {A : Type 0} (count : ℕ) (f g : ℕ → A) → ((k : ℕ) → k < count → f k ≡ g k) → tabulate count f ≡ tabulate count g
 unfolding tabulate
 tabulate-agrees zero f g h = refl
 tabulate-agrees (suc count) f g h =
-    ap (λ front. front ++ f count ∷ []) (tabulate-agrees count f g (λ k lt. h k (omega arith)))
+    ap (λ before. before ++ f count ∷ []) (tabulate-agrees count f g (λ k lt. h k (omega arith)))
     ∙ ap (λ last. tabulate count g ++ last ∷ []) (h count (omega arith))
 
-offset-in_range : (column row : ℕ) → column < 36 → row < 28 → offset_of column row < 1024
-offset-in_range column row c r = choose (nat_le 2 column && nat_lt column 34) refl
+offset-in-range : (column row : ℕ) → column < 36 → row < 28 → offset_of column row < ram_size
+offset-in-range column row c r = choose (nat_le 2 column && nat_lt column 34) refl
   where
-    choose : (b : Bool) → (nat_le 2 column && nat_lt column 34) ≡ b → cond b (column - 2 + 32 * (row + 2)) (row + 2 + 32 * ((column + 30) % 32)) < 1024
+    choose : (b : Bool) → (nat_le 2 column && nat_lt column 34) ≡ b
+        → cond b (column - 2 + 32 * (row + 2)) (row + 2 + 32 * ((column + 30) % 32)) < ram_size
     choose true e = grind (arith, nat_tests)
     choose false e = omega arith
 
-pub picture-agrees : (rom : List ℕ) (f g : ℕ → ℕ) → ((cell : ℕ) → cell < 1024 → f cell ≡ g cell) → picture_of rom f ≡ picture_of rom g
+pub picture-agrees : (rom : List ℕ) (f g : ℕ → ℕ) → ((cell : ℕ) → cell < ram_size → f cell ≡ g cell)
+    → picture_of rom f ≡ picture_of rom g
 picture-agrees rom f g h =
     tabulate-agrees 224 (row_of rom f) (row_of rom g) (λ y below.
     tabulate-agrees 288 (λ x. dot_of rom f x y) (λ x. dot_of rom g x y) (λ x within.
-    ap (λ tile. pixel_of rom tile (x % 8) (y % 8)) (h (offset_of (x / 8) (y / 8)) (offset-in_range (x / 8) (y / 8) (omega arith) (omega arith)))))
+    ap (λ tile. pixel_of rom tile (x % 8) (y % 8))
+    (h (offset_of (x / 8) (y / 8)) (offset-in-range (x / 8) (y / 8) (omega arith) (omega arith)))))

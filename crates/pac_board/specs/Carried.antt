@@ -1,8 +1,7 @@
 -- When one account of the board carries to another: each question has the same answer on both sides.
-use Rattle.std.specs.Prelude.{◌≡◌, ℕ, List, Option, map}
+use Rattle.std.specs.Prelude.{◌≡◌, ℕ}
 use Rattle.pac_map.specs.Entry.{Entry}
-use Rattle.pac_cpu.specs.declared.once.Stop.{Stop}
-use Rattle.pac_board.specs.Step.{Questions, Moment, Picture, Next, Goes, Ends}
+use Rattle.pac_board.specs.Step.{Questions, Moment, Next, Goes, Ends}
 use Rattle.pac_board.specs.Walk.{Walk}
 
 pub record Carries {From To : Type 0} (view : From → To) (ask : Questions From) (told : Questions To) : Type 0 where

@@ -1,10 +1,9 @@
 -- What has happened to the board is a start view and the list of entries since, the newest first. Whatever the
 -- board answers is asked of these two: the last entry that decides, and where none does, the start view.
-use Rattle.std.specs.Prelude.{ℕ, List, [], ◌∷◌, ◌-◌, ◌==◌, Bool, true, false, Option, Some, None, unwrap_or, if◌then◌else◌, slice_index}
-use Rattle.pac_num.specs.Numbers.{low_byte, high_byte}
+use Rattle.std.specs.Prelude.{ℕ, List, [], ◌∷◌, ◌==◌, Bool, false, Option, Some, None, unwrap_or, if◌then◌else◌, slice_index}
 use Rattle.pac_map.specs.declared.bus_table.Place.{Place}
-use Rattle.pac_map.specs.declared.bus_table.Place.TheVariants.{Program, Tile, Colour, Work, Nothing, Inputs0, Inputs1, Switches}
-use Rattle.pac_map.specs.Place.{read_place}
+use Rattle.pac_map.specs.declared.bus_table.Place.TheVariants.{Tile, Colour, Work}
+use Rattle.pac_map.specs.Lookups.{Lookups, answer_at}
 use Rattle.pac_map.specs.Entry.{Entry, Write, Hold, View, view_after}
 
 -- whether a place is this cell of tile, colour or work RAM
@@ -44,21 +43,20 @@ work_at start entries cell = unwrap_or (last_written (is_work cell) entries) (sl
 abbrev pub held : View → List Entry → ℕ
 held start entries = unwrap_or (last_held entries) start.held
 
--- the byte that a place gives (service schematics; BFH, FFH and the inputs' sense as in this profile's bus table)
-abbrev pub answer : List ℕ → View → List Entry → Place → ℕ
-answer program start entries (Program cell) = slice_index program cell
-answer program start entries (Tile cell) = tile_at start entries cell
-answer program start entries (Colour cell) = colour_at start entries cell
-answer program start entries (Work cell) = work_at start entries cell
-answer program start entries Nothing = 191
-answer program start entries Inputs0 = 255 - low_byte (held start entries)
-answer program start entries Inputs1 = 255 - high_byte (held start entries)
-answer program start entries Switches = start.switches
-answer program start entries _ = 255
+-- what reads ask of a program ROM and a history
+abbrev pub history_lookups : List ℕ → View → List Entry → Lookups
+history_lookups program start entries = record {
+  program = slice_index program;
+  tile = tile_at start entries;
+  colour = colour_at start entries;
+  work = work_at start entries;
+  held = held start entries;
+  switches = start.switches;
+}
 
 -- the byte that a read from an address gives
 abbrev pub read : List ℕ → View → List Entry → ℕ → ℕ
-read program start entries address = answer program start entries (read_place address)
+read program start entries address = answer_at (history_lookups program start entries) address
 
 -- the view that a history leaves: each entry in turn, the oldest first
 abbrev pub view_of : View → List Entry → View

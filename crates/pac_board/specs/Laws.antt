@@ -1,12 +1,15 @@
 -- Laws of the board's definitions, each proved on a public function of the crate.
 use Rattle.std.specs.Prelude.{◌≡◌, ℕ, true, List, ◌*◌, ◌/◌, length}
+use mathlib.Core.List.{IsPrefix}
+use Rattle.pac_code.specs.Items.{Item, AllLie}
+use Rattle.pac_map.specs.Place.{program_size}
 use Rattle.pac_map.specs.Entry.{Entry, View, read_of, power_on}
 use Rattle.pac_map.specs.Sizes.{IsSized}
 use Rattle.pac_board.specs.History.{read, view_of}
 use Rattle.pac_board.specs.Step.{frame_ticks}
-use Rattle.pac_board.specs.Walk.{walk, has_ended, IsFront}
+use Rattle.pac_board.specs.Walk.{has_ended}
 use Rattle.pac_board.specs.Carried.{walk_view}
-use Rattle.pac_board.specs.Trace.{Roms, Item, AllLie, by_view, start, pictures_of, blanks, trace, view_trace}
+use Rattle.pac_board.specs.Trace.{Roms, pictures_of, blanks, trace, view_walk, view_trace}
 
 -- The view that a history leaves answers each read as the history does.
 abbrev pub ViewAnswers : Type 0
@@ -17,11 +20,11 @@ ViewAnswers =
 -- A trace told by the source's items and the history is the trace told by the bytes and the view.
 abbrev pub TracesAgree : Type 0
 TracesAgree =
-    (roms : Roms) (items : List Item) (switches frames : ℕ) → length roms.program ≡ 16384 → AllLie roms.program items
+    (roms : Roms) (items : List Item) (switches frames : ℕ) → length roms.program ≡ program_size → AllLie roms.program items
     → walk_view (view_of (power_on switches)) (trace roms items switches frames) ≡ view_trace roms switches frames
 
 -- A trace's pictures are those of its history, each of the entries before its blank, and as many as its blanks,
--- one for each 50,688 T-states.
+-- one for each frame's time.
 abbrev pub PicturesAreOfTheHistory : Type 0
 PicturesAreOfTheHistory =
     (roms : Roms) (items : List Item) (switches frames : ℕ)
@@ -37,14 +40,14 @@ abbrev pub TracesEnd : Type 0
 TracesEnd =
     (roms : Roms) (items : List Item) (switches frames : ℕ) → has_ended (frame_ticks * frames) (trace roms items switches frames) ≡ true
 
--- A walk by the view that has ended is the whole trace, and the pictures of each are a front of the trace's.
+-- A walk by the view that has ended is the whole trace, and the pictures of each are a prefix of the trace's.
 abbrev pub EndedWalksAreTraces : Type 0
 EndedWalksAreTraces =
     (roms : Roms) (switches frames count : ℕ)
-    → has_ended (frame_ticks * frames) (walk (by_view roms) (frame_ticks * frames) (start (power_on switches)) count) ≡ true
-    → walk (by_view roms) (frame_ticks * frames) (start (power_on switches)) count ≡ view_trace roms switches frames
+    → has_ended (frame_ticks * frames) (view_walk roms switches frames count) ≡ true
+    → view_walk roms switches frames count ≡ view_trace roms switches frames
 
-abbrev pub WalksAreFronts : Type 0
-WalksAreFronts =
+abbrev pub WalksArePrefixes : Type 0
+WalksArePrefixes =
     (roms : Roms) (switches frames count : ℕ)
-    → IsFront (walk (by_view roms) (frame_ticks * frames) (start (power_on switches)) count).pictures (view_trace roms switches frames).pictures
+    → IsPrefix (view_walk roms switches frames count).pictures (view_trace roms switches frames).pictures

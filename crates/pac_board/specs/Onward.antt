@@ -1,31 +1,31 @@
 -- One step of the board is one step along each walk that stands where the board stands.
-use Rattle.std.specs.Prelude.{◌≡◌, ◌≤◌, ◌<◌, ℕ, ◌+◌, ◌++◌, List, [], Option, None, Some}
+use Rattle.std.specs.Prelude.{◌≡◌, ◌≤◌, ◌<◌, ℕ, ◌+◌, ◌++◌, List, [], None, Some}
 use Rattle.pac_cpu.specs.declared.once.Once.{Once}
 use Rattle.pac_cpu.specs.declared.once.Once.TheVariants.{Stepped, Stopped}
-use Rattle.pac_cpu.specs.declared.once.Kind.{Kind}
 use Rattle.pac_cpu.specs.declared.once.Stop.{Stop}
+use Rattle.pac_exec.specs.Transition.{shortest_ticks, longest_ticks}
 use Rattle.pac_map.specs.Entry.{View}
-use Rattle.pac_board.specs.Step.{Moment, Picture, Next}
+use Rattle.pac_board.specs.Step.{Moment, Picture}
 use Rattle.pac_board.specs.Walk.{Walk, walk}
 use Rattle.pac_board.specs.Trace.{by_view}
-use Rattle.pac_board.specs.State.{State, next_of, behind, once_of, pictures_in}
+use Rattle.pac_board.specs.State.{State, next_of, state_after, once_of, pictures_in}
 
 -- a walk that stands where a board does, and goes on
 pub record StandsAt (along : Walk View) (state : State) : Type 0 where
   pub now : along.now ≡ state.now
   pub open_yet : along.stop ≡ None
 
--- the walk a step further, by the answer
-pub record Went (before after : Walk View) (old new : State) (given : List Picture) (ticks : ℕ) : Type 0 where
+-- the walk a step further, by the answer: it goes on by the step, or it stays where a stop was met
+pub record GoesOn (before after : Walk View) (old new : State) (given : List Picture) (ticks : ℕ) : Type 0 where
   pub stands : StandsAt after new
   pub pictures : after.pictures ≡ before.pictures ++ given
   pub roms : new.roms ≡ old.roms
   pub steps : new.now.steps ≡ old.now.steps + 1
   pub time : new.now.time ≡ old.now.time + ticks
-  pub long : 4 ≤ ticks
-  pub short : ticks ≤ 23
+  pub long : shortest_ticks ≤ ticks
+  pub short : ticks ≤ longest_ticks
 
-pub record Stood (before after : Walk View) (old new : State) (given : List Picture) (stop : Stop) : Type 0 where
+pub record Stays (before after : Walk View) (old new : State) (given : List Picture) (stop : Stop) : Type 0 where
   pub now : after.now ≡ old.now
   pub pictures : after.pictures ≡ before.pictures
   pub met : after.stop ≡ Some stop
@@ -33,11 +33,14 @@ pub record Stood (before after : Walk View) (old new : State) (given : List Pict
   pub none : given ≡ []
 
 abbrev pub Follows : Walk View → Walk View → State → State → List Picture → Once → Type 0
-Follows before after old new given (Stepped ticks kind) = Went before after old new given ticks
-Follows before after old new given (Stopped stop) = Stood before after old new given stop
+Follows before after old new given (Stepped ticks kind) = GoesOn before after old new given ticks
+Follows before after old new given (Stopped stop) = Stays before after old new given stop
 
 abbrev pub StepsFollowWalks : Type 0
 StepsFollowWalks =
-    (state : State) (from : Moment View) (limit count : ℕ) → StandsAt (walk (by_view state.roms) limit from count) state → state.now.time < limit
-    → Follows (walk (by_view state.roms) limit from count) (walk (by_view state.roms) limit from (count + 1)) state (behind (next_of state) state)
-    (pictures_in (next_of state)) (once_of (next_of state) state)
+    (state : State) (from : Moment View) (limit count : ℕ)
+    → let before = walk (by_view state.roms) limit from count in
+    let after = walk (by_view state.roms) limit from (count + 1) in
+    let next = next_of state in
+    StandsAt before state → state.now.time < limit
+    → Follows before after state (state_after next state) (pictures_in next) (once_of next state)

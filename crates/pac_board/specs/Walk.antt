@@ -1,5 +1,5 @@
 -- Many steps, up to an end: the time is at a limit or past it, or a step stopped.
-use Rattle.std.specs.Prelude.{◌≡◌, ℕ, zero, suc, List, [], ◌∷◌, ◌++◌, Option, None, Some, Bool, ◌||◌, is_some, ◌+◌, ◌*◌, ◌≤◌, nat_le, if◌then◌else◌}
+use Rattle.std.specs.Prelude.{ℕ, zero, suc, List, [], ◌++◌, Option, None, Some, Bool, ◌||◌, is_some, nat_le, if◌then◌else◌}
 use Rattle.pac_cpu.specs.declared.once.Stop.{Stop}
 use Rattle.pac_board.specs.Step.{Questions, Moment, Picture, Next, Goes, Ends, step}
 
@@ -9,14 +9,14 @@ pub record Walk (Board : Type 0) : Type 0 where
   pub pictures : List Picture
   pub stop : Option Stop
 
-abbrev pub behind_step : {Board : Type 0} → Walk Board → Next Board → Walk Board
-behind_step walk (Goes now pictures kind) = record { now = now; pictures = walk.pictures ++ pictures; stop = None }
-behind_step walk (Ends stop) = record walk { stop = Some stop }
+abbrev pub after_step : {Board : Type 0} → Walk Board → Next Board → Walk Board
+after_step walk (Goes now pictures kind) = record { now = now; pictures = walk.pictures ++ pictures; stop = None }
+after_step walk (Ends stop) = record walk { stop = Some stop }
 
 -- one step more, unless the walk has ended
 abbrev pub onward_if : {Board : Type 0} → Questions Board → Walk Board → Option Stop → Bool → Walk Board
 onward_if ask walk (Some stop) ended = walk
-onward_if ask walk None ended = if ended then walk else behind_step walk (step ask walk.now)
+onward_if ask walk None ended = if ended then walk else after_step walk (step ask walk.now)
 
 abbrev pub onward : {Board : Type 0} → Questions Board → ℕ → Walk Board → Walk Board
 onward ask limit walk = onward_if ask walk walk.stop (nat_le limit walk.now.time)
@@ -28,8 +28,3 @@ walk ask limit start (suc steps) = onward ask limit (walk ask limit start steps)
 -- whether a walk has ended: by a stop, or by its time
 abbrev pub has_ended : {Board : Type 0} → ℕ → Walk Board → Bool
 has_ended limit walk = is_some walk.stop || nat_le limit walk.now.time
-
--- a list is a front of another
-pub record IsFront {A : Type 0} (front whole : List A) : Type 0 where
-  pub rest : List A
-  pub joined : whole ≡ front ++ rest

@@ -1,7 +1,9 @@
 //! The board: processor, bus, ROMs and the vertical counter as one value.
 
-ghost use Rattle.std.specs.Prelude.{◌≡◌, ◌↔◌, ◌≤◌, ◌<◌, ◌+◌, ◌^◌, ◌/◌, length, IsErr, OnOk, OnErr, IfOk};
-ghost use Rattle.pac_board.specs.Trace.{Roms};
+ghost use Rattle.std.specs.Prelude.{◌≡◌, ◌↔◌, ◌<◌, ◌≤◌, ◌+◌, ◌^◌, ◌/◌, length, IsErr, OnOk, OnErr, IfOk};
+ghost use Rattle.pac_map.specs.Place.{program_size, ram_size};
+ghost use Rattle.pac_board.specs.Step.{frame_ticks};
+ghost use Rattle.pac_board.specs.Trace.{tiles_size};
 ghost use Rattle.pac_board.specs.State as state;
 
 use pac_cpu::{Cpu, Once};
@@ -17,7 +19,7 @@ pub const TICKS_A_FRAME: u64 = 50_688;
 const LATEST: u64 = 1 << 52;
 
 /// The time is so late that no step is begun.
-#[derive(Clone, Copy, Debug, PartialEq, Eq, Error)]
+#[derive(Clone, Copy, Debug, Error)]
 #[error("the board's time is over")]
 pub struct TooFar;
 
@@ -27,25 +29,27 @@ pub struct Board {
     cpu: Cpu,
     map: Map,
     tiles: Vec<u8>,
-    time: u64,
+    clock: u64,
     steps: u64,
 }
 
 impl Model for Board {
-    ghost use Rattle.std.specs.Prelude.{◌≡◌, ◌≤◌, ◌*◌, ◌+◌, ◌^◌, length};
-    ghost use Rattle.pac_board.specs.State.{State};
+    ghost use Rattle.std.specs.Prelude.{◌≡◌, ◌≤◌, ◌*◌, length};
+    ghost use Rattle.pac_exec.specs.Transition.{shortest_ticks};
+    ghost use Rattle.pac_board.specs.Trace.{tiles_size};
+    ghost use Rattle.pac_board.specs.State.{State, latest_end};
 
     ghost Value = { State };
 
     ghost view = { λ board. record {
       roms = record { program = board.map.program; tiles = board.tiles.items };
-      now = record { regs = board.cpu; board = board.map.view; time = board.time; steps = board.steps };
+      now = record { regs = board.cpu; board = board.map.view; time = board.clock; steps = board.steps };
     } };
 
     ghost invariant = { λ board. record {
-      tiles : length board.tiles.items ≡ 4096;
-      steps : 4 * board.steps ≤ board.time;
-      time : board.time ≤ 2 ^ 52 + 22;
+      tiles : length board.tiles.items ≡ tiles_size;
+      steps : shortest_ticks * board.steps ≤ board.clock;
+      time : board.clock ≤ latest_end;
     } };
 }
 
@@ -58,8 +62,8 @@ impl Board {
         tiles: Vec<u8>,
         switches: u8,
     ) -> Result<Board, AllocError>
-        requires program { length program.items ≡ 16384 }
-        requires tiles { length tiles.items ≡ 4096 }
+        requires program { length program.items ≡ program_size }
+        requires tiles { length tiles.items ≡ tiles_size }
         ensures { IfOk result (λ board. board ≡ state.at_power_on (record { program = program.items; tiles = tiles.items }) switches) }
     {
         let map = Map::new(alloc, program, switches)?;
@@ -67,7 +71,7 @@ impl Board {
             cpu: Cpu::power_on(),
             map,
             tiles,
-            time: 0,
+            clock: 0,
             steps: 0,
         })
     }
@@ -76,9 +80,9 @@ impl Board {
     #[inline]
     pub fn time(&self) -> u64
         ensures time { result ≡ self.now.now.time }
-        ensures bound { self.now.now.time ≤ 2 ^ 52 + 22 }
+        ensures bound { self.now.now.time ≤ state.latest_end }
     {
-        self.time
+        self.clock
     }
 
     /// The steps since power-on.
@@ -92,25 +96,26 @@ impl Board {
     /// The frames whose vertical blank has come.
     #[inline]
     pub fn frames(&self) -> u64
-        ensures { result ≡ self.now.now.time / 50688 }
+        ensures { result ≡ self.now.now.time / frame_ticks }
     {
-        self.time / TICKS_A_FRAME
+        self.time() / TICKS_A_FRAME
     }
 
     /// Does one step, with the events that fall in it. No request is made yet.
     pub fn step_once(&mut self) -> Result<Once, TooFar>
-        ensures late { IsErr result ↔ (2 ^ 52 ≤ self.old.now.time) }
+        ensures late { IsErr result ↔ (state.latest ≤ self.old.now.time) }
         ensures unchanged { OnErr result (self.new ≡ self.old) }
-        ensures state { OnOk result (self.new ≡ state.behind (state.next_of self.old) self.old) }
+        ensures state { OnOk result (self.new ≡ state.state_after (state.next_of self.old) self.old) }
         ensures once { IfOk result (λ once. once ≡ state.once_of (state.next_of self.old) self.old) }
-        ensures pictures { OnOk result (state.pictures_in (state.next_of self.old) ≡ state.due_since (self.old.now.time / 50688) self.new) }
+        ensures pictures { OnOk result (state.pictures_in (state.next_of self.old)
+            ≡ state.due_since (self.old.now.time / frame_ticks) self.new) }
     {
-        if self.time >= LATEST {
+        if self.time() >= LATEST {
             return Err(TooFar);
         }
         let once = self.cpu.step(&mut self.map, None);
-        self.time += u64::from(ticks_in(&once));
-        self.steps += u64::from(steps_in(&once));
+        add(&mut self.clock, ticks_in(&once));
+        add(&mut self.steps, steps_in(&once));
         Ok(once)
     }
 
@@ -118,7 +123,7 @@ impl Board {
     #[inline]
     pub fn tiles(&self) -> &[u8]
         ensures bytes { result.now ≡ self.now.roms.tiles }
-        ensures size { length self.now.roms.tiles ≡ 4096 }
+        ensures size { length self.now.roms.tiles ≡ tiles_size }
     {
         &self.tiles
     }
@@ -127,10 +132,19 @@ impl Board {
     #[inline]
     pub fn tile_ram(&self) -> &[u8]
         ensures bytes { result.now ≡ self.now.now.board.tile }
-        ensures size { length self.now.now.board.tile ≡ 1024 }
+        ensures size { length self.now.now.board.tile ≡ ram_size }
     {
         self.map.tile_ram()
     }
+}
+
+/// Adds to a count.
+#[inline]
+fn add(count: &mut u64, more: u8)
+    requires { count.old + more < 2 ^ 64 }
+    ensures { count.new ≡ count.old + more }
+{
+    *count += u64::from(more);
 }
 
 /// The time of a step, 0 for a stop.

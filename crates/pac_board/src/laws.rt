@@ -1,7 +1,7 @@
 //! Laws of the board's definitions.
 
 ghost use Rattle.pac_board.specs.Onward.{StepsFollowWalks};
-ghost use Rattle.pac_board.specs.Laws.{ViewAnswers, TracesAgree, PicturesAreOfTheHistory, BlanksAreFrames, TracesEnd, EndedWalksAreTraces, WalksAreFronts};
+ghost use Rattle.pac_board.specs.Laws.{ViewAnswers, TracesAgree, PicturesAreOfTheHistory, BlanksAreFrames, TracesEnd, EndedWalksAreTraces, WalksArePrefixes};
 
 /// The view that a history leaves answers each read as the history does.
 pub fn view_answers()
@@ -38,7 +38,7 @@ pub fn ended_walks_are_traces()
     ensures { EndedWalksAreTraces }
 {}
 
-/// The pictures of a walk are a front of those of the trace.
-pub fn walks_are_fronts()
-    ensures { WalksAreFronts }
+/// The pictures of a walk are a prefix of those of the trace.
+pub fn walks_are_prefixes()
+    ensures { WalksArePrefixes }
 {}

@@ -1,2 +1,2 @@
-pub mod Halves
+pub mod CpuSteps
 pub mod Views

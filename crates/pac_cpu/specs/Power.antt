@@ -1,4 +1,4 @@
--- The registers at power-on and behind a reset (UM0080, "RESET"). That all are 0 at power-on, and that a
+-- The registers at power-on and after a reset (UM0080, "RESET"). That all are 0 at power-on, and that a
 -- reset keeps what it doesn't clear, is this profile's.
 use Rattle.std.specs.Prelude.{false}
 use Rattle.pac_table.specs.declared.effects.InterruptMode.TheVariants.{Zero}
@@ -33,15 +33,6 @@ at_power_on =
       after_ei = false;
     }
 
-abbrev pub behind_reset : Regs → Regs
-behind_reset regs =
-    record regs {
-      pc = 0;
-      i = 0;
-      r = 0;
-      mode = Zero;
-      iff1 = false;
-      iff2 = false;
-      halted = false;
-      after_ei = false;
-    }
+abbrev pub after_reset : Regs → Regs
+after_reset regs =
+    record regs { pc = 0; i = 0; r = 0; mode = Zero; iff1 = false; iff2 = false; halted = false; after_ei = false }

@@ -1,9 +1,9 @@
-//! The processor as a value: its registers behind the calls that change them.
+//! The processor as a value: its registers after_all the calls that change them.
 
 ghost use Rattle.std.specs.Prelude.{◌≡◌, ◌≤◌};
-ghost use Rattle.pac_bus.specs.Action.{behind};
-ghost use Rattle.pac_cpu.specs.Power.{at_power_on, behind_reset};
-ghost use Rattle.pac_cpu.specs.Step.{Stops, half, seen_on, regs_behind, actions_of, once_of, IfStepped, IfStopped};
+ghost use Rattle.pac_exec.specs.Transition.{shortest_ticks, longest_ticks};
+ghost use Rattle.pac_cpu.specs.Power.{at_power_on, after_reset};
+ghost use Rattle.pac_cpu.specs.Step.{Stops, cpu_step, surroundings_of, Did, IfStepped, IfStopped};
 
 use crate::once::Once;
 use crate::power::blank;
@@ -56,7 +56,7 @@ impl Cpu {
     /// RESET (UM0080, "Pin Functions"): PC, I, R, the interrupt mode and both interrupt flip-flops are
     /// cleared, with halted and EI's delay; the other registers keep what they have (this profile).
     pub fn reset(&mut self)
-        ensures { self.new ≡ behind_reset self.old }
+        ensures { self.new ≡ after_reset self.old }
     {
         *self = Cpu::with_regs(Regs {
             pc: 0,
@@ -72,16 +72,16 @@ impl Cpu {
     }
 
     /// Does one step over a bus: an interrupt's acceptance where one is requested with a vector byte,
-    /// enabled and not directly behind EI; a halted step; or the instruction at PC. Where that is none,
+    /// enabled and not directly after EI; a halted step; or the instruction at PC. Where that is none,
     /// or in mode 0 the vector byte is no RST, nothing is done and the stop is told, as often as it is
     /// asked for.
     pub fn step<B: Bus>(&mut self, bus: &mut B, request: Option<u8>) -> Once
-        ensures regs { self.new ≡ regs_behind (half (seen_on B.byte_at B.input_at B.after bus.old) self.old request) self.old }
-        ensures bus { bus.new ≡ behind B.after bus.old (actions_of (half (seen_on B.byte_at B.input_at B.after bus.old) self.old request)) }
-        ensures result { result ≡ once_of (half (seen_on B.byte_at B.input_at B.after bus.old) self.old request) }
-        ensures time { IfStepped result (λ ticks kind. (4 ≤ ticks) × (ticks ≤ 23)) }
+        ensures did { Did B.after (cpu_step (surroundings_of B.byte_at B.input_at B.after bus.old) self.old request)
+            self.old bus.old self.new bus.new result }
+        ensures time { IfStepped result (λ ticks kind. (shortest_ticks ≤ ticks) × (ticks ≤ longest_ticks)) }
         ensures stop { IfStopped result (λ stop. (self.new ≡ self.old) × (bus.new ≡ bus.old)) }
-        ensures again { IfStopped result (λ stop. half (seen_on B.byte_at B.input_at B.after bus.new) self.new request ≡ Stops stop) }
+        ensures again { IfStopped result (λ stop.
+            cpu_step (surroundings_of B.byte_at B.input_at B.after bus.new) self.new request ≡ Stops stop) }
     {
         advance(&mut self.regs, bus, request)
     }

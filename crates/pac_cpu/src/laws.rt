@@ -1,29 +1,30 @@
-//! Laws of the processor's half of a step, for whoever joins two ways of seeing one bus.
+//! Laws of the processor's part of a step, for whoever joins two ways of seeing one bus.
 
 ghost use Rattle.std.specs.Prelude.{◌≡◌, ℕ, Option};
 ghost use Rattle.pac_bus.specs.Action.{Action};
 ghost use Rattle.pac_exec.specs.declared.regs.Regs.{Regs};
-ghost use Rattle.pac_cpu.specs.Step.{HalfRestsOnAnswers, EachHalfIsInTime, half, seen_on};
+ghost use Rattle.pac_cpu.specs.Step.{CpuStepRestsOnAnswers, EachCpuStepIsInTime, cpu_step, surroundings_of};
 
 use pac_bus::Bus;
 
-/// A half rests on the answers to its questions alone.
-pub fn half_rests_on_answers()
-    ensures { HalfRestsOnAnswers }
+/// A step rests on the answers to its questions alone.
+pub fn cpu_step_rests_on_answers()
+    ensures { CpuStepRestsOnAnswers }
 {}
 
-/// A half that is a step takes 4 to 23 T-states.
-pub fn each_half_is_in_time()
-    ensures { EachHalfIsInTime }
+/// A step that is no stop takes 4 to 23 T-states.
+pub fn each_cpu_step_is_in_time()
+    ensures { EachCpuStepIsInTime }
 {}
 
-/// The processor's half is the same over a bus and over any view of it that keeps what is read, what the
+/// The processor's part is the same over a bus and over any view of it that keeps what is read, what the
 /// ports give and what writes and outputs make.
-pub fn half_commutes_with_views<From: Bus, To: Bus>()
+pub fn cpu_step_commutes_with_views<From: Bus, To: Bus>()
     ensures { (view : From → To)
         → ((bus : From) (at : ℕ) → From.byte_at bus at ≡ To.byte_at (view bus) at)
         → ((bus : From) (port : ℕ) → From.input_at bus port ≡ To.input_at (view bus) port)
         → ((bus : From) (action : Action) → view (From.after bus action) ≡ To.after (view bus) action)
         → (bus : From) (regs : Regs) (request : Option ℕ)
-        → half (seen_on From.byte_at From.input_at From.after bus) regs request ≡ half (seen_on To.byte_at To.input_at To.after (view bus)) regs request }
+        → cpu_step (surroundings_of From.byte_at From.input_at From.after bus) regs request
+        ≡ cpu_step (surroundings_of To.byte_at To.input_at To.after (view bus)) regs request }
 {}

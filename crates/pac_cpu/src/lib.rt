@@ -11,8 +11,4 @@ pub use cpu::Cpu;
 pub use once::{Cause, Kind, Once, Stop};
 
 #[cfg(test)]
-mod program_tests;
-#[cfg(test)]
 mod tests;
-#[cfg(test)]
-mod vectors;

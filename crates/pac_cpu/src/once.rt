@@ -19,7 +19,7 @@ pub enum Once {
 /// The kinds of a step.
 #[derive(Clone, Copy, PartialEq, Eq)]
 pub enum Kind {
-    /// An instruction, or one turn of a repeating one.
+    /// An instruction, or one iteration of a repeating one.
     Ran(Instr),
     /// A halted processor waited.
     Halted,

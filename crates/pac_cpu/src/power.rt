@@ -1,32 +1,16 @@
 //! The registers at power-on.
 
 ghost use Rattle.std.specs.Prelude.{◌≡◌};
-ghost use Rattle.pac_cpu.specs.Power.{blank_set, at_power_on};
+ghost use Rattle.pac_cpu.specs.Power.{at_power_on};
 
 use pac_exec::{Alternate, Regs};
 use pac_table::InterruptMode;
 
-/// The second set, each register 0.
-fn blank_alternate() -> Alternate
-    ensures { result ≡ blank_set }
-{
-    Alternate {
-        a: 0,
-        f: 0,
-        b: 0,
-        c: 0,
-        d: 0,
-        e: 0,
-        h: 0,
-        l: 0,
-    }
-}
-
-/// Each register 0.
+/// Each register 0; both sets are alike.
 pub(crate) fn blank() -> Regs
     ensures { result ≡ at_power_on }
 {
-    Regs {
+    let set = Alternate {
         a: 0,
         f: 0,
         b: 0,
@@ -35,7 +19,17 @@ pub(crate) fn blank() -> Regs
         e: 0,
         h: 0,
         l: 0,
-        alternate: blank_alternate(),
+    };
+    Regs {
+        a: set.a,
+        f: set.f,
+        b: set.b,
+        c: set.c,
+        d: set.d,
+        e: set.e,
+        h: set.h,
+        l: set.l,
+        alternate: set,
         ix: 0,
         iy: 0,
         sp: 0,

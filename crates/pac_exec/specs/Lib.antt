@@ -1,5 +1,5 @@
 pub mod Registers
-pub mod Done
+pub mod Transition
 pub mod Places
 pub mod Pairs
 pub mod ByteLoads

@@ -2,8 +2,8 @@
 //! T-states.
 
 ghost use Rattle.std.specs.Prelude.{◌≡◌};
-ghost use Rattle.pac_bus.specs.Action.{behind};
-ghost use Rattle.pac_exec.specs.BitOperations.{test_bit_done, reset_bit_done, set_bit_done};
+ghost use Rattle.pac_exec.specs.BitOperations.{test_bit_transition, reset_bit_transition, set_bit_transition};
+ghost use Rattle.pac_exec.specs.Transition.{Did, DidInRegisters};
 
 use crate::places::{get, put};
 use crate::regs::Regs;
@@ -12,8 +12,7 @@ use pac_table::{Instr, Place};
 
 /// BIT.
 pub fn test_bit<B: Bus>(place: Place, instr: &Instr, regs: &mut Regs, bus: &B) -> u8
-    ensures regs { regs.new ≡ (test_bit_done place instr.now regs.old (B.byte_at bus.now)).regs }
-    ensures time { result ≡ (test_bit_done place instr.now regs.old (B.byte_at bus.now)).ticks }
+    ensures { DidInRegisters (test_bit_transition place instr.now regs.old (B.byte_at bus.now)) regs.new result }
 {
     let byte = get(place, instr, regs, bus);
     regs.f = pac_alu::test_bit(byte, instr.p(), regs.f);
@@ -22,9 +21,7 @@ pub fn test_bit<B: Bus>(place: Place, instr: &Instr, regs: &mut Regs, bus: &B) -
 
 /// RES.
 pub fn reset_bit<B: Bus>(place: Place, instr: &Instr, regs: &mut Regs, bus: &mut B) -> u8
-    ensures regs { regs.new ≡ (reset_bit_done place instr.now regs.old (B.byte_at bus.old)).regs }
-    ensures bus { bus.new ≡ behind B.after bus.old (reset_bit_done place instr.now regs.old (B.byte_at bus.old)).actions }
-    ensures time { result ≡ (reset_bit_done place instr.now regs.old (B.byte_at bus.old)).ticks }
+    ensures { Did B.after (reset_bit_transition place instr.now regs.old (B.byte_at bus.old)) bus.old regs.new bus.new result }
 {
     let byte = pac_alu::reset_bit(get(place, instr, regs, bus), instr.p());
     put(place, byte, instr, regs, bus);
@@ -33,9 +30,7 @@ pub fn reset_bit<B: Bus>(place: Place, instr: &Instr, regs: &mut Regs, bus: &mut
 
 /// SET.
 pub fn set_bit<B: Bus>(place: Place, instr: &Instr, regs: &mut Regs, bus: &mut B) -> u8
-    ensures regs { regs.new ≡ (set_bit_done place instr.now regs.old (B.byte_at bus.old)).regs }
-    ensures bus { bus.new ≡ behind B.after bus.old (set_bit_done place instr.now regs.old (B.byte_at bus.old)).actions }
-    ensures time { result ≡ (set_bit_done place instr.now regs.old (B.byte_at bus.old)).ticks }
+    ensures { Did B.after (set_bit_transition place instr.now regs.old (B.byte_at bus.old)) bus.old regs.new bus.new result }
 {
     let byte = pac_alu::set_bit(get(place, instr, regs, bus), instr.p());
     put(place, byte, instr, regs, bus);

@@ -2,13 +2,14 @@
 //! and Output Group").
 
 ghost use Rattle.std.specs.Prelude.{◌≡◌};
-ghost use Rattle.pac_bus.specs.Action.{behind};
+ghost use Rattle.pac_bus.specs.Action.{after_all};
 ghost use Rattle.pac_exec.specs.Blocks as blocks;
+ghost use Rattle.pac_exec.specs.Transition.{Did};
 
-use crate::pairs::{next, previous};
 use crate::regs::Regs;
 use pac_alu::decrement_word;
 use pac_bus::Bus;
+use pac_num::offset;
 use pac_table::{Block, BlockOperation, Direction, Instr};
 
 /// Where a pointer goes.
@@ -17,8 +18,8 @@ fn moved(direction: Direction, address: u16) -> u16
     ensures { result ≡ blocks.moved direction address }
 {
     match direction {
-        Direction::Up => next(address),
-        Direction::Down => previous(address),
+        Direction::Up => offset(address, 1),
+        Direction::Down => offset(address, 65535),
     }
 }
 
@@ -33,7 +34,7 @@ fn ports_left(regs: &Regs) -> u8
 /// One byte of LDI or LDD; whether another one follows where the instruction repeats.
 fn copy<B: Bus>(direction: Direction, regs: &mut Regs, bus: &mut B) -> bool
     ensures regs { regs.new ≡ (blocks.copied direction regs.old (B.byte_at bus.old)).regs }
-    ensures bus { bus.new ≡ behind B.after bus.old (blocks.copied direction regs.old (B.byte_at bus.old)).actions }
+    ensures bus { bus.new ≡ after_all B.after bus.old (blocks.copied direction regs.old (B.byte_at bus.old)).actions }
     ensures goes_on { result ≡ (blocks.copied direction regs.old (B.byte_at bus.old)).goes_on }
 {
     let count = decrement_word(regs.bc());
@@ -62,7 +63,7 @@ fn compare<B: Bus>(direction: Direction, regs: &mut Regs, bus: &B) -> bool
 /// One byte of INI or IND; whether another one follows where the instruction repeats.
 fn take_in<B: Bus>(direction: Direction, regs: &mut Regs, bus: &mut B) -> bool
     ensures regs { regs.new ≡ (blocks.taken_in direction regs.old (B.input_at bus.old)).regs }
-    ensures bus { bus.new ≡ behind B.after bus.old (blocks.taken_in direction regs.old (B.input_at bus.old)).actions }
+    ensures bus { bus.new ≡ after_all B.after bus.old (blocks.taken_in direction regs.old (B.input_at bus.old)).actions }
     ensures goes_on { result ≡ (blocks.taken_in direction regs.old (B.input_at bus.old)).goes_on }
 {
     let count = ports_left(regs);
@@ -77,7 +78,7 @@ fn take_in<B: Bus>(direction: Direction, regs: &mut Regs, bus: &mut B) -> bool
 /// One byte of OUTI or OUTD; whether another one follows where the instruction repeats.
 fn give_out<B: Bus>(direction: Direction, regs: &mut Regs, bus: &mut B) -> bool
     ensures regs { regs.new ≡ (blocks.given_out direction regs.old (B.byte_at bus.old)).regs }
-    ensures bus { bus.new ≡ behind B.after bus.old (blocks.given_out direction regs.old (B.byte_at bus.old)).actions }
+    ensures bus { bus.new ≡ after_all B.after bus.old (blocks.given_out direction regs.old (B.byte_at bus.old)).actions }
     ensures goes_on { result ≡ (blocks.given_out direction regs.old (B.byte_at bus.old)).goes_on }
 {
     let count = ports_left(regs);
@@ -97,7 +98,7 @@ fn turn<B: Bus>(
     bus: &mut B,
 ) -> bool
     ensures regs { regs.new ≡ (blocks.turn operation direction regs.old (B.byte_at bus.old) (B.input_at bus.old)).regs }
-    ensures bus { bus.new ≡ behind B.after bus.old (blocks.turn operation direction regs.old (B.byte_at bus.old) (B.input_at bus.old)).actions }
+    ensures bus { bus.new ≡ after_all B.after bus.old (blocks.turn operation direction regs.old (B.byte_at bus.old) (B.input_at bus.old)).actions }
     ensures goes_on { result ≡ (blocks.turn operation direction regs.old (B.byte_at bus.old) (B.input_at bus.old)).goes_on }
 {
     match operation {
@@ -110,13 +111,11 @@ fn turn<B: Bus>(
 
 /// A step of a block instruction; its time in T-states.
 pub fn block<B: Bus>(block: Block, instr: &Instr, regs: &mut Regs, bus: &mut B) -> u8
-    ensures regs { regs.new ≡ (blocks.block_done block instr.now regs.old (B.byte_at bus.old) (B.input_at bus.old)).regs }
-    ensures bus { bus.new ≡ behind B.after bus.old (blocks.block_done block instr.now regs.old (B.byte_at bus.old) (B.input_at bus.old)).actions }
-    ensures time { result ≡ (blocks.block_done block instr.now regs.old (B.byte_at bus.old) (B.input_at bus.old)).ticks }
+    ensures { Did B.after (blocks.block_transition block instr.now regs.old (B.byte_at bus.old) (B.input_at bus.old)) bus.old regs.new bus.new result }
 {
     let goes_on = turn(block.operation, block.direction, regs, bus);
     if block.repeats && goes_on {
-        regs.pc = previous(previous(regs.pc));
+        regs.pc = offset(regs.pc, 65534);
         instr.ticks()
     } else {
         instr.ticks_other()

@@ -2,8 +2,8 @@
 //! and CPU Control Groups"). Each gives its time in T-states.
 
 ghost use Rattle.std.specs.Prelude.{◌≡◌};
-ghost use Rattle.pac_bus.specs.Action.{behind};
-ghost use Rattle.pac_exec.specs.ByteArithmetic.{alu_done, increment_done, decrement_done, decimal_adjust_done, complement_done, negate_done, set_carry_done, complement_carry_done};
+ghost use Rattle.pac_exec.specs.ByteArithmetic.{alu_transition, increment_transition, decrement_transition, decimal_adjust_transition, complement_transition, negate_transition, set_carry_transition, complement_carry_transition};
+ghost use Rattle.pac_exec.specs.Transition.{Did, DidInRegisters};
 
 use crate::places::{get, put};
 use crate::regs::Regs;
@@ -13,8 +13,7 @@ use pac_table::{Instr, Place};
 
 /// ADD, ADC, SUB, SBC, AND, XOR, OR and CP.
 pub fn alu<B: Bus>(place: Place, instr: &Instr, regs: &mut Regs, bus: &B) -> u8
-    ensures regs { regs.new ≡ (alu_done place instr.now regs.old (B.byte_at bus.now)).regs }
-    ensures time { result ≡ (alu_done place instr.now regs.old (B.byte_at bus.now)).ticks }
+    ensures { DidInRegisters (alu_transition place instr.now regs.old (B.byte_at bus.now)) regs.new result }
 {
     let operand = get(place, instr, regs, bus);
     let operation = Operation::from_field(instr.p());
@@ -26,9 +25,7 @@ pub fn alu<B: Bus>(place: Place, instr: &Instr, regs: &mut Regs, bus: &B) -> u8
 
 /// INC of a byte.
 pub fn increment<B: Bus>(place: Place, instr: &Instr, regs: &mut Regs, bus: &mut B) -> u8
-    ensures regs { regs.new ≡ (increment_done place instr.now regs.old (B.byte_at bus.old)).regs }
-    ensures bus { bus.new ≡ behind B.after bus.old (increment_done place instr.now regs.old (B.byte_at bus.old)).actions }
-    ensures time { result ≡ (increment_done place instr.now regs.old (B.byte_at bus.old)).ticks }
+    ensures { Did B.after (increment_transition place instr.now regs.old (B.byte_at bus.old)) bus.old regs.new bus.new result }
 {
     let outcome = pac_alu::increment(get(place, instr, regs, bus), regs.f);
     put(place, outcome.value, instr, regs, bus);
@@ -38,9 +35,7 @@ pub fn increment<B: Bus>(place: Place, instr: &Instr, regs: &mut Regs, bus: &mut
 
 /// DEC of a byte.
 pub fn decrement<B: Bus>(place: Place, instr: &Instr, regs: &mut Regs, bus: &mut B) -> u8
-    ensures regs { regs.new ≡ (decrement_done place instr.now regs.old (B.byte_at bus.old)).regs }
-    ensures bus { bus.new ≡ behind B.after bus.old (decrement_done place instr.now regs.old (B.byte_at bus.old)).actions }
-    ensures time { result ≡ (decrement_done place instr.now regs.old (B.byte_at bus.old)).ticks }
+    ensures { Did B.after (decrement_transition place instr.now regs.old (B.byte_at bus.old)) bus.old regs.new bus.new result }
 {
     let outcome = pac_alu::decrement(get(place, instr, regs, bus), regs.f);
     put(place, outcome.value, instr, regs, bus);
@@ -50,8 +45,7 @@ pub fn decrement<B: Bus>(place: Place, instr: &Instr, regs: &mut Regs, bus: &mut
 
 /// DAA.
 pub fn decimal_adjust(instr: &Instr, regs: &mut Regs) -> u8
-    ensures regs { regs.new ≡ (decimal_adjust_done instr.now regs.old).regs }
-    ensures time { result ≡ (decimal_adjust_done instr.now regs.old).ticks }
+    ensures { DidInRegisters (decimal_adjust_transition instr.now regs.old) regs.new result }
 {
     let outcome = pac_alu::decimal_adjust(regs.a, regs.f);
     regs.a = outcome.value;
@@ -61,8 +55,7 @@ pub fn decimal_adjust(instr: &Instr, regs: &mut Regs) -> u8
 
 /// CPL.
 pub fn complement(instr: &Instr, regs: &mut Regs) -> u8
-    ensures regs { regs.new ≡ (complement_done instr.now regs.old).regs }
-    ensures time { result ≡ (complement_done instr.now regs.old).ticks }
+    ensures { DidInRegisters (complement_transition instr.now regs.old) regs.new result }
 {
     let outcome = pac_alu::complement(regs.a, regs.f);
     regs.a = outcome.value;
@@ -72,8 +65,7 @@ pub fn complement(instr: &Instr, regs: &mut Regs) -> u8
 
 /// NEG.
 pub fn negate(instr: &Instr, regs: &mut Regs) -> u8
-    ensures regs { regs.new ≡ (negate_done instr.now regs.old).regs }
-    ensures time { result ≡ (negate_done instr.now regs.old).ticks }
+    ensures { DidInRegisters (negate_transition instr.now regs.old) regs.new result }
 {
     let outcome = pac_alu::negate(regs.a, regs.f);
     regs.a = outcome.value;
@@ -83,8 +75,7 @@ pub fn negate(instr: &Instr, regs: &mut Regs) -> u8
 
 /// SCF.
 pub fn set_carry(instr: &Instr, regs: &mut Regs) -> u8
-    ensures regs { regs.new ≡ (set_carry_done instr.now regs.old).regs }
-    ensures time { result ≡ (set_carry_done instr.now regs.old).ticks }
+    ensures { DidInRegisters (set_carry_transition instr.now regs.old) regs.new result }
 {
     regs.f = pac_alu::set_carry(regs.f);
     instr.ticks()
@@ -92,8 +83,7 @@ pub fn set_carry(instr: &Instr, regs: &mut Regs) -> u8
 
 /// CCF.
 pub fn complement_carry(instr: &Instr, regs: &mut Regs) -> u8
-    ensures regs { regs.new ≡ (complement_carry_done instr.now regs.old).regs }
-    ensures time { result ≡ (complement_carry_done instr.now regs.old).ticks }
+    ensures { DidInRegisters (complement_carry_transition instr.now regs.old) regs.new result }
 {
     regs.f = pac_alu::complement_carry(regs.f);
     instr.ticks()

@@ -2,8 +2,8 @@
 //! T-states, the shorter one where a condition isn't met.
 
 ghost use Rattle.std.specs.Prelude.{◌≡◌, ◌*◌};
-ghost use Rattle.pac_bus.specs.Action.{behind};
-ghost use Rattle.pac_exec.specs.Calls.{called, call_done, call_if_done, restart_done, return_done, return_if_done, return_from_interrupt_done, return_from_non_maskable_done};
+ghost use Rattle.pac_exec.specs.Calls.{called, call_transition, call_if_transition, restart_transition, return_transition, return_if_transition, return_from_interrupt_transition, return_from_non_maskable_transition};
+ghost use Rattle.pac_exec.specs.Transition.{Did, DidInRegisters};
 
 use crate::jumps::meets_condition;
 use crate::pairs::{pop_word, push_word};
@@ -13,9 +13,7 @@ use pac_table::Instr;
 
 /// Pushes PC and goes to an address.
 fn call_address<B: Bus>(address: u16, instr: &Instr, regs: &mut Regs, bus: &mut B) -> u8
-    ensures regs { regs.new ≡ (called address instr.now regs.old).regs }
-    ensures bus { bus.new ≡ behind B.after bus.old (called address instr.now regs.old).actions }
-    ensures time { result ≡ (called address instr.now regs.old).ticks }
+    ensures { Did B.after (called address instr.now regs.old) bus.old regs.new bus.new result }
 {
     push_word(regs.pc, regs, bus);
     regs.pc = address;
@@ -24,18 +22,14 @@ fn call_address<B: Bus>(address: u16, instr: &Instr, regs: &mut Regs, bus: &mut 
 
 /// CALL nn.
 pub fn call<B: Bus>(instr: &Instr, regs: &mut Regs, bus: &mut B) -> u8
-    ensures regs { regs.new ≡ (call_done instr.now regs.old).regs }
-    ensures bus { bus.new ≡ behind B.after bus.old (call_done instr.now regs.old).actions }
-    ensures time { result ≡ (call_done instr.now regs.old).ticks }
+    ensures { Did B.after (call_transition instr.now regs.old) bus.old regs.new bus.new result }
 {
     call_address(instr.word(), instr, regs, bus)
 }
 
 /// CALL cc,nn.
 pub fn call_if<B: Bus>(instr: &Instr, regs: &mut Regs, bus: &mut B) -> u8
-    ensures regs { regs.new ≡ (call_if_done instr.now regs.old).regs }
-    ensures bus { bus.new ≡ behind B.after bus.old (call_if_done instr.now regs.old).actions }
-    ensures time { result ≡ (call_if_done instr.now regs.old).ticks }
+    ensures { Did B.after (call_if_transition instr.now regs.old) bus.old regs.new bus.new result }
 {
     let calls = meets_condition(instr, regs);
     if calls {
@@ -47,17 +41,14 @@ pub fn call_if<B: Bus>(instr: &Instr, regs: &mut Regs, bus: &mut B) -> u8
 
 /// RST p.
 pub fn restart<B: Bus>(instr: &Instr, regs: &mut Regs, bus: &mut B) -> u8
-    ensures regs { regs.new ≡ (restart_done instr.now regs.old).regs }
-    ensures bus { bus.new ≡ behind B.after bus.old (restart_done instr.now regs.old).actions }
-    ensures time { result ≡ (restart_done instr.now regs.old).ticks }
+    ensures { Did B.after (restart_transition instr.now regs.old) bus.old regs.new bus.new result }
 {
     call_address(8 * instr.p() as u16, instr, regs, bus)
 }
 
 /// RET.
 pub fn return_to_caller<B: Bus>(instr: &Instr, regs: &mut Regs, bus: &B) -> u8
-    ensures regs { regs.new ≡ (return_done instr.now regs.old (B.byte_at bus.now)).regs }
-    ensures time { result ≡ (return_done instr.now regs.old (B.byte_at bus.now)).ticks }
+    ensures { DidInRegisters (return_transition instr.now regs.old (B.byte_at bus.now)) regs.new result }
 {
     regs.pc = pop_word(regs, bus);
     instr.ticks()
@@ -65,8 +56,7 @@ pub fn return_to_caller<B: Bus>(instr: &Instr, regs: &mut Regs, bus: &B) -> u8
 
 /// RET cc.
 pub fn return_if<B: Bus>(instr: &Instr, regs: &mut Regs, bus: &B) -> u8
-    ensures regs { regs.new ≡ (return_if_done instr.now regs.old (B.byte_at bus.now)).regs }
-    ensures time { result ≡ (return_if_done instr.now regs.old (B.byte_at bus.now)).ticks }
+    ensures { DidInRegisters (return_if_transition instr.now regs.old (B.byte_at bus.now)) regs.new result }
 {
     let returns = meets_condition(instr, regs);
     if returns {
@@ -78,16 +68,14 @@ pub fn return_if<B: Bus>(instr: &Instr, regs: &mut Regs, bus: &B) -> u8
 
 /// RETI: in this profile both interrupt flip-flops stay.
 pub fn return_from_interrupt<B: Bus>(instr: &Instr, regs: &mut Regs, bus: &B) -> u8
-    ensures regs { regs.new ≡ (return_from_interrupt_done instr.now regs.old (B.byte_at bus.now)).regs }
-    ensures time { result ≡ (return_from_interrupt_done instr.now regs.old (B.byte_at bus.now)).ticks }
+    ensures { DidInRegisters (return_from_interrupt_transition instr.now regs.old (B.byte_at bus.now)) regs.new result }
 {
     return_to_caller(instr, regs, bus)
 }
 
 /// RETN: IFF1 becomes IFF2.
 pub fn return_from_non_maskable<B: Bus>(instr: &Instr, regs: &mut Regs, bus: &B) -> u8
-    ensures regs { regs.new ≡ (return_from_non_maskable_done instr.now regs.old (B.byte_at bus.now)).regs }
-    ensures time { result ≡ (return_from_non_maskable_done instr.now regs.old (B.byte_at bus.now)).ticks }
+    ensures { DidInRegisters (return_from_non_maskable_transition instr.now regs.old (B.byte_at bus.now)) regs.new result }
 {
     regs.iff1 = regs.iff2;
     return_to_caller(instr, regs, bus)

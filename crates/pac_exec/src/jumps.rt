@@ -3,7 +3,8 @@
 
 ghost use Rattle.std.specs.Prelude.{◌≡◌};
 ghost use Rattle.pac_alu.specs.Flags.{condition_of, is_met};
-ghost use Rattle.pac_exec.specs.Jumps.{jump_if_done, jump_to_pair_done, jump_relative_done, jump_relative_if_done, decrement_and_jump_done};
+ghost use Rattle.pac_exec.specs.Jumps.{jump_if_transition, jump_to_pair_transition, jump_relative_transition, jump_relative_if_transition, decrement_and_jump_transition};
+ghost use Rattle.pac_exec.specs.Transition.{DidInRegisters};
 
 use crate::pairs::get_pair;
 use crate::regs::{Regs, displaced};
@@ -20,8 +21,7 @@ pub fn meets_condition(instr: &Instr, regs: &Regs) -> bool
 
 /// JP cc,nn.
 pub fn jump_if(instr: &Instr, regs: &mut Regs) -> u8
-    ensures regs { regs.new ≡ (jump_if_done instr.now regs.old).regs }
-    ensures time { result ≡ (jump_if_done instr.now regs.old).ticks }
+    ensures { DidInRegisters (jump_if_transition instr.now regs.old) regs.new result }
 {
     let jumps = meets_condition(instr, regs);
     if jumps {
@@ -34,8 +34,7 @@ pub fn jump_if(instr: &Instr, regs: &mut Regs) -> u8
 
 /// JP (HL).
 pub fn jump_to_pair(pair: Pair, instr: &Instr, regs: &mut Regs) -> u8
-    ensures regs { regs.new ≡ (jump_to_pair_done pair instr.now regs.old).regs }
-    ensures time { result ≡ (jump_to_pair_done pair instr.now regs.old).ticks }
+    ensures { DidInRegisters (jump_to_pair_transition pair instr.now regs.old) regs.new result }
 {
     regs.pc = get_pair(pair, instr, regs);
     instr.ticks()
@@ -43,8 +42,7 @@ pub fn jump_to_pair(pair: Pair, instr: &Instr, regs: &mut Regs) -> u8
 
 /// JR e.
 pub fn jump_relative(instr: &Instr, regs: &mut Regs) -> u8
-    ensures regs { regs.new ≡ (jump_relative_done instr.now regs.old).regs }
-    ensures time { result ≡ (jump_relative_done instr.now regs.old).ticks }
+    ensures { DidInRegisters (jump_relative_transition instr.now regs.old) regs.new result }
 {
     regs.pc = displaced(regs.pc, instr.disp());
     instr.ticks()
@@ -52,8 +50,7 @@ pub fn jump_relative(instr: &Instr, regs: &mut Regs) -> u8
 
 /// JR cc,e.
 pub fn jump_relative_if(instr: &Instr, regs: &mut Regs) -> u8
-    ensures regs { regs.new ≡ (jump_relative_if_done instr.now regs.old).regs }
-    ensures time { result ≡ (jump_relative_if_done instr.now regs.old).ticks }
+    ensures { DidInRegisters (jump_relative_if_transition instr.now regs.old) regs.new result }
 {
     if meets_condition(instr, regs) {
         jump_relative(instr, regs)
@@ -64,8 +61,7 @@ pub fn jump_relative_if(instr: &Instr, regs: &mut Regs) -> u8
 
 /// DJNZ e.
 pub fn decrement_and_jump(instr: &Instr, regs: &mut Regs) -> u8
-    ensures regs { regs.new ≡ (decrement_and_jump_done instr.now regs.old).regs }
-    ensures time { result ≡ (decrement_and_jump_done instr.now regs.old).ticks }
+    ensures { DidInRegisters (decrement_and_jump_transition instr.now regs.old) regs.new result }
 {
     regs.b = ((regs.b as u16 + 255) % 256) as u8;
     if regs.b != 0 {

@@ -19,6 +19,7 @@ mod word_arithmetic;
 mod word_loads;
 
 pub use instructions::perform;
+pub use pairs::push_word;
 pub use regs::{Alternate, Regs, displaced};
 
 #[cfg(test)]

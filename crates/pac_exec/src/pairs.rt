@@ -1,36 +1,20 @@
 //! Registers and cells of 16 bits, and the stack.
 
 ghost use Rattle.std.specs.Prelude.{◌≡◌};
-ghost use Rattle.pac_bus.specs.Action.{behind};
+ghost use Rattle.pac_bus.specs.Action.{after_all};
 ghost use Rattle.pac_exec.specs.Pairs as pairs;
 
 use crate::regs::Regs;
 use pac_bus::Bus;
-use pac_num::{high_byte, low_byte};
+use pac_num::{high_byte, low_byte, offset};
 use pac_table::{Instr, Pair};
-
-/// The address above another, modulo 65,536.
-#[inline]
-pub fn next(address: u16) -> u16
-    ensures { result ≡ pairs.next address }
-{
-    ((address as u32 + 1) % 65536) as u16
-}
-
-/// The address below another, modulo 65,536.
-#[inline]
-pub fn previous(address: u16) -> u16
-    ensures { result ≡ pairs.previous address }
-{
-    ((address as u32 + 65535) % 65536) as u16
-}
 
 /// The word at an address, low byte first.
 #[inline]
 pub fn read_word<B: Bus>(address: u16, bus: &B) -> u16
     ensures { result ≡ pairs.word_at (B.byte_at bus.now) address }
 {
-    pac_num::word(bus.read(address), bus.read(next(address)))
+    pac_num::word(bus.read(address), bus.read(offset(address, 1)))
 }
 
 impl Regs {
@@ -156,11 +140,10 @@ pub fn set_stack_pair(pair: Pair, word: u16, instr: &Instr, regs: &mut Regs)
 /// Pushes a word: the high byte to SP-1, then the low byte to SP-2, where SP then points.
 pub fn push_word<B: Bus>(word: u16, regs: &mut Regs, bus: &mut B)
     ensures regs { regs.new ≡ pairs.with_room regs.old }
-    ensures bus { bus.new ≡ behind B.after bus.old (pairs.push_writes regs.old.sp word) }
+    ensures bus { bus.new ≡ after_all B.after bus.old (pairs.push_writes regs.old.sp word) }
 {
-    let above = previous(regs.sp);
-    regs.sp = previous(above);
-    bus.write(above, high_byte(word));
+    bus.write(offset(regs.sp, 65535), high_byte(word));
+    regs.sp = offset(regs.sp, 65534);
     bus.write(regs.sp, low_byte(word));
 }
 
@@ -170,6 +153,6 @@ pub fn pop_word<B: Bus>(regs: &mut Regs, bus: &B) -> u16
     ensures regs { regs.new ≡ pairs.without_top regs.old }
 {
     let word = read_word(regs.sp, bus);
-    regs.sp = next(next(regs.sp));
+    regs.sp = offset(regs.sp, 2);
     word
 }

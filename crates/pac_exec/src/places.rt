@@ -1,7 +1,7 @@
 //! The places of 8 bits that instructions read and write.
 
 ghost use Rattle.std.specs.Prelude.{◌≡◌};
-ghost use Rattle.pac_bus.specs.Action.{behind};
+ghost use Rattle.pac_bus.specs.Action.{after_all};
 ghost use Rattle.pac_exec.specs.Places.{source, regs_with, writes_to};
 
 use crate::regs::{Regs, displaced};
@@ -31,7 +31,7 @@ pub(crate) fn get<B: Bus>(place: Place, instr: &Instr, regs: &Regs, bus: &B) -> 
 #[inline]
 pub(crate) fn put<B: Bus>(place: Place, byte: u8, instr: &Instr, regs: &mut Regs, bus: &mut B)
     ensures regs { regs.new ≡ regs_with place instr.now regs.old byte }
-    ensures bus { bus.new ≡ behind B.after bus.old (writes_to place instr.now regs.old byte) }
+    ensures bus { bus.new ≡ after_all B.after bus.old (writes_to place instr.now regs.old byte) }
 {
     match place {
         Place::First => regs.set_register(instr.p(), byte),

@@ -2,8 +2,8 @@
 //! in T-states.
 
 ghost use Rattle.std.specs.Prelude.{◌≡◌};
-ghost use Rattle.pac_bus.specs.Action.{behind};
-ghost use Rattle.pac_exec.specs.Ports.{input_byte_done, output_byte_done, input_done, output_done};
+ghost use Rattle.pac_exec.specs.Ports.{input_byte_transition, output_byte_transition, input_transition, output_transition};
+ghost use Rattle.pac_exec.specs.Transition.{Did, DidInRegisters};
 
 use crate::regs::Regs;
 use pac_bus::Bus;
@@ -12,8 +12,7 @@ use pac_table::Instr;
 
 /// IN A,(n).
 pub fn input_byte<B: Bus>(instr: &Instr, regs: &mut Regs, bus: &B) -> u8
-    ensures regs { regs.new ≡ (input_byte_done instr.now regs.old (B.input_at bus.now)).regs }
-    ensures time { result ≡ (input_byte_done instr.now regs.old (B.input_at bus.now)).ticks }
+    ensures { DidInRegisters (input_byte_transition instr.now regs.old (B.input_at bus.now)) regs.new result }
 {
     regs.a = bus.input(low_byte(instr.word()));
     instr.ticks()
@@ -21,8 +20,7 @@ pub fn input_byte<B: Bus>(instr: &Instr, regs: &mut Regs, bus: &B) -> u8
 
 /// OUT (n),A.
 pub fn output_byte<B: Bus>(instr: &Instr, regs: &Regs, bus: &mut B) -> u8
-    ensures bus { bus.new ≡ behind B.after bus.old (output_byte_done instr.now regs.now).actions }
-    ensures time { result ≡ (output_byte_done instr.now regs.now).ticks }
+    ensures { Did B.after (output_byte_transition instr.now regs.now) bus.old regs.now bus.new result }
 {
     bus.output(low_byte(instr.word()), regs.a);
     instr.ticks()
@@ -30,8 +28,7 @@ pub fn output_byte<B: Bus>(instr: &Instr, regs: &Regs, bus: &mut B) -> u8
 
 /// IN r,(C).
 pub fn input<B: Bus>(instr: &Instr, regs: &mut Regs, bus: &B) -> u8
-    ensures regs { regs.new ≡ (input_done instr.now regs.old (B.input_at bus.now)).regs }
-    ensures time { result ≡ (input_done instr.now regs.old (B.input_at bus.now)).ticks }
+    ensures { DidInRegisters (input_transition instr.now regs.old (B.input_at bus.now)) regs.new result }
 {
     let byte = bus.input(regs.c);
     regs.set_register(instr.p(), byte);
@@ -41,8 +38,7 @@ pub fn input<B: Bus>(instr: &Instr, regs: &mut Regs, bus: &B) -> u8
 
 /// OUT (C),r.
 pub fn output<B: Bus>(instr: &Instr, regs: &Regs, bus: &mut B) -> u8
-    ensures bus { bus.new ≡ behind B.after bus.old (output_done instr.now regs.now).actions }
-    ensures time { result ≡ (output_done instr.now regs.now).ticks }
+    ensures { Did B.after (output_transition instr.now regs.now) bus.old regs.now bus.new result }
 {
     bus.output(regs.c, regs.register(instr.p()));
     instr.ticks()

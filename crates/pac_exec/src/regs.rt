@@ -3,6 +3,7 @@
 ghost use Rattle.std.specs.Prelude.{◌≡◌, ◌≤◌, ◌<◌, pos, negsuc};
 ghost use Rattle.pac_exec.specs.Registers as registers;
 
+use pac_num::offset;
 use pac_table::InterruptMode;
 
 /// The second set of the eight registers A, F, B, C, D, E, H and L (UM0080, "Z80 CPU Register
@@ -184,8 +185,8 @@ pub fn displaced(base: u16, d: i8) -> u16
     ensures { result ≡ registers.displaced base d }
 {
     if d >= 0 {
-        ((base as u32 + d as u32) % 65536) as u16
+        offset(base, d as u16)
     } else {
-        ((base as u32 + 65535 - (-(d + 1)) as u32) % 65536) as u16
+        offset(base, 65535 - (-(d + 1)) as u16)
     }
 }

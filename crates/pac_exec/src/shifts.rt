@@ -1,8 +1,8 @@
 //! Rotations and shifts (UM0080, "Rotate and Shift Group"). Each gives its time in T-states.
 
 ghost use Rattle.std.specs.Prelude.{◌≡◌};
-ghost use Rattle.pac_bus.specs.Action.{behind};
-ghost use Rattle.pac_exec.specs.Shifts.{named_after, rotate_accumulator_done, shift_done, rotate_digit_left_done, rotate_digit_right_done};
+ghost use Rattle.pac_exec.specs.Shifts.{named_after, rotate_accumulator_transition, shift_transition, rotate_digit_left_transition, rotate_digit_right_transition};
+ghost use Rattle.pac_exec.specs.Transition.{Did, DidInRegisters};
 
 use crate::places::{get, put};
 use crate::regs::Regs;
@@ -24,8 +24,7 @@ fn shift_of_rotation(rotation: Rotation) -> Shift
 
 /// RLCA, RRCA, RLA and RRA.
 pub fn rotate_accumulator(rotation: Rotation, instr: &Instr, regs: &mut Regs) -> u8
-    ensures regs { regs.new ≡ (rotate_accumulator_done rotation instr.now regs.old).regs }
-    ensures time { result ≡ (rotate_accumulator_done rotation instr.now regs.old).ticks }
+    ensures { DidInRegisters (rotate_accumulator_transition rotation instr.now regs.old) regs.new result }
 {
     let outcome = pac_alu::rotate_accumulator(shift_of_rotation(rotation), regs.a, regs.f);
     regs.a = outcome.value;
@@ -35,9 +34,7 @@ pub fn rotate_accumulator(rotation: Rotation, instr: &Instr, regs: &mut Regs) ->
 
 /// RLC, RRC, RL, RR, SLA, SRA and SRL.
 pub fn shift<B: Bus>(place: Place, instr: &Instr, regs: &mut Regs, bus: &mut B) -> u8
-    ensures regs { regs.new ≡ (shift_done place instr.now regs.old (B.byte_at bus.old)).regs }
-    ensures bus { bus.new ≡ behind B.after bus.old (shift_done place instr.now regs.old (B.byte_at bus.old)).actions }
-    ensures time { result ≡ (shift_done place instr.now regs.old (B.byte_at bus.old)).ticks }
+    ensures { Did B.after (shift_transition place instr.now regs.old (B.byte_at bus.old)) bus.old regs.new bus.new result }
 {
     let byte = get(place, instr, regs, bus);
     let outcome = pac_alu::shift_byte(Shift::from_field(instr.p()), byte, regs.f);
@@ -48,9 +45,7 @@ pub fn shift<B: Bus>(place: Place, instr: &Instr, regs: &mut Regs, bus: &mut B) 
 
 /// RLD.
 pub fn rotate_digit_left<B: Bus>(instr: &Instr, regs: &mut Regs, bus: &mut B) -> u8
-    ensures regs { regs.new ≡ (rotate_digit_left_done instr.now regs.old (B.byte_at bus.old)).regs }
-    ensures bus { bus.new ≡ behind B.after bus.old (rotate_digit_left_done instr.now regs.old (B.byte_at bus.old)).actions }
-    ensures time { result ≡ (rotate_digit_left_done instr.now regs.old (B.byte_at bus.old)).ticks }
+    ensures { Did B.after (rotate_digit_left_transition instr.now regs.old (B.byte_at bus.old)) bus.old regs.new bus.new result }
 {
     let digits = pac_alu::rotate_digits_left(regs.a, bus.read(regs.hl()), regs.f);
     bus.write(regs.hl(), digits.memory);
@@ -61,9 +56,7 @@ pub fn rotate_digit_left<B: Bus>(instr: &Instr, regs: &mut Regs, bus: &mut B) ->
 
 /// RRD.
 pub fn rotate_digit_right<B: Bus>(instr: &Instr, regs: &mut Regs, bus: &mut B) -> u8
-    ensures regs { regs.new ≡ (rotate_digit_right_done instr.now regs.old (B.byte_at bus.old)).regs }
-    ensures bus { bus.new ≡ behind B.after bus.old (rotate_digit_right_done instr.now regs.old (B.byte_at bus.old)).actions }
-    ensures time { result ≡ (rotate_digit_right_done instr.now regs.old (B.byte_at bus.old)).ticks }
+    ensures { Did B.after (rotate_digit_right_transition instr.now regs.old (B.byte_at bus.old)) bus.old regs.new bus.new result }
 {
     let digits = pac_alu::rotate_digits_right(regs.a, bus.read(regs.hl()), regs.f);
     bus.write(regs.hl(), digits.memory);

@@ -1,7 +1,8 @@
 //! Arithmetic of 16 bits (UM0080, "16-Bit Arithmetic Group"). Each gives its time in T-states.
 
 ghost use Rattle.std.specs.Prelude.{◌≡◌};
-ghost use Rattle.pac_exec.specs.WordArithmetic.{addend, add_pair_done, add_pair_with_carry_done, subtract_pair_with_carry_done, increment_pair_done, decrement_pair_done};
+ghost use Rattle.pac_exec.specs.WordArithmetic.{addend, add_pair_transition, add_pair_with_carry_transition, subtract_pair_with_carry_transition, increment_pair_transition, decrement_pair_transition};
+ghost use Rattle.pac_exec.specs.Transition.{DidInRegisters};
 
 use crate::pairs::{get_pair, set_pair};
 use crate::regs::Regs;
@@ -23,8 +24,7 @@ fn addend_of(pair: Pair, instr: &Instr, regs: &Regs) -> u16
 
 /// ADD HL,ss and ADD IX,pp.
 pub fn add_pair(pair: Pair, instr: &Instr, regs: &mut Regs) -> u8
-    ensures regs { regs.new ≡ (add_pair_done pair instr.now regs.old).regs }
-    ensures time { result ≡ (add_pair_done pair instr.now regs.old).ticks }
+    ensures { DidInRegisters (add_pair_transition pair instr.now regs.old) regs.new result }
 {
     let sum = add_words(
         get_pair(pair, instr, regs),
@@ -38,8 +38,7 @@ pub fn add_pair(pair: Pair, instr: &Instr, regs: &mut Regs) -> u8
 
 /// ADC HL,ss.
 pub fn add_pair_with_carry(instr: &Instr, regs: &mut Regs) -> u8
-    ensures regs { regs.new ≡ (add_pair_with_carry_done instr.now regs.old).regs }
-    ensures time { result ≡ (add_pair_with_carry_done instr.now regs.old).ticks }
+    ensures { DidInRegisters (add_pair_with_carry_transition instr.now regs.old) regs.new result }
 {
     let sum = add_words_with_carry(regs.hl(), regs.pair(instr.p()), regs.f);
     regs.set_hl(sum.value);
@@ -49,8 +48,7 @@ pub fn add_pair_with_carry(instr: &Instr, regs: &mut Regs) -> u8
 
 /// SBC HL,ss.
 pub fn subtract_pair_with_carry(instr: &Instr, regs: &mut Regs) -> u8
-    ensures regs { regs.new ≡ (subtract_pair_with_carry_done instr.now regs.old).regs }
-    ensures time { result ≡ (subtract_pair_with_carry_done instr.now regs.old).ticks }
+    ensures { DidInRegisters (subtract_pair_with_carry_transition instr.now regs.old) regs.new result }
 {
     let difference = subtract_words_with_carry(regs.hl(), regs.pair(instr.p()), regs.f);
     regs.set_hl(difference.value);
@@ -60,8 +58,7 @@ pub fn subtract_pair_with_carry(instr: &Instr, regs: &mut Regs) -> u8
 
 /// INC of a pair.
 pub fn increment_pair(pair: Pair, instr: &Instr, regs: &mut Regs) -> u8
-    ensures regs { regs.new ≡ (increment_pair_done pair instr.now regs.old).regs }
-    ensures time { result ≡ (increment_pair_done pair instr.now regs.old).ticks }
+    ensures { DidInRegisters (increment_pair_transition pair instr.now regs.old) regs.new result }
 {
     let word = increment_word(get_pair(pair, instr, regs));
     set_pair(pair, word, instr, regs);
@@ -70,8 +67,7 @@ pub fn increment_pair(pair: Pair, instr: &Instr, regs: &mut Regs) -> u8
 
 /// DEC of a pair.
 pub fn decrement_pair(pair: Pair, instr: &Instr, regs: &mut Regs) -> u8
-    ensures regs { regs.new ≡ (decrement_pair_done pair instr.now regs.old).regs }
-    ensures time { result ≡ (decrement_pair_done pair instr.now regs.old).ticks }
+    ensures { DidInRegisters (decrement_pair_transition pair instr.now regs.old) regs.new result }
 {
     let word = decrement_word(get_pair(pair, instr, regs));
     set_pair(pair, word, instr, regs);

@@ -12,7 +12,9 @@ number_from n digits = fold (λ m c. m * 10 + (c - 48)) n digits
 
 -- the count of such a number
 abbrev pub with_digits : ℕ → List ℕ → Option ℕ
-with_digits n digits = cond (list_all is_ascii_digit digits && nat_le 1 (number_from n digits) && nat_le (number_from n digits) 36000) (Some (number_from n digits)) None
+with_digits n digits =
+    cond (list_all is_ascii_digit digits && nat_le 1 (number_from n digits) && nat_le (number_from n digits) 36000)
+    (Some (number_from n digits)) None
 
 grows : (n : ℕ) (digits : List ℕ) → n ≤ number_from n digits
 grows n [] = omega arith
@@ -21,7 +23,9 @@ grows n (c ∷ digits) = le_trans (omega arith) (grows (n * 10 + (c - 48)) digit
 above : (n : ℕ) → 36000 < n → nat_le n 36000 ≡ false
 above n h = grind (arith, nat_tests)
 
-pub too_large : (n c : ℕ) (digits : List ℕ) → 36000 < n * 10 + (c - 48) → with_digits n (c ∷ digits) ≡ None
-too_large n c digits large =
+pub too-large : (n c : ℕ) (digits : List ℕ) → 36000 < n * 10 + (c - 48) → with_digits n (c ∷ digits) ≡ None
+too-large n c digits large =
     let more = grows (n * 10 + (c - 48)) digits in
-    cond-false _ _ _ (and_right (list_all is_ascii_digit (c ∷ digits) && nat_le 1 (number_from n (c ∷ digits))) _ (above (number_from n (c ∷ digits)) (omega (arith, more, large))))
+    cond-false _ _ _
+    (and_right (list_all is_ascii_digit (c ∷ digits) && nat_le 1 (number_from n (c ∷ digits))) _
+    (above (number_from n (c ∷ digits)) (omega (arith, more, large))))

@@ -1,5 +1,6 @@
 -- A text is read as the script that it is, and refused at the fault that it has.
-use Rattle.std.proofs.Common.{◌≡◌, ℕ, ◌+◌, ◌≤◌, List, [], ◌∷◌, ◌++◌, length, Some, None, Result, Ok, Err, refl, sym, ap, ◌∙◌, subst, arith, inl, inr, append-nil, append_assoc}
+use Rattle.std.proofs.Common.{◌≡◌, ℕ, ◌+◌, ◌≤◌, List, [], ◌∷◌, ◌++◌, length, Some, None, Result, Ok, Err, refl, sym, ap, ◌∙◌, subst, arith}
+use Rattle.std.proofs.Common.{inl, inr, append-nil, append_assoc}
 use Rattle.std.specs.Prelude.{IfOk, IfErr}
 use Rattle.std.proofs.lemmas.Bool.{cases_lt, lt-ltb, le-ltb}
 use Rattle.std.specs.Str.Lines.{lines}
@@ -11,7 +12,7 @@ use Rattle.pac_inputs.specs.declared.fault.ScriptError.TheVariants as errors
 use Rattle.pac_inputs.specs.declared.line.Stretch.{Stretch}
 use Rattle.pac_inputs.specs.Stretches.{total}
 use Rattle.pac_inputs.specs.Script.{Meaning, meaning, Read, read, script_of, Gives, OnFault, Says, IsScript, IsFault, HasFault}
-use Rattle.pac_inputs.proofs.Frames.{total_behind}
+use Rattle.pac_inputs.proofs.Frames.{total-after}
 
 abbrev at : Code → ℕ → ScriptFault
 at code number = record { code = code; line = number }
@@ -21,55 +22,63 @@ at code number = record { code = code; line = number }
 abbrev Line : Type 0
 Line = List ℕ
 
-read_nothing : (n : ℕ) (before : List Stretch) (line : Line) (more : List Line) → meaning line ≡ Ok None → read n before (line ∷ more) ≡ read (n + 1) before more
+read-nothing : (n : ℕ) (before : List Stretch) (line : Line) (more : List Line) → meaning line ≡ Ok None
+    → read n before (line ∷ more) ≡ read (n + 1) before more
 unfolding read
-read_nothing n before line more e = rw e refl
+read-nothing n before line more e = rw e refl
 
-read_stretch : (n : ℕ) (before : List Stretch) (line : Line) (more : List Line) (s : Stretch) → meaning line ≡ Ok (Some s) → total before + s.frames ≤ 36000
+read-stretch : (n : ℕ) (before : List Stretch) (line : Line) (more : List Line) (s : Stretch) → meaning line ≡ Ok (Some s)
+    → total before + s.frames ≤ 36000
     → read n before (line ∷ more) ≡ read (n + 1) (before ++ s ∷ []) more
 unfolding read
-read_stretch n before line more s e h = rw (e, le-ltb 36000 (total before + s.frames) h) refl
+read-stretch n before line more s e h = rw (e, le-ltb 36000 (total before + s.frames) h) refl
 
-read_fault : (n : ℕ) (before : List Stretch) (line : Line) (more : List Line) (code : Code) → IsFault (total before) line code → read n before (line ∷ more) ≡ Err (at code n)
+read-fault : (n : ℕ) (before : List Stretch) (line : Line) (more : List Line) (code : Code) → IsFault (total before) line code
+    → read n before (line ∷ more) ≡ Err (at code n)
 unfolding read
-read_fault n before line more code (inl e) = rw e refl
-read_fault n before line more code (inr (s, e, long, is)) = rw (e, lt-ltb 36000 (total before + s.frames) long, is) refl
+read-fault n before line more code (inl e) = rw e refl
+read-fault n before line more code (inr (s, e, long, is)) = rw (e, lt-ltb 36000 (total before + s.frames) long, is) refl
 
-read_end : (n : ℕ) (before : List Stretch) → read n before [] ≡ Ok before
+read-end : (n : ℕ) (before : List Stretch) → read n before [] ≡ Ok before
 unfolding read
-read_end n before = refl
+read-end n before = refl
 
 -- ---- what is so is read
 
-says_on : (n : ℕ) (before : List Stretch) (front back : List Line) (said : List Stretch) → Says front said → total before + total said ≤ 36000
-    → read n before (front ++ back) ≡ read (length front + n) (before ++ said) back
-says_on n before [] back said says h =
+says-on : (n : ℕ) (before : List Stretch) (earlier later : List Line) (said : List Stretch) → Says earlier said
+    → total before + total said ≤ 36000
+    → read n before (earlier ++ later) ≡ read (length earlier + n) (before ++ said) later
+says-on n before [] later said says h =
     let same : n ≡ 0 + n = omega arith in
-    ap (λ (x : List Stretch). read n x back) (sym (append-nil before) ∙ ap (λ (x : List Stretch). before ++ x) (sym says)) ∙ ap (λ k. read k (before ++ said) back) same
-says_on n before (line ∷ front) back said (inl (e, says)) h =
-    read_nothing n before line (front ++ back) e ∙ (says_on (n + 1) before front back said says h ∙ ap (λ k. read k (before ++ said) back) (omega arith))
-says_on n before (line ∷ front) back said (inr (s, more, e, parts, says)) h =
+    ap (λ (x : List Stretch). read n x later) (sym (append-nil before) ∙ ap (λ (x : List Stretch). before ++ x) (sym says))
+    ∙ ap (λ k. read k (before ++ said) later) same
+says-on n before (line ∷ earlier) later said (inl (e, says)) h =
+    read-nothing n before line (earlier ++ later) e
+    ∙ (says-on (n + 1) before earlier later said says h ∙ ap (λ k. read k (before ++ said) later) (omega arith))
+says-on n before (line ∷ earlier) later said (inr (s, more, e, parts, says)) h =
     let sum : total said ≡ s.frames + total more = ap total parts in
-    let sum' = total_behind before s in
-    let same : (before ++ s ∷ []) ++ more ≡ before ++ said = append_assoc before (s ∷ []) more ∙ ap (λ (x : List Stretch). before ++ x) (sym parts) in
-    read_stretch n before line (front ++ back) s e (omega (arith, sum, h))
-    ∙ (says_on (n + 1) (before ++ s ∷ []) front back more says (omega (arith, sum, sum', h))
-    ∙ (ap (λ k. read k ((before ++ s ∷ []) ++ more) back) (omega arith) ∙ ap (λ (x : List Stretch). read (length (line ∷ front) + n) x back) same))
+    let sum' = total-after before s in
+    let same : (before ++ s ∷ []) ++ more ≡ before ++ said = append_assoc before (s ∷ []) more
+    ∙ ap (λ (x : List Stretch). before ++ x) (sym parts) in
+    read-stretch n before line (earlier ++ later) s e (omega (arith, sum, h))
+    ∙ (says-on (n + 1) (before ++ s ∷ []) earlier later more says (omega (arith, sum, sum', h))
+    ∙ (ap (λ k. read k ((before ++ s ∷ []) ++ more) later) (omega arith)
+    ∙ ap (λ (x : List Stretch). read (length (line ∷ earlier) + n) x later) same))
 
-pub script_again : (text : List ℕ) (said : List Stretch) → IsScript text said → script_of text ≡ Ok said
-script_again text said h =
+pub script-again : (text : List ℕ) (said : List Stretch) → IsScript text said → script_of text ≡ Ok said
+script-again text said h =
     let within = h.within in
     let all : 0 + total said ≤ 36000 = omega (arith, within) in
     ap (λ (x : List Line). read 1 [] x) (sym (append-nil (lines text)))
-    ∙ (says_on 1 [] (lines text) [] said h.says all ∙ read_end (length (lines text) + 1) said)
+    ∙ (says-on 1 [] (lines text) [] said h.says all ∙ read-end (length (lines text) + 1) said)
 
-pub fault_again : (text : List ℕ) (fault : ScriptFault) → HasFault text fault → script_of text ≡ Err fault
-fault_again text fault h =
+pub fault-again : (text : List ℕ) (fault : ScriptFault) → HasFault text fault → script_of text ≡ Err fault
+fault-again text fault h =
     let within = h.within in
     let all : 0 + total h.said ≤ 36000 = omega (arith, within) in
     ap (λ (x : List Line). read 1 [] x) h.parts
-    ∙ (says_on 1 [] h.front (h.wrong ∷ h.back) h.said h.says all
-    ∙ (read_fault (length h.front + 1) h.said h.wrong h.back fault.code h.faulty ∙ ap (λ n. failed (at fault.code n)) (sym h.line)))
+    ∙ (says-on 1 [] h.earlier (h.wrong ∷ h.later) h.said h.says all
+    ∙ (read-fault (length h.earlier + 1) h.said h.wrong h.later fault.code h.faulty ∙ ap (λ n. failed (at fault.code n)) (sym h.line)))
   where
     failed : ScriptFault → Read
     failed f = Err f
@@ -92,11 +101,11 @@ kind line = of (meaning line) refl
 apart : (r : Read) (said : List Stretch) (fault : ScriptFault) → r ≡ Ok said → r ≡ Err fault → ⊥
 apart r said fault e f = cc
 
-one_ok : (r : Read) (xs ys : List Stretch) → r ≡ Ok xs → r ≡ Ok ys → xs ≡ ys
-one_ok r xs ys e f = cc
+one-ok : (r : Read) (xs ys : List Stretch) → r ≡ Ok xs → r ≡ Ok ys → xs ≡ ys
+one-ok r xs ys e f = cc
 
-one_err : (r : Read) (x y : ScriptFault) → r ≡ Err x → r ≡ Err y → x ≡ y
-one_err r x y e f = cc
+one-err : (r : Read) (x y : ScriptFault) → r ≡ Err x → r ≡ Err y → x ≡ y
+one-err r x y e f = cc
 
 record IsSaid (before : List Stretch) (ls : List Line) (all : List Stretch) : Type 0 where
   said : List Stretch
@@ -104,23 +113,26 @@ record IsSaid (before : List Stretch) (ls : List Line) (all : List Stretch) : Ty
   parts : before ++ said ≡ all
   within : total before + total said ≤ 36000
 
-is_said : (n : ℕ) (before : List Stretch) (ls : List Line) (all : List Stretch) → total before ≤ 36000 → read n before ls ≡ Ok all → IsSaid before ls all
-is_said n before [] all h e = record {
+is-said : (n : ℕ) (before : List Stretch) (ls : List Line) (all : List Stretch) → total before ≤ 36000 → read n before ls ≡ Ok all
+    → IsSaid before ls all
+is-said n before [] all h e = record {
   said = [];
   says = refl;
-  parts = append-nil before ∙ one_ok (read n before []) before all (read_end n before) e;
+  parts = append-nil before ∙ one-ok (read n before []) before all (read-end n before) e;
   within = omega (arith, h);
 }
-is_said n before (line ∷ ls) all h e = elim (kind line) [
+is-said n before (line ∷ ls) all h e = elim (kind line) [
   | nothing is ↦
-      let more = is_said (n + 1) before ls all h (sym (read_nothing n before line ls is) ∙ e) in
+      let more = is-said (n + 1) before ls all h (sym (read-nothing n before line ls is) ∙ e) in
       record { said = more.said; says = inl (is, more.says); parts = more.parts; within = more.within }
-  | fails code is ↦ absurd (apart (read n before (line ∷ ls)) all (at code n) e (read_fault n before line ls code (inl is)))
+  | fails code is ↦ absurd (apart (read n before (line ∷ ls)) all (at code n) e (read-fault n before line ls code (inl is)))
   | adds s is ↦ elim (cases_lt 36000 (total before + s.frames)) [
-    | inl long ↦ absurd (apart (read n before (line ∷ ls)) all (at Length n) e (read_fault n before line ls Length (inr (s, is, long, refl))))
+    | inl long ↦
+        absurd (apart (read n before (line ∷ ls)) all (at Length n) e (read-fault n before line ls Length (inr (s, is, long, refl))))
     | inr fits ↦
-        let sum = total_behind before s in
-        let more = is_said (n + 1) (before ++ s ∷ []) ls all (omega (arith, sum, fits)) (sym (read_stretch n before line ls s is fits) ∙ e) in
+        let sum = total-after before s in
+        let more =
+        is-said (n + 1) (before ++ s ∷ []) ls all (omega (arith, sum, fits)) (sym (read-stretch n before line ls s is fits) ∙ e) in
         record {
           said = s ∷ more.said;
           says = inr (s, more.said, is, refl, more.says);
@@ -130,32 +142,34 @@ is_said n before (line ∷ ls) all h e = elim (kind line) [
   ]
 ]
 
-pub is_script : (text : List ℕ) (all : List Stretch) → script_of text ≡ Ok all → IsScript text all
-is_script text all e =
-    let found = is_said 1 [] (lines text) all (omega arith) e in
+pub is-script : (text : List ℕ) (all : List Stretch) → script_of text ≡ Ok all → IsScript text all
+is-script text all e =
+    let found = is-said 1 [] (lines text) all (omega arith) e in
     let within : 0 + total found.said ≤ 36000 = found.within in
     subst (λ (x : List Stretch). IsScript text x) found.parts (record { says = found.says; within = omega (arith, within) })
 
 record IsTold (n : ℕ) (before : List Stretch) (ls : List Line) (fault : ScriptFault) : Type 0 where
-  front : List Line
+  earlier : List Line
   wrong : Line
-  back : List Line
+  later : List Line
   said : List Stretch
-  parts : ls ≡ front ++ wrong ∷ back
-  line : fault.line ≡ length front + n
-  says : Says front said
+  parts : ls ≡ earlier ++ wrong ∷ later
+  line : fault.line ≡ length earlier + n
+  says : Says earlier said
   within : total before + total said ≤ 36000
   faulty : IsFault (total before + total said) wrong fault.code
 
-told_here : (n : ℕ) (before : List Stretch) (line : Line) (ls : List Line) (code : Code) (fault : ScriptFault) → total before ≤ 36000 → IsFault (total before) line code
+told-here : (n : ℕ) (before : List Stretch) (line : Line) (ls : List Line) (code : Code) (fault : ScriptFault) → total before ≤ 36000
+    → IsFault (total before) line code
     → read n before (line ∷ ls) ≡ Err fault → IsTold n before (line ∷ ls) fault
-told_here n before line ls code fault h is e =
+told-here n before line ls code fault h is e =
     let nothing_more : total before ≡ total before + 0 = omega arith in
-    subst (λ (f : ScriptFault). IsTold n before (line ∷ ls) f) (one_err (read n before (line ∷ ls)) (at code n) fault (read_fault n before line ls code is) e)
+    subst (λ (f : ScriptFault). IsTold n before (line ∷ ls) f)
+    (one-err (read n before (line ∷ ls)) (at code n) fault (read-fault n before line ls code is) e)
     (record {
-      front = [];
+      earlier = [];
       wrong = line;
-      back = ls;
+      later = ls;
       said = [];
       parts = refl;
       line = omega arith;
@@ -164,15 +178,16 @@ told_here n before line ls code fault h is e =
       faulty = subst (λ k. IsFault k line code) nothing_more is;
     })
 
-is_told : (n : ℕ) (before : List Stretch) (ls : List Line) (fault : ScriptFault) → total before ≤ 36000 → read n before ls ≡ Err fault → IsTold n before ls fault
-is_told n before [] fault h e = absurd (apart (read n before []) before fault (read_end n before) e)
-is_told n before (line ∷ ls) fault h e = elim (kind line) [
+is-told : (n : ℕ) (before : List Stretch) (ls : List Line) (fault : ScriptFault) → total before ≤ 36000 → read n before ls ≡ Err fault
+    → IsTold n before ls fault
+is-told n before [] fault h e = absurd (apart (read n before []) before fault (read-end n before) e)
+is-told n before (line ∷ ls) fault h e = elim (kind line) [
   | nothing is ↦
-      let more = is_told (n + 1) before ls fault h (sym (read_nothing n before line ls is) ∙ e) in
+      let more = is-told (n + 1) before ls fault h (sym (read-nothing n before line ls is) ∙ e) in
       record {
-        front = line ∷ more.front;
+        earlier = line ∷ more.earlier;
         wrong = more.wrong;
-        back = more.back;
+        later = more.later;
         said = more.said;
         parts = ap (λ (x : List Line). line ∷ x) more.parts;
         line = let l = more.line in omega (arith, l);
@@ -180,17 +195,18 @@ is_told n before (line ∷ ls) fault h e = elim (kind line) [
         within = more.within;
         faulty = more.faulty;
       }
-  | fails code is ↦ told_here n before line ls code fault h (inl is) e
+  | fails code is ↦ told-here n before line ls code fault h (inl is) e
   | adds s is ↦ elim (cases_lt 36000 (total before + s.frames)) [
-    | inl long ↦ told_here n before line ls Length fault h (inr (s, is, long, refl)) e
+    | inl long ↦ told-here n before line ls Length fault h (inr (s, is, long, refl)) e
     | inr fits ↦
-        let sum = total_behind before s in
-        let more = is_told (n + 1) (before ++ s ∷ []) ls fault (omega (arith, sum, fits)) (sym (read_stretch n before line ls s is fits) ∙ e) in
+        let sum = total-after before s in
+        let more =
+        is-told (n + 1) (before ++ s ∷ []) ls fault (omega (arith, sum, fits)) (sym (read-stretch n before line ls s is fits) ∙ e) in
         let all : total (before ++ s ∷ []) + total more.said ≡ total before + (s.frames + total more.said) = omega (arith, sum) in
         record {
-          front = line ∷ more.front;
+          earlier = line ∷ more.earlier;
           wrong = more.wrong;
-          back = more.back;
+          later = more.later;
           said = s ∷ more.said;
           parts = ap (λ (x : List Line). line ∷ x) more.parts;
           line = let l = more.line in omega (arith, l);
@@ -201,15 +217,15 @@ is_told n before (line ∷ ls) fault h e = elim (kind line) [
   ]
 ]
 
-pub has_fault : (text : List ℕ) (fault : ScriptFault) → script_of text ≡ Err fault → HasFault text fault
-has_fault text fault e =
-    let told = is_told 1 [] (lines text) fault (omega arith) e in
+pub has-fault : (text : List ℕ) (fault : ScriptFault) → script_of text ≡ Err fault → HasFault text fault
+has-fault text fault e =
+    let told = is-told 1 [] (lines text) fault (omega arith) e in
     let within : 0 + total told.said ≤ 36000 = told.within in
     let none : 0 + total told.said ≡ total told.said = omega arith in
     record {
-      front = told.front;
+      earlier = told.earlier;
       wrong = told.wrong;
-      back = told.back;
+      later = told.later;
       said = told.said;
       parts = told.parts;
       line = told.line;
@@ -220,11 +236,13 @@ has_fault text fault e =
 
 -- ---- the same of an answer
 
-pub read_is_script : (text : List ℕ) (result : Result (List Stretch) ScriptError) → Gives result (script_of text) → IfOk result (IsScript text)
-read_is_script text (Ok said) h = is_script text said h
-read_is_script text (Err e) h = tt
+pub read-is-script : (text : List ℕ) (result : Result (List Stretch) ScriptError) → Gives result (script_of text)
+    → IfOk result (IsScript text)
+read-is-script text (Ok said) h = is-script text said h
+read-is-script text (Err e) h = tt
 
-pub told_is_fault : (text : List ℕ) (result : Result (List Stretch) ScriptError) → Gives result (script_of text) → IfErr result (λ e. OnFault e (HasFault text))
-told_is_fault text (Ok said) h = tt
-told_is_fault text (Err errors.Memory) h = tt
-told_is_fault text (Err (errors.Fault fault)) h = has_fault text fault h
+pub told-is-fault : (text : List ℕ) (result : Result (List Stretch) ScriptError) → Gives result (script_of text)
+    → IfErr result (λ e. OnFault e (HasFault text))
+told-is-fault text (Ok said) h = tt
+told-is-fault text (Err errors.Memory) h = tt
+told-is-fault text (Err (errors.Fault fault)) h = has-fault text fault h

@@ -1,5 +1,5 @@
-pub mod Parts
 pub mod NameLemmas
 pub mod CountLemmas
 pub mod Frames
+pub mod Searches
 pub mod Laws

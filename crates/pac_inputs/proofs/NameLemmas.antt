@@ -1,5 +1,6 @@
 -- Names read one after another, and bytes that can be no name.
-use Rattle.std.proofs.Common.{◌≡◌, ℕ, zero, suc, ◌+◌, ◌<◌, get_or, arith, eqb, Bool, true, List, [], ◌∷◌, length, Option, Some, None, refl, sym, ap, ◌∙◌, inl, inr, nat_eq, subst, Bor, option_map, IfNone, IfSome}
+use Rattle.std.proofs.Common.{◌≡◌, ℕ, zero, suc, ◌+◌, ◌<◌, get_or, arith, eqb, Bool, true, List, [], ◌∷◌, length, Option, Some, None, refl}
+use Rattle.std.proofs.Common.{sym, ap, ◌∙◌, inl, inr, nat_eq, subst, Bor, option_map, IfNone, IfSome}
 use Rattle.std.specs.List.{list_all, slice_split}
 use Rattle.std.specs.Str.{IsUtf8}
 use Rattle.std.proofs.lemmas.Str.{IsUtf8-from_ascii}
@@ -8,13 +9,14 @@ use Rattle.std.specs.Char.{is_ascii}
 use Rattle.std.specs.Cmp.Lexicographic.{pointwise, same_text}
 use Rattle.std.specs.Int.RustNames.{bit_or}
 use Rattle.bitflags.specs.Sets.{Row, find_row, find_name}
+use Rattle.pac_lex.proofs.PartLemmas.{last-part, more-parts}
 use Rattle.pac_inputs.specs.Inputs.{places}
 use Rattle.pac_inputs.specs.Words.{is_comma, with_names}
 
-ascii_at : (bytes : List ℕ) → list_all is_ascii bytes ≡ true → (i : ℕ) → get_or bytes i 0 < 128
-ascii_at [] all i = omega arith
-ascii_at (b ∷ bytes) all zero = ltb-true b 128 (and_parts (is_ascii b) (list_all is_ascii bytes) all).0
-ascii_at (b ∷ bytes) all (suc i) = ascii_at bytes (and_parts (is_ascii b) (list_all is_ascii bytes) all).1 i
+ascii-at : (bytes : List ℕ) → list_all is_ascii bytes ≡ true → (i : ℕ) → get_or bytes i 0 < 128
+ascii-at [] all i = omega arith
+ascii-at (b ∷ bytes) all zero = ltb-true b 128 (and_parts (is_ascii b) (list_all is_ascii bytes) all).0
+ascii-at (b ∷ bytes) all (suc i) = ascii-at bytes (and_parts (is_ascii b) (list_all is_ascii bytes) all).1 i
 
 abbrev in_ascii : Row → Bool
 in_ascii row = list_all is_ascii row.0
@@ -25,12 +27,12 @@ unread [] name all bad = refl
 unread (row ∷ table) name all bad =
     let both = and_parts (in_ascii row) (list_all in_ascii table) all in
     elim (cases_Bool (pointwise nat_eq row.0 name)) [
-      | inl e ↦ absurd (bad (subst IsUtf8 (same_text row.0 name (sym e)) (IsUtf8-from_ascii row.0 (ascii_at row.0 both.0))))
+      | inl e ↦ absurd (bad (subst IsUtf8 (same_text row.0 name (sym e)) (IsUtf8-from_ascii row.0 (ascii-at row.0 both.0))))
       | inr e ↦ rw e (unread table name both.1 bad)
     ]
 
-pub no_text_no_input : (name : List ℕ) → (IsUtf8 name → ⊥) → find_name places name ≡ None
-no_text_no_input name bad = elim (cases_Bool (eqb (length name) 0)) [
+pub no-text-no-input : (name : List ℕ) → (IsUtf8 name → ⊥) → find_name places name ≡ None
+no-text-no-input name bad = elim (cases_Bool (eqb (length name) 0)) [
   | inl e ↦ rw e refl
   | inr e ↦ rw e (unread places name refl bad)
 ]
@@ -48,20 +50,27 @@ abbrev pub left : Option (List ℕ) → ℕ
 left None = 0
 left (Some names) = length names + 1
 
-one_more : (held bit : ℕ) (name : List ℕ) (names : List (List ℕ)) → find_name places name ≡ Some bit → with_names (bit_or held bit) names ≡ with_names held (name ∷ names)
-one_more held bit name names e = rw e refl
+one-more : (held bit : ℕ) (name : List ℕ) (names : List (List ℕ)) → find_name places name ≡ Some bit
+    → with_names (bit_or held bit) names ≡ with_names held (name ∷ names)
+one-more held bit name names e = rw e refl
 
-read_on : (held bit : ℕ) (names name : List ℕ) (behind : Option (Bor (List ℕ)))
-    → IfNone behind (slice_split is_comma names ≡ name ∷ []) → IfSome behind (λ b. slice_split is_comma names ≡ name ∷ slice_split is_comma b.now)
-    → find_name places name ≡ Some bit → with_rest (bit_or held bit) (texts behind) ≡ with_names held (slice_split is_comma names)
-read_on held bit names name None last more e = one_more held bit name [] e ∙ ap (with_names held) (sym last)
-read_on held bit names name (Some b) last more e = one_more held bit name (slice_split is_comma b.now) e ∙ ap (with_names held) (sym more)
+read-on : (held bit : ℕ) (names name : List ℕ) (after : Option (Bor (List ℕ)))
+    → IfNone after (slice_split is_comma names ≡ name ∷ [])
+    → IfSome after (λ b. slice_split is_comma names ≡ name ∷ slice_split is_comma b.now)
+    → find_name places name ≡ Some bit → with_rest (bit_or held bit) (texts after) ≡ with_names held (slice_split is_comma names)
+read-on held bit names name None last more e = one-more held bit name [] e ∙ ap (with_names held) (sym last)
+read-on held bit names name (Some b) last more e = one-more held bit name (slice_split is_comma b.now) e ∙ ap (with_names held) (sym more)
 
 -- What the names come to stays the same, as the first of them is taken.
-pub name_read : (held bit after : ℕ) (old behind : Option (Bor (List ℕ))) (names : Bor (List ℕ)) (name : List ℕ) (all : Option ℕ)
+pub name-read : (held bit now : ℕ) (old after : Option (Bor (List ℕ))) (names : Bor (List ℕ)) (name : List ℕ) (all : Option ℕ)
     → with_rest held (texts old) ≡ all → old ≡ Some names
-    → IfNone behind (slice_split is_comma names.now ≡ name ∷ []) → IfSome behind (λ b. slice_split is_comma names.now ≡ name ∷ slice_split is_comma b.now)
-    → find_name places name ≡ Some bit → after ≡ bit_or held bit → with_rest after (texts behind) ≡ all
-name_read held bit after old behind names name all so_far is last more e joined =
-    ap (λ bits. with_rest bits (texts behind)) joined
-    ∙ (read_on held bit names.now name behind last more e ∙ (ap (λ rest. with_rest held (texts rest)) (sym is) ∙ so_far))
+    → IfNone after (slice_split is_comma names.now ≡ name ∷ [])
+    → IfSome after (λ b. slice_split is_comma names.now ≡ name ∷ slice_split is_comma b.now)
+    → find_name places name ≡ Some bit → now ≡ bit_or held bit → with_rest now (texts after) ≡ all
+name-read held bit now old after names name all so_far is last more e joined =
+    ap (λ bits. with_rest bits (texts after)) joined
+    ∙ (read-on held bit names.now name after last more e ∙ (ap (λ rest. with_rest held (texts rest)) (sym is) ∙ so_far))
+
+pub ruleset all_parts = (last-part, more-parts)
+
+pub ruleset unread_names = (no-text-no-input)

@@ -4,21 +4,21 @@ use Rattle.pac_inputs.specs.declared.line.Stretch.{Stretch}
 use Rattle.pac_inputs.specs.declared.script.Entry.{Entry}
 use Rattle.pac_inputs.specs.Inputs.{mask}
 
--- the line of an entry, behind so many frames
-abbrev pub stretch_behind : ℕ → Entry → Stretch
-stretch_behind before entry = record { frames = entry.end - before; inputs = entry.inputs }
+-- the line of an entry, after so many frames
+abbrev pub stretch_after : ℕ → Entry → Stretch
+stretch_after before entry = record { frames = entry.end - before; inputs = entry.inputs }
 
--- the lines of these entries, behind so many frames
+-- the lines of these entries, after so many frames
 abbrev pub stretches : ℕ → List Entry → List Stretch
 stretches before [] = []
-stretches before (entry ∷ entries) = stretch_behind before entry ∷ stretches entry.end entries
+stretches before (entry ∷ entries) = stretch_after before entry ∷ stretches entry.end entries
 
 -- no line ends before the one that it follows
 abbrev pub Rises : ℕ → List Entry → Type 0
 Rises before [] = Unit {0}
 Rises before (entry ∷ entries) = (before ≤ entry.end) × Rises entry.end entries
 
--- the inputs of the first entry that ends with the frame or behind it
+-- the inputs of the first entry that ends with the frame or after it
 abbrev pub held_up_to : List Entry → ℕ → ℕ
 held_up_to [] frame = 0
 held_up_to (entry ∷ entries) frame = if nat_le frame entry.end then mask entry.inputs else held_up_to entries frame

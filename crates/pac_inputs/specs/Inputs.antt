@@ -1,8 +1,7 @@
 -- The inputs of the board: a word with a bit for each, which is set while it is held. Namco Pac-Man service
 -- schematics, ports IN0 and IN1; their order in the word is this profile's.
-use Rattle.std.specs.Prelude.{ℕ, ◌-◌, List, [], ◌∷◌, codes}
+use Rattle.std.specs.Prelude.{ℕ, List, [], ◌∷◌, codes}
 use Rattle.pac_inputs.specs.declared.inputs.Inputs.{Inputs}
-use Rattle.pac_num.specs.Numbers.{low_byte, high_byte}
 
 -- the word that says which inputs are held, and the inputs of a word
 abbrev pub mask : Inputs → ℕ
@@ -19,10 +18,3 @@ places =
     ∷ (codes "P2_UP", 256) ∷ (codes "P2_LEFT", 512) ∷ (codes "P2_RIGHT", 1024) ∷ (codes "P2_DOWN", 2048)
     ∷ (codes "BOARD_TEST", 4096) ∷ (codes "START1", 8192) ∷ (codes "START2", 16384) ∷ (codes "COCKTAIL", 32768)
     ∷ []
-
--- a held input reads 0: the ports show the complements of the word's two bytes
-abbrev pub in0 : ℕ → ℕ
-in0 held = 255 - low_byte held
-
-abbrev pub in1 : ℕ → ℕ
-in1 held = 255 - high_byte held

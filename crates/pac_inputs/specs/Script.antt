@@ -1,6 +1,8 @@
 -- What a script says: so many frames with so many inputs held, line by line, and its first fault.
-use Rattle.std.specs.Prelude.{◌≡◌, ℕ, ◌+◌, Bool, false, ◌==◌, List, [], ◌∷◌, ◌++◌, ◌⊎◌, ◌<◌, ◌≤◌, length, Option, Some, None, Result, Ok, Err, nat_lt, if◌then◌else◌}
+use Rattle.std.specs.Prelude.{◌≡◌, ℕ, ◌+◌, Bool, false, ◌==◌, List, [], ◌∷◌, ◌++◌, ◌⊎◌, ◌<◌, ◌≤◌, length}
+use Rattle.std.specs.Prelude.{Option, Some, None, Result, Ok, Err, nat_lt, if◌then◌else◌}
 use Rattle.std.specs.Str.Lines.{lines}
+use Rattle.pac_lex.specs.Words.{words}
 use Rattle.pac_inputs.specs.declared.fault.Code.{Code}
 use Rattle.pac_inputs.specs.declared.fault.Code.TheVariants.{Names, Count, Length}
 use Rattle.pac_inputs.specs.declared.fault.ScriptFault.{ScriptFault}
@@ -8,8 +10,8 @@ use Rattle.pac_inputs.specs.declared.fault.ScriptError.{ScriptError}
 use Rattle.pac_inputs.specs.declared.fault.ScriptError.TheVariants as errors
 use Rattle.pac_inputs.specs.declared.line.Stretch.{Stretch}
 use Rattle.pac_inputs.specs.Inputs.{inputs_of}
-use Rattle.pac_inputs.specs.Stretches.{total}
-use Rattle.pac_inputs.specs.Words.{words, frame_count, inputs_named}
+use Rattle.pac_inputs.specs.Stretches.{total, most_frames}
+use Rattle.pac_inputs.specs.Words.{frame_count, inputs_named}
 
 -- ---- one line
 
@@ -25,18 +27,18 @@ abbrev pub stretch : ℕ → Option ℕ → Meaning
 stretch count None = Err Names
 stretch count (Some held) = Ok (Some (record { frames = count; inputs = inputs_of held }))
 
--- the inputs of the words behind the count: of the one that there has to be
+-- the inputs of the words after the count: of the one that there has to be
 abbrev pub only_inputs : List (List ℕ) → Option ℕ
 only_inputs (word ∷ []) = inputs_named word
-only_inputs behind = None
+only_inputs after = None
 
 abbrev pub counted : Option ℕ → List (List ℕ) → Meaning
-counted None behind = Err Count
-counted (Some count) behind = stretch count (only_inputs behind)
+counted None after = Err Count
+counted (Some count) after = stretch count (only_inputs after)
 
 abbrev pub of_words : List (List ℕ) → Meaning
 of_words [] = Ok None
-of_words (word ∷ behind) = if is_comment word then Ok None else counted (frame_count word) behind
+of_words (word ∷ after) = if is_comment word then Ok None else counted (frame_count word) after
 
 -- What a line says by itself: nothing, where it has no word or is a comment; so many frames with these
 -- inputs held; or a fault.
@@ -51,7 +53,8 @@ Said = Result (List Stretch) Code
 abbrev pub joined : List Stretch → Meaning → Said
 joined before (Err code) = Err code
 joined before (Ok None) = Ok before
-joined before (Ok (Some line)) = if nat_lt 36000 (total before + line.frames) then Err Length else Ok (before ++ line ∷ [])
+joined before (Ok (Some line)) =
+    if nat_lt most_frames (total before + line.frames) then Err Length else Ok (before ++ line ∷ [])
 
 -- what a line and those before it say together
 abbrev pub with_line : List Stretch → List ℕ → Said
@@ -100,24 +103,24 @@ Says (line ∷ lines) said =
 -- the text is this script
 pub record IsScript (text : List ℕ) (said : List Stretch) : Type 0 where
   pub says : Says (lines text) said
-  pub within : total said ≤ 36000
+  pub within : total said ≤ most_frames
 
--- A line behind so many frames has this fault: one of its own, or its frames are too many.
+-- A line after so many frames has this fault: one of its own, or its frames are too many.
 abbrev pub IsFault : ℕ → List ℕ → Code → Type 0
 IsFault before line code =
     (meaning line ≡ Err code)
-    ⊎ ((added : Stretch) × (meaning line ≡ Ok (Some added)) × (36000 < before + added.frames) × (code ≡ Length))
+    ⊎ ((added : Stretch) × (meaning line ≡ Ok (Some added)) × (most_frames < before + added.frames) × (code ≡ Length))
 
 -- the first line of the text that has a fault has this one; the lines before it are right
 pub record HasFault (text : List ℕ) (fault : ScriptFault) : Type 0 where
-  pub front : List (List ℕ)
+  pub earlier : List (List ℕ)
   pub wrong : List ℕ
-  pub back : List (List ℕ)
+  pub later : List (List ℕ)
   pub said : List Stretch
-  pub parts : lines text ≡ front ++ wrong ∷ back
-  pub line : fault.line ≡ length front + 1
-  pub says : Says front said
-  pub within : total said ≤ 36000
+  pub parts : lines text ≡ earlier ++ wrong ∷ later
+  pub line : fault.line ≡ length earlier + 1
+  pub says : Says earlier said
+  pub within : total said ≤ most_frames
   pub faulty : IsFault (total said) wrong fault.code
 
 -- a fact of the fault, where there is one

@@ -3,19 +3,23 @@ use Rattle.std.specs.Prelude.{ℕ, ◌+◌, ◌&&◌, List, [], ◌∷◌, nat_l
 use Rattle.pac_inputs.specs.declared.line.Stretch.{Stretch}
 use Rattle.pac_inputs.specs.Inputs.{mask}
 
+-- the most frames that a script may have (this profile)
+abbrev pub most_frames : ℕ
+most_frames = 36000
+
 -- the frames of a script
 abbrev pub total : List Stretch → ℕ
 total [] = 0
 total (line ∷ lines) = line.frames + total lines
 
--- The inputs of the line that covers a frame, of lines with so many frames before them: the frame is behind
--- those, and one of the line's own. Where no line covers it, nothing is held.
-abbrev pub held_behind : ℕ → List Stretch → ℕ → ℕ
-held_behind before [] frame = 0
-held_behind before (line ∷ lines) frame =
+-- The inputs of the line that covers a frame, of lines with so many frames before them: the frame comes
+-- after those, and is one of the line's own. Where no line covers it, nothing is held.
+abbrev pub held_after : ℕ → List Stretch → ℕ → ℕ
+held_after before [] frame = 0
+held_after before (line ∷ lines) frame =
     if nat_lt before frame && nat_le frame (before + line.frames) then mask line.inputs
-    else held_behind (before + line.frames) lines frame
+    else held_after (before + line.frames) lines frame
 
 -- the inputs held in a frame
 abbrev pub held : List Stretch → ℕ → ℕ
-held lines frame = held_behind 0 lines frame
+held lines frame = held_after 0 lines frame

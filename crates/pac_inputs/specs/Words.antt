@@ -1,14 +1,12 @@
--- The words of a line and what they say: a count of frames, and names of inputs.
-use Rattle.std.specs.Prelude.{ℕ, Bool, ◌+◌, ◌-◌, ◌*◌, ◌||◌, ◌&&◌, ◌==◌, false, true, List, [], ◌∷◌, fold, Option, Some, None, nat_le, if◌then◌else◌, is_some, unwrap_or}
-use Rattle.std.specs.List.{list_all, slice_split, filter}
+-- What the words of a line say: a count of frames, and names of inputs.
+use Rattle.std.specs.Prelude.{ℕ, Bool, ◌+◌, ◌-◌, ◌*◌, ◌&&◌, ◌==◌, false, List, [], ◌∷◌, fold}
+use Rattle.std.specs.Prelude.{Option, Some, None, nat_le, if◌then◌else◌, is_some, unwrap_or}
+use Rattle.std.specs.List.{list_all, slice_split}
 use Rattle.std.specs.Char.{is_ascii_digit}
 use Rattle.std.specs.Int.RustNames.{bit_or}
 use Rattle.bitflags.specs.Sets.{find_name}
 use Rattle.pac_inputs.specs.Inputs.{places}
-
--- a tab or a space, which parts words
-abbrev pub is_blank : ℕ → Bool
-is_blank b = b == 9 || b == 32
+use Rattle.pac_inputs.specs.Stretches.{most_frames}
 
 -- `,`, which parts names
 abbrev pub is_comma : ℕ → Bool
@@ -19,21 +17,14 @@ abbrev pub is_dash : List ℕ → Bool
 is_dash (b ∷ []) = b == 45
 is_dash word = false
 
--- the words of a line: what stands between its blanks, where that isn't empty
-abbrev pub is_filled : List ℕ → Bool
-is_filled [] = false
-is_filled (b ∷ word) = true
-
-abbrev pub words : List ℕ → List (List ℕ)
-words line = filter is_filled (slice_split is_blank line)
-
 -- the number of decimal digits, the first digit counting most
 abbrev pub number : List ℕ → ℕ
 number digits = fold (λ n c. n * 10 + (c - 48)) 0 digits
 
--- the count that a word tells: a decimal number from 1 to 36,000, with leading zeros or without
+-- the count that a word tells: a decimal number from 1 to the most frames, with leading zeros or without
 abbrev pub frame_count : List ℕ → Option ℕ
-frame_count word = if list_all is_ascii_digit word && nat_le 1 (number word) && nat_le (number word) 36000 then Some (number word) else None
+frame_count word =
+    if list_all is_ascii_digit word && nat_le 1 (number word) && nat_le (number word) most_frames then Some (number word) else None
 
 -- an input's bit by its name
 abbrev pub bit_of : List ℕ → ℕ
@@ -44,7 +35,8 @@ is_input name = is_some (find_name places name)
 
 -- the inputs with these names held, and these bits before; a name that is none of an input has no answer
 abbrev pub with_names : ℕ → List (List ℕ) → Option ℕ
-with_names held names = if list_all is_input names then Some (fold (λ bits name. bit_or bits (bit_of name)) held names) else None
+with_names held names =
+    if list_all is_input names then Some (fold (λ bits name. bit_or bits (bit_of name)) held names) else None
 
 -- the inputs that a word tells: none for `-`, and else those of the names between its commas
 abbrev pub inputs_named : List ℕ → Option ℕ

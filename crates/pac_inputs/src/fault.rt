@@ -19,9 +19,8 @@ pub enum Code {
     Length,
 }
 
-/// The first fault of a script: what is wrong, and in which line, counted from 1.
+/// The first fault of a script: what is wrong, and in which line, counted from 1. Printed as `I2 line 7`.
 #[derive(Clone, Copy, Debug, PartialEq, Eq, Error)]
-#[error("{code} line {line}")]
 pub struct ScriptFault {
     /// What is wrong.
     pub code: Code,
@@ -33,10 +32,8 @@ pub struct ScriptFault {
 #[derive(Clone, Copy, Debug, PartialEq, Eq, Error)]
 pub enum ScriptError {
     /// No room for its lines.
-    #[error("out of memory")]
     Memory,
     /// A line of it is wrong.
-    #[error("{0}")]
     Fault(ScriptFault),
 }
 
@@ -54,10 +51,35 @@ impl fmt::Display for Code {
     }
 }
 
+impl fmt::Display for ScriptFault {
+    ghost use Rattle.pac_inputs.specs.Codes.{fault_text};
+
+    ghost output = { λ fault. Some (fault_text fault) };
+
+    fn fmt<W: fmt::Write>(&self, f: &mut fmt::Formatter<W>) -> fmt::Result {
+        let code = self.code;
+        let line = self.line;
+        write!(f, "{code} line {line}")
+    }
+}
+
+impl fmt::Display for ScriptError {
+    ghost use Rattle.pac_inputs.specs.Codes.{error_text};
+
+    ghost output = { λ error. Some (error_text error) };
+
+    fn fmt<W: fmt::Write>(&self, f: &mut fmt::Formatter<W>) -> fmt::Result {
+        match self {
+            ScriptError::Memory => f.write_str("out of memory"),
+            ScriptError::Fault(fault) => write!(f, "{fault}"),
+        }
+    }
+}
+
 impl From<AllocError> for ScriptError {
     ghost from_gives = { λ _ e. e ≡ errors.Memory };
 
     fn from(_error: AllocError) -> ScriptError {
-        ScriptError::Memory
+        Self::Memory
     }
 }

@@ -1,10 +1,11 @@
-//! The inputs of the board, and the bytes of its two input ports.
+//! The inputs of the board.
 
 ghost use Rattle.std.specs.Prelude.{⊤, ◌≡◌, [], ◌∷◌, codes};
-ghost use Rattle.pac_inputs.specs.Inputs.{mask, in0, in1, places};
+ghost use Rattle.pac_inputs.specs.Inputs.{mask, places};
+ghost use Rattle.pac_inputs.specs.Ports.{in0, in1};
 
+use crate::ports::{in0_of, in1_of};
 use bitflags::{Flag, Flags, bitflag_items};
-use pac_num::{high_byte, low_byte};
 
 /// The inputs that are held at a moment, each a bit of a word (Namco Pac-Man service schematics; which
 /// bit is which is this profile's).
@@ -60,7 +61,7 @@ impl Inputs {
     pub fn in0(&self) -> u8
         ensures { result ≡ in0 (mask self.now) }
     {
-        255 - low_byte(self.0)
+        in0_of(self.0)
     }
 
     /// The byte of the second input port: a held input of the high byte reads 0, every other one 1.
@@ -68,6 +69,6 @@ impl Inputs {
     pub fn in1(&self) -> u8
         ensures { result ≡ in1 (mask self.now) }
     {
-        255 - high_byte(self.0)
+        in1_of(self.0)
     }
 }

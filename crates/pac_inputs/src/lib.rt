@@ -4,14 +4,13 @@
 mod fault;
 mod inputs;
 mod line;
+mod ports;
 mod reading;
 mod script;
 
 pub use fault::{Code, ScriptError, ScriptFault};
 pub use inputs::Inputs;
 pub use line::{FRAME_LIMIT, Stretch};
+pub use ports::{in0_of, in1_of};
 pub use reading::read_script;
 pub use script::Script;
-
-#[cfg(test)]
-mod tests;

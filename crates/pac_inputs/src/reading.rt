@@ -29,7 +29,7 @@ pub fn read_script(alloc: Global, text: &[u8]) -> Result<Script, ScriptError>
     read(alloc, text)
 }
 
-// The same, by its last clause alone.
+/// The same, by its last clause alone.
 #[tactic(auto, unfolding(crate::specs::Script::read))]
 fn read(alloc: Global, text: &[u8]) -> Result<Script, ScriptError>
     ensures { Gives result (script_of text.now) }
@@ -37,15 +37,15 @@ fn read(alloc: Global, text: &[u8]) -> Result<Script, ScriptError>
     let mut script = Script::new(alloc);
     let mut rest = text;
     let mut number: u64 = 1;
-    while let Some((line, behind)) = first_line(rest) {
+    while let Some((line, after)) = first_line(rest) {
         take_line(&mut script, number, line)?;
-        rest = behind;
+        rest = after;
         number += 1;
     }
     Ok(script)
 }
 
-// Adds what the line of this number says to what those before it say.
+/// Adds what the line of this number says to what those before it say.
 fn take_line(script: &mut Script, number: u64, line: &[u8]) -> Result<(), ScriptError>
     ensures ok { OnOk result (with_line script.old line.now ≡ Ok script.new) }
     ensures err { IfErr result (λ e. Fails e (in_line number (with_line script.old line.now))) }
@@ -62,6 +62,7 @@ fn take_line(script: &mut Script, number: u64, line: &[u8]) -> Result<(), Script
     Ok(())
 }
 
+/// A fault in the line of this number.
 fn in_line(code: Code, number: u64) -> ScriptError
     ensures { result ≡ errors.Fault (record { code = code; line = number }) }
 {

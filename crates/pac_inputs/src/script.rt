@@ -2,8 +2,8 @@
 
 ghost use Rattle.std.specs.Prelude.{◌≡◌, ◌+◌, ◌≤◌, [], ◌∷◌, ◌++◌, OnOk};
 ghost use Rattle.pac_inputs.specs.Inputs.{mask};
-ghost use Rattle.pac_inputs.specs.Stretches.{total, held};
-ghost use Rattle.pac_inputs.specs.Entries.{held_up_to};
+ghost use Rattle.pac_inputs.specs.Stretches.{total, held, most_frames};
+ghost use Rattle.pac_inputs.specs.Entries.{held_up_to, Rises};
 
 use crate::inputs::Inputs;
 use crate::line::Stretch;
@@ -11,7 +11,7 @@ use bitflags::Flags;
 use std::alloc::{AllocError, Global};
 use std::marker::Model;
 
-// The inputs that are held up to a frame, which is the last of a line of the script.
+/// The inputs that are held up to a frame, which is the last of a line of the script.
 #[derive(Clone, Copy)]
 struct Entry {
     end: u32,
@@ -23,13 +23,12 @@ struct Entry {
 #[derive(Drop)]
 pub struct Script {
     entries: Vec<Entry>,
-    frames: u32,
 }
 
 impl Model for Script {
     ghost use Rattle.std.specs.Prelude.{◌≡◌, ◌≤◌, List};
     ghost use Rattle.pac_inputs.specs.declared.line.Stretch.{Stretch};
-    ghost use Rattle.pac_inputs.specs.Stretches.{total};
+    ghost use Rattle.pac_inputs.specs.Stretches.{total, most_frames};
     ghost use Rattle.pac_inputs.specs.Entries.{stretches, Rises};
 
     ghost Value = { List Stretch };
@@ -38,48 +37,49 @@ impl Model for Script {
 
     ghost invariant = { λ script. record {
       rises : Rises 0 script.entries.items;
-      all : script.frames ≡ total (stretches 0 script.entries.items);
-      within : script.frames ≤ 36000;
+      within : total (stretches 0 script.entries.items) ≤ most_frames;
     } };
 }
 
 impl Script {
-    // No frames.
+    /// No frames.
     pub(crate) fn new(alloc: Global) -> Script
         ensures { result ≡ [] }
     {
         Script {
             entries: Vec::new(alloc),
-            frames: 0,
         }
     }
 
-    // Adds frames behind those that it has.
-    #[tactic(auto, using(crate::proofs::Frames::entry_behind, crate::proofs::Frames::rises_behind, crate::proofs::Frames::total_behind))]
+    /// Adds frames after those that it has.
+    #[tactic(auto, using(crate::proofs::Frames::added_entries))]
     pub(crate) fn push(&mut self, stretch: Stretch) -> Result<(), AllocError>
-        requires { total self.old + stretch.frames ≤ 36000 }
+        requires { total self.old + stretch.frames ≤ most_frames }
         ensures { OnOk result (self.new ≡ self.old ++ stretch ∷ []) }
     {
-        let end = self.frames + stretch.frames;
+        let end = self.frames() + stretch.frames;
         self.entries.push(Entry {
             end,
             inputs: stretch.inputs,
         })?;
-        self.frames = end;
         Ok(())
     }
 
     /// How many frames it has, 0 to 36,000.
+    #[tactic(auto, using(crate::proofs::Frames::last_entries))]
     #[inline]
     pub fn frames(&self) -> u32
         ensures count { result ≡ total self.now }
-        ensures within { result ≤ 36000 }
+        ensures within { result ≤ most_frames }
     {
-        self.frames
+        match self.entries.last() {
+            Some(entry) => entry.end,
+            None => 0,
+        }
     }
 
-    /// The inputs that are held in a frame, the first of which is 1; none in frame 0 and behind the last.
-    #[tactic(auto, using(crate::proofs::Frames::found_up_to, crate::proofs::Frames::nothing_first))]
+    /// The inputs that are held in a frame, the first of which is 1; none in frame 0 and after the last.
+    #[tactic(auto, using(crate::proofs::Frames::held_entries))]
     pub fn held(&self, frame: u32) -> Inputs
         ensures { mask result ≡ held self.now frame }
     {
@@ -90,14 +90,14 @@ impl Script {
     }
 }
 
-// The inputs of the first entry that ends with the frame or behind it.
+/// The inputs of the first entry that ends with the frame or after it.
 fn held_up_to(entries: &[Entry], frame: u32) -> Inputs
+    requires { Rises 0 entries.now }
     ensures { mask result ≡ held_up_to entries.now frame }
 {
-    for entry in entries {
-        if frame <= entry.end {
-            return entry.inputs;
-        }
+    let place = entries.partition_point(|entry| entry.end < frame);
+    if place == entries.len() {
+        return Inputs::empty();
     }
-    Inputs::empty()
+    entries[place].inputs
 }

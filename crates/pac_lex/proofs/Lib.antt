@@ -2,8 +2,11 @@ pub mod LineLemmas
 pub mod NumberLemmas
 pub mod QuoteLemmas
 pub mod NameLemmas
+pub mod Prefixes
+pub mod PartLemmas
+pub mod WordLemmas
+pub mod ByteLemmas
 pub mod ScanLemmas
-pub mod Fronts
 pub mod CharacterLemmas
 pub mod TextLaws
 pub mod TokenLaws

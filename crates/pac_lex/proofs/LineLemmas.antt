@@ -1,5 +1,6 @@
 -- The first of the lines of a text.
-use Rattle.std.proofs.Common.{◌≡◌, ℕ, ◌<◌, ◌≤◌, Bool, not, eqb, ltb, List, [], ◌∷◌, length, take, drop, get_or, inl, inr, Some, None, refl, sym, ap, ◌∙◌, arith, position}
+use Rattle.std.proofs.Common.{◌≡◌, ℕ, ◌<◌, ◌≤◌, Bool, not, eqb, ltb, List, [], ◌∷◌, length, take, drop, get_or, inl, inr, Some, None, refl}
+use Rattle.std.proofs.Common.{sym, ap, ◌∙◌, arith, position}
 use Rattle.std.specs.List.{slice_split, position_or_len, before_first, after_first}
 use Rattle.std.specs.Str.Lines.{lines, lines_of_parts, strip_carriage_return}
 use Rattle.std.proofs.lemmas.Bool.{ltb-true, lt-ltb, cases_lt, not-true, cond-true, cond-false, ne_eqb}
@@ -11,22 +12,30 @@ use Rattle.std.proofs.lemmas.List.Splits.{slice_split_none, slice_split_first, l
 abbrev is_feed : ℕ → Bool
 is_feed b = eqb b 10
 
-lines_of_more : (x : List ℕ) (parts : List (List ℕ)) → 0 < length parts → lines_of_parts (x ∷ parts) ≡ strip_carriage_return x ∷ lines_of_parts parts
-lines_of_more x [] h = absurd (omega arith)
-lines_of_more x (y ∷ parts) h = refl
+lines-of-more : (x : List ℕ) (parts : List (List ℕ)) → 0 < length parts
+    → lines_of_parts (x ∷ parts) ≡ strip_carriage_return x ∷ lines_of_parts parts
+lines-of-more x [] h = absurd (omega arith)
+lines-of-more x (y ∷ parts) h = refl
 
-pub lines_first : (bs : List ℕ) (end : ℕ) → position (λ b. eqb b 10) bs ≡ Some end → lines bs ≡ strip_carriage_return (take end bs) ∷ lines (drop 1 (drop end bs))
-lines_first bs end e =
+pub lines-first : (bs : List ℕ) (end : ℕ) → position (λ b. eqb b 10) bs ≡ Some end
+    → lines bs ≡ strip_carriage_return (take end bs) ∷ lines (drop 1 (drop end bs))
+lines-first bs end e =
     let p = cond_some (ltb (position_or_len is_feed bs) (length bs)) (position_or_len is_feed bs) end e in
     let split = slice_split_first is_feed bs 0 (ltb-true _ _ p.0) in
-    let more = lines_of_more (before_first is_feed bs) (slice_split is_feed (after_first is_feed bs)) (omega (arith, length-slice_split is_feed (after_first is_feed bs))) in
+    let more =
+    lines-of-more (before_first is_feed bs) (slice_split is_feed (after_first is_feed bs))
+    (omega (arith, length-slice_split is_feed (after_first is_feed bs))) in
     ap lines_of_parts split ∙ more ∙ rw (p.1, drop-drop 1 end bs) refl
 
-pub lines_last : (bs : List ℕ) → 0 < length bs → position (λ b. eqb b 10) bs ≡ None → lines bs ≡ bs ∷ []
-lines_last bs some e =
+pub lines-last : (bs : List ℕ) → 0 < length bs → position (λ b. eqb b 10) bs ≡ None → lines bs ≡ bs ∷ []
+lines-last bs some e =
     let at : length bs ≤ position_or_len is_feed bs = elim (cases_lt (position_or_len is_feed bs) (length bs)) [
-      | inl lt ↦ absurd (none-some (position_or_len is_feed bs) (sym e ∙ cond-true (ltb (position_or_len is_feed bs) (length bs)) (Some (position_or_len is_feed bs)) None (lt-ltb _ _ lt)))
+      | inl lt ↦
+          absurd (none-some (position_or_len is_feed bs)
+          (sym e ∙ cond-true (ltb (position_or_len is_feed bs) (length bs)) (Some (position_or_len is_feed bs)) None (lt-ltb _ _ lt)))
       | inr le ↦ le
     ] in
-    let split = slice_split_none is_feed bs (λ k d lt. not-true (is_feed (get_or bs k d)) (prefix_len_passes (λ b. not (is_feed b)) bs k d (omega arith))) in
+    let split =
+    slice_split_none is_feed bs
+    (λ k d lt. not-true (is_feed (get_or bs k d)) (prefix_len_passes (λ b. not (is_feed b)) bs k d (omega arith))) in
     ap lines_of_parts split ∙ cond-false (eqb (length bs) 0) [] (bs ∷ []) (ne_eqb (length bs) 0 (λ q. omega arith))

@@ -1,87 +1,92 @@
 -- A text ends where its characters, each quote doubled, end in one quote.
-use Rattle.std.proofs.Common.{◌≡◌, ℕ, suc, ◌+◌, Bool, true, false, cond, List, [], ◌∷◌, ◌++◌, length, take, drop, Option, Some, None, refl, ap, ◌∙◌, arith, inl, inr, ◌⊎◌, subst, flat_map}
+use Rattle.std.proofs.Common.{◌≡◌, ℕ, suc, ◌+◌, Bool, true, false, cond, List, [], ◌∷◌, ◌++◌, length, take, drop, Option, Some, None, refl}
+use Rattle.std.proofs.Common.{ap, ◌∙◌, arith, inl, inr, ◌⊎◌, subst, flat_map}
 use Rattle.std.specs.List.{list_all}
 use Rattle.std.proofs.lemmas.Bool.{cases_Bool, eqb-true}
 use Rattle.std.proofs.lemmas.Option.{same_Some, none-some}
 use Rattle.pac_lex.specs.Bytes.{is_quote, is_printable}
 use Rattle.pac_lex.specs.Texts.{quoted, closing}
 use Rattle.pac_lex.specs.Tokens.{begins}
-use Rattle.pac_lex.proofs.QuoteLemmas.{more, closing_other, closing_doubled, closing_single}
+use Rattle.pac_lex.proofs.ByteLemmas.{chosen}
+use Rattle.pac_lex.proofs.QuoteLemmas.{more, closing-other, closing-doubled, closing-single}
 
-pub chosen : {A : Type 0} (b : Bool) (x y z : A) → cond b x y ≡ z → ((b ≡ true) × (x ≡ z)) ⊎ ((b ≡ false) × (y ≡ z))
-chosen true x y z e = inl (refl, e)
-chosen false x y z e = inr (refl, e)
+more-some : (k : ℕ) (o : Option ℕ) (n : ℕ) → more k o ≡ Some n → (m : ℕ) × (o ≡ Some m) × (m + k ≡ n)
+more-some k None n e = absurd (none-some n e)
+more-some k (Some m) n e = (m, refl, same_Some _ _ e)
 
-more_some : (k : ℕ) (o : Option ℕ) (n : ℕ) → more k o ≡ Some n → (m : ℕ) × (o ≡ Some m) × (m + k ≡ n)
-more_some k None n e = absurd (none-some n e)
-more_some k (Some m) n e = (m, refl, same_Some _ _ e)
-
--- the characters of a text that ends behind these bytes
+-- the characters of a text that ends after these bytes
 pub record Closes (bytes : List ℕ) (n : ℕ) : Type 0 where
   pub characters : List ℕ
   pub text : take n bytes ≡ flat_map quoted characters ++ 39 ∷ []
   pub stops : begins is_quote (drop n bytes) ≡ false
 
-quote_is : (b : ℕ) → is_quote b ≡ true → b ≡ 39
-quote_is b e = eqb-true b 39 e
+quote-is : (b : ℕ) → is_quote b ≡ true → b ≡ 39
+quote-is b e = eqb-true b 39 e
 
-closes_here : (b : ℕ) (bytes : List ℕ) → b ≡ 39 → begins is_quote bytes ≡ false → Closes (b ∷ bytes) 1
-closes_here b bytes e stop = record { characters = []; text = rw e refl; stops = stop }
+closes-here : (b : ℕ) (bytes : List ℕ) → b ≡ 39 → begins is_quote bytes ≡ false → Closes (b ∷ bytes) 1
+closes-here b bytes e stop = record { characters = []; text = rw e refl; stops = stop }
 
-closes_other : (b : ℕ) (bytes : List ℕ) (m : ℕ) → is_quote b ≡ false → Closes bytes m → Closes (b ∷ bytes) (suc m)
-closes_other b bytes m e h = record {
+closes-other : (b : ℕ) (bytes : List ℕ) (m : ℕ) → is_quote b ≡ false → Closes bytes m → Closes (b ∷ bytes) (suc m)
+closes-other b bytes m e h = record {
   characters = b ∷ h.characters;
   text = rw (e, h.text) refl;
   stops = h.stops;
 }
 
-closes_doubled : (b c : ℕ) (bytes : List ℕ) (m : ℕ) → b ≡ 39 → c ≡ 39 → Closes bytes m → Closes (b ∷ c ∷ bytes) (suc (suc m))
-closes_doubled b c bytes m e f h = record {
+closes-doubled : (b c : ℕ) (bytes : List ℕ) (m : ℕ) → b ≡ 39 → c ≡ 39 → Closes bytes m → Closes (b ∷ c ∷ bytes) (suc (suc m))
+closes-doubled b c bytes m e f h = record {
   characters = 39 ∷ h.characters;
   text = rw (e, f, h.text) refl;
   stops = h.stops;
 }
 
-pub closing_is : (bytes : List ℕ) (n : ℕ) → closing bytes ≡ Some n → Closes bytes n
-closing_is [] n e = absurd (none-some n e)
-closing_is (b ∷ []) n e =
+pub closing-is : (bytes : List ℕ) (n : ℕ) → closing bytes ≡ Some n → Closes bytes n
+closing-is [] n e = absurd (none-some n e)
+closing-is (b ∷ []) n e =
     elim (chosen (is_quote b) (Some 1) None (Some n) e) [
-      | inl (q, s) ↦ subst (λ (k : ℕ). Closes (b ∷ []) k) (same_Some 1 n s) (closes_here b [] (quote_is b q) refl)
+      | inl (q, s) ↦ subst (λ (k : ℕ). Closes (b ∷ []) k) (same_Some 1 n s) (closes-here b [] (quote-is b q) refl)
       | inr (q, s) ↦ absurd (none-some n s)
     ]
-closing_is (b ∷ c ∷ bytes) n e =
+closing-is (b ∷ c ∷ bytes) n e =
     elim (chosen (is_quote b) (cond (is_quote c) (more 2 (closing bytes)) (Some 1)) (more 1 (closing (c ∷ bytes))) (Some n) e) [
       | inl (q, s) ↦ elim (chosen (is_quote c) (more 2 (closing bytes)) (Some 1) (Some n) s) [
         | inl (r, t) ↦
-            let (m, is, sum) = more_some 2 (closing bytes) n t in
+            let (m, is, sum) = more-some 2 (closing bytes) n t in
             let two : suc (suc m) ≡ n = omega arith in
-            subst (λ (k : ℕ). Closes (b ∷ c ∷ bytes) k) two (closes_doubled b c bytes m (quote_is b q) (quote_is c r) (closing_is bytes m is))
-        | inr (r, t) ↦ subst (λ (k : ℕ). Closes (b ∷ c ∷ bytes) k) (same_Some 1 n t) (closes_here b (c ∷ bytes) (quote_is b q) r)
+            subst (λ (k : ℕ). Closes (b ∷ c ∷ bytes) k) two
+            (closes-doubled b c bytes m (quote-is b q) (quote-is c r) (closing-is bytes m is))
+        | inr (r, t) ↦ subst (λ (k : ℕ). Closes (b ∷ c ∷ bytes) k) (same_Some 1 n t) (closes-here b (c ∷ bytes) (quote-is b q) r)
       ]
       | inr (q, s) ↦
-          let (m, is, sum) = more_some 1 (closing (c ∷ bytes)) n s in
+          let (m, is, sum) = more-some 1 (closing (c ∷ bytes)) n s in
           let one : suc m ≡ n = omega arith in
-          subst (λ (k : ℕ). Closes (b ∷ c ∷ bytes) k) one (closes_other b (c ∷ bytes) m q (closing_is (c ∷ bytes) m is))
+          subst (λ (k : ℕ). Closes (b ∷ c ∷ bytes) k) one (closes-other b (c ∷ bytes) m q (closing-is (c ∷ bytes) m is))
     ]
 
-plus_two : (n : ℕ) → n + 1 + 2 ≡ suc (suc n) + 1
-plus_two n = omega arith
+plus-two : (n : ℕ) → n + 1 + 2 ≡ suc (suc n) + 1
+plus-two n = omega arith
 
-plus_one : (n : ℕ) → n + 1 + 1 ≡ suc n + 1
-plus_one n = omega arith
+plus-one : (n : ℕ) → n + 1 + 1 ≡ suc n + 1
+plus-one n = omega arith
 
-pub closing_again : (characters rest : List ℕ) → begins is_quote rest ≡ false → closing (flat_map quoted characters ++ (39 ∷ rest)) ≡ Some (length (flat_map quoted characters) + 1)
-closing_again [] rest stop = closing_single 39 rest refl stop
-closing_again (c ∷ characters) rest stop =
-    let h = closing_again characters rest stop in
+pub closing-again : (characters rest : List ℕ) → begins is_quote rest ≡ false
+    → closing (flat_map quoted characters ++ (39 ∷ rest)) ≡ Some (length (flat_map quoted characters) + 1)
+closing-again [] rest stop = closing-single 39 rest refl stop
+closing-again (c ∷ characters) rest stop =
+    let h = closing-again characters rest stop in
     elim (cases_Bool (is_quote c)) [
-      | inl q ↦ rw q (closing_doubled 39 39 (flat_map quoted characters ++ (39 ∷ rest)) refl refl ∙ ap (more 2) h ∙ ap (λ (k : ℕ). Some k) (plus_two (length (flat_map quoted characters))))
-      | inr q ↦ rw q (closing_other c (flat_map quoted characters ++ (39 ∷ rest)) q ∙ ap (more 1) h ∙ ap (λ (k : ℕ). Some k) (plus_one (length (flat_map quoted characters))))
+      | inl q ↦
+          rw q (closing-doubled 39 39 (flat_map quoted characters ++ (39 ∷ rest)) refl refl ∙ ap (more 2) h
+          ∙ ap (λ (k : ℕ). Some k) (plus-two (length (flat_map quoted characters))))
+      | inr q ↦
+          rw q (closing-other c (flat_map quoted characters ++ (39 ∷ rest)) q ∙ ap (more 1) h
+          ∙ ap (λ (k : ℕ). Some k) (plus-one (length (flat_map quoted characters))))
     ]
 
-pub printable_quoted : (characters : List ℕ) → list_all is_printable (flat_map quoted characters ++ 39 ∷ []) ≡ list_all is_printable characters
-printable_quoted [] = refl
-printable_quoted (c ∷ characters) = elim (cases_Bool (is_quote c)) [
-  | inl q ↦ rw (q, printable_quoted characters, quote_is c q) refl
-  | inr q ↦ rw (q, printable_quoted characters) refl
+pub printable-quoted : (characters : List ℕ)
+    → list_all is_printable (flat_map quoted characters ++ 39 ∷ []) ≡ list_all is_printable characters
+printable-quoted [] = refl
+printable-quoted (c ∷ characters) = elim (cases_Bool (is_quote c)) [
+  | inl q ↦ rw (q, printable-quoted characters, quote-is c q) refl
+  | inr q ↦ rw (q, printable-quoted characters) refl
 ]

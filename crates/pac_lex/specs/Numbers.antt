@@ -1,5 +1,6 @@
 -- Numbers of the source: digits, and a last letter for the base.
-use Rattle.std.specs.Prelude.{ℕ, ◌+◌, ◌-◌, ◌*◌, ◌||◌, ◌&&◌, ◌==◌, List, length, take, slice_index, fold, Option, Some, None, nat_lt, if◌then◌else◌}
+use Rattle.std.specs.Prelude.{ℕ, ◌+◌, ◌-◌, ◌*◌, ◌||◌, ◌&&◌, ◌==◌, List, length, take, slice_index, fold}
+use Rattle.std.specs.Prelude.{Option, Some, None, nat_lt, if◌then◌else◌}
 use Rattle.std.specs.List.{list_all}
 use Rattle.std.specs.Char.{is_ascii_digit}
 
@@ -13,20 +14,21 @@ value base digits = fold (λ n c. n * base + digit c) 0 digits
 
 -- a number of 16 bits, if each digit is one of the base
 abbrev pub in_base : ℕ → List ℕ → Option ℕ
-in_base base digits = if list_all (λ c. nat_lt (digit c) base) digits && nat_lt (value base digits) 65536 then Some (value base digits) else None
+in_base base digits =
+    if list_all (λ c. nat_lt (digit c) base) digits && nat_lt (value base digits) 65536 then Some (value base digits) else None
 
 -- the number that a run of letters and digits is. Its last letter, in either case, tells the base: H is
 -- hexadecimal, B binary, O and Q octal, D decimal, and with another or none it is decimal.
 abbrev pub numeral : List ℕ → Option ℕ
 numeral run =
-    if last == 72 || last == 104 then in_base 16 front
-    else (if last == 66 || last == 98 then in_base 2 front
-    else (if last == 79 || last == 111 || last == 81 || last == 113 then in_base 8 front
-    else (if last == 68 || last == 100 then in_base 10 front
+    if last == 72 || last == 104 then in_base 16 others
+    else (if last == 66 || last == 98 then in_base 2 others
+    else (if last == 79 || last == 111 || last == 81 || last == 113 then in_base 8 others
+    else (if last == 68 || last == 100 then in_base 10 others
     else in_base 10 run)))
   where
     last : ℕ
     last = slice_index run (length run - 1)
 
-    front : List ℕ
-    front = take (length run - 1) run
+    others : List ℕ
+    others = take (length run - 1) run

@@ -1,5 +1,6 @@
 -- A line read from left to right, up to its first fault.
-use Rattle.std.specs.Prelude.{◌≡◌, ℕ, zero, suc, ◌+◌, ◌-◌, Bool, true, List, [], ◌∷◌, ◌&&◌, take, drop, length, Option, Some, None, Result, Ok, Err, nat_lt, if◌then◌else◌}
+use Rattle.std.specs.Prelude.{◌≡◌, ℕ, zero, suc, ◌+◌, ◌-◌, Bool, true, List, [], ◌∷◌, ◌&&◌, take, drop, length}
+use Rattle.std.specs.Prelude.{Option, Some, None, Result, Ok, Err, nat_lt, if◌then◌else◌}
 use Rattle.std.specs.List.{prefix_len, list_all}
 use Rattle.std.specs.Char.{is_ascii_digit, is_ascii_alphanumeric}
 use Rattle.pac_lex.specs.declared.token.Kind.{Kind}
@@ -11,7 +12,7 @@ use Rattle.pac_lex.specs.declared.fault.LexError.TheVariants as errors
 use Rattle.pac_lex.specs.Bytes.{is_blank, is_comment, is_quote, is_name_start, is_name_byte, is_printable}
 use Rattle.pac_lex.specs.Numbers.{numeral}
 use Rattle.pac_lex.specs.Texts.{closing}
-use Rattle.pac_lex.specs.Tokens.{Lexeme, symbol, is_af, begins}
+use Rattle.pac_lex.specs.Tokens.{Lexeme, symbol, is_af, begins, most_bytes}
 
 infixl 10 ◌>>=◌
 abbrev pub ◌>>=◌ : {A B : Type 0} → Result A Fault → (A → Result B Fault) → Result B Fault
@@ -32,7 +33,7 @@ abbrev pub OnFault : LexError → (Fault → Type 0) → Type 0
 OnFault errors.Memory P = Unit {0}
 OnFault (errors.Fault fault) P = P fault
 
--- Each of these reads at the front of the bytes, and gives the token's kind and length.
+-- Each of these reads the token that the bytes begin with, and gives its kind and length.
 abbrev pub Found : Type 0
 Found = Result (Kind × ℕ) Fault
 
@@ -55,7 +56,7 @@ abbrev pub text_of : Option ℕ → List ℕ → Found
 text_of None bytes = Err OpenText
 text_of (Some len) bytes = if list_all is_printable (take len bytes) then Ok (Text, len + 1) else Err NoToken
 
--- behind the opening quote
+-- after the opening quote
 unfoldable pub text_at : List ℕ → Found
 text_at bytes = text_of (closing bytes) bytes
 
@@ -72,7 +73,7 @@ abbrev pub is_end : List ℕ → Bool
 is_end [] = true
 is_end (b ∷ bytes) = is_comment b
 
--- a token, and the tokens behind it
+-- a token, and the tokens after it
 abbrev pub before : Lexeme → Result (List Lexeme) Fault → Result (List Lexeme) Fault
 before token (Ok tokens) = Ok (token ∷ tokens)
 before token (Err fault) = Err fault
@@ -81,7 +82,7 @@ before token (Err fault) = Err fault
 abbrev pub cut : Kind → ℕ → List ℕ → Lexeme
 cut kind len bytes = record { kind = kind; text = take len bytes }
 
--- the tokens behind the next skipped bytes, which belong to a token already
+-- the tokens after the next skipped bytes, which belong to a token already
 unfoldable pub scan : ℕ → List ℕ → Result (List Lexeme) Fault
 scan skipped [] = Ok []
 scan (suc skipped) (b ∷ bytes) = scan skipped bytes
@@ -92,4 +93,4 @@ scan zero (b ∷ bytes) =
 
 -- the tokens of a line
 unfoldable pub tokens_of : List ℕ → Result (List Lexeme) Fault
-tokens_of line = if nat_lt 255 (length line) then Err LongLine else scan 0 line
+tokens_of line = if nat_lt most_bytes (length line) then Err LongLine else scan 0 line

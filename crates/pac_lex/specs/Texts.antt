@@ -1,5 +1,6 @@
 -- Texts of the source: characters in single quotes.
-use Rattle.std.specs.Prelude.{ℕ, ◌+◌, ◌-◌, ◌&&◌, not, List, [], ◌∷◌, ◌++◌, length, take, drop, Option, Some, None, if◌then◌else◌, option_map}
+use Rattle.std.specs.Prelude.{ℕ, ◌+◌, ◌-◌, ◌&&◌, not, List, [], ◌∷◌, ◌++◌, length, take, drop, Option, Some, None, if◌then◌else◌}
+use Rattle.std.specs.Prelude.{option_map}
 use Rattle.std.specs.List.{flat_map}
 use Rattle.pac_lex.specs.Bytes.{is_quote}
 
@@ -11,7 +12,7 @@ quoted c = if is_quote c then 39 ∷ 39 ∷ [] else c ∷ []
 abbrev pub spelled : List ℕ → List ℕ
 spelled characters = 39 ∷ (flat_map quoted characters ++ 39 ∷ [])
 
--- behind an opening quote, how many bytes there are up to and with the closing one, if there is one
+-- after an opening quote, how many bytes there are up to and with the closing one, if there is one
 abbrev pub closing : List ℕ → Option ℕ
 closing [] = None
 closing (b ∷ []) = if is_quote b then Some 1 else None
@@ -23,16 +24,20 @@ closing (b ∷ c ∷ bytes) =
 abbrev pub inside : List ℕ → List ℕ
 inside text = take (length text - 2) (drop 1 text)
 
--- what follows a character in a text, behind its first byte
-abbrev pub behind_character : ℕ → List ℕ → List ℕ
-behind_character c [] = []
-behind_character c (d ∷ bytes) = if is_quote c && is_quote d then bytes else d ∷ bytes
+-- what follows a character in a text, after its first byte
+abbrev pub after_character : ℕ → List ℕ → List ℕ
+after_character c [] = []
+after_character c (d ∷ bytes) = if is_quote c && is_quote d then bytes else d ∷ bytes
 
 -- characters with each doubled quote as one
 unfoldable pub unquoted : List ℕ → List ℕ
 unquoted [] = []
 unquoted (b ∷ []) = b ∷ []
 unquoted (b ∷ c ∷ bytes) = b ∷ (if is_quote b && is_quote c then unquoted bytes else unquoted (c ∷ bytes))
+
+-- the characters of a text, which stands here with its quotes: those between them, each doubled quote as one
+abbrev pub characters_of : List ℕ → List ℕ
+characters_of text = unquoted (inside text)
 
 -- the character of a text of one
 abbrev pub one_character : List ℕ → Option ℕ

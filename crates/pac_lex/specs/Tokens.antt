@@ -1,9 +1,12 @@
 -- What a token is, and what a line of tokens is.
-use Rattle.std.specs.Prelude.{◌≡◌, ◌<◌, ◌≤◌, length, ℕ, Bool, List, [], ◌∷◌, ◌++◌, ◌==◌, ◌||◌, ◌&&◌, not, false, IsTrue, IsFalse, Option, Some, None, if◌then◌else◌, ◌⊎◌, map, is_some}
+use Rattle.std.specs.Prelude.{◌≡◌, ◌<◌, ◌≤◌, length, ℕ, Bool, List, [], ◌∷◌, ◌++◌, ◌==◌, ◌||◌, ◌&&◌, not, false, IsTrue, IsFalse}
+use Rattle.std.specs.Prelude.{Option, Some, None, ◌⊎◌, map, is_some}
+use Rattle.std.specs.Map.{lookup}
 use Rattle.std.specs.List.{list_all}
 use Rattle.std.specs.Char.{is_ascii_digit, is_ascii_alphanumeric}
 use Rattle.pac_lex.specs.declared.token.Kind.{Kind}
-use Rattle.pac_lex.specs.declared.token.Kind.TheVariants.{Name, Number, Text, AlternateAf, Dollar, Colon, Comma, Open, Close, Plus, Minus, Star, Slash}
+use Rattle.pac_lex.specs.declared.token.Kind.TheVariants.{Name, Number, Text, AlternateAf}
+use Rattle.pac_lex.specs.declared.token.Kind.TheVariants.{Dollar, Colon, Comma, Open, Close, Plus, Minus, Star, Slash}
 use Rattle.pac_lex.specs.declared.token.Token.{Token}
 use Rattle.pac_lex.specs.declared.fault.Fault.{Fault}
 use Rattle.pac_lex.specs.declared.fault.Fault.TheVariants.{NoToken, WrongNumber, OpenText, LongLine}
@@ -22,19 +25,15 @@ view token = record { kind = token.kind; text = token.text.now }
 abbrev pub views : List Token → List Lexeme
 views tokens = map view tokens
 
--- the tokens of one byte
+-- the tokens of one byte: `$`, `:`, `,`, `(`, `)`, `+`, `-`, `*` and `/`
+abbrev pub symbols : List (ℕ × Kind)
+symbols =
+    (36, Dollar) ∷ (58, Colon) ∷ (44, Comma) ∷ (40, Open) ∷ (41, Close)
+    ∷ (43, Plus) ∷ (45, Minus) ∷ (42, Star) ∷ (47, Slash) ∷ []
+
+-- the token that a byte is by itself, if it is one
 abbrev pub symbol : ℕ → Option Kind
-symbol b =
-    if b == 36 then Some Dollar
-    else (if b == 58 then Some Colon
-    else (if b == 44 then Some Comma
-    else (if b == 40 then Some Open
-    else (if b == 41 then Some Close
-    else (if b == 43 then Some Plus
-    else (if b == 45 then Some Minus
-    else (if b == 42 then Some Star
-    else (if b == 47 then Some Slash
-    else None))))))))
+symbol b = lookup (λ c. b == c) symbols
 
 -- AF in either case
 abbrev pub is_af : List ℕ → Bool
@@ -47,12 +46,17 @@ begins p [] = false
 begins p (b ∷ bytes) = p b
 
 -- These bytes are a token of this kind, where the line goes on with rest. A name and a number are as
--- long as they can be; so is a text, since a doubled quote doesn't close it. AF with a quote behind it
+-- long as they can be; so is a text, since a doubled quote doesn't close it. AF with a quote after it
 -- is AF'.
 abbrev pub IsToken : Kind → List ℕ → List ℕ → Type 0
-IsToken Name text rest = IsTrue (begins is_name_start text) × IsTrue (list_all is_name_byte text) × IsFalse (begins is_name_byte rest) × IsFalse (is_af text && begins is_quote rest)
-IsToken (Number n) text rest = IsTrue (begins is_ascii_digit text) × IsTrue (list_all is_ascii_alphanumeric text) × IsFalse (begins is_ascii_alphanumeric rest) × (numeral text ≡ Some n)
-IsToken Text text rest = (characters : List ℕ) × (text ≡ spelled characters) × IsTrue (list_all is_printable characters) × IsFalse (begins is_quote rest)
+IsToken Name text rest =
+    IsTrue (begins is_name_start text) × IsTrue (list_all is_name_byte text) × IsFalse (begins is_name_byte rest)
+    × IsFalse (is_af text && begins is_quote rest)
+IsToken (Number n) text rest =
+    IsTrue (begins is_ascii_digit text) × IsTrue (list_all is_ascii_alphanumeric text)
+    × IsFalse (begins is_ascii_alphanumeric rest) × (numeral text ≡ Some n)
+IsToken Text text rest =
+    (characters : List ℕ) × (text ≡ spelled characters) × IsTrue (list_all is_printable characters) × IsFalse (begins is_quote rest)
 IsToken AlternateAf text rest = (name : List ℕ) × IsTrue (is_af name) × (text ≡ name ++ 39 ∷ [])
 IsToken kind text rest = (b : ℕ) × (symbol b ≡ Some kind) × (text ≡ b ∷ [])
 
@@ -60,13 +64,15 @@ IsToken kind text rest = (b : ℕ) × (symbol b ≡ Some kind) × (text ≡ b �
 abbrev pub begins_nothing : ℕ → Bool
 begins_nothing b = not (is_blank b || is_comment b || is_name_start b || is_ascii_digit b || is_quote b || is_some (symbol b))
 
--- the fault that stands at the front of these bytes
+-- the fault that these bytes begin with
 abbrev pub IsFault : Fault → List ℕ → Type 0
 IsFault NoToken bytes =
     IsTrue (begins begins_nothing bytes)
-    ⊎ ((characters : List ℕ) × (rest : List ℕ) × (bytes ≡ spelled characters ++ rest) × IsFalse (begins is_quote rest) × IsFalse (list_all is_printable characters))
+    ⊎ ((characters : List ℕ) × (rest : List ℕ) × (bytes ≡ spelled characters ++ rest) × IsFalse (begins is_quote rest)
+    × IsFalse (list_all is_printable characters))
 IsFault WrongNumber bytes =
-    (run : List ℕ) × (rest : List ℕ) × (bytes ≡ run ++ rest) × IsTrue (begins is_ascii_digit run) × IsTrue (list_all is_ascii_alphanumeric run) × IsFalse (begins is_ascii_alphanumeric rest) × (numeral run ≡ None)
+    (run : List ℕ) × (rest : List ℕ) × (bytes ≡ run ++ rest) × IsTrue (begins is_ascii_digit run)
+    × IsTrue (list_all is_ascii_alphanumeric run) × IsFalse (begins is_ascii_alphanumeric rest) × (numeral run ≡ None)
 IsFault OpenText bytes =
     IsTrue (begins is_quote bytes) × ((characters rest : List ℕ) → bytes ≡ spelled characters ++ rest → IsFalse (begins is_quote rest) → ⊥)
 IsFault LongLine bytes = ⊥
@@ -104,11 +110,15 @@ abbrev pub Breaks : List ℕ → List Lexeme → Fault → Type 0
 Breaks line [] fault = FaultFirst line fault
 Breaks line (token ∷ tokens) fault = (rest : List ℕ) × TokenFirst line token rest × Breaks rest tokens fault
 
--- a line of tokens: 255 bytes at most
+-- the most bytes that a line may have (this profile)
+abbrev pub most_bytes : ℕ
+most_bytes = 255
+
+-- a line of tokens, which isn't too long
 abbrev pub IsRead : List ℕ → List Lexeme → Type 0
-IsRead line tokens = (length line ≤ 255) × Reads line tokens
+IsRead line tokens = (length line ≤ most_bytes) × Reads line tokens
 
 -- the one fault of a line: its length, or else the leftmost
 abbrev pub HasFault : List ℕ → Fault → Type 0
-HasFault line LongLine = 255 < length line
-HasFault line fault = (length line ≤ 255) × (tokens : List Lexeme) × Breaks line tokens fault
+HasFault line LongLine = most_bytes < length line
+HasFault line fault = (length line ≤ most_bytes) × (tokens : List Lexeme) × Breaks line tokens fault

@@ -1,3 +1,5 @@
+//! What can be wrong with a line.
+
 ghost use Rattle.std.specs.Prelude.{◌≡◌, Some};
 ghost use Rattle.pac_lex.specs.declared.fault.LexError.TheVariants as errors;
 
@@ -61,6 +63,6 @@ impl<T: Drop> From<AllocFailed<T>> for LexError {
     ghost from_gives = { λ _ e. e ≡ errors.Memory };
 
     fn from(_error: AllocFailed<T>) -> LexError {
-        LexError::Memory
+        LexError::from(AllocError)
     }
 }

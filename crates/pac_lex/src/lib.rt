@@ -1,18 +1,18 @@
-//! The tokens of a source line of the assembler, and the lines of a text.
+//! The tokens of a source line of the assembler, and the lines and words of a text.
 #![tactic(auto)]
 
+mod bytes;
 mod fault;
 mod line;
 mod number;
 mod quote;
 mod reading;
 mod token;
+mod words;
 
 pub use fault::{Fault, LexError};
 pub use line::first_line;
-pub use quote::{characters, one_character};
+pub use quote::{character_count, characters, one_character};
 pub use reading::{LINE_LIMIT, tokens};
 pub use token::{Kind, Token};
-
-#[cfg(test)]
-mod tests;
+pub use words::{first_word, next_word};

@@ -1,14 +1,33 @@
+//! Texts of the source, in single quotes.
+
 ghost use Rattle.std.specs.Prelude.{◌≡◌, ◌≤◌, ℕ, List, [], ◌∷◌, length, IfSome, IfOk, Some};
-ghost use Rattle.pac_lex.specs.Texts.{spelled, closing, unquoted, behind_character, inside, one_character};
+ghost use Rattle.pac_lex.specs.Texts.{spelled, closing, unquoted, after_character, inside, characters_of, one_character};
 
 use std::alloc::{AllocError, Global};
 
 /// The characters of a text, whose bytes stand here with their quotes: those between the quotes, each
 /// doubled quote as one.
 pub fn characters(alloc: Global, text: &[u8]) -> Result<Vec<u8>, AllocError>
-    ensures { (characters : List ℕ) → text.now ≡ spelled characters → IfOk result (λ v. v.items ≡ characters) }
+    ensures each { (characters : List ℕ) → text.now ≡ spelled characters → IfOk result (λ v. v.items ≡ characters) }
+    // The same as a function of the bytes.
+    ensures exact { IfOk result (λ v. v.items ≡ characters_of text.now) }
 {
     unquoted(alloc, inside(text))
+}
+
+/// How many characters a text has, whose bytes stand here with their quotes.
+pub fn character_count(text: &[u8]) -> usize
+    ensures each { (characters : List ℕ) → text.now ≡ spelled characters → result ≡ length characters }
+    // The same as a function of the bytes.
+    ensures exact { result ≡ length (characters_of text.now) }
+{
+    let mut count = 0;
+    let mut rest = inside(text);
+    while let [first, after @ ..] = rest {
+        count += 1;
+        rest = after_character(*first, after);
+    }
+    count
 }
 
 /// The character of a text of one, whose bytes stand here with their quotes.
@@ -25,7 +44,7 @@ pub fn one_character(text: &[u8]) -> Option<u8>
     }
 }
 
-// What stands between the quotes.
+/// What stands between the quotes.
 fn inside(text: &[u8]) -> &[u8]
     ensures { result.now ≡ inside text.now }
 {
@@ -35,30 +54,31 @@ fn inside(text: &[u8]) -> &[u8]
     }
 }
 
+/// Characters with each doubled quote as one.
 fn unquoted(alloc: Global, inside: &[u8]) -> Result<Vec<u8>, AllocError>
     ensures { IfOk result (λ v. v.items ≡ unquoted inside.now) }
 {
     let mut found = Vec::new(alloc);
     let mut rest = inside;
-    while let [first, behind @ ..] = rest {
+    while let [first, after @ ..] = rest {
         found.push(*first)?;
-        rest = behind_character(*first, behind);
+        rest = after_character(*first, after);
     }
     Ok(found)
 }
 
-// What follows a character, of which a quote is written twice.
-fn behind_character(character: u8, behind: &[u8]) -> &[u8]
-    ensures same { result.now ≡ behind_character character behind.now }
-    ensures shorter { length result.now ≤ length behind.now }
+/// What follows a character, of which a quote is written twice.
+fn after_character(character: u8, after: &[u8]) -> &[u8]
+    ensures same { result.now ≡ after_character character after.now }
+    ensures shorter { length result.now ≤ length after.now }
 {
-    match behind {
+    match after {
         [b'\'', rest @ ..] if character == b'\'' => rest,
-        _ => behind,
+        _ => after,
     }
 }
 
-/// Behind an opening quote: how many bytes there are up to and with the closing one.
+/// After an opening quote: how many bytes there are up to and with the closing one.
 pub(crate) fn closing(bytes: &[u8]) -> Option<usize>
     ensures value { result ≡ closing bytes.now }
     ensures bound { IfSome result (λ len. len ≤ length bytes.now) }

@@ -1,3 +1,5 @@
+//! The tokens.
+
 /// What a token is.
 #[derive(Clone, Copy, Debug, PartialEq, Eq)]
 pub enum Kind {
@@ -32,6 +34,8 @@ pub enum Kind {
 /// A token of a line, with the bytes of the line that it is written in.
 #[derive(Clone, Copy, Debug)]
 pub struct Token<'a> {
+    /// What it is.
     pub kind: Kind,
+    /// How it is written.
     pub text: &'a [u8],
 }

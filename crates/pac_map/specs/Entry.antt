@@ -1,11 +1,11 @@
 -- What can happen to the board, one entry each, and the board's memory as reads see it (Namco Pac-Man service
 -- schematics; what this profile adds is named).
-use Rattle.std.specs.Prelude.{ℕ, List, [], ◌∷◌, ◌-◌, ◌==◌, if◌then◌else◌, fold, slice_index, slice_set}
-use Rattle.pac_num.specs.Numbers.{low_byte, high_byte}
+use Rattle.std.specs.Prelude.{ℕ, List, [], ◌∷◌, ◌==◌, if◌then◌else◌, fold, slice_index, slice_set}
 use Rattle.pac_bus.specs.Action.{Action, Write as Written, Output}
 use Rattle.pac_map.specs.declared.bus_table.Place.{Place}
-use Rattle.pac_map.specs.declared.bus_table.Place.TheVariants.{Program, Tile, Colour, Work, Nothing, Inputs0, Inputs1, Switches}
-use Rattle.pac_map.specs.Place.{read_place, write_place}
+use Rattle.pac_map.specs.declared.bus_table.Place.TheVariants.{Tile, Colour, Work}
+use Rattle.pac_map.specs.Place.{write_place, ram_size}
+use Rattle.pac_map.specs.Lookups.{Lookups, answer_at, port_byte}
 use Rattle.pac_map.specs.Cleared.{cleared}
 
 pub data Entry : Type 0 where
@@ -35,7 +35,7 @@ pub record View : Type 0 where
 -- the view at power-on: RAM cleared and nothing held (this profile)
 abbrev pub power_on : ℕ → View
 power_on switches =
-    record { switches = switches; held = 0; tile = cleared 1024; colour = cleared 1024; work = cleared 1024 }
+    record { switches = switches; held = 0; tile = cleared ram_size; colour = cleared ram_size; work = cleared ram_size }
 
 -- a byte written to a place: RAM keeps it, and no other place that is read does
 abbrev pub written : View → Place → ℕ → View
@@ -49,22 +49,20 @@ view_after view (Write place byte) = written view place byte
 view_after view (Hold mask) = record view { held = mask }
 view_after view _ = view
 
--- the byte that a place gives: an input that is held reads 0; the block with no chip reads BFH and the
--- watchdog's address FFH (this profile)
-abbrev pub byte_of : List ℕ → View → Place → ℕ
-byte_of program view (Program cell) = slice_index program cell
-byte_of program view (Tile cell) = slice_index view.tile cell
-byte_of program view (Colour cell) = slice_index view.colour cell
-byte_of program view (Work cell) = slice_index view.work cell
-byte_of program view Nothing = 0xBF
-byte_of program view Inputs0 = 0xFF - low_byte view.held
-byte_of program view Inputs1 = 0xFF - high_byte view.held
-byte_of program view Switches = view.switches
-byte_of program view _ = 0xFF
+-- what reads ask of a program ROM and a view
+abbrev pub lookups_of : List ℕ → View → Lookups
+lookups_of program view = record {
+  program = slice_index program;
+  tile = slice_index view.tile;
+  colour = slice_index view.colour;
+  work = slice_index view.work;
+  held = view.held;
+  switches = view.switches;
+}
 
 -- the byte that a read from an address gives
 abbrev pub read_of : List ℕ → View → ℕ → ℕ
-read_of program view address = byte_of program view (read_place address)
+read_of program view address = answer_at (lookups_of program view) address
 
 -- what the board makes of an action of the processor: port 0 holds the interrupt vector, and no other port is
 -- wired (this profile)
@@ -80,9 +78,8 @@ pub record Contents : Type 0 where
 abbrev pub byte_at : Contents → ℕ → ℕ
 byte_at contents address = read_of contents.program contents.view address
 
--- no input port is wired: all lines are high (this profile)
 abbrev pub input_at : Contents → ℕ → ℕ
-input_at contents port = 0xFF
+input_at contents port = port_byte port
 
 abbrev pub after : Contents → Action → Contents
 after contents action = record contents { view = fold view_after contents.view (entries_of action) }

@@ -1,5 +1,5 @@
 pub mod Place
+pub mod Lookups
 pub mod Entry
 pub mod Cleared
 pub mod Sizes
-pub mod Behind

@@ -1,9 +1,17 @@
 -- What the board's address decoder selects (Namco Pac-Man service schematics, CPU board). A15 isn't wired.
 -- A14 low is the program ROM. A14 high leaves out A13: A12 low is the RAM page, A12 high the port page, which
 -- leaves out A11 to A8 too.
-use Rattle.std.specs.Prelude.{ℕ, ◌-◌, ◌%◌, ◌<◌, nat_lt, if◌then◌else◌}
+use Rattle.std.specs.Prelude.{ℕ, ◌-◌, ◌%◌, ◌<◌, nat_lt, if◌then◌else◌, Option, Some, None, unwrap_or}
 use Rattle.pac_map.specs.declared.bus_table.Place.{Place}
-use Rattle.pac_map.specs.declared.bus_table.Place.TheVariants.{Program, Tile, Colour, Work, Nothing, Inputs0, Inputs1, Switches, Kick, Latch, Wave, Coordinate}
+use Rattle.pac_map.specs.declared.bus_table.Place.TheVariants.{Program, Tile, Colour, Work, Nothing}
+use Rattle.pac_map.specs.declared.bus_table.Place.TheVariants.{Inputs0, Inputs1, Switches, Kick, Latch, Wave, Coordinate}
+
+-- the bytes of the program ROM, and of each of the three RAMs
+abbrev pub program_size : ℕ
+program_size = 16384
+
+abbrev pub ram_size : ℕ
+ram_size = 1024
 
 -- the RAM page, 4,096 bytes: 000-3FF, 400-7FF, 800-BFF, C00-FFF
 abbrev pub ram_place : ℕ → Place
@@ -30,27 +38,27 @@ write_port offset =
     else if nat_lt offset 0xC0 then Nothing
     else Kick
 
--- the ROM, the RAM page, or a port
-abbrev pub place_by : (ℕ → Place) → ℕ → Place
-place_by port address =
-    if nat_lt (address % 0x8000) 0x4000 then Program (address % 0x8000)
-    else if nat_lt (address % 0x2000) 0x1000 then ram_place (address % 0x2000)
-    else port (address % 0x100)
+-- what an address selects in the ROM or in the RAM page; nothing of these where it selects a port
+abbrev pub memory_place : ℕ → Option Place
+memory_place address =
+    if nat_lt (address % 0x8000) 0x4000 then Some (Program (address % 0x8000))
+    else if nat_lt (address % 0x2000) 0x1000 then Some (ram_place (address % 0x2000))
+    else None
 
 -- the place that a read from an address asks
 abbrev pub read_place : ℕ → Place
-read_place = place_by read_port
+read_place address = unwrap_or (memory_place address) (read_port (address % 0x100))
 
 -- the place that a write to an address reaches
 abbrev pub write_place : ℕ → Place
-write_place = place_by write_port
+write_place address = unwrap_or (memory_place address) (write_port (address % 0x100))
 
 -- the cell, bit, register or byte lies in its place
 abbrev pub IsInRange : Place → Type 0
-IsInRange (Program cell) = cell < 0x4000
-IsInRange (Tile cell) = cell < 0x400
-IsInRange (Colour cell) = cell < 0x400
-IsInRange (Work cell) = cell < 0x400
+IsInRange (Program cell) = cell < program_size
+IsInRange (Tile cell) = cell < ram_size
+IsInRange (Colour cell) = cell < ram_size
+IsInRange (Work cell) = cell < ram_size
 IsInRange (Latch bit) = bit < 8
 IsInRange (Wave register) = register < 32
 IsInRange (Coordinate byte) = byte < 16

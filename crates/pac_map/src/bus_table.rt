@@ -1,6 +1,6 @@
 //! The address decoder: the place that an address selects, for a read and for a write.
 
-ghost use Rattle.std.specs.Prelude.{◌≡◌, ◌<◌};
+ghost use Rattle.std.specs.Prelude.{◌≡◌, ◌<◌, IfSome};
 ghost use Rattle.pac_map.specs.Place as spec;
 
 /// A place on the bus (Namco Pac-Man service schematics). Numbers are cells, bits or registers of the place.
@@ -86,18 +86,30 @@ fn write_port(offset: u8) -> Place
     }
 }
 
+/// The place of the ROM or of the RAM page that an address selects, none where it selects a port.
+#[inline]
+fn memory_place(address: u16) -> Option<Place>
+    ensures place { result ≡ spec.memory_place address }
+    ensures in_range { IfSome result spec.IsInRange }
+{
+    if address % 0x8000 < 0x4000 {
+        Some(Place::Program(address % 0x8000))
+    } else if address % 0x2000 < 0x1000 {
+        Some(ram_place(address % 0x2000))
+    } else {
+        None
+    }
+}
+
 /// The place that a read from an address asks.
 #[inline]
 pub fn read_place(address: u16) -> Place
     ensures place { result ≡ spec.read_place address }
     ensures in_range { spec.IsInRange result }
 {
-    if address % 0x8000 < 0x4000 {
-        Place::Program(address % 0x8000)
-    } else if address % 0x2000 < 0x1000 {
-        ram_place(address % 0x2000)
-    } else {
-        read_port((address % 0x100) as u8)
+    match memory_place(address) {
+        Some(place) => place,
+        None => read_port((address % 0x100) as u8),
     }
 }
 
@@ -107,11 +119,8 @@ pub fn write_place(address: u16) -> Place
     ensures place { result ≡ spec.write_place address }
     ensures in_range { spec.IsInRange result }
 {
-    if address % 0x8000 < 0x4000 {
-        Place::Program(address % 0x8000)
-    } else if address % 0x2000 < 0x1000 {
-        ram_place(address % 0x2000)
-    } else {
-        write_port((address % 0x100) as u8)
+    match memory_place(address) {
+        Some(place) => place,
+        None => write_port((address % 0x100) as u8),
     }
 }

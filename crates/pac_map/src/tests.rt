@@ -1,3 +1,5 @@
+//! The bus table's places, and what is read after power-on, after writes and with inputs held.
+
 use crate::{Map, Place, read_place, write_place};
 use pac_bus::Bus;
 use std::alloc::Global;
@@ -75,7 +77,7 @@ fn reads_at_power_on(rt: HostRuntime) -> Result<(), Fail> {
 }
 
 #[test]
-fn writes_reach_ram_alone(rt: HostRuntime) -> Result<(), Fail> {
+fn writes_reach_ram_alone_and_held_inputs_read_0(rt: HostRuntime) -> Result<(), Fail> {
     let mut map = numbered(&rt, rt.alloc())?;
     map.write(0xC040, 0x11);
     assert_eq!(rt; map.read(0x4040), 0x11);
@@ -100,16 +102,13 @@ fn writes_reach_ram_alone(rt: HostRuntime) -> Result<(), Fail> {
         assert_eq!(rt; map.read(address), byte, "at {address}");
     }
     assert_eq!(rt; map.program()[0x40], 0x40);
-    Ok(())
-}
-
-#[test]
-fn a_held_input_reads_0(rt: HostRuntime) -> Result<(), Fail> {
-    let mut map = numbered(&rt, rt.alloc())?;
-    map.hold(0x2001);
-    assert_eq!(rt; map.read(0x5000), 0xFE);
-    assert_eq!(rt; map.read(0x5040), 0xDF);
-    map.hold(0);
-    assert_eq!(rt; map.read(0x5000), 0xFF);
+    for (mask, first, second) in [(0x2001, 0xFE, 0xDF), (0x0180, 0x7F, 0xFE), (0, 0xFF, 0xFF)] {
+        map.hold(mask);
+        assert_eq!(rt;
+            (map.read(0x5000), map.read(0x5040)),
+            (first, second),
+            "{mask} held"
+        );
+    }
     Ok(())
 }

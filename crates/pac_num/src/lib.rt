@@ -1,7 +1,7 @@
 //! Bits, bytes and words as the processor and the board read them, as whole numbers.
 #![tactic(auto)]
 
-ghost use Rattle.std.specs.Prelude.{◌≡◌, ◌<◌};
+ghost use Rattle.std.specs.Prelude.{◌≡◌, ◌<◌, ◌+◌};
 ghost use Rattle.pac_num.specs.Numbers as number;
 
 /// Bit `place` of a byte, 0 or 1; bit 0 is the lowest.
@@ -35,6 +35,14 @@ pub fn word(low: u8, high: u8) -> u16
     ensures { result ≡ number.word low high }
 {
     low as u16 + 256 * high as u16
+}
+
+/// The address so far from another, modulo 65,536.
+#[inline]
+pub fn offset(address: u16, by: u16) -> u16
+    ensures { result ≡ number.address (address + by) }
+{
+    address.wrapping_add(by)
 }
 
 /// A byte read in two's complement, -128 to 127.

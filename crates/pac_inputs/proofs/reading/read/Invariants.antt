@@ -4,7 +4,8 @@ use Rattle.pac_inputs.specs.Script.{read, script_of}
 use Rattle.pac_inputs.proofs.reading.read.Given as goal
 
 abbrev pub invariant-loop-line : goal.invariant-loop-line
-invariant-loop-line l = record { numbered : l.number + length l.rest ≤ length l.text + 1; same : read l.number l.script (lines l.rest) ≡ script_of l.text }
+invariant-loop-line l =
+    record { numbered : l.number + length l.rest ≤ length l.text + 1; same : read l.number l.script (lines l.rest) ≡ script_of l.text }
 
 abbrev pub decreases-loop-line : goal.decreases-loop-line
 decreases-loop-line l = length l.rest

@@ -1,15 +1,15 @@
 use Rattle.std.proofs.Common.{sym, ◌∙◌, length, arith}
 use Rattle.std.proofs.lemmas.Bool.{eqb-false}
 use Rattle.std.proofs.lemmas.List.{take_rest}
-use Rattle.pac_lex.proofs.LineLemmas.{lines_first, lines_last}
+use Rattle.pac_lex.proofs.LineLemmas.{lines-first, lines-last}
 use Rattle.pac_lex.proofs.line.first_line.Goals as goal
 
 pub returns-in_default-clause-some : goal.returns-in_default-clause-some
 returns-in_default-clause-some c =
     let some = eqb-false (length c.args.bytes.now) 0 (sym c.is_empty.ensures ∙ c.if-is_empty.false) in
-    lines_last c.args.bytes.now (omega (arith, some)) (sym c.line_feed.ensures.place ∙ c.in_default.is)
+    lines-last c.args.bytes.now (omega (arith, some)) (sym c.line_feed.ensures.place ∙ c.in_default.is)
 
 pub returns-clause-some : goal.returns-clause-some
 returns-clause-some c =
     rw (take_rest c.split_at.result.1.now 1, c.split_at.ensures.back, c.without_return.ensures, c.split_at.ensures.front)
-    (lines_first c.args.bytes.now c.in-Some.end (sym c.line_feed.ensures.place ∙ c.in-Some.is))
+    (lines-first c.args.bytes.now c.in-Some.end (sym c.line_feed.ensures.place ∙ c.in-Some.is))

@@ -1,13 +1,14 @@
 use Rattle.std.proofs.Common.{◌∙◌, ◌+◌, sym, drop, get_or}
 use Rattle.std.proofs.lemmas.List.{at_drop_more}
-use Rattle.pac_lex.proofs.NumberLemmas.{with_digits, too_large}
+use Rattle.pac_lex.proofs.NumberLemmas.{with_digits, too-large}
 use Rattle.pac_lex.proofs.number.in_base.Goals as goal
 
-pub returns-then-value-gt65535 : goal.returns-then-value-gt65535
-returns-then-value-gt65535 c =
+pub returns-then-value-gt-GREATEST : goal.returns-then-value-gt-GREATEST
+returns-then-value-gt-GREATEST c =
     let base = c.args.base in
     let value = c.loop-byte.value in
     let digits = c.args.digits.now in
     let at = c.loop-byte.byte-index in
     sym (sym c.loop-byte.invariant.rest ∙ at_drop_more (with_digits base value) digits at 0 c.loop-byte-test.true
-    ∙ too_large base value (get_or digits at 0) (drop (at + 1) digits) c.requires.low (rw (← c.digit-digit.ensures, ← c.from-in-loop-byte.ensures, ← c.from.ensures) c.if-value-gt65535.true))
+    ∙ too-large base value (get_or digits at 0) (drop (at + 1) digits) c.requires.low
+    (rw (← c.digit-digit.ensures, ← c.from-in-loop-byte.ensures, ← c.from.ensures) c.if-value-gt-GREATEST.true))

@@ -4,4 +4,5 @@ use Rattle.pac_lex.proofs.NumberLemmas.{with_digits}
 use Rattle.pac_lex.proofs.number.in_base.Given as goal
 
 abbrev pub invariant-loop-byte : goal.invariant-loop-byte
-invariant-loop-byte l = record { small : l.value < 65536; rest : with_digits l.base l.value (drop l.byte-index l.digits) ≡ in_base l.base l.digits }
+invariant-loop-byte l =
+    record { small : l.value < 65536; rest : with_digits l.base l.value (drop l.byte-index l.digits) ≡ in_base l.base l.digits }

@@ -1,11 +1,11 @@
 use Rattle.std.proofs.Common.{◌≡◌, length}
 use Rattle.pac_lex.specs.Tokens.{views}
 use Rattle.pac_lex.specs.Scan.{scan}
-use Rattle.pac_lex.proofs.ScanLemmas.{with_front}
+use Rattle.pac_lex.proofs.ScanLemmas.{with_earlier}
 use Rattle.pac_lex.proofs.reading.read.Given as goal
 
 abbrev pub invariant-loop-found : goal.invariant-loop-found
-invariant-loop-found l = with_front (views l.found.items) (scan 0 l.rest) ≡ scan 0 l.line
+invariant-loop-found l = with_earlier (views l.found.items) (scan 0 l.rest) ≡ scan 0 l.line
 
 abbrev pub decreases-loop-found : goal.decreases-loop-found
 decreases-loop-found l = length l.rest

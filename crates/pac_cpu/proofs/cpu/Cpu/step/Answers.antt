@@ -1,11 +1,12 @@
--- A step takes as long as its half says.
+-- A step takes as long as its definition says.
 use Rattle.std.proofs.Common.{◌≤◌, subst, sym}
+use Rattle.pac_exec.specs.Transition.{shortest_ticks, longest_ticks}
 use Rattle.pac_cpu.specs.declared.once.Once.{Once}
 use Rattle.pac_cpu.specs.Step.{IfStepped}
-use Rattle.pac_cpu.proofs.Halves.{half-in_time, once-in_time}
+use Rattle.pac_cpu.proofs.CpuSteps.{cpu-step-in-time, once-in-time}
 use Rattle.pac_cpu.proofs.cpu.Cpu.step.Goals as goal
 
 pub returns-clause-time : goal.returns-clause-time
 returns-clause-time g c =
-    let P : Once → Type 0 = λ once. IfStepped once (λ ticks kind. (4 ≤ ticks) × (ticks ≤ 23)) in
-    subst P (sym c.advance.ensures.result) (once-in_time _ (half-in_time _ _ _))
+    let P : Once → Type 0 = λ once. IfStepped once (λ ticks kind. (shortest_ticks ≤ ticks) × (ticks ≤ longest_ticks)) in
+    subst P (sym c.advance.ensures.once) (once-in-time _ (cpu-step-in-time _ _ _))

@@ -1,6 +1,0 @@
-use Rattle.pac_cpu.proofs.Views.{half-viewed}
-use Rattle.pac_cpu.proofs.laws.half_commutes_with_views.Goals as goal
-
-pub returns : goal.returns
-returns g c view bytes inputs changes =
-    half-viewed view g.From.Bus.byte_at g.From.Bus.input_at g.From.Bus.after g.To.Bus.byte_at g.To.Bus.input_at g.To.Bus.after bytes inputs changes

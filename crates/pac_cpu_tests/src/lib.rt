@@ -1,0 +1,9 @@
+//! Nothing but tests of the processor: steps and short programs, a line each, held against `Cpu::step`.
+#![tactic(auto)]
+
+#[cfg(test)]
+mod fields;
+#[cfg(test)]
+mod machine;
+#[cfg(test)]
+mod vectors;

@@ -1,0 +1,55 @@
+-- The entry of a frame, found by halving a table whose last frames rise.
+use Rattle.std.proofs.Common.{◌≡◌, ℕ, zero, suc, ◌+◌, ◌<◌, ◌≤◌, Bool, true, false, ltb, List, [], ◌∷◌, length, get_or, refl, arith, add-one}
+use Rattle.std.specs.Prelude.{nat_le}
+use Rattle.std.specs.List.{AllWithin, AllAdjacentBelow}
+use Rattle.std.specs.List.Sorted.{IsNonDecreasingBy, IsPartitionedBy}
+use Rattle.std.proofs.lemmas.List.Sorted.{IsNonDecreasingBy-from_all_adjacent, IsPartitionedBy-ltb}
+use Rattle.std.proofs.lemmas.Bool.Decides.{nat_tests}
+use Rattle.pac_inputs.specs.declared.script.Entry.{Entry}
+use Rattle.pac_inputs.specs.Inputs.{mask}
+use Rattle.pac_inputs.specs.Entries.{Rises, held_up_to}
+
+-- whether an entry ends before a frame
+abbrev pub is_over : ℕ → Entry → Bool
+is_over frame entry = ltb entry.end frame
+
+next-rises : (before : ℕ) (entries : List Entry) → Rises before entries → (k : ℕ) (d : Entry) → suc k < length entries
+    → (get_or entries k d).end ≤ (get_or entries (suc k) d).end
+next-rises before [] h k d small = absurd (omega (arith, small))
+next-rises before (entry ∷ []) h k d small = absurd (omega (arith, small))
+next-rises before (entry ∷ second ∷ entries) (first, more) zero d small = more.0
+next-rises before (entry ∷ second ∷ entries) (first, more) (suc k) d small =
+    next-rises entry.end (second ∷ entries) more k d (omega (arith, small))
+
+pub ends-parted : (entries : List Entry) (frame : ℕ) → Rises 0 entries → IsPartitionedBy (is_over frame) entries
+ends-parted entries frame h =
+    let ends : Entry → ℕ = λ entry. entry.end in
+    let each : AllAdjacentBelow (λ x y. ends x ≤ ends y) entries (length entries) =
+    λ k d small. rw add-one (next-rises 0 entries h k d (omega (arith, small))) in
+    IsPartitionedBy-ltb ends entries frame (IsNonDecreasingBy-from_all_adjacent ends entries each)
+
+abbrev pub IsOver : ℕ → Entry → Type 0
+IsOver frame entry = is_over frame entry ≡ true
+
+abbrev pub IsOpen : ℕ → Entry → Type 0
+IsOpen frame entry = is_over frame entry ≡ false
+
+pub none-open : (entries : List Entry) (frame : ℕ) → AllWithin (IsOver frame) entries 0 (length entries) → held_up_to entries frame ≡ 0
+none-open [] frame h = refl
+none-open (entry ∷ entries) frame h =
+    let over : ltb entry.end frame ≡ true = h 0 entry (omega arith) (omega arith) in
+    let not_this : nat_le frame entry.end ≡ false = grind (arith, nat_tests) in
+    rw not_this (none-open entries frame (λ k d low high. h (suc k) d (omega arith) (omega (arith, high))))
+
+pub first-open : (entries : List Entry) (frame i : ℕ) (d : Entry) → i < length entries → AllWithin (IsOver frame) entries 0 i
+    → AllWithin (IsOpen frame) entries i (length entries) → held_up_to entries frame ≡ mask (get_or entries i d).inputs
+first-open [] frame i d small over open_ = absurd (omega (arith, small))
+first-open (entry ∷ entries) frame zero d small over open_ =
+    let this : ltb entry.end frame ≡ false = open_ 0 d (omega arith) small in
+    let here : nat_le frame entry.end ≡ true = grind (arith, nat_tests) in
+    rw here refl
+first-open (entry ∷ entries) frame (suc i) d small over open_ =
+    let past : ltb entry.end frame ≡ true = over 0 d (omega arith) (omega arith) in
+    let not_this : nat_le frame entry.end ≡ false = grind (arith, nat_tests) in
+    rw not_this (first-open entries frame i d (omega (arith, small)) (λ k e low high. over (suc k) e (omega arith) (omega (arith, high)))
+    (λ k e low high. open_ (suc k) e (omega (arith, low)) (omega (arith, high))))
