@@ -10,12 +10,12 @@ use Rattle.pac_cpu.specs.declared.once.Kind.{Kind}
 use Rattle.pac_cpu.specs.declared.once.Stop.{Stop}
 use Rattle.pac_map.specs.Entry.{View, power_on}
 use Rattle.pac_board.specs.Step.{Picture, frame_ticks}
-use Rattle.pac_board.specs.Walk.{Walk, walk, has_ended}
-use Rattle.pac_board.specs.Trace.{Roms, by_view, start, view_trace}
-use Rattle.pac_board.specs.State.{State, next_of, behind, once_of, pictures_in, at_power_on}
+use Rattle.pac_board.specs.Walk.{Walk, has_ended}
+use Rattle.pac_board.specs.Trace.{Roms, start, view_walk, view_trace}
+use Rattle.pac_board.specs.State.{State, next_of, state_after, once_of, pictures_in, at_power_on}
 use Rattle.pac_board.specs.Onward.{StandsAt, Follows}
-use Rattle.pac_board.proofs.Onward.{steps-follow_walks}
-use Rattle.pac_board.proofs.Whole.{ended-traces, walks-fronts}
+use Rattle.pac_board.proofs.Onward.{steps-follow-walks}
+use Rattle.pac_board.proofs.Whole.{ended-traces, walks-are-prefixes}
 use Rattle.pac_out.specs.declared.counted.Counted.{Counted}
 use Rattle.pac_out.specs.declared.WriteFault.{WriteFault}
 use Rattle.pac_out.specs.Counted.{Takes, Refuses}
@@ -25,7 +25,7 @@ use Rattle.pac_run.specs.Turns.{IsDone, switches}
 
 -- the walk of a board from power-on, after so many steps, and the images of its pictures
 abbrev pub along : Roms → ℕ → ℕ → Walk View
-along roms frames count = walk (by_view roms) (frame_ticks * frames) (start (power_on switches)) count
+along roms frames count = view_walk roms switches frames count
 
 abbrev pub text_along : Roms → ℕ → ℕ → List ℕ
 text_along roms frames count = images (along roms frames count).pictures
@@ -97,13 +97,13 @@ module _ (first now : State) (frames : ℕ) (on : IsOn first now frames) (early 
   Answered : State → List Picture → Once → Type 0
   Answered new given once = Follows (along first.roms frames now.now.steps) (along first.roms frames (now.now.steps + 1)) now new given once
 
-  answered : Answered (behind (next_of now) now) (pictures_in (next_of now)) (once_of (next_of now) now)
+  answered : Answered (state_after (next_of now) now) (pictures_in (next_of now)) (once_of (next_of now) now)
   unfolding Answered
   answered =
       let stands = subst (λ (r : Roms). StandsAt (along r frames now.now.steps) now) (sym on.roms) on.stands in
-      subst (λ (r : Roms). Follows (along r frames now.now.steps) (along r frames (now.now.steps + 1)) now (behind (next_of now) now)
+      subst (λ (r : Roms). Follows (along r frames now.now.steps) (along r frames (now.now.steps + 1)) now (state_after (next_of now) now)
       (pictures_in (next_of now)) (once_of (next_of now) now))
-      on.roms (steps-follow_walks now (start (power_on switches)) (frame_ticks * frames) now.now.steps stands early)
+      on.roms (steps-follow-walks now (start (power_on switches)) (frame_ticks * frames) now.now.steps stands early)
 
   more-by : (new : State) (given : List Picture) (once : Once) → Answered new given once
       → text_along first.roms frames (now.now.steps + 1) ≡ text_along first.roms frames now.now.steps ++ images given
@@ -117,7 +117,7 @@ module _ (first now : State) (frames : ℕ) (on : IsOn first now frames) (early 
   -- its images are those so far, and those of the step
   text-more : text_along first.roms frames (now.now.steps + 1)
       ≡ text_along first.roms frames now.now.steps ++ images (pictures_in (next_of now))
-  text-more = more-by (behind (next_of now) now) (pictures_in (next_of now)) (once_of (next_of now) now) answered
+  text-more = more-by (state_after (next_of now) now) (pictures_in (next_of now)) (once_of (next_of now) now) answered
 
   pub takes-more : {W : Type 0} {took : W → List ℕ → W → Type 0} {before after later : Counted W}
       → Takes took before (text_along first.roms frames now.now.steps) after
@@ -132,16 +132,16 @@ module _ (first now : State) (frames : ℕ) (on : IsOn first now frames) (early 
       → Refuses took refused after (images (pictures_in (next_of now))) fault later
       → Refuses took refused before (whole_text first.roms frames) fault later
   refuses-more {took = took} {refused = refused} {before = before} {later = later} {fault = fault} so_far stop =
-      let prefix = walks-fronts first.roms switches frames (now.now.steps + 1) in
-      let whole : (text_along first.roms frames now.now.steps ++ images (pictures_in (next_of now))) ++ images prefix.rest
+      let prefix = walks-are-prefixes first.roms switches frames (now.now.steps + 1) in
+      let whole : (text_along first.roms frames now.now.steps ++ images (pictures_in (next_of now))) ++ images prefix.0
       ≡ whole_text first.roms frames =
-      ap (λ bytes. bytes ++ images prefix.rest) (sym text-more)
-      ∙ sym (images-append (along first.roms frames (now.now.steps + 1)).pictures prefix.rest) ∙ ap images (sym prefix.joined) in
+      ap (λ bytes. bytes ++ images prefix.0) (sym text-more)
+      ∙ sym (images-append (along first.roms frames (now.now.steps + 1)).pictures prefix.0) ∙ ap images prefix.1 in
       subst (λ (text : List ℕ). Refuses took refused before text fault later) whole
-      (refuses-within (refuses-after so_far stop) (images prefix.rest))
+      (refuses-within (refuses-after so_far stop) (images prefix.0))
 
   -- a step that was done
-  module _ (new : State) (ticks : ℕ) (kind : Kind) (new_is : new ≡ behind (next_of now) now)
+  module _ (new : State) (ticks : ℕ) (kind : Kind) (new_is : new ≡ state_after (next_of now) now)
       (once_is : once_of (next_of now) now ≡ Stepped ticks kind) where
     went : Answered new (pictures_in (next_of now)) (Stepped ticks kind)
     went =
@@ -166,7 +166,7 @@ module _ (first now : State) (frames : ℕ) (on : IsOn first now frames) (early 
         }
 
   -- a stop
-  module _ (new : State) (stop : Stop) (new_is : new ≡ behind (next_of now) now) (once_is : once_of (next_of now) now ≡ Stopped stop) where
+  module _ (new : State) (stop : Stop) (new_is : new ≡ state_after (next_of now) now) (once_is : once_of (next_of now) now ≡ Stopped stop) where
     stayed : Answered new (pictures_in (next_of now)) (Stopped stop)
     stayed =
         subst (λ (once : Once). Answered new (pictures_in (next_of now)) once) once_is

@@ -1,5 +1,5 @@
 -- How long the texts of a run are: far shorter than what a file counts exactly.
-use Rattle.std.proofs.Common.{◌≡◌, ℕ, zero, suc, ◌+◌, ◌*◌, ◌^◌, ◌<◌, ◌≤◌, List, [], ◌∷◌, ◌++◌, map, Bool, true, false, Option, None}
+use Rattle.std.proofs.Common.{◌≡◌, ℕ, zero, suc, ◌+◌, ◌*◌, ◌^◌, ◌<◌, ◌≤◌, List, [], ◌∷◌, ◌++◌, Bool, true, false, Option, None}
 use Rattle.std.proofs.Common.{Some, length, nat_le, refl, ap, ◌∙◌, arith, length-append}
 use Rattle.std.specs.List.{flat_map}
 use Rattle.std.proofs.lemmas.Grind.{flat_map-append}
@@ -7,27 +7,27 @@ use Rattle.std.proofs.lemmas.Fmt.{length-decimal-le}
 use Rattle.pac_cpu.specs.declared.once.Stop.{Stop}
 use Rattle.pac_cpu.specs.declared.once.Cause.{Cause}
 use Rattle.pac_cpu.specs.declared.once.Cause.TheVariants.{Opcode, Vector}
-use Rattle.pac_cpu.specs.Step.{Half, Steps, Stops, half, IsInTime}
+use Rattle.pac_cpu.specs.Step.{CpuStep, Steps, Stops, cpu_step, IsInTime}
 use Rattle.pac_map.specs.Entry.{Entry, Blank, View, power_on}
 use Rattle.pac_tiles.specs.Tabulate.{tabulate}
 use Rattle.pac_tiles.specs.Tiles.{row_of, dot_of}
 use Rattle.pac_tiles.proofs.Tabulated.{length-tabulate}
 use Rattle.pac_board.specs.History.{tile_at}
-use Rattle.pac_board.specs.Step.{Questions, Moment, seen, behind_half, frame_ticks}
-use Rattle.pac_board.specs.Walk.{Walk, walk, onward_if, behind_step}
-use Rattle.pac_board.specs.Trace.{Roms, by_history, by_view, pictures_of, blanks, start, view_trace}
+use Rattle.pac_board.specs.Step.{Questions, Moment, surroundings, after_cpu_step, frame_ticks}
+use Rattle.pac_board.specs.Walk.{Walk, walk, onward_if, after_step}
+use Rattle.pac_board.specs.Trace.{frame_steps, Roms, by_history, by_view, pictures_of, blanks, start, view_trace}
 use Rattle.pac_board.proofs.Whole.{timed, blanks-frames}
 use Rattle.pac_run.specs.Texts.{grey, image, images, counts_text, cause_text, end_text, report, hex_word, hex_byte}
 use Rattle.pac_run.specs.Turns.{switches, most_frames}
 use Rattle.pac_run.specs.Source.{items_of}
-use Rattle.pac_run.specs.Run.{board_item, roms, run_trace, frames_text}
+use Rattle.pac_run.specs.Run.{roms, run_trace, frames_text}
 use Rattle.pac_run.proofs.Images.{image-none, image-more}
 
 -- a step takes 23 T-states at most
 module _ {Board : Type 0} (ask : Questions Board) (limit : ℕ)
-    (times : (now : Moment Board) → IsInTime (half (seen ask now.board) now.regs None)) where
-  step-slow : (n : ℕ) (w : Walk Board) (h : Half) → IsInTime h → w.now.time ≤ 23 * n
-      → (behind_step w (behind_half ask w.now h)).now.time ≤ 23 * suc n
+    (times : (now : Moment Board) → IsInTime (cpu_step (surroundings ask now.board) now.regs None)) where
+  step-slow : (n : ℕ) (w : Walk Board) (h : CpuStep) → IsInTime h → w.now.time ≤ 23 * n
+      → (after_step w (after_cpu_step ask w.now h)).now.time ≤ 23 * suc n
   step-slow n w (Steps regs actions ticks kind) in_time slow = omega (arith, in_time.1, slow)
   step-slow n w (Stops stop) in_time slow = omega (arith, slow)
 
@@ -35,7 +35,7 @@ module _ {Board : Type 0} (ask : Questions Board) (limit : ℕ)
       → (onward_if ask w stop late).now.time ≤ 23 * suc n
   onward-slow n w (Some stop) late slow = omega (arith, slow)
   onward-slow n w None true slow = omega (arith, slow)
-  onward-slow n w None false slow = step-slow n w (half (seen ask w.now.board) w.now.regs None) (times w.now) slow
+  onward-slow n w None false slow = step-slow n w (cpu_step (surroundings ask w.now.board) w.now.regs None) (times w.now) slow
 
   pub walk-slow : (from : Moment Board) → from.time ≡ 0 → (n : ℕ) → (walk ask limit from n).now.time ≤ 23 * n
   walk-slow from first zero = omega (arith, first)
@@ -44,7 +44,7 @@ module _ {Board : Type 0} (ask : Questions Board) (limit : ℕ)
 -- so many frames end early
 pub trace-short : (roms : Roms) (frames : ℕ) → frames ≤ most_frames → (view_trace roms switches frames).now.time < 2 ^ 32
 trace-short roms frames few =
-    let slow = walk-slow (by_view roms) (frame_ticks * frames) (timed (by_view roms)) (start (power_on switches)) refl (12672 * frames) in
+    let slow = walk-slow (by_view roms) (frame_ticks * frames) (timed (by_view roms)) (start (power_on switches)) refl (frame_steps * frames) in
     omega (arith, slow, few)
 
 -- an image of 224 rows of 288 pixels has 193,551 bytes
@@ -78,15 +78,15 @@ length-pictures tiles view (entry ∷ older) = length-pictures tiles view older
 pub frames-short : (source tiles : List ℕ) (frames : ℕ) → frames ≤ most_frames → length (frames_text source tiles frames) < 2 ^ 64
 frames-short source tiles frames few =
     let entries = (run_trace source tiles frames).now.board in
-    let slow = walk-slow (by_history (roms source tiles) (map board_item (items_of source)) (power_on switches)) (frame_ticks * frames)
-    (timed (by_history (roms source tiles) (map board_item (items_of source)) (power_on switches))) (start []) refl (12672 * frames) in
+    let slow = walk-slow (by_history (roms source tiles) (items_of source) (power_on switches)) (frame_ticks * frames)
+    (timed (by_history (roms source tiles) (items_of source) (power_on switches))) (start []) refl (frame_steps * frames) in
     omega (
       arith,
       slow,
       few,
       length-pictures tiles (power_on switches) entries,
       blanks-frames (roms source tiles)
-          (map board_item (items_of source)) switches frames,
+          (items_of source) switches frames,
     )
 
 -- its report

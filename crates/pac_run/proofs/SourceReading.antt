@@ -9,7 +9,9 @@ use Rattle.std.proofs.lemmas.List.Sums.{sum_by-cons}
 use Rattle.std.proofs.lemmas.List.Elements.{filter_map-append}
 use Rattle.std.proofs.lemmas.Grind.{flat_map-append}
 use Rattle.pac_run.specs.SourceLines.{statement_of}
-use Rattle.pac_run.specs.Source.{Placed, Line, lines_after, lines_of, bytes, size, fault_at, item_at, fault, item, fault_of, items_of}
+use Rattle.pac_code.specs.Items.{Item}
+use Rattle.pac_run.specs.Source.{Line, lines_after, lines_of, bytes, size, fault_at, item_at, fault, item, fault_of, items_of}
+use Rattle.pac_code.specs.Items.{Item}
 use Rattle.pac_run.specs.Source.{most_lines, rom_size}
 use Rattle.pac_run.specs.declared.source.statement.Statement.{Statement}
 use Rattle.pac_run.specs.declared.source.AsmFault.{AsmFault}
@@ -27,7 +29,7 @@ lines_after-append above (x ∷ xs) ys =
     (append_assoc above (x ∷ []) xs))
 
 -- What is known after some lines: none of them has a fault, and these are their items and bytes.
-pub record Reading (source rest : List ℕ) (count : ℕ) (found : List Placed) (rom : List ℕ) : Type 0 where
+pub record Reading (source rest : List ℕ) (count : ℕ) (found : List Item) (rom : List ℕ) : Type 0 where
   pub above : List Statement
   pub whole : statements source ≡ above ++ statements rest
   pub count_is : length above ≡ count
@@ -59,7 +61,7 @@ parted : (above below : List Statement) (s : Statement) → lines_after [] (abov
 parted above below s = lines_after-append [] above (s ∷ below)
 
 -- what the line after a reading has
-module _ (source rest below line : List ℕ) (count : ℕ) (found : List Placed) (rom : List ℕ) (r : Reading source rest count found rom)
+module _ (source rest below line : List ℕ) (count : ℕ) (found : List Item) (rom : List ℕ) (r : Reading source rest count found rom)
     (e : lines rest ≡ line ∷ lines below) where
   abbrev here : Line
   here = record { above = r.above; statement = statement_of line }
@@ -87,7 +89,7 @@ module _ (source rest below line : List ℕ) (count : ℕ) (found : List Placed)
       ∙ ap (λ fs. fs ++ filter_map fault (here ∷ lines_after (r.above ++ statement_of line ∷ []) (statements below))) r.faultless
 
   -- what one more line without a fault adds
-  pub onward : (added : List Placed) (more : List ℕ) → fault_at (count + 1) (length rom) (statement_of line) ≡ None
+  pub onward : (added : List Item) (more : List ℕ) → fault_at (count + 1) (length rom) (statement_of line) ≡ None
       → added ≡ found ++ cons_option (item_at (length rom) (statement_of line)) [] → more ≡ rom ++ bytes (statement_of line)
       → length more ≤ rom_size → Reading source below (count + 1) added more
   onward added more fine a m inside =
@@ -110,7 +112,7 @@ module _ (source rest below line : List ℕ) (count : ℕ) (found : List Placed)
             ∙ sym (ap (filter_map item) (parted r.above [] s));
         bytes_are =
             m
-            ∙ ap (λ front. front ++ bytes s) r.bytes_are
+            ∙ ap (λ before. before ++ bytes s) r.bytes_are
             ∙ sym (flat_map-append bytes r.above (s ∷ []) ∙ ap (λ last. flat_map bytes r.above ++ last) (append-nil (bytes s)));
         inside = inside;
       }
@@ -125,13 +127,13 @@ module _ (source rest below line : List ℕ) (count : ℕ) (found : List Placed)
       (filter_map fault (lines_after (r.above ++ statement_of line ∷ []) (statements below)))) (sym fault_is ∙ h))
 
 -- what is known at the end
-pub record Ended (source : List ℕ) (found : List Placed) (rom : List ℕ) : Type 0 where
+pub record Ended (source : List ℕ) (found : List Item) (rom : List ℕ) : Type 0 where
   pub faultless : fault_of source ≡ None
   pub items : found ≡ items_of source
   pub bytes_are : rom ≡ flat_map bytes (statements source)
   pub inside : length rom ≤ rom_size
 
-pub ends : (source : List ℕ) (count : ℕ) (found : List Placed) (rom : List ℕ) → length (lines source) ≤ most_lines
+pub ends : (source : List ℕ) (count : ℕ) (found : List Item) (rom : List ℕ) → length (lines source) ≤ most_lines
     → Reading source [] count found rom → Ended source found rom
 unfolding fault_of items_of
 ends source count found rom few r =

@@ -8,7 +8,8 @@ use Rattle.std.proofs.lemmas.List.{drop_at, take_at}
 use Rattle.std.proofs.lemmas.List.Sums.{sum_by_push}
 use Rattle.std.proofs.lemmas.List.FromFn.{fill_by_all}
 use Rattle.pac_table.specs.Instructions.{code}
-use Rattle.pac_run.specs.Source.{Placed, lines_after, bytes, size, item, byte_of, bytes_below, IsHeld, rom_size, rom_of, items_of}
+use Rattle.pac_code.specs.Items.{Item, Lies, AllLie}
+use Rattle.pac_run.specs.Source.{lines_after, bytes, size, item, byte_of, bytes_below, rom_size, rom_of, items_of}
 use Rattle.pac_run.proofs.SourceValid.{IsValid, all_valid}
 use Rattle.pac_run.specs.SourceLines.{statement_of}
 use Rattle.std.specs.Str.Lines.{lines as lines_in}
@@ -16,7 +17,7 @@ use Rattle.pac_run.specs.declared.source.statement.Statement.{Statement}
 use Rattle.pac_run.specs.declared.source.statement.Statement.TheVariants.{Blank, Operation, Unreadable}
 
 -- the items of lines after others
-abbrev items_after : List Statement → List Statement → List Placed
+abbrev items_after : List Statement → List Statement → List Item
 items_after above lines = filter_map item (lines_after above lines)
 
 -- an item covers the places up to its length
@@ -82,16 +83,15 @@ rom_is lines n total whole =
 middle : (pre xs post : List ℕ) → take (length xs) (drop (length pre) (pre ++ (xs ++ post))) ≡ xs
 middle pre xs post = rw (drop_at pre (xs ++ post) (length pre) refl, take_at xs post (length xs) refl) refl
 
--- items lie in the ROM, which holds their codes
-held : (above lines : List Statement) (pre post : List ℕ) → length pre ≡ sum_by size above
-    → length pre + length (flat_map bytes lines) ≤ rom_size → AllByRecursion IsValid lines
-    → AllByRecursion (IsHeld (pre ++ (flat_map bytes lines ++ post))) (items_after above lines)
-held above [] pre post place within valid = tt
-held above (Blank ∷ lines) pre post place within valid =
-    held (above ++ Blank ∷ []) lines pre post (omega (arith, sum_by_push size above Blank)) within valid.1
-held above (Unreadable ∷ lines) pre post place within valid =
-    held (above ++ Unreadable ∷ []) lines pre post (omega (arith, sum_by_push size above Unreadable)) within valid.1
-held above (Operation i ∷ lines) pre post place within valid =
+-- items lie in the ROM, which has their bytes
+lie-each : (above lines : List Statement) (pre post : List ℕ) → length pre ≡ sum_by size above → AllByRecursion IsValid lines
+    → AllByRecursion (Lies (pre ++ (flat_map bytes lines ++ post))) (items_after above lines)
+lie-each above [] pre post place valid = tt
+lie-each above (Blank ∷ lines) pre post place valid =
+    lie-each (above ++ Blank ∷ []) lines pre post (omega (arith, sum_by_push size above Blank)) valid.1
+lie-each above (Unreadable ∷ lines) pre post place valid =
+    lie-each (above ++ Unreadable ∷ []) lines pre post (omega (arith, sum_by_push size above Unreadable)) valid.1
+lie-each above (Operation i ∷ lines) pre post place valid =
     let sizes = length-append (code i) (flat_map bytes lines) in
     let grown = length-append pre (code i) in
     let rom : pre ++ ((code i ++ flat_map bytes lines) ++ post) ≡ (pre ++ code i) ++ (flat_map bytes lines ++ post) =
@@ -101,10 +101,9 @@ held above (Operation i ∷ lines) pre post place within valid =
     ap (λ n. take (length (code i)) (drop n (pre ++ ((code i ++ flat_map bytes lines) ++ post)))) (sym place)
     ∙ ap (λ xs. take (length (code i)) (drop (length pre) (pre ++ xs))) (append_assoc (code i) (flat_map bytes lines) post)
     ∙ middle pre (code i) (flat_map bytes lines ++ post) in (
-      record { valid = valid.0; within = omega arith; held = at },
-      subst (λ (bytes : List ℕ). AllByRecursion (IsHeld bytes) (items_after (above ++ Operation i ∷ []) lines)) (sym rom)
-          (held (above ++ Operation i ∷ []) lines (pre ++ code i) post (omega (arith, sum_by_push size above (Operation i)))
-          (omega arith) valid.1),
+      record { valid = valid.0; inside = let all = ap length rom in let joined = length-append (pre ++ code i) (flat_map bytes lines ++ post) in omega (arith, all, joined); bytes = at },
+      subst (λ (bytes : List ℕ). AllByRecursion (Lies bytes) (items_after (above ++ Operation i ∷ []) lines)) (sym rom)
+          (lie-each (above ++ Operation i ∷ []) lines (pre ++ code i) post (omega (arith, sum_by_push size above (Operation i))) valid.1),
     )
 
 each : {X : Type 0} (P : X → Type 0) (xs : List X) → AllByRecursion P xs → All P xs
@@ -116,7 +115,7 @@ each P (x ∷ xs) h (suc k) d below = each P xs h.1 k d (omega arith)
 pub record Filled (source filled : List ℕ) : Type 0 where
   pub rom : filled ≡ rom_of (items_of source)
   pub size_is : length filled ≡ rom_size
-  pub held_each : All (IsHeld filled) (items_of source)
+  pub lie : AllLie filled (items_of source)
 
 pub filled_up : (source rom filled : List ℕ) → rom ≡ flat_map bytes (map statement_of (lines_in source)) → length rom ≤ rom_size
     → filled ≡ rom ++ replicate (rom_size - length rom) 0 → Filled source filled
@@ -132,7 +131,7 @@ filled_up source rom filled e within f =
     record {
       rom = whole ∙ rom_is lines n rom_size (omega (arith, same));
       size_is = ap length whole ∙ sizes ∙ omega (arith, same);
-      held_each = subst (λ (bytes : List ℕ). All (IsHeld bytes) (items_after [] lines)) (sym whole)
-          (each (IsHeld (flat_map bytes lines ++ replicate n 0)) (items_after [] lines)
-          (held [] lines [] (replicate n 0) refl (omega (arith, same)) (all_valid (lines_in source))));
+      lie = subst (λ (bytes : List ℕ). AllLie bytes (items_after [] lines)) (sym whole)
+          (each (Lies (flat_map bytes lines ++ replicate n 0)) (items_after [] lines)
+          (lie-each [] lines [] (replicate n 0) refl (all_valid (lines_in source))));
     }

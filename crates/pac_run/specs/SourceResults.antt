@@ -2,19 +2,20 @@
 use Rattle.std.specs.Prelude.{◌≡◌, ℕ, ◌≤◌, Some, None, List, [], ◌++◌, map, length}
 use Rattle.std.specs.List.{flat_map, cons_option}
 use Rattle.std.specs.Str.Lines.{lines}
+use Rattle.pac_code.specs.Items.{Item, Code}
 use Rattle.pac_run.specs.SourceLines.{statement_of}
-use Rattle.pac_run.specs.Source.{Placed, bytes, fault_at, item_at, fault_of, items_of, rom_of, rom_size}
+use Rattle.pac_run.specs.Source.{bytes, fault_at, item_at, fault_of, items_of, rom_of, rom_size}
 use Rattle.pac_run.specs.declared.source.statement.Statement.{Statement}
 use Rattle.pac_run.specs.declared.source.AsmError.{AsmError}
 use Rattle.pac_run.specs.declared.source.AsmError.TheVariants as error
-use Rattle.pac_run.specs.declared.source.Item.{Item}
+use Rattle.pac_run.specs.declared.source.Item as read
 use Rattle.pac_run.specs.declared.source.Program.{Program}
 
 -- an item as the definitions have it
-abbrev pub placed : Item → Placed
-placed item = (item.at, item.instr)
+abbrev pub placed : read.Item → Item
+placed item = record { at = item.at; content = Code item.instr }
 
-abbrev pub items : Program → List Placed
+abbrev pub items : Program → List Item
 items program = map placed program.items.items
 
 -- The program of a source.

@@ -2,8 +2,8 @@
 
 ghost use Rattle.std.specs.Prelude.{◌≡◌, ◌≤◌, ◌<◌, length, Some, IfOk};
 ghost use Rattle.pac_out.specs.Counted.{Puts};
-ghost use Rattle.pac_board.specs.Trace.{view_trace};
-ghost use Rattle.pac_board.specs.State.{behind, next_of, once_of, pictures_in, due_since, at_power_on, latest};
+ghost use Rattle.pac_board.specs.Trace.{view_trace, tiles_size};
+ghost use Rattle.pac_board.specs.State.{state_after, next_of, once_of, pictures_in, due_since, at_power_on, latest};
 ghost use Rattle.pac_run.specs.Texts.{images};
 ghost use Rattle.pac_run.specs.Turns.{IsDone, switches, most_frames};
 ghost use Rattle.pac_run.specs.Run.{Makes, Runs};
@@ -82,7 +82,7 @@ fn show<W: Out>(board: &Board, shown: u64, output: &mut Counted<W>) -> Result<()
 /// One step of the board, and the image of the frame that it ended.
 fn take_step<W: Out>(board: &mut Board, output: &mut Counted<W>) -> Result<Once, WriteFault>
     requires { board.old.now.time < latest }
-    ensures board { board.new ≡ behind (next_of board.old) board.old }
+    ensures board { board.new ≡ state_after (next_of board.old) board.old }
     ensures once { IfOk result (λ once. once ≡ once_of (next_of board.old) board.old) }
     ensures output { Puts W.took W.refused output.old (images (pictures_in (next_of board.old))) result output.new }
 {
@@ -125,7 +125,7 @@ impl From<AllocError> for RunFault {
 
 /// The board of a source and of a tile ROM's 4,096 bytes.
 fn make_board(alloc: Global, source: &[u8], tiles: &[u8]) -> Result<Board, RunFault>
-    requires { length tiles.now ≡ 4096 }
+    requires { length tiles.now ≡ tiles_size }
     ensures { Makes source.now tiles.now result }
 {
     let program = match assemble(alloc, source) {
@@ -149,7 +149,7 @@ pub fn run_first<F: Out, R: Out>(
     frames: &mut F,
     report: &mut R,
 ) -> Result<Outcome, RunFault>
-    requires tiles { length tiles.now ≡ 4096 }
+    requires tiles { length tiles.now ≡ tiles_size }
     requires at_least { 1 ≤ n }
     requires at_most { n ≤ most_frames }
     ensures { Runs F.took F.refused R.took R.refused source.now tiles.now n frames.old frames.new report.old report.new result }

@@ -1,5 +1,6 @@
 //! The source of the first path: five operations with plain numbers become items and a ROM.
 
+ghost use Rattle.pac_code.specs.Items.{AllLie};
 ghost use Rattle.pac_run.specs.Source as spec;
 ghost use Rattle.pac_run.specs.SourceResults as answer;
 ghost use Rattle.pac_run.specs.declared.source.AsmError.TheVariants.{Memory};
@@ -110,7 +111,7 @@ impl<T: Drop> From<AllocFailed<T>> for AsmError {
 /// 3FFFH are A5, and more than 65,535 lines A7 at line 65,536, before all others.
 pub fn assemble(alloc: Global, source: &[u8]) -> Result<Program, AsmError>
     ensures exact { MatchResult result (answer.IsProgram source.now) (answer.IsRefusal source.now) }
-    ensures held { IfOk result (λ program. spec.AreHeld program.rom.items (answer.items program)) }
+    ensures lie { IfOk result (λ program. AllLie program.rom.items (answer.items program)) }
 {
     if has_too_many_lines(source) {
         return Err(fault(AsmCode::TooManyLines, MOST_LINES + 1));
