@@ -1,24 +1,47 @@
--- A file with the count of the bytes that it took, over all calls.
-use Rattle.std.specs.Prelude.{◌≡◌, ℕ, List, ◌++◌, length, true, false}
+-- A file: a writer with the count of the bytes that it took, over all calls.
+use Rattle.std.specs.Prelude.{◌≡◌, ℕ, ◌-◌, ◌^◌, min, List, ◌++◌, length, true, false, Result, Ok, Err}
 use Rattle.pac_out.specs.declared.counted.Counted.{Counted}
+use Rattle.pac_out.specs.declared.WriteFault.{WriteFault}
 use Rattle.pac_out.specs.Writes.{StopsAfter}
+
+-- the most that a file counts
+abbrev pub most_counted : ℕ
+most_counted = 2 ^ 64 - 1
+
+-- what a file tells of so many bytes: their number, exact below 2^64
+abbrev pub counted : ℕ → ℕ
+counted bytes = min bytes most_counted
 
 -- The file, whose writer was `start` before its first byte, has taken this text.
 pub record HasTaken {W : Type 0} (took : W → List ℕ → W → Type 0) (start : W) (text : List ℕ) (file : Counted W) : Type 0 where
   pub written : took start text file.writer
-  pub counted : file.count ≡ length text
+  pub count_is : file.count ≡ counted (length text)
   pub open_yet : file.failed ≡ false
 
 -- The file, whose writer was `start` before its first byte, was offered this text, and its writer refused
--- after the first `count` bytes of it.
-pub record HasStopped {W : Type 0} (took : W → List ℕ → W → Type 0) (refused : W → W → Type 0) (start : W) (text : List ℕ) (file : Counted W) : Type 0 where
-  pub stopped : StopsAfter took refused start text file.count file.writer
+-- after the first `taken` bytes of it.
+pub record HasStopped {W : Type 0} (took : W → List ℕ → W → Type 0) (refused : W → W → Type 0) (start : W) (text : List ℕ)
+    (file : Counted W)
+    : Type 0 where
+  pub taken : ℕ
+  pub stopped : StopsAfter took refused start text taken file.writer
+  pub count_is : file.count ≡ counted taken
   pub closed : file.failed ≡ true
 
--- Whatever text the file had taken, it has taken these bytes behind it.
-abbrev pub Takes : {W : Type 0} → (W → List ℕ → W → Type 0) → Counted W → List ℕ → Counted W → Type 0
-Takes took old bytes new = (start : _) (text : List ℕ) → HasTaken took start text old → HasTaken took start (text ++ bytes) new
+-- Whatever text the file had taken, it has taken these bytes after it.
+pub record Takes {W : Type 0} (took : W → List ℕ → W → Type 0) (old : Counted W) (bytes : List ℕ) (new : Counted W) : Type 0 where
+  pub after : (start : W) (text : List ℕ) → HasTaken took start text old → HasTaken took start (text ++ bytes) new
 
--- Whatever text the file had taken, its writer has now refused within that text and these bytes.
-abbrev pub Refuses : {W : Type 0} → (W → List ℕ → W → Type 0) → (W → W → Type 0) → Counted W → List ℕ → Counted W → Type 0
-Refuses took refused old bytes new = (start : _) (text : List ℕ) → HasTaken took start text old → HasStopped took refused start (text ++ bytes) new
+-- Whatever text the file had taken, its writer has now refused within that text and these bytes, and the fault
+-- tells the file's count.
+pub record Refuses {W : Type 0} (took : W → List ℕ → W → Type 0) (refused : W → W → Type 0) (old : Counted W) (bytes : List ℕ)
+    (fault : WriteFault)
+    (new : Counted W) : Type 0 where
+  pub told : fault.count ≡ new.count
+  pub after : (start : W) (text : List ℕ) → HasTaken took start text old → HasStopped took refused start (text ++ bytes) new
+
+-- What putting bytes into a file leaves of it, by the answer.
+abbrev pub Puts : {W A : Type 0} → (W → List ℕ → W → Type 0) → (W → W → Type 0) → Counted W → List ℕ → Result A WriteFault → Counted W
+    → Type 0
+Puts took refused old bytes (Ok done) new = Takes took old bytes new
+Puts took refused old bytes (Err fault) new = Refuses took refused old bytes fault new

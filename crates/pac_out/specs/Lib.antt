@@ -1,5 +1,5 @@
 pub mod Counted
 pub mod Faulty
+pub mod Laws
 pub mod Memory
-pub mod Through
 pub mod Writes

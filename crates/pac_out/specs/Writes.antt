@@ -1,15 +1,31 @@
 -- What a writer took. A writer says by two relations between its value before and after what taking some
 -- bytes leaves of it, `took`, and what a refusal leaves of it, `refused`.
-use Rattle.std.specs.Prelude.{◌≡◌, ℕ, ◌<◌, List, ◌++◌, length, take}
+use Rattle.std.specs.Prelude.{◌≡◌, ℕ, ◌<◌, ◌≤◌, List, length, take, Result, Ok, Err}
+use Rattle.std.specs.Borrow.{MutBor}
 
--- The writer `old` took a front of `count` of these bytes, fewer than all, then refused, and is `new`.
-pub record StopsAfter {W : Type 0} (took : W → List ℕ → W → Type 0) (refused : W → W → Type 0) (old : W) (bytes : List ℕ) (count : ℕ) (new : W) : Type 0 where
+-- One write of these bytes, by its answer: the writer took a prefix of them, and taking none of some is a refusal;
+-- or it refused.
+abbrev pub IsWrite : {W E : Type 0} → (W → List ℕ → W → Type 0) → (W → W → Type 0) → W → List ℕ → Result ℕ E → W → Type 0
+IsWrite took refused old bytes (Ok count) new = record {
+  bound : count ≤ length bytes;
+  taken : took old (take count bytes) new;
+  none_taken : count ≡ 0 → 0 < length bytes → refused old new;
+}
+IsWrite took refused old bytes (Err fault) new = refused old new
+
+-- The writer `old` took the first `count` of these bytes, fewer than all, then refused, and is `new`.
+pub record StopsAfter {W : Type 0} (took : W → List ℕ → W → Type 0) (refused : W → W → Type 0) (old : W) (bytes : List ℕ) (count : ℕ)
+    (new : W)
+    : Type 0 where
   pub some_left : count < length bytes
   pub asked : W
-  pub front : took old (take count bytes) asked
+  pub before : took old (take count bytes) asked
   pub refusal : refused asked new
 
--- Behind any `count` bytes of an output the writer took a front of these, refused, and is `new`; it has taken
--- `total` bytes of that output.
-abbrev pub StopsBehind : {W : Type 0} → (W → List ℕ → W → Type 0) → (W → W → Type 0) → ℕ → W → List ℕ → ℕ → W → Type 0
-StopsBehind took refused count old bytes total new = (start : _) (text : List ℕ) → took start text old → length text ≡ count → StopsAfter took refused start (text ++ bytes) total new
+-- The same of a writer that is lent. The reference stays the same one, so what the last write leaves is what the
+-- writer's owner has when the loan ends.
+abbrev pub lent_took : {W : Type 0} → (W → List ℕ → W → Type 0) → MutBor W → List ℕ → MutBor W → Type 0
+lent_took took old bytes new = (new.ghost_name ≡ old.ghost_name) × took old.now bytes new.now
+
+abbrev pub lent_refused : {W : Type 0} → (W → W → Type 0) → MutBor W → MutBor W → Type 0
+lent_refused refused old new = (new.ghost_name ≡ old.ghost_name) × refused old.now new.now

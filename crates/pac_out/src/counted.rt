@@ -1,5 +1,6 @@
-//! A file with the count of the bytes that it took, over all calls.
-ghost use Rattle.std.specs.Prelude.{◌≡◌, ◌+◌, ◌^◌, ◌<◌, ◌≤◌, [], length, true, false, IsErr, IfErr, OnOk, OnErr};
+//! A file: a writer with the count of the bytes that it took, over all calls.
+
+ghost use Rattle.std.specs.Prelude.{◌≡◌, [], true, IsErr, OnOk};
 
 use crate::{Out, WriteFault};
 
@@ -9,14 +10,14 @@ use crate::{Out, WriteFault};
 pub struct Counted<W> {
     /// The writer.
     pub writer: W,
-    /// The bytes that it took.
+    /// The bytes that it took. The count is exact below 2^64, and stays at 2^64 - 1 from there on.
     pub count: u64,
     /// Whether it refused.
     pub failed: bool,
 }
 
 impl<W: Out> Counted<W> {
-    ghost use Rattle.pac_out.specs.Counted.{HasTaken, Takes, Refuses};
+    ghost use Rattle.pac_out.specs.Counted.{HasTaken, Puts};
 
     /// A file of no bytes yet.
     pub fn new(writer: W) -> Counted<W>
@@ -29,30 +30,25 @@ impl<W: Out> Counted<W> {
         }
     }
 
-    /// Writes all bytes behind those that the file took. The fault has the count of all bytes that the file
+    /// Writes all bytes after those that the file took. The fault has the count of all bytes that the file
     /// took.
     pub fn put(&mut self, bytes: &[u8]) -> Result<(), WriteFault>
-        requires { self.old.failed ≡ false → self.old.count + length bytes.now < 2 ^ 64 }
-        ensures ok { OnOk result (Takes W.took self.old bytes.now self.new) }
-        ensures err { OnErr result (Refuses W.took W.refused self.old bytes.now self.new) }
-        ensures taken { OnOk result (self.new.count ≡ self.old.count + length bytes.now) }
-        ensures at_most { self.new.count ≤ self.old.count + length bytes.now }
-        ensures count { IfErr result (λ fault. fault.count ≡ self.new.count) }
+        ensures put { Puts W.took W.refused self.old bytes.now result self.new }
         ensures later_err { self.old.failed ≡ true → IsErr result }
         ensures later_unchanged { self.old.failed ≡ true → self.new ≡ self.old }
     {
         if self.failed {
             return Err(WriteFault { count: self.count });
         }
-        match self.writer.put_behind(self.count, bytes) {
-            Ok(total) => {
-                self.count = total;
+        match self.writer.put_all(bytes) {
+            Ok(()) => {
+                self.count = self.count.saturating_add(bytes.len() as u64);
                 Ok(())
             }
             Err(fault) => {
-                self.count = fault.count;
+                self.count = self.count.saturating_add(fault.count);
                 self.failed = true;
-                Err(fault)
+                Err(WriteFault { count: self.count })
             }
         }
     }

@@ -1,6 +1,8 @@
 //! A writer for tests, that takes few bytes a call and refuses a call.
-ghost use Rattle.std.specs.Prelude.{◌≡◌, ◌<◌, ◌≤◌, ◌-◌, ◌⊎◌, ◌↔◌, [], length, take, min, Ok, IfOk, OnErr, IsErr};
-ghost use Rattle.pac_out.specs.Faulty.{Weak, Passes, IsRefused, Passes-nothing, Passes-joined};
+ghost use Rattle.std.specs.Prelude.{◌≡◌, ◌-◌, [], length, min, IfOk, IsErr};
+ghost use Rattle.pac_out.specs.Faulty.{Weak, Passes, IsRefused};
+ghost use Rattle.pac_out.specs.Writes.{IsWrite};
+ghost use Rattle.pac_out.specs.Laws.{passes-nothing, passes-joined};
 
 use crate::memory::Memory;
 use crate::{Failed, Out};
@@ -48,18 +50,13 @@ impl Out for Faulty {
 
     ghost refused = { IsRefused };
 
-    ghost nothing = { Passes-nothing };
+    ghost nothing = { passes-nothing };
 
-    ghost joined = { Passes-joined };
+    ghost joined = { passes-joined };
 
-    /// Takes a front of the bytes, or refuses where the call has come that it refuses.
+    /// Takes a prefix of the bytes, or refuses where the call has come that it refuses.
     fn write(&mut self, bytes: &[u8]) -> Result<usize, Failed>
-        ensures bound { IfOk result (λ count. count ≤ length bytes.now) }
-        ensures taken { IfOk result (λ count. Passes self.old (take count bytes.now) self.new) }
-        ensures none_taken { result ≡ Ok 0 → 0 < length bytes.now → IsRefused self.old self.new }
-        ensures err { OnErr result (IsRefused self.old self.new) }
-
-        // And how many they are, at which calls.
+        ensures write { IsWrite Passes IsRefused self.old bytes.now result self.new }
         ensures call { self.new.refusal ≡ self.old.refusal - 1 }
         ensures count { IfOk result (λ count. count ≡ min (min (length bytes.now) self.old.most) self.old.space.room) }
         ensures refusal { self.old.refusal ≡ 1 → IsErr result }

@@ -2,8 +2,8 @@
 //! those that it took before it refused is told.
 #![tactic(auto)]
 
-ghost use Rattle.std.specs.Prelude.{◌≡◌, ◌<◌, ◌≤◌, ◌+◌, ◌-◌, ◌^◌, List, [], ◌++◌, length, take, Ok, IfOk, IfErr, OnOk, OnErr, ℕ};
-ghost use Rattle.pac_out.specs.Writes.{StopsAfter, StopsBehind};
+ghost use Rattle.std.specs.Prelude.{◌≡◌, ℕ, List, [], ◌++◌, IfErr, OnOk};
+ghost use Rattle.pac_out.specs.Writes.{IsWrite, StopsAfter, lent_took, lent_refused};
 
 pub mod counted;
 pub mod faulty;
@@ -15,7 +15,7 @@ pub mod through;
 use thiserror::Error;
 
 /// One write was refused.
-#[derive(Clone, Copy, Debug, PartialEq, Eq, Error)]
+#[derive(Clone, Copy, Debug, Error)]
 #[error("the writer refused")]
 pub struct Failed;
 
@@ -38,19 +38,16 @@ pub trait Out {
     /// What is left of a writer that refused a write.
     ghost refused: { Self → Self → Type 0 };
 
-    /// Writes a front of the bytes and answers how many they are. Taking none of some bytes is a refusal,
+    /// Writes a prefix of the bytes and answers how many they are. Taking none of some bytes is a refusal,
     /// as `Failed` is.
     fn write(&mut self, bytes: &[u8]) -> Result<usize, Failed>
-        ensures bound { IfOk result (λ count. count ≤ length bytes.now) }
-        ensures taken { IfOk result (λ count. took self.old (take count bytes.now) self.new) }
-        ensures none_taken { result ≡ Ok 0 → 0 < length bytes.now → refused self.old self.new }
-        ensures err { OnErr result (refused self.old self.new) };
+        ensures { IsWrite took refused self.old bytes.now result self.new };
 
     /// Taking nothing changes nothing.
     ghost nothing: { (writer : Self) → took writer [] writer };
 
     /// Taking some bytes and then others is taking all of them.
-    ghost joined: { (first second third : Self) (front back : List ℕ) → took first front second → took second back third → took first (front ++ back) third };
+    ghost joined: { (first second third : Self) (prefix suffix : List ℕ) → took first prefix second → took second suffix third → took first (prefix ++ suffix) third };
 
     /// Writes all bytes, in as many writes as it takes.
     final fn put_all(&mut self, bytes: &[u8]) -> Result<(), WriteFault>
@@ -72,37 +69,22 @@ pub trait Out {
         }
         Ok(())
     }
-
-    /// Writes all bytes behind the first `count` of an output, and answers the count of all that it took then;
-    /// so does the fault.
-    final fn put_behind(&mut self, count: u64, bytes: &[u8]) -> Result<u64, WriteFault>
-    where
-        Self: Sized,
-        requires { count + length bytes.now < 2 ^ 64 }
-        ensures ok { OnOk result (took self.old bytes.now self.new) }
-        ensures total { IfOk result (λ total. total ≡ count + length bytes.now) }
-        ensures within { IfErr result (λ fault. (count ≤ fault.count) × (fault.count < count + length bytes.now)) }
-        ensures stops { IfErr result (λ fault. StopsAfter took refused self.old bytes.now (fault.count - count) self.new) }
-        ensures err { IfErr result (λ fault. StopsBehind took refused count self.old bytes.now fault.count self.new) }
-    {
-        match self.put_all(bytes) {
-            Ok(()) => Ok(count + bytes.len() as u64),
-            Err(fault) => Err(WriteFault {
-                count: count + fault.count,
-            }),
-        }
-    }
 }
 
+/// A writer that is lent.
 impl<W: Out> Out for &mut W {
-    ghost took = { λ old bytes new. W.took old.now bytes new.now };
+    ghost use Rattle.std.proofs.Common.{refl, ◌∙◌};
 
-    ghost refused = { λ old new. W.refused old.now new.now };
+    ghost took = { lent_took W.took };
 
-    ghost nothing = { λ writer. W.nothing writer.now };
+    ghost refused = { lent_refused W.refused };
 
-    ghost joined = { λ first second third. W.joined first.now second.now third.now };
+    ghost nothing = { λ writer. (refl, W.nothing writer.now) };
 
+    ghost joined = { λ first second third prefix suffix one other.
+        (other.0 ∙ one.0, W.joined first.now second.now third.now prefix suffix one.1 other.1) };
+
+    /// Writes to the writer that is lent.
     fn write(&mut self, bytes: &[u8]) -> Result<usize, Failed> {
         Out::write(&mut **self, bytes)
     }

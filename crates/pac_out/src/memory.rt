@@ -1,6 +1,8 @@
 //! A writer over memory.
-ghost use Rattle.std.specs.Prelude.{◌≡◌, ◌<◌, ◌≤◌, ◌+◌, ◌↔◌, [], length, take, min, Ok, IfOk, OnErr, IsErr, vec_len, vec_capacity};
-ghost use Rattle.pac_out.specs.Memory.{Space, Adds, IsFull, Adds-nothing, Adds-joined};
+ghost use Rattle.std.specs.Prelude.{◌≡◌, ◌<◌, ◌≤◌, ◌+◌, ◌↔◌, [], length, min, IfOk, IsErr, vec_len, vec_capacity};
+ghost use Rattle.pac_out.specs.Memory.{Space, Adds, IsFull};
+ghost use Rattle.pac_out.specs.Writes.{IsWrite};
+ghost use Rattle.pac_out.specs.Laws.{adds-nothing, adds-joined};
 
 use crate::{Failed, Out};
 use std::alloc::{AllocError, Global};
@@ -44,18 +46,13 @@ impl Out for Memory {
 
     ghost refused = { IsFull };
 
-    ghost nothing = { Adds-nothing };
+    ghost nothing = { adds-nothing };
 
-    ghost joined = { Adds-joined };
+    ghost joined = { adds-joined };
 
     /// Takes the bytes for which there is room.
     fn write(&mut self, bytes: &[u8]) -> Result<usize, Failed>
-        ensures bound { IfOk result (λ count. count ≤ length bytes.now) }
-        ensures taken { IfOk result (λ count. Adds self.old (take count bytes.now) self.new) }
-        ensures none_taken { result ≡ Ok 0 → 0 < length bytes.now → IsFull self.old self.new }
-        ensures err { OnErr result (IsFull self.old self.new) }
-
-        // And how many they are.
+        ensures write { IsWrite Adds IsFull self.old bytes.now result self.new }
         ensures count { IfOk result (λ count. count ≡ min (length bytes.now) self.old.room) }
         ensures full { IsErr result ↔ ((0 < length bytes.now) × (self.old.room ≡ 0)) }
     {

@@ -1,3 +1,5 @@
+//! Writers that take few bytes a call, refuse, or are interrupted; and that each writer takes what it is given.
+
 use crate::counted::Counted;
 use crate::faulty::Faulty;
 use crate::memory::Memory;
@@ -24,7 +26,7 @@ fn a_refusal_is_told_with_its_count(rt: HostRuntime) -> io::Result<()> {
         let mut output = Faulty::new(rt.alloc(), 100, 7, refusal)?;
         assert_eq!(rt; output.put_all(TEXT), Err(WriteFault { count }));
         assert_eq!(rt; output.bytes().len() as u64, count);
-        assert!(rt; TEXT.starts_with(output.bytes()), "the front at {count}");
+        assert!(rt; TEXT.starts_with(output.bytes()), "the prefix at {count}");
         assert_eq!(rt; output.put_all(TEXT), Ok(()));
     }
     Ok(())
@@ -73,7 +75,7 @@ fn a_writer_of_std_takes_the_bytes(rt: HostRuntime) -> io::Result<()> {
     Ok(())
 }
 
-// Answers its writes in turn: 0 takes all bytes, 1 is interrupted, 2 is another error.
+/// Answers its writes one after another: 0 takes all bytes, 1 is interrupted, 2 is another error.
 #[derive(Drop)]
 struct Answers {
     all: [u8; 4],

@@ -1,7 +1,7 @@
 //! Any writer of std's as an output.
 ghost use Rattle.std.specs.Prelude.{◌≡◌};
 ghost use Rattle.std.specs.Io.KnownBytes.{Appends, Keeps};
-ghost use Rattle.pac_out.specs.Through.{Appends-nothing, Appends-joined};
+ghost use Rattle.pac_out.specs.Laws.{appends-nothing, appends-joined};
 
 use crate::{Failed, Out};
 use std::io;
@@ -20,10 +20,11 @@ impl<W: io::Write> Out for Through<W> {
 
     ghost refused = { λ old new. Keeps (W.contents old.inner) (W.contents new.inner) };
 
-    ghost nothing = { λ writer. Appends-nothing (W.contents writer.inner) };
+    ghost nothing = { λ writer. appends-nothing (W.contents writer.inner) };
 
-    ghost joined = { λ first second third. Appends-joined (W.contents first.inner) (W.contents second.inner) (W.contents third.inner) };
+    ghost joined = { λ first second third. appends-joined (W.contents first.inner) (W.contents second.inner) (W.contents third.inner) };
 
+    /// Hands the bytes on, again after an interruption.
     fn write(&mut self, bytes: &[u8]) -> Result<usize, Failed> {
         for _ in 0..u64::MAX {
             match self.inner.write(bytes) {

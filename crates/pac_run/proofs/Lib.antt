@@ -5,8 +5,8 @@ pub mod SourceRom
 pub mod SourceReading
 pub mod SourceCuts
 pub mod SourceRows
-pub mod Fronts
+pub mod Parts
 pub mod Images
-pub mod Turns
 pub mod Loops
 pub mod Ends
+pub mod Sizes

@@ -1,5 +1,6 @@
--- The first line of a text, and the lines behind it.
-use Rattle.std.proofs.Common.{◌≡◌, ℕ, ◌+◌, ◌<◌, ◌≤◌, Bool, false, not, List, [], ◌∷◌, length, take, drop, refl, ap, sym, ◌∙◌, arith, Option, Some, None, eqb, ltb}
+-- The first line of a text, and the lines after it.
+use Rattle.std.proofs.Common.{◌≡◌, ℕ, ◌+◌, ◌<◌, ◌≤◌, Bool, false, not, List, [], ◌∷◌, length, take, drop, refl, ap, sym, ◌∙◌, arith, Option}
+use Rattle.std.proofs.Common.{Some, None, eqb, ltb}
 use Rattle.std.specs.List.{slice_split, onto_first, position, position_or_len, before_first, after_first}
 use Rattle.std.specs.Str.Lines.{lines, lines_of_parts, strip_carriage_return}
 use Rattle.std.proofs.lemmas.Bool.{cond_both, ltb-false, ltb-true, ne_eqb, cond-false, le-ltb, lt-ltb}
@@ -10,8 +11,9 @@ use Rattle.std.proofs.lemmas.List.Sums.{fails_before_first}
 abbrev ends : ℕ → Bool
 ends byte = eqb byte 10
 
--- a part with parts behind it is a line that was ended
-ended_onto : (x y : List ℕ) (z : ℕ) (parts : List (List ℕ)) → lines_of_parts (x ∷ onto_first z parts) ≡ strip_carriage_return x ∷ lines_of_parts (onto_first z parts)
+-- a part with parts after it is a line that was ended
+ended_onto : (x y : List ℕ) (z : ℕ) (parts : List (List ℕ)) → lines_of_parts (x ∷ onto_first z parts)
+    ≡ strip_carriage_return x ∷ lines_of_parts (onto_first z parts)
 ended_onto x y z [] = refl
 ended_onto x y z (part ∷ parts) = refl
 
@@ -24,7 +26,8 @@ ended x (b ∷ rest) =
     (λ no. ended_onto x x b (slice_split ends rest))
 
 -- where the first LF stands, the first line ends
-pub first_ended : (source : List ℕ) (end : ℕ) → position (λ byte. eqb byte 10) source ≡ Some end → lines source ≡ strip_carriage_return (take end source) ∷ lines (drop (end + 1) source)
+pub first_ended : (source : List ℕ) (end : ℕ) → position (λ byte. eqb byte 10) source ≡ Some end
+    → lines source ≡ strip_carriage_return (take end source) ∷ lines (drop (end + 1) source)
 first_ended source end found =
     let place : (position_or_len ends source < length source) × (position_or_len ends source ≡ end) =
     cond_both (ltb (position_or_len ends source) (length source)) (Some (position_or_len ends source)) None
@@ -50,7 +53,8 @@ never_ended source some none =
     ∙ one_part source some
 
 -- a source that isn't empty has a line
-some_line_at : (source : List ℕ) (found : Option ℕ) → 0 < length source → position (λ byte. eqb byte 10) source ≡ found → 0 < length (lines source)
+some_line_at : (source : List ℕ) (found : Option ℕ) → 0 < length source → position (λ byte. eqb byte 10) source ≡ found
+    → 0 < length (lines source)
 some_line_at source None some none =
     let e = ap length (never_ended source some none) in omega arith
 some_line_at source (Some end) some found =
@@ -63,8 +67,9 @@ some_line source some = some_line_at source _ some refl
 pub taken : (source rest line : List ℕ) → lines source ≡ line ∷ lines rest → length (lines source) ≡ length (lines rest) + 1
 taken source rest line e = let same = ap length e in omega arith
 
--- whether lines are left behind a count of lines tells whether there are more than so many
-pub more_lines : (limit : ℕ) (rest source : List ℕ) → limit + length (lines rest) ≡ length (lines source) → not (eqb (length rest) 0) ≡ ltb limit (length (lines source))
+-- whether lines are left after a count of lines tells whether there are more than so many
+pub more_lines : (limit : ℕ) (rest source : List ℕ) → limit + length (lines rest) ≡ length (lines source)
+    → not (eqb (length rest) 0) ≡ ltb limit (length (lines source))
 more_lines limit [] source e = sym (le-ltb limit (length (lines source)) (omega (arith, e)))
 more_lines limit (b ∷ rest) source e =
     let some = some_line (b ∷ rest) (omega arith) in

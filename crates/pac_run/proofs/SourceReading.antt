@@ -1,5 +1,6 @@
--- A source read line by line: what is known behind each line, and what follows at the end.
-use Rattle.std.proofs.Common.{◌≡◌, ℕ, ◌+◌, ◌≤◌, List, [], ◌∷◌, ◌++◌, length, map, refl, ap, sym, ◌∙◌, arith, Some, None, sum_by, append_assoc, slice_get}
+-- A source read line by line: what is known after each line, and what follows at the end.
+use Rattle.std.proofs.Common.{◌≡◌, ℕ, ◌+◌, ◌≤◌, List, [], ◌∷◌, ◌++◌, length, map, refl, ap, sym, ◌∙◌, arith, Some, None, sum_by}
+use Rattle.std.proofs.Common.{append_assoc, slice_get}
 use Rattle.std.specs.List.{filter_map, flat_map, cons_option}
 use Rattle.std.specs.Str.Lines.{lines}
 use Rattle.std.proofs.lemmas.Bool.{cond-false, le-ltb}
@@ -8,7 +9,10 @@ use Rattle.std.proofs.lemmas.List.Sums.{sum_by-cons}
 use Rattle.std.proofs.lemmas.List.Elements.{filter_map-append}
 use Rattle.std.proofs.lemmas.Grind.{flat_map-append}
 use Rattle.pac_run.specs.SourceLines.{statement_of}
-use Rattle.pac_run.specs.Source.{Placed, Line, behind, lines_of, bytes, size, fault_at, item_at, fault, item, fault_of, items_of, most_lines, rom_size}
+use Rattle.pac_code.specs.Items.{Item}
+use Rattle.pac_run.specs.Source.{Line, lines_after, lines_of, bytes, size, fault_at, item_at, fault, item, fault_of, items_of}
+use Rattle.pac_code.specs.Items.{Item}
+use Rattle.pac_run.specs.Source.{most_lines, rom_size}
 use Rattle.pac_run.specs.declared.source.statement.Statement.{Statement}
 use Rattle.pac_run.specs.declared.source.AsmFault.{AsmFault}
 
@@ -16,20 +20,21 @@ use Rattle.pac_run.specs.declared.source.AsmFault.{AsmFault}
 abbrev pub statements : List ℕ → List Statement
 statements text = map statement_of (lines text)
 
--- lines behind others, in two parts
-behind-append : (above xs ys : List Statement) → behind above (xs ++ ys) ≡ behind above xs ++ behind (above ++ xs) ys
-behind-append above [] ys = ap (λ lines. behind lines ys) (sym (append-nil above))
-behind-append above (x ∷ xs) ys =
+-- lines after others, in two parts
+lines_after-append : (above xs ys : List Statement) → lines_after above (xs ++ ys) ≡ lines_after above xs ++ lines_after (above ++ xs) ys
+lines_after-append above [] ys = ap (λ lines. lines_after lines ys) (sym (append-nil above))
+lines_after-append above (x ∷ xs) ys =
     ap (λ more. record { above = above; statement = x } ∷ more)
-    (behind-append (above ++ x ∷ []) xs ys ∙ ap (λ lines. behind (above ++ x ∷ []) xs ++ behind lines ys) (append_assoc above (x ∷ []) xs))
+    (lines_after-append (above ++ x ∷ []) xs ys ∙ ap (λ lines. lines_after (above ++ x ∷ []) xs ++ lines_after lines ys)
+    (append_assoc above (x ∷ []) xs))
 
--- What is known behind some lines: none of them has a fault, and these are their items and bytes.
-pub record Reading (source rest : List ℕ) (count : ℕ) (found : List Placed) (rom : List ℕ) : Type 0 where
+-- What is known after some lines: none of them has a fault, and these are their items and bytes.
+pub record Reading (source rest : List ℕ) (count : ℕ) (found : List Item) (rom : List ℕ) : Type 0 where
   pub above : List Statement
   pub whole : statements source ≡ above ++ statements rest
   pub count_is : length above ≡ count
-  pub faultless : filter_map fault (behind [] above) ≡ []
-  pub items_are : found ≡ filter_map item (behind [] above)
+  pub faultless : filter_map fault (lines_after [] above) ≡ []
+  pub items_are : found ≡ filter_map item (lines_after [] above)
   pub bytes_are : rom ≡ flat_map bytes above
   pub inside : length rom ≤ rom_size
 
@@ -47,14 +52,17 @@ begins source = record {
 -- the sizes of lines are the count of their bytes
 pub length-bytes : (above : List Statement) → length (flat_map bytes above) ≡ sum_by size above
 length-bytes [] = refl
-length-bytes (s ∷ above) = length-append (bytes s) (flat_map bytes above) ∙ ap (λ n. length (bytes s) + n) (length-bytes above) ∙ sym (sum_by-cons size s above)
+length-bytes (s ∷ above) = length-append (bytes s) (flat_map bytes above) ∙ ap (λ n. length (bytes s) + n) (length-bytes above)
+    ∙ sym (sum_by-cons size s above)
 
 -- the lines of two parts, the second of which begins with a line
-parted : (above below : List Statement) (s : Statement) → behind [] (above ++ s ∷ below) ≡ behind [] above ++ (record { above = above; statement = s } ∷ behind (above ++ s ∷ []) below)
-parted above below s = behind-append [] above (s ∷ below)
+parted : (above below : List Statement) (s : Statement) → lines_after [] (above ++ s ∷ below)
+    ≡ lines_after [] above ++ (record { above = above; statement = s } ∷ lines_after (above ++ s ∷ []) below)
+parted above below s = lines_after-append [] above (s ∷ below)
 
--- what the line behind a reading has
-module _ (source rest below line : List ℕ) (count : ℕ) (found : List Placed) (rom : List ℕ) (r : Reading source rest count found rom) (e : lines rest ≡ line ∷ lines below) where
+-- what the line after a reading has
+module _ (source rest below line : List ℕ) (count : ℕ) (found : List Item) (rom : List ℕ) (r : Reading source rest count found rom)
+    (e : lines rest ≡ line ∷ lines below) where
   abbrev here : Line
   here = record { above = r.above; statement = statement_of line }
 
@@ -72,15 +80,18 @@ module _ (source rest below line : List ℕ) (count : ℕ) (found : List Placed)
   item_is : item_at (length rom) (statement_of line) ≡ item here
   item_is = ap (λ n. item_at n (statement_of line)) place_is
 
-  faults_are : filter_map fault (lines_of source) ≡ cons_option (fault here) (filter_map fault (behind (r.above ++ statement_of line ∷ []) (statements below)))
+  faults_are : filter_map fault (lines_of source) ≡ cons_option (fault here)
+      (filter_map fault (lines_after (r.above ++ statement_of line ∷ []) (statements below)))
   faults_are =
-      ap (λ ss. filter_map fault (behind [] ss)) whole_is
+      ap (λ ss. filter_map fault (lines_after [] ss)) whole_is
       ∙ ap (filter_map fault) (parted r.above (statements below) (statement_of line))
-      ∙ filter_map-append fault (behind [] r.above) (here ∷ behind (r.above ++ statement_of line ∷ []) (statements below))
-      ∙ ap (λ fs. fs ++ filter_map fault (here ∷ behind (r.above ++ statement_of line ∷ []) (statements below))) r.faultless
+      ∙ filter_map-append fault (lines_after [] r.above) (here ∷ lines_after (r.above ++ statement_of line ∷ []) (statements below))
+      ∙ ap (λ fs. fs ++ filter_map fault (here ∷ lines_after (r.above ++ statement_of line ∷ []) (statements below))) r.faultless
 
   -- what one more line without a fault adds
-  pub onward : (added : List Placed) (more : List ℕ) → fault_at (count + 1) (length rom) (statement_of line) ≡ None → added ≡ found ++ cons_option (item_at (length rom) (statement_of line)) [] → more ≡ rom ++ bytes (statement_of line) → length more ≤ rom_size → Reading source below (count + 1) added more
+  pub onward : (added : List Item) (more : List ℕ) → fault_at (count + 1) (length rom) (statement_of line) ≡ None
+      → added ≡ found ++ cons_option (item_at (length rom) (statement_of line)) [] → more ≡ rom ++ bytes (statement_of line)
+      → length more ≤ rom_size → Reading source below (count + 1) added more
   onward added more fine a m inside =
       let s = statement_of line in
       let none : fault here ≡ None = sym fault_is ∙ fine in
@@ -90,46 +101,49 @@ module _ (source rest below line : List ℕ) (count : ℕ) (found : List Placed)
         count_is = length-append r.above (s ∷ []) ∙ ap (λ n. n + 1) r.count_is;
         faultless =
             ap (filter_map fault) (parted r.above [] s)
-            ∙ filter_map-append fault (behind [] r.above) (here ∷ [])
+            ∙ filter_map-append fault (lines_after [] r.above) (here ∷ [])
             ∙ ap (λ fs. fs ++ cons_option (fault here) []) r.faultless
             ∙ ap (λ f. cons_option f []) none;
         items_are =
             a
             ∙ ap (λ items. items ++ cons_option (item_at (length rom) s) []) r.items_are
-            ∙ ap (λ i. filter_map item (behind [] r.above) ++ cons_option i []) item_is
-            ∙ sym (filter_map-append item (behind [] r.above) (here ∷ []))
+            ∙ ap (λ i. filter_map item (lines_after [] r.above) ++ cons_option i []) item_is
+            ∙ sym (filter_map-append item (lines_after [] r.above) (here ∷ []))
             ∙ sym (ap (filter_map item) (parted r.above [] s));
         bytes_are =
             m
-            ∙ ap (λ front. front ++ bytes s) r.bytes_are
+            ∙ ap (λ before. before ++ bytes s) r.bytes_are
             ∙ sym (flat_map-append bytes r.above (s ∷ []) ∙ ap (λ last. flat_map bytes r.above ++ last) (append-nil (bytes s)));
         inside = inside;
       }
 
   -- what a line with a fault means
-  pub faulty : (f : AsmFault) → length (lines source) ≤ most_lines → fault_at (count + 1) (length rom) (statement_of line) ≡ Some f → fault_of source ≡ Some f
+  pub faulty : (f : AsmFault) → length (lines source) ≤ most_lines → fault_at (count + 1) (length rom) (statement_of line) ≡ Some f
+      → fault_of source ≡ Some f
   unfolding fault_of
   faulty f few h =
       cond-false _ _ _ (le-ltb most_lines (length (lines source)) few)
-      ∙ ap (λ fs. slice_get fs 0) (faults_are ∙ ap (λ first. cons_option first (filter_map fault (behind (r.above ++ statement_of line ∷ []) (statements below)))) (sym fault_is ∙ h))
+      ∙ ap (λ fs. slice_get fs 0) (faults_are ∙ ap (λ first. cons_option first
+      (filter_map fault (lines_after (r.above ++ statement_of line ∷ []) (statements below)))) (sym fault_is ∙ h))
 
 -- what is known at the end
-pub record Ended (source : List ℕ) (found : List Placed) (rom : List ℕ) : Type 0 where
+pub record Ended (source : List ℕ) (found : List Item) (rom : List ℕ) : Type 0 where
   pub faultless : fault_of source ≡ None
   pub items : found ≡ items_of source
   pub bytes_are : rom ≡ flat_map bytes (statements source)
   pub inside : length rom ≤ rom_size
 
-pub ends : (source : List ℕ) (count : ℕ) (found : List Placed) (rom : List ℕ) → length (lines source) ≤ most_lines → Reading source [] count found rom → Ended source found rom
+pub ends : (source : List ℕ) (count : ℕ) (found : List Item) (rom : List ℕ) → length (lines source) ≤ most_lines
+    → Reading source [] count found rom → Ended source found rom
 unfolding fault_of items_of
 ends source count found rom few r =
     let all : statements source ≡ r.above = r.whole ∙ append-nil r.above in
     record {
       faultless =
           cond-false _ _ _ (le-ltb most_lines (length (lines source)) few)
-          ∙ ap (λ ss. slice_get (filter_map fault (behind [] ss)) 0) all
+          ∙ ap (λ ss. slice_get (filter_map fault (lines_after [] ss)) 0) all
           ∙ ap (λ fs. slice_get fs 0) r.faultless;
-      items = r.items_are ∙ ap (λ ss. filter_map item (behind [] ss)) (sym all);
+      items = r.items_are ∙ ap (λ ss. filter_map item (lines_after [] ss)) (sym all);
       bytes_are = r.bytes_are ∙ ap (flat_map bytes) (sym all);
       inside = r.inside;
     }

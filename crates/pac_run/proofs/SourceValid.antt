@@ -16,7 +16,8 @@ IsValid (Operation i) = IsInstruction i
 IsValid Unreadable = Unit {0}
 
 -- a number up to a limit makes a valid instruction, where each such number does
-with_limit : (limit : ℕ) (found : Option ℕ) (operation : ℕ → Instruction) → ((n : ℕ) → n ≤ limit → IsInstruction (operation n)) → IsValid (with_number (up_to limit found) operation)
+with_limit : (limit : ℕ) (found : Option ℕ) (operation : ℕ → Instruction) → ((n : ℕ) → n ≤ limit → IsInstruction (operation n))
+    → IsValid (with_number (up_to limit found) operation)
 with_limit limit None operation each = tt
 with_limit limit (Some n) operation each =
     cond_both (leb n limit) (Some n) None (λ found. IsValid (with_number found operation))

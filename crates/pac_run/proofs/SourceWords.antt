@@ -1,5 +1,6 @@
 -- Lemmas on tokens and numbers.
-use Rattle.std.proofs.Common.{◌≡◌, ℕ, ◌+◌, ◌*◌, ◌<◌, ◌≤◌, Bool, true, false, not, eqb, List, [], ◌∷◌, length, take, drop, refl, ap, sym, ◌∙◌, arith, ⊎_elim, suc, Option, Some, None, get_or, cond, ltb, unwrap_or}
+use Rattle.std.proofs.Common.{◌≡◌, ℕ, ◌+◌, ◌*◌, ◌<◌, ◌≤◌, Bool, true, false, not, eqb, List, [], ◌∷◌, length, take, drop, refl, ap, sym}
+use Rattle.std.proofs.Common.{◌∙◌, arith, ⊎_elim, suc, Option, Some, None, get_or, cond, ltb, unwrap_or}
 use Rattle.std.specs.List.{position_or_len, position, list_all}
 use Rattle.std.specs.Char.{is_ascii_alphanumeric, is_digit, digit_value}
 use Rattle.std.specs.Str.Parse.{digits_value_after}
@@ -9,7 +10,7 @@ use Rattle.std.proofs.lemmas.List.{drop_all, at_drop_all, at_drop_more}
 use Rattle.std.proofs.lemmas.List.Quantifiers.{position-Some}
 use Rattle.std.proofs.lemmas.Bool.Decides.{nat_tests}
 use Rattle.std.proofs.lemmas.List.Sums.{prefix_len-le-length}
-use Rattle.pac_run.specs.SourceTokens.{Word, tokens, goes_on, is_blank, mark, in_front, digits, up_to}
+use Rattle.pac_run.specs.SourceTokens.{Word, tokens, goes_on, is_blank, mark, before_tokens, digits, up_to}
 
 -- where no place is told, it is the length
 pub place_or_length : {X : Type 0} (p : X → Bool) (xs : List X) → unwrap_or (position p xs) (length xs) ≡ position_or_len p xs
@@ -30,12 +31,13 @@ not_blank b h = grind (arith, nat_tests)
 no_comment : (b : ℕ) → is_blank b ≡ true → eqb b 59 ≡ false
 no_comment b h = grind (arith, nat_tests)
 
--- A word at the front is the longest run of letters and digits.
+-- A word at the start is the longest run of letters and digits.
 abbrev run : List ℕ → ℕ
 run line = position_or_len (λ byte. not (is_ascii_alphanumeric byte)) line
 
--- what a letter or digit adds in front of a line
-letter : (c : ℕ) (more : List ℕ) → is_ascii_alphanumeric c ≡ true → tokens (c ∷ more) ≡ cond (goes_on more) (in_front c (tokens more)) (Word (c ∷ []) ∷ tokens more)
+-- what a letter or digit adds before a line
+letter : (c : ℕ) (more : List ℕ) → is_ascii_alphanumeric c ≡ true
+    → tokens (c ∷ more) ≡ cond (goes_on more) (before_tokens c (tokens more)) (Word (c ∷ []) ∷ tokens more)
 unfolding tokens
 letter c more h = rw (not_comment c h, not_blank c h, h) refl
 
@@ -46,39 +48,43 @@ run_ends : (more : List ℕ) → goes_on more ≡ false → run more ≡ 0
 run_ends [] h = refl
 run_ends (d ∷ more) h = rw h refl
 
-pub word_front : (line : List ℕ) → goes_on line ≡ true → tokens line ≡ Word (take (run line) line) ∷ tokens (drop (run line) line)
-word_front [] h = cc
-word_front (c ∷ more) h =
+pub word_first : (line : List ℕ) → goes_on line ≡ true → tokens line ≡ Word (take (run line) line) ∷ tokens (drop (run line) line)
+word_first [] h = cc
+word_first (c ∷ more) h =
     letter c more h
-    ∙ cond_both (goes_on more) (in_front c (tokens more)) (Word (c ∷ []) ∷ tokens more)
+    ∙ cond_both (goes_on more) (before_tokens c (tokens more)) (Word (c ∷ []) ∷ tokens more)
     (λ found. found ≡ Word (take (run (c ∷ more)) (c ∷ more)) ∷ tokens (drop (run (c ∷ more)) (c ∷ more)))
-    (λ on. ap (in_front c) (word_front more on) ∙ sym (ap (λ n. Word (take n (c ∷ more)) ∷ tokens (drop n (c ∷ more))) (run_more c more h)))
+    (λ on. ap (before_tokens c) (word_first more on) ∙ sym (ap (λ n. Word (take n (c ∷ more)) ∷ tokens (drop n (c ∷ more)))
+    (run_more c more h)))
     (λ off. sym (ap (λ n. Word (take n (c ∷ more)) ∷ tokens (drop n (c ∷ more))) (run_more c more h ∙ ap suc (run_ends more off))))
 
-pub comment_front : (b : ℕ) (more : List ℕ) → b ≡ 59 → tokens (b ∷ more) ≡ []
+pub comment_first : (b : ℕ) (more : List ℕ) → b ≡ 59 → tokens (b ∷ more) ≡ []
 unfolding tokens
-comment_front b more e = rw e refl
+comment_first b more e = rw e refl
 
-pub mark_front : (b : ℕ) (more : List ℕ) → eqb b 59 ≡ false → is_blank b ≡ false → is_ascii_alphanumeric b ≡ false → tokens (b ∷ more) ≡ mark b ∷ tokens more
+pub mark_first : (b : ℕ) (more : List ℕ) → eqb b 59 ≡ false → is_blank b ≡ false → is_ascii_alphanumeric b ≡ false
+    → tokens (b ∷ more) ≡ mark b ∷ tokens more
 unfolding tokens
-mark_front b more e f g = rw (e, f, g) refl
+mark_first b more e f g = rw (e, f, g) refl
 
-blank_front : (b : ℕ) (more : List ℕ) → is_blank b ≡ true → tokens (b ∷ more) ≡ tokens more
+blank_first : (b : ℕ) (more : List ℕ) → is_blank b ≡ true → tokens (b ∷ more) ≡ tokens more
 unfolding tokens
-blank_front b more h = rw (no_comment b h, h) refl
+blank_first b more h = rw (no_comment b h, h) refl
 
 -- The same of a line that is told by its first character.
 pub comment_line : (line : List ℕ) → 0 < length line → get_or line 0 0 ≡ 59 → tokens line ≡ []
 comment_line [] some e = absurd (omega arith)
-comment_line (b ∷ more) some e = comment_front b more e
+comment_line (b ∷ more) some e = comment_first b more e
 
-pub word_line : (line : List ℕ) → 0 < length line → is_ascii_alphanumeric (get_or line 0 0) ≡ true → tokens line ≡ Word (take (run line) line) ∷ tokens (drop (run line) line)
+pub word_line : (line : List ℕ) → 0 < length line → is_ascii_alphanumeric (get_or line 0 0) ≡ true
+    → tokens line ≡ Word (take (run line) line) ∷ tokens (drop (run line) line)
 word_line [] some h = absurd (omega arith)
-word_line (b ∷ more) some h = word_front (b ∷ more) h
+word_line (b ∷ more) some h = word_first (b ∷ more) h
 
-pub mark_line : (line : List ℕ) → 0 < length line → (get_or line 0 0 ≡ 59 → ⊥) → is_blank (get_or line 0 0) ≡ false → is_ascii_alphanumeric (get_or line 0 0) ≡ false → tokens line ≡ mark (get_or line 0 0) ∷ tokens (drop 1 line)
+pub mark_line : (line : List ℕ) → 0 < length line → (get_or line 0 0 ≡ 59 → ⊥) → is_blank (get_or line 0 0) ≡ false
+    → is_ascii_alphanumeric (get_or line 0 0) ≡ false → tokens line ≡ mark (get_or line 0 0) ∷ tokens (drop 1 line)
 mark_line [] some e f g = absurd (omega arith)
-mark_line (b ∷ more) some e f g = mark_front b more (ne_eqb b 59 e) f g
+mark_line (b ∷ more) some e f g = mark_first b more (ne_eqb b 59 e) f g
 
 -- how many blanks a line begins with
 abbrev blanks : List ℕ → ℕ
@@ -90,11 +96,11 @@ blanks_more b more h = rw h (omega arith)
 blanks_end : (b : ℕ) (more : List ℕ) → is_blank b ≡ false → blanks (b ∷ more) ≡ 0
 blanks_end b more h = rw h refl
 
-pub behind_blanks : (line : List ℕ) → tokens line ≡ tokens (drop (blanks line) line)
-behind_blanks [] = refl
-behind_blanks (b ∷ more) =
+pub after_blanks : (line : List ℕ) → tokens line ≡ tokens (drop (blanks line) line)
+after_blanks [] = refl
+after_blanks (b ∷ more) =
     ⊎_elim
-    (λ on. blank_front b more on ∙ behind_blanks more ∙ sym (ap (λ n. tokens (drop n (b ∷ more))) (blanks_more b more on)))
+    (λ on. blank_first b more on ∙ after_blanks more ∙ sym (ap (λ n. tokens (drop n (b ∷ more))) (blanks_more b more on)))
     (λ off. sym (ap (λ n. tokens (drop n (b ∷ more))) (blanks_end b more off)))
     (cases_Bool (is_blank b))
 
@@ -105,8 +111,9 @@ no_tokens = refl
 -- where every character is a blank
 pub only_blanks : (line : List ℕ) → position (λ byte. not (is_blank byte)) line ≡ None → tokens line ≡ []
 only_blanks line none =
-    let all : length line ≤ blanks line = cond_both (ltb (blanks line) (length line)) (Some (blanks line)) None (λ found. found ≡ None → length line ≤ blanks line) (λ e some. absurd (cc)) (λ e some. ltb-false _ _ e) none in
-    behind_blanks line ∙ ap tokens (drop_all (blanks line) line all) ∙ no_tokens
+    let all : length line ≤ blanks line = cond_both (ltb (blanks line) (length line)) (Some (blanks line)) None
+    (λ found. found ≡ None → length line ≤ blanks line) (λ e some. absurd (cc)) (λ e some. ltb-false _ _ e) none in
+    after_blanks line ∙ ap tokens (drop_all (blanks line) line all) ∙ no_tokens
 
 -- where one isn't
 pub record IsFirst (line : List ℕ) (place : ℕ) : Type 0 where
@@ -117,17 +124,18 @@ pub record IsFirst (line : List ℕ) (place : ℕ) : Type 0 where
 pub first_place : (line : List ℕ) (place : ℕ) → position (λ byte. not (is_blank byte)) line ≡ Some place → IsFirst line place
 first_place line place some =
     let at = position-Some (λ byte. not (is_blank byte)) line place 0 some in
-    let is : blanks line ≡ place = cond_both (ltb (blanks line) (length line)) (Some (blanks line)) None (λ found. found ≡ Some place → blanks line ≡ place) (λ e found. cc) (λ e none. absurd (cc)) some in
+    let is : blanks line ≡ place = cond_both (ltb (blanks line) (length line)) (Some (blanks line)) None
+    (λ found. found ≡ Some place → blanks line ≡ place) (λ e found. cc) (λ e none. absurd (cc)) some in
     record {
       within = at.0;
       no_blank = not-true _ at.1;
-      same = behind_blanks line ∙ ap (λ n. tokens (drop n line)) is;
+      same = after_blanks line ∙ ap (λ n. tokens (drop n line)) is;
     }
 
 pub run_in_line : (line : List ℕ) → position_or_len (λ byte. not (is_ascii_alphanumeric byte)) line ≤ length line
 run_in_line line = prefix_len-le-length (λ byte. not (not (is_ascii_alphanumeric byte))) line
 
--- Digits read one after another, behind a number read so far.
+-- Digits read one after another, after a number read so far.
 abbrev pub read_on : ℕ → ℕ → List ℕ → Option ℕ
 read_on base n [] = Some n
 read_on base n (c ∷ more) = cond (is_digit c base) (read_on base (n * base + digit_value c) more) None
@@ -156,15 +164,19 @@ too_large limit base n (c ∷ more) some above =
     (cases_Bool (is_digit c base))
 
 -- The loop's end, and its early end above the limit.
-pub reads_all : (limit base n : ℕ) (text : List ℕ) (i : ℕ) → length text ≤ i → read_on base n (drop i text) ≡ read_on base 0 text → n ≤ limit → Some n ≡ up_to limit (digits base text)
+pub reads_all : (limit base n : ℕ) (text : List ℕ) (i : ℕ) → length text ≤ i → read_on base n (drop i text) ≡ read_on base 0 text
+    → n ≤ limit → Some n ≡ up_to limit (digits base text)
 reads_all limit base n text i end same low =
     let all : digits base text ≡ Some n = digits_read base text ∙ sym same ∙ at_drop_all (read_on base n) text i end in
     rw (all, le-leb n limit low) refl
 
-pub stops_above : (limit base n d : ℕ) (text : List ℕ) (i : ℕ) → i < length text → read_on base n (drop i text) ≡ read_on base 0 text → (d ≡ digit_value (get_or text i 0)) × (digit_value (get_or text i 0) < base) → limit < n * base + d → 0 < base → None ≡ up_to limit (digits base text)
+pub stops_above : (limit base n d : ℕ) (text : List ℕ) (i : ℕ) → i < length text → read_on base n (drop i text) ≡ read_on base 0 text
+    → (d ≡ digit_value (get_or text i 0)) × (digit_value (get_or text i 0) < base) → limit < n * base + d → 0 < base
+    → None ≡ up_to limit (digits base text)
 stops_above limit base n d text i within same digit above some =
     let more = at_drop_more (read_on base n) text i 0 within in
     let yes : is_digit (get_or text i 0) base ≡ true = lt-ltb _ _ digit.1 in
     let e : n * base + d ≡ n * base + digit_value (get_or text i 0) = ap (λ x. n * base + x) digit.0 in
-    let last : up_to limit (read_on base (n * base + digit_value (get_or text i 0)) (drop (i + 1) text)) ≡ None = too_large limit base _ _ some (omega arith) in
+    let last : up_to limit (read_on base (n * base + digit_value (get_or text i 0)) (drop (i + 1) text)) ≡ None =
+    too_large limit base _ _ some (omega arith) in
     sym (ap (up_to limit) (digits_read base text ∙ sym same ∙ more ∙ cond-true _ _ _ yes) ∙ last)

@@ -1,23 +1,19 @@
 -- What a run of a source on the board writes and answers.
-use Rattle.std.specs.Prelude.{◌≡◌, ℕ, List, map, length, None, Some, Result, Ok, Err}
+use Rattle.std.specs.Prelude.{◌≡◌, ℕ, List, length, None, Some, Result, Ok, Err}
 use Rattle.pac_out.specs.Writes.{StopsAfter}
+use Rattle.pac_code.specs.Items.{AllLie}
+use Rattle.pac_map.specs.Place.{program_size}
 use Rattle.pac_map.specs.Entry.{Entry, power_on}
 use Rattle.pac_board.specs.Walk.{Walk}
-use Rattle.pac_board.specs.Trace.{Roms, Item, AllLie, trace, pictures_of, blanks}
+use Rattle.pac_board.specs.Trace.{Roms, trace, pictures_of, blanks}
 use Rattle.pac_board.specs.State.{State, at_power_on}
-use Rattle.pac_run.specs.Source.{Placed, items_of, rom_of, fault_of}
+use Rattle.pac_run.specs.Source.{items_of, rom_of, fault_of}
 use Rattle.pac_run.specs.Texts.{images, report}
 use Rattle.pac_run.specs.Turns.{switches}
-use Rattle.pac_run.specs.declared.source.AsmFault.{AsmFault}
 use Rattle.pac_run.specs.declared.run.Outcome.{Outcome}
-use Rattle.pac_run.specs.declared.run.Output.{Output}
 use Rattle.pac_run.specs.declared.run.Output.TheVariants.{Frames, Report}
 use Rattle.pac_run.specs.declared.run.RunFault.{RunFault}
 use Rattle.pac_run.specs.declared.run.RunFault.TheVariants as fault
-
--- an item of the source as the board's trace takes it
-abbrev pub board_item : Placed → Item
-board_item placed = record { at = placed.0; instruction = placed.1 }
 
 -- the ROMs that a source and a tile file make
 abbrev pub roms : List ℕ → List ℕ → Roms
@@ -25,7 +21,7 @@ roms source tiles = record { program = rom_of (items_of source); tiles = tiles }
 
 -- the trace of a source's items
 abbrev pub run_trace : List ℕ → List ℕ → ℕ → Walk (List Entry)
-run_trace source tiles frames = trace (roms source tiles) (map board_item (items_of source)) switches frames
+run_trace source tiles frames = trace (roms source tiles) (items_of source) switches frames
 
 -- the images of the frames whose blank came, one after another
 abbrev pub frames_text : List ℕ → List ℕ → ℕ → List ℕ
@@ -74,8 +70,8 @@ Runs took_f refused_f took_r refused_r source tiles n old_f new_f old_r new_r (E
 pub record IsMade (source tiles : List ℕ) (board : State) : Type 0 where
   pub faultless : fault_of source ≡ None
   pub board_is : board ≡ at_power_on (roms source tiles) switches
-  pub size : length (rom_of (items_of source)) ≡ 16384
-  pub lie : AllLie (rom_of (items_of source)) (map board_item (items_of source))
+  pub size : length (rom_of (items_of source)) ≡ program_size
+  pub lie : AllLie (rom_of (items_of source)) (items_of source)
 
 abbrev pub Makes : List ℕ → List ℕ → Result State RunFault → Type 0
 Makes source tiles (Ok board) = IsMade source tiles board

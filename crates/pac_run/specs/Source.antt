@@ -1,9 +1,11 @@
 -- The items, the fault and the ROM of a source: its lines say operations of the Z80, which stand one
--- behind another from address 0 in a ROM of 16,384 bytes.
-use Rattle.std.specs.Prelude.{◌≡◌, ℕ, ◌+◌, ◌-◌, ◌≤◌, ◌&&◌, Bool, nat_lt, nat_le, if◌then◌else◌, Option, Some, None, List, [], ◌∷◌, ◌++◌, length, take, drop, map, slice_index, slice_get, All}
+-- after another from address 0 in a ROM of 16,384 bytes.
+use Rattle.std.specs.Prelude.{ℕ, ◌+◌, ◌-◌, ◌&&◌, Bool, nat_lt, nat_le, if◌then◌else◌, Option, Some, None, List, [], ◌∷◌, ◌++◌}
+use Rattle.std.specs.Prelude.{length, map, slice_index, slice_get}
 use Rattle.std.specs.List.{sum_by, filter_map, range_with_len}
 use Rattle.std.specs.Str.Lines.{lines}
-use Rattle.pac_table.specs.Instructions.{Instruction, IsInstruction, code}
+use Rattle.pac_table.specs.Instructions.{code}
+use Rattle.pac_code.specs.Items.{Item, Code, bytes_of}
 use Rattle.pac_run.specs.SourceLines.{statement_of}
 use Rattle.pac_run.specs.declared.source.statement.Statement.{Statement}
 use Rattle.pac_run.specs.declared.source.statement.Statement.TheVariants.{Blank, Operation, Unreadable}
@@ -17,10 +19,6 @@ rom_size = 16384
 -- the lines that a source may have
 abbrev pub most_lines : ℕ
 most_lines = 65535
-
--- An item: an address, and the instruction that stands there.
-abbrev pub Placed : Type 0
-Placed = ℕ × Instruction
 
 -- the bytes of a line
 abbrev pub bytes : Statement → List ℕ
@@ -44,15 +42,15 @@ number line = length line.above + 1
 abbrev pub address : Line → ℕ
 address line = sum_by size line.above
 
--- statements as lines behind other statements
-abbrev pub behind : List Statement → List Statement → List Line
-behind above [] = []
-behind above (statement ∷ below) =
-    record { above = above; statement = statement } ∷ behind (above ++ statement ∷ []) below
+-- statements as lines after other statements
+abbrev pub lines_after : List Statement → List Statement → List Line
+lines_after above [] = []
+lines_after above (statement ∷ below) =
+    record { above = above; statement = statement } ∷ lines_after (above ++ statement ∷ []) below
 
 -- The lines of a source. They end at LF, and one CR before it is dropped.
 abbrev pub lines_of : List ℕ → List Line
-lines_of source = behind [] (map statement_of (lines source))
+lines_of source = lines_after [] (map statement_of (lines source))
 
 -- what is wrong with a statement in the line of a number at an address: that it is none of the
 -- source, or that it has bytes past the end of the ROM
@@ -67,12 +65,12 @@ abbrev pub fault : Line → Option AsmFault
 fault line = fault_at (number line) (address line) line.statement
 
 -- the item of a statement at an address
-abbrev pub item_at : ℕ → Statement → Option Placed
+abbrev pub item_at : ℕ → Statement → Option Item
 item_at address Blank = None
-item_at address (Operation instruction) = Some (address, instruction)
+item_at address (Operation instruction) = Some (record { at = address; content = Code instruction })
 item_at address Unreadable = None
 
-abbrev pub item : Line → Option Placed
+abbrev pub item : Line → Option Item
 item line = item_at (address line) line.statement
 
 -- The fault of a source: too many lines, or else that of the first line that has one.
@@ -83,32 +81,23 @@ fault_of source =
     else slice_get (filter_map fault (lines_of source)) 0
 
 -- The items of a source, in order.
-unfoldable pub items_of : List ℕ → List Placed
+unfoldable pub items_of : List ℕ → List Item
 items_of source = filter_map item (lines_of source)
 
 -- whether an item covers an address
-abbrev pub covers : Placed → ℕ → Bool
-covers item place = nat_le item.0 place && nat_lt place (item.0 + length (code item.1))
+abbrev pub covers : Item → ℕ → Bool
+covers item place = nat_le item.at place && nat_lt place (item.at + length (bytes_of item))
 
 -- the byte at an address: that of the item that covers it, 0 where none does
-abbrev pub byte_of : List Placed → ℕ → ℕ
+abbrev pub byte_of : List Item → ℕ → ℕ
 byte_of [] place = 0
 byte_of (item ∷ more) place =
-    if covers item place then slice_index (code item.1) (place - item.0) else byte_of more place
+    if covers item place then slice_index (bytes_of item) (place - item.at) else byte_of more place
 
 -- the bytes of items at the addresses below a limit
-unfoldable pub bytes_below : ℕ → List Placed → List ℕ
+unfoldable pub bytes_below : ℕ → List Item → List ℕ
 bytes_below limit items = map (byte_of items) (range_with_len 0 limit)
 
 -- The ROM of items.
-abbrev pub rom_of : List Placed → List ℕ
+abbrev pub rom_of : List Item → List ℕ
 rom_of items = bytes_below rom_size items
-
--- An item is an instruction of the table that lies in the ROM, which holds its code.
-pub record IsHeld (rom : List ℕ) (item : Placed) : Type 0 where
-  pub valid : IsInstruction item.1
-  pub within : item.0 + length (code item.1) ≤ rom_size
-  pub held : take (length (code item.1)) (drop item.0 rom) ≡ code item.1
-
-abbrev pub AreHeld : List ℕ → List Placed → Type 0
-AreHeld rom items = All (IsHeld rom) items

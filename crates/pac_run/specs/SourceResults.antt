@@ -2,19 +2,20 @@
 use Rattle.std.specs.Prelude.{◌≡◌, ℕ, ◌≤◌, Some, None, List, [], ◌++◌, map, length}
 use Rattle.std.specs.List.{flat_map, cons_option}
 use Rattle.std.specs.Str.Lines.{lines}
+use Rattle.pac_code.specs.Items.{Item, Code}
 use Rattle.pac_run.specs.SourceLines.{statement_of}
-use Rattle.pac_run.specs.Source.{Placed, bytes, fault_at, item_at, fault_of, items_of, rom_of, rom_size}
+use Rattle.pac_run.specs.Source.{bytes, fault_at, item_at, fault_of, items_of, rom_of, rom_size}
 use Rattle.pac_run.specs.declared.source.statement.Statement.{Statement}
 use Rattle.pac_run.specs.declared.source.AsmError.{AsmError}
 use Rattle.pac_run.specs.declared.source.AsmError.TheVariants as error
-use Rattle.pac_run.specs.declared.source.Item.{Item}
+use Rattle.pac_run.specs.declared.source.Item as read
 use Rattle.pac_run.specs.declared.source.Program.{Program}
 
 -- an item as the definitions have it
-abbrev pub placed : Item → Placed
-placed item = (item.at, item.instr)
+abbrev pub placed : read.Item → Item
+placed item = record { at = item.at; content = Code item.instr }
 
-abbrev pub items : Program → List Placed
+abbrev pub items : Program → List Item
 items program = map placed program.items.items
 
 -- The program of a source.
@@ -29,7 +30,7 @@ abbrev pub IsRefusal : List ℕ → AsmError → Type 0
 IsRefusal source error.Memory = Unit {0}
 IsRefusal source (error.Fault fault) = fault_of source ≡ Some fault
 
--- A program without its zeros behind the last item.
+-- A program without its zeros after the last item.
 pub record IsRead (source : List ℕ) (program : Program) : Type 0 where
   pub faultless : fault_of source ≡ None
   pub items_are : items program ≡ items_of source

@@ -1,6 +1,7 @@
 -- The words and marks of a line of assembler source, and the numbers that words write. Numbers are
--- Zilog's: decimal, or hexadecimal with an H behind it, in either case.
-use Rattle.std.specs.Prelude.{ℕ, ◌-◌, Bool, ◌==◌, nat_le, not, ◌||◌, if◌then◌else◌, Option, Some, None, false, List, [], ◌∷◌, length, take, slice_index}
+-- Zilog's: decimal, or hexadecimal with an H after it, in either case.
+use Rattle.std.specs.Prelude.{ℕ, ◌-◌, Bool, ◌==◌, nat_le, not, ◌||◌, if◌then◌else◌, Option, Some, None, false, List, [], ◌∷◌, length, take}
+use Rattle.std.specs.Prelude.{slice_index}
 use Rattle.std.specs.List.{list_all}
 use Rattle.std.specs.Char.{is_ascii_alphanumeric, is_ascii_digit, is_digit}
 use Rattle.std.specs.Str.Parse.{digits_value}
@@ -26,10 +27,10 @@ abbrev pub goes_on : List ℕ → Bool
 goes_on [] = false
 goes_on (character ∷ more) = is_ascii_alphanumeric character
 
--- A letter or digit in front of a word belongs to the word.
-abbrev pub in_front : ℕ → List Token → List Token
-in_front character (Word word ∷ more) = Word (character ∷ word) ∷ more
-in_front character tokens = tokens
+-- A letter or digit before a word belongs to the word.
+abbrev pub before_tokens : ℕ → List Token → List Token
+before_tokens character (Word word ∷ more) = Word (character ∷ word) ∷ more
+before_tokens character tokens = tokens
 
 -- a blank or a tab
 abbrev pub is_blank : ℕ → Bool
@@ -43,7 +44,7 @@ tokens (character ∷ more) =
     if character == 59 then []
     else (if is_blank character then tokens more
     else (if not (is_ascii_alphanumeric character) then mark character ∷ tokens more
-    else (if goes_on more then in_front character (tokens more)
+    else (if goes_on more then before_tokens character (tokens more)
     else Word (character ∷ []) ∷ tokens more)))
 
 -- The number that digits of a base write, where each is one.

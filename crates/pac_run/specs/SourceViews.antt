@@ -17,7 +17,7 @@ abbrev pub only_word : List Token → Option (List ℕ)
 only_word (Word word ∷ []) = Some word
 only_word _ = None
 
--- the word of a memory operand behind its parenthesis, and what follows the comma behind it
+-- the word of a memory operand after its parenthesis, and what follows the comma after it
 abbrev pub memory_word : List Token → Option (List ℕ × List Token)
 memory_word (Word word ∷ Close ∷ Comma ∷ more) = Some (word, more)
 memory_word _ = None

@@ -1,6 +1,7 @@
 -- The texts that a run writes: binary PPM images (Netpbm, "PPM Format Specification", P6) one after another,
 -- and the report.
-use Rattle.std.specs.Prelude.{ℕ, Option, None, Some, slice_index, ◌+◌, ◌*◌, ◌/◌, ◌%◌, List, [], ◌∷◌, ◌++◌, nat_lt, if◌then◌else◌, codes, decimal}
+use Rattle.std.specs.Prelude.{ℕ, Option, None, Some, slice_index, ◌+◌, ◌*◌, ◌/◌, ◌%◌, List, [], ◌∷◌, ◌++◌, nat_lt, if◌then◌else◌, codes}
+use Rattle.std.specs.Prelude.{decimal}
 use Rattle.std.specs.List.{flat_map}
 use Rattle.pac_cpu.specs.declared.once.Stop.{Stop}
 use Rattle.pac_cpu.specs.declared.once.Cause.{Cause}
@@ -37,7 +38,8 @@ joined pieces = flat_map (λ piece. piece) pieces
 
 abbrev pub cause_text : ℕ → List ℕ → Cause → List ℕ
 cause_text pc bytes Opcode =
-    joined (codes "stop S1 at " ∷ hex_word pc ∷ codes " bytes " ∷ hex_byte (slice_index bytes 0) ∷ codes " " ∷ hex_byte (slice_index bytes 1)
+    joined (codes "stop S1 at " ∷ hex_word pc ∷ codes " bytes " ∷ hex_byte (slice_index bytes 0) ∷ codes " "
+    ∷ hex_byte (slice_index bytes 1)
     ∷ codes " " ∷ hex_byte (slice_index bytes 2) ∷ codes " " ∷ hex_byte (slice_index bytes 3) ∷ codes "\n" ∷ [])
 cause_text pc bytes (Vector vector) = joined (codes "stop S2 at " ∷ hex_word pc ∷ codes " byte " ∷ hex_byte vector ∷ codes "\n" ∷ [])
 
@@ -48,7 +50,8 @@ end_text (Some stop) = cause_text stop.pc stop.bytes stop.cause
 -- the frames shown of those asked for, the steps and the T-states
 abbrev pub counts_text : ℕ → ℕ → ℕ → ℕ → List ℕ
 counts_text shown total steps ticks =
-    joined (codes "frames " ∷ decimal shown ∷ codes " of " ∷ decimal total ∷ codes "\nsteps " ∷ decimal steps ∷ codes " ticks " ∷ decimal ticks ∷ codes "\n" ∷ [])
+    joined (codes "frames " ∷ decimal shown ∷ codes " of " ∷ decimal total ∷ codes "\nsteps " ∷ decimal steps ∷ codes " ticks "
+    ∷ decimal ticks ∷ codes "\n" ∷ [])
 
 abbrev pub report : ℕ → ℕ → ℕ → ℕ → Option Stop → List ℕ
 report shown total steps ticks stop = counts_text shown total steps ticks ++ end_text stop

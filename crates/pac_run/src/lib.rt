@@ -6,8 +6,4 @@ mod pieces;
 pub mod program;
 mod report;
 pub mod run;
-#[cfg(test)]
-mod scarce;
 pub mod source;
-#[cfg(test)]
-mod tests;

@@ -12,9 +12,6 @@ use std::io::{ErrorKind, Read};
 use std::rt::{Env, Files};
 use std::{env, fmt, fs, io};
 
-#[cfg(test)]
-mod tests;
-
 /// The most bytes of a file that is read: 16 MiB.
 const MOST_BYTES: u64 = 16_777_216;
 
@@ -32,7 +29,7 @@ enum Failure<'a> {
     Source(AsmFault),
     /// The tile file hasn't 4,096 bytes.
     Tiles,
-    /// An output refused behind this count of its bytes.
+    /// An output refused after this count of its bytes.
     Write(Output, u64),
     /// Memory ran out.
     Memory,

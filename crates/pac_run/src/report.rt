@@ -1,15 +1,17 @@
 //! The report of a run, three lines.
 
-ghost use Rattle.std.specs.Prelude.{◌≡◌, ◌^◌, ◌<◌, ◌≤◌, ℕ, List, length, OnOk, IfOk, IfErr};
+ghost use Rattle.std.specs.Prelude.{◌≡◌, ◌<◌, ℕ, List};
 ghost use Rattle.pac_cpu.specs.declared.once.Cause.TheVariants.{Opcode, Vector};
-ghost use Rattle.pac_out.specs.Writes.{StopsAfter, StopsBehind};
+ghost use Rattle.pac_out.specs.Counted.{Puts};
 ghost use Rattle.pac_run.specs.Texts as text;
 
 use crate::pieces::put_pieces;
 use itoa::Buffer;
 use pac_cpu::{Cause, Stop};
+use pac_out::counted::Counted;
 use pac_out::{Out, WriteFault};
 
+/// An upper-case hexadecimal digit.
 fn hex_digit(nibble: u8) -> u8
     requires { nibble < 16 }
     ensures { result ≡ text.hex_digit nibble }
@@ -21,6 +23,7 @@ fn hex_digit(nibble: u8) -> u8
     }
 }
 
+/// The two digits of a byte.
 #[tactic(auto, unfolding(crate::specs::Texts::hex_byte))]
 fn hex_byte(byte: u8) -> [u8; 2]
     ensures { result ≡ text.hex_byte byte }
@@ -28,6 +31,7 @@ fn hex_byte(byte: u8) -> [u8; 2]
     [hex_digit(byte / 16), hex_digit(byte % 16)]
 }
 
+/// The four digits of a word.
 #[tactic(auto, unfolding(crate::specs::Texts::hex_word))]
 fn hex_word(word: u16) -> [u8; 4]
     ensures { result ≡ text.hex_word word }
@@ -42,16 +46,13 @@ fn hex_word(word: u16) -> [u8; 4]
 
 /// The frames that were shown of those asked for, the steps and the T-states: two lines.
 fn put_counts<W: Out>(
-    output: &mut W,
+    output: &mut Counted<W>,
     shown: u32,
     total: u32,
     steps: u64,
     ticks: u64,
-) -> Result<u64, WriteFault>
-    ensures ok { OnOk result (W.took output.old (text.counts_text shown total steps ticks) output.new) }
-    ensures total { IfOk result (λ count. count ≡ length (text.counts_text shown total steps ticks)) }
-    ensures bound { IfOk result (λ count. count ≤ 1000) }
-    ensures err { IfErr result (λ fault. StopsBehind W.took W.refused 0 output.old (text.counts_text shown total steps ticks) fault.count output.new) }
+) -> Result<(), WriteFault>
+    ensures { Puts W.took W.refused output.old (text.counts_text shown total steps ticks) result output.new }
 {
     let mut shown_digits = Buffer::new();
     let mut total_digits = Buffer::new();
@@ -68,19 +69,16 @@ fn put_counts<W: Out>(
         tick_digits.format(ticks).as_bytes(),
         b"\n",
     ];
-    put_pieces(output, 0, &pieces)
+    put_pieces(output, &pieces)
 }
 
-/// The line of a stop at bytes that are no instruction, behind `count` bytes.
+/// The line of a stop at bytes that are no instruction.
 fn put_opcode_stop<W: Out>(
-    output: &mut W,
-    count: u64,
+    output: &mut Counted<W>,
     pc: u16,
     bytes: [u8; 4],
-) -> Result<u64, WriteFault>
-    requires { count < 2 ^ 32 }
-    ensures ok { OnOk result (W.took output.old (text.cause_text pc bytes Opcode) output.new) }
-    ensures err { IfErr result (λ fault. StopsBehind W.took W.refused count output.old (text.cause_text pc bytes Opcode) fault.count output.new) }
+) -> Result<(), WriteFault>
+    ensures { Puts W.took W.refused output.old (text.cause_text pc bytes Opcode) result output.new }
 {
     let pieces: [&[u8]; 11] = [
         b"stop S1 at ",
@@ -95,19 +93,12 @@ fn put_opcode_stop<W: Out>(
         &hex_byte(bytes[3]),
         b"\n",
     ];
-    put_pieces(output, count, &pieces)
+    put_pieces(output, &pieces)
 }
 
-/// The line of a stop at a vector byte that is no RST, behind `count` bytes.
-fn put_vector_stop<W: Out>(
-    output: &mut W,
-    count: u64,
-    pc: u16,
-    vector: u8,
-) -> Result<u64, WriteFault>
-    requires { count < 2 ^ 32 }
-    ensures ok { (bytes : List ℕ) → OnOk result (W.took output.old (text.cause_text pc bytes (Vector vector)) output.new) }
-    ensures err { (bytes : List ℕ) → IfErr result (λ fault. StopsBehind W.took W.refused count output.old (text.cause_text pc bytes (Vector vector)) fault.count output.new) }
+/// The line of a stop at a vector byte that is no RST.
+fn put_vector_stop<W: Out>(output: &mut Counted<W>, pc: u16, vector: u8) -> Result<(), WriteFault>
+    ensures { (bytes : List ℕ) → Puts W.took W.refused output.old (text.cause_text pc bytes (Vector vector)) result output.new }
 {
     let pieces: [&[u8]; 5] = [
         b"stop S2 at ",
@@ -116,50 +107,41 @@ fn put_vector_stop<W: Out>(
         &hex_byte(vector),
         b"\n",
     ];
-    put_pieces(output, count, &pieces)
+    put_pieces(output, &pieces)
 }
 
-/// What stopped the board, and where: one line, behind `count` bytes.
-fn put_stop<W: Out>(output: &mut W, count: u64, stop: Stop) -> Result<u64, WriteFault>
-    requires { count < 2 ^ 32 }
-    ensures ok { OnOk result (W.took output.old (text.cause_text stop.pc stop.bytes stop.cause) output.new) }
-    ensures err { IfErr result (λ fault. StopsBehind W.took W.refused count output.old (text.cause_text stop.pc stop.bytes stop.cause) fault.count output.new) }
+/// What stopped the board, and where: one line.
+fn put_stop<W: Out>(output: &mut Counted<W>, stop: Stop) -> Result<(), WriteFault>
+    ensures { Puts W.took W.refused output.old (text.cause_text stop.pc stop.bytes stop.cause) result output.new }
 {
     match stop.cause {
-        Cause::Opcode => put_opcode_stop(output, count, stop.pc, stop.bytes),
-        Cause::Vector(vector) => put_vector_stop(output, count, stop.pc, vector),
+        Cause::Opcode => put_opcode_stop(output, stop.pc, stop.bytes),
+        Cause::Vector(vector) => put_vector_stop(output, stop.pc, vector),
     }
 }
 
-/// How the run ended: one line, behind `count` bytes.
-fn put_end<W: Out>(output: &mut W, count: u64, stop: Option<Stop>) -> Result<u64, WriteFault>
-    requires { count < 2 ^ 32 }
-    ensures ok { OnOk result (W.took output.old (text.end_text stop) output.new) }
-    ensures err { IfErr result (λ fault. StopsBehind W.took W.refused count output.old (text.end_text stop) fault.count output.new) }
+/// How the run ended: one line.
+fn put_end<W: Out>(output: &mut Counted<W>, stop: Option<Stop>) -> Result<(), WriteFault>
+    ensures { Puts W.took W.refused output.old (text.end_text stop) result output.new }
 {
     match stop {
-        None => {
-            let pieces: [&[u8]; 1] = [b"end done\n"];
-            put_pieces(output, count, &pieces)
-        }
-        Some(stop) => put_stop(output, count, stop),
+        None => output.put(b"end done\n"),
+        Some(stop) => put_stop(output, stop),
     }
 }
 
 /// The report: the frames that were shown of those asked for, the steps and the time in T-states, and how the
 /// run ended.
 pub fn put_report<W: Out>(
-    output: &mut W,
+    output: &mut Counted<W>,
     shown: u32,
     total: u32,
     steps: u64,
     ticks: u64,
     stop: Option<Stop>,
 ) -> Result<(), WriteFault>
-    ensures ok { OnOk result (W.took output.old (text.report shown total steps ticks stop) output.new) }
-    ensures err { IfErr result (λ fault. StopsAfter W.took W.refused output.old (text.report shown total steps ticks stop) fault.count output.new) }
+    ensures { Puts W.took W.refused output.old (text.report shown total steps ticks stop) result output.new }
 {
-    let count = put_counts(output, shown, total, steps, ticks)?;
-    put_end(output, count, stop)?;
-    Ok(())
+    put_counts(output, shown, total, steps, ticks)?;
+    put_end(output, stop)
 }

@@ -1,11 +1,11 @@
 //! A run: the board from power-on to the last blank or a stop, its frames and its report.
 
-ghost use Rattle.std.specs.Prelude.{◌≡◌, ◌≤◌, ◌<◌, ◌+◌, ◌*◌, ◌/◌, ◌^◌, length, Some, OnOk, IfOk, IfErr};
-ghost use Rattle.pac_out.specs.Writes.{StopsAfter, StopsBehind};
-ghost use Rattle.pac_board.specs.Trace.{view_trace};
-ghost use Rattle.pac_board.specs.State.{behind, next_of, once_of, pictures_in, due_since, at_power_on};
+ghost use Rattle.std.specs.Prelude.{◌≡◌, ◌≤◌, ◌<◌, length, Some, IfOk};
+ghost use Rattle.pac_out.specs.Counted.{Puts};
+ghost use Rattle.pac_board.specs.Trace.{view_trace, tiles_size};
+ghost use Rattle.pac_board.specs.State.{state_after, next_of, once_of, pictures_in, due_since, at_power_on, latest};
 ghost use Rattle.pac_run.specs.Texts.{images};
-ghost use Rattle.pac_run.specs.Turns.{IsTurn, IsWithin, IsDone, switches};
+ghost use Rattle.pac_run.specs.Turns.{IsDone, switches, most_frames};
 ghost use Rattle.pac_run.specs.Run.{Makes, Runs};
 ghost use Rattle.pac_run.specs.declared.run.RunFault.TheVariants.{NoMemory};
 
@@ -14,6 +14,7 @@ use crate::report::put_report;
 use crate::source::{AsmError, AsmFault, assemble};
 use pac_board::{Board, TICKS_A_FRAME};
 use pac_cpu::{Once, Stop};
+use pac_out::counted::Counted;
 use pac_out::{Out, WriteFault};
 use std::alloc::{AllocError, Global};
 use std::fmt;
@@ -61,71 +62,54 @@ impl fmt::Display for Output {
 pub enum RunFault {
     /// The source has a fault; nothing was written.
     Source(AsmFault),
-    /// The writer of an output refused behind this count of its bytes.
+    /// The writer of an output refused after this count of its bytes.
     Write(Output, u64),
     /// Memory ran out; nothing was written.
     NoMemory,
 }
 
-/// What a turn of the run came to.
-pub(crate) enum Turn {
-    /// A step was done, and the frames' output has this count of bytes.
-    Stepped(u64),
-    /// The board stopped.
-    Stopped(Stop),
-}
-
-/// The image of the board's picture, where a frame ended since so many were shown, behind `count` bytes.
-fn show<W: Out>(board: &Board, shown: u64, output: &mut W, count: u64) -> Result<u64, WriteFault>
-    requires room { count < 2 ^ 63 }
-    ensures ok { OnOk result (W.took output.old (images (due_since shown board.now)) output.new) }
-    ensures total { IfOk result (λ total. total ≡ count + length (images (due_since shown board.now))) }
-    ensures bound { IfOk result (λ total. shown ≤ board.now.now.time / 50688 → total + 193551 * shown ≤ count + 193551 * (board.now.now.time / 50688)) }
-    ensures err { IfErr result (λ fault. StopsBehind W.took W.refused count output.old (images (due_since shown board.now)) fault.count output.new) }
+/// The image of the board's picture, where a frame ended since so many were shown.
+fn show<W: Out>(board: &Board, shown: u64, output: &mut Counted<W>) -> Result<(), WriteFault>
+    ensures { Puts W.took W.refused output.old (images (due_since shown board.now)) result output.new }
 {
     if shown < board.frames() {
-        put_image(output, count, board.tiles(), board.tile_ram())
+        put_image(output, board.tiles(), board.tile_ram())
     } else {
-        Ok(count)
+        Ok(())
     }
 }
 
-/// One step of the board, and the image of the frame that it ended, behind `count` bytes.
-fn take_turn<W: Out>(board: &mut Board, output: &mut W, count: u64) -> Result<Turn, WriteFault>
-    requires early { board.old.now.time < 2 ^ 52 }
-    requires room { count < 2 ^ 63 }
-    ensures board { board.new ≡ behind (next_of board.old) board.old }
-    ensures turn { IfOk result (IsTurn W.took output.old output.new count (pictures_in (next_of board.old)) (once_of (next_of board.old) board.old)) }
-    ensures bound { IfOk result (IsWithin count (board.old.now.time / 50688) (board.new.now.time / 50688)) }
-    ensures err { IfErr result (λ fault. StopsBehind W.took W.refused count output.old (images (pictures_in (next_of board.old))) fault.count output.new) }
+/// One step of the board, and the image of the frame that it ended.
+fn take_step<W: Out>(board: &mut Board, output: &mut Counted<W>) -> Result<Once, WriteFault>
+    requires { board.old.now.time < latest }
+    ensures board { board.new ≡ state_after (next_of board.old) board.old }
+    ensures once { IfOk result (λ once. once ≡ once_of (next_of board.old) board.old) }
+    ensures output { Puts W.took W.refused output.old (images (pictures_in (next_of board.old))) result output.new }
 {
     let shown = board.frames();
-    match board.step_once() {
-        Ok(Once::Stepped { .. }) => Ok(Turn::Stepped(show(board, shown, output, count)?)),
-        Ok(Once::Stopped(stop)) => Ok(Turn::Stopped(stop)),
-        Err(_) => unreachable!(),
-    }
+    let Ok(once) = board.step_once() else {
+        unreachable!();
+    };
+    show(board, shown, output)?;
+    Ok(once)
 }
 
 /// Runs the board from power-on to the end of its frames or to a stop, and writes each frame's image as its
 /// blank comes. Answers the stop, if there was one.
-pub(crate) fn run_frames<W: Out>(
+fn run_frames<W: Out>(
     board: &mut Board,
     frames: u32,
-    output: &mut W,
+    output: &mut Counted<W>,
 ) -> Result<Option<Stop>, WriteFault>
-    requires frames { frames ≤ 15 }
+    requires frames { frames ≤ most_frames }
     requires start { board.old ≡ at_power_on board.old.roms switches }
-    ensures done { IfOk result (IsDone W.took board.old board.new frames output.old output.new) }
-    ensures shown { OnOk result (board.new.now.time / 50688 ≤ 15) }
-    ensures err { IfErr result (λ fault. StopsAfter W.took W.refused output.old (images (view_trace board.old.roms switches frames).pictures) fault.count output.new) }
+    ensures done { IfOk result (IsDone board.old board.new frames) }
+    ensures output { Puts W.took W.refused output.old (images (view_trace board.old.roms switches frames).pictures) result output.new }
 {
     let limit = TICKS_A_FRAME * u64::from(frames);
-    let mut count = 0;
     while board.time() < limit {
-        match take_turn(board, output, count)? {
-            Turn::Stepped(total) => count = total,
-            Turn::Stopped(stop) => return Ok(Some(stop)),
+        if let Once::Stopped(stop) = take_step(board, output)? {
+            return Ok(Some(stop));
         }
     }
     Ok(None)
@@ -141,7 +125,7 @@ impl From<AllocError> for RunFault {
 
 /// The board of a source and of a tile ROM's 4,096 bytes.
 fn make_board(alloc: Global, source: &[u8], tiles: &[u8]) -> Result<Board, RunFault>
-    requires { length tiles.now ≡ 4096 }
+    requires { length tiles.now ≡ tiles_size }
     ensures { Makes source.now tiles.now result }
 {
     let program = match assemble(alloc, source) {
@@ -155,7 +139,7 @@ fn make_board(alloc: Global, source: &[u8], tiles: &[u8]) -> Result<Board, RunFa
 }
 
 /// Runs a source on the board with a tile ROM of 4,096 bytes, for 1 to 15 frames or to a stop: to one output
-/// go the images of the frames whose vertical blank came, as binary PPM one behind another, to the other the
+/// go the images of the frames whose vertical blank came, as binary PPM one after another, to the other the
 /// report. The source is judged and all memory is found before anything is written.
 pub fn run_first<F: Out, R: Out>(
     alloc: Global,
@@ -165,13 +149,13 @@ pub fn run_first<F: Out, R: Out>(
     frames: &mut F,
     report: &mut R,
 ) -> Result<Outcome, RunFault>
-    requires tiles { length tiles.now ≡ 4096 }
+    requires tiles { length tiles.now ≡ tiles_size }
     requires at_least { 1 ≤ n }
-    requires at_most { n ≤ 15 }
+    requires at_most { n ≤ most_frames }
     ensures { Runs F.took F.refused R.took R.refused source.now tiles.now n frames.old frames.new report.old report.new result }
 {
     let mut board = make_board(alloc, source, tiles)?;
-    let stop = match run_frames(&mut board, n, frames) {
+    let stop = match run_frames(&mut board, n, &mut Counted::new(frames)) {
         Ok(stop) => stop,
         Err(fault) => return Err(RunFault::Write(Output::Frames, fault.count)),
     };
@@ -182,7 +166,7 @@ pub fn run_first<F: Out, R: Out>(
         stop,
     };
     match put_report(
-        report,
+        &mut Counted::new(report),
         outcome.frames,
         n,
         outcome.steps,

@@ -1,5 +1,6 @@
 //! The source of the first path: five operations with plain numbers become items and a ROM.
 
+ghost use Rattle.pac_code.specs.Items.{AllLie};
 ghost use Rattle.pac_run.specs.Source as spec;
 ghost use Rattle.pac_run.specs.SourceResults as answer;
 ghost use Rattle.pac_run.specs.declared.source.AsmError.TheVariants.{Memory};
@@ -9,8 +10,6 @@ ghost use Rattle.std.specs.Str.Lines.{lines};
 mod forms;
 mod lines;
 mod statement;
-#[cfg(test)]
-mod tests;
 mod tokens;
 
 use lines::{first_line, has_too_many_lines};
@@ -107,12 +106,12 @@ impl<T: Drop> From<AllocFailed<T>> for AsmError {
 /// The program of a source, or its first fault.
 ///
 /// Lines end at LF, and one CR before it is dropped. A line is empty but for blanks and a comment
-/// behind `;`, or one of `NOP`, `LD A,n`, `LD (nn),A`, `JP nn` and `HALT` in either case; numbers are
+/// after `;`, or one of `NOP`, `LD A,n`, `LD (nn),A`, `JP nn` and `HALT` in either case; numbers are
 /// decimal, or hexadecimal with an H, n to 255 and nn to 65,535. Every other line is A2, bytes past
 /// 3FFFH are A5, and more than 65,535 lines A7 at line 65,536, before all others.
 pub fn assemble(alloc: Global, source: &[u8]) -> Result<Program, AsmError>
     ensures exact { MatchResult result (answer.IsProgram source.now) (answer.IsRefusal source.now) }
-    ensures held { IfOk result (λ program. spec.AreHeld program.rom.items (answer.items program)) }
+    ensures lie { IfOk result (λ program. AllLie program.rom.items (answer.items program)) }
 {
     if has_too_many_lines(source) {
         return Err(fault(AsmCode::TooManyLines, MOST_LINES + 1));
@@ -143,7 +142,7 @@ fn read_items(alloc: Global, source: &[u8]) -> Result<Program, AsmError>
 }
 
 impl Program {
-    /// Puts what the line of a number says behind the items so far.
+    /// Puts what the line of a number says after the items so far.
     fn place(&mut self, statement: Statement, number: u32) -> Result<(), AsmError>
         requires { length self.old.rom.items ≤ spec.rom_size }
         ensures { MatchResult result (λ _. answer.Adds self.old self.new number statement)

@@ -29,7 +29,7 @@ fn without_return(line: &[u8]) -> &[u8]
     ensures { result.now ≡ strip_carriage_return line.now }
 {
     match line {
-        [front @ .., b'\r'] => front,
+        [before @ .., b'\r'] => before,
         _ => line,
     }
 }

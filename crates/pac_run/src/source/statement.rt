@@ -31,18 +31,18 @@ pub fn read_line(line: &[u8]) -> Statement
     }
     match next_token(line) {
         None => Statement::Blank,
-        Some((Token::Word(name), rest)) => behind_name(name, rest),
+        Some((Token::Word(name), rest)) => after_name(name, rest),
         Some(_) => Statement::Unreadable,
     }
 }
 
 /// What a line says that begins with a name.
-fn behind_name(name: &[u8], rest: &[u8]) -> Statement
+fn after_name(name: &[u8], rest: &[u8]) -> Statement
     ensures { result ≡ spec.statement (tokens.Word name.now ∷ tokens.tokens rest.now) }
 {
     match next_token(rest) {
         None => bare(name),
-        Some((Token::Word(first), rest)) => behind_word(name, first, rest),
+        Some((Token::Word(first), rest)) => after_word(name, first, rest),
         Some((Token::Open, rest)) => store(name, rest),
         Some(_) => Statement::Unreadable,
     }
@@ -62,7 +62,7 @@ fn bare(name: &[u8]) -> Statement
 }
 
 /// What a line says that begins with a name and a word.
-fn behind_word(name: &[u8], first: &[u8], rest: &[u8]) -> Statement
+fn after_word(name: &[u8], first: &[u8], rest: &[u8]) -> Statement
     ensures { result ≡ spec.statement (tokens.Word name.now ∷ tokens.Word first.now ∷ tokens.tokens rest.now) }
 {
     match next_token(rest) {
@@ -135,7 +135,7 @@ fn only_word(line: &[u8]) -> Option<&[u8]>
     }
 }
 
-/// The word of a memory operand behind its parenthesis, and what follows the comma behind it.
+/// The word of a memory operand after its parenthesis, and what follows the comma after it.
 fn memory_word(line: &[u8]) -> Option<(&[u8], &[u8])>
     ensures { MatchOption result (parts.memory_word (tokens.tokens line.now) ≡ None)
         (λ found. parts.memory_word (tokens.tokens line.now) ≡ Some (found.0.now, tokens.tokens found.1.now)) }

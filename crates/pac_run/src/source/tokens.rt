@@ -27,11 +27,11 @@ pub fn next_token(line: &[u8]) -> Option<(Token<'_>, &[u8])>
         (λ next. spec.tokens line.now ≡ token next.0 ∷ spec.tokens next.1.now) }
 {
     let start = first_character(line)?;
-    token_at_front(&line[start..])
+    token_at_start(&line[start..])
 }
 
 /// The same of a line that begins with no blank.
-fn token_at_front(line: &[u8]) -> Option<(Token<'_>, &[u8])>
+fn token_at_start(line: &[u8]) -> Option<(Token<'_>, &[u8])>
     requires some { 0 < length line.now }
     requires no_blank { spec.is_blank (slice_index line.now 0) ≡ false }
     ensures { MatchOption result (spec.tokens line.now ≡ [])
@@ -89,7 +89,7 @@ pub fn number(word: &[u8], limit: u16) -> Option<u16>
         return None;
     }
     match word {
-        [front @ .., b'H' | b'h'] => digits(front, 16, limit),
+        [prefix @ .., b'H' | b'h'] => digits(prefix, 16, limit),
         _ => digits(word, 10, limit),
     }
 }

@@ -1,9 +1,7 @@
-use Rattle.std.proofs.Common.{◌≡◌, ◌+◌, take, length}
+use Rattle.std.proofs.Common.{take}
 use Rattle.std.specs.List.{flat_map}
+use Rattle.pac_out.specs.Counted.{Takes}
 use Rattle.pac_run.proofs.pieces.put_pieces.Given as goal
 
 abbrev pub invariant-loop-piece : goal.invariant-loop-piece
-invariant-loop-piece g l = record {
-  taken : g.W.Out.took l.fn.output (flat_map (λ piece. piece.now) (take l.piece-index l.pieces)) l.output;
-  counted : l.total ≡ l.count + length (flat_map (λ piece. piece.now) (take l.piece-index l.pieces));
-}
+invariant-loop-piece g l = Takes g.W.Out.took l.fn.output (flat_map (λ piece. piece.now) (take l.piece-index l.pieces)) l.output

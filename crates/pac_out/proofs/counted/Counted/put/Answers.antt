@@ -1,9 +1,25 @@
-use Rattle.std.proofs.Common.{refl, sym}
+use Rattle.std.proofs.Common.{refl, arith, length-append}
+use Rattle.pac_out.proofs.Files.{stops-after}
 use Rattle.pac_out.proofs.counted.Counted.put.Goals as goal
 
-pub returns-in-Err-clause-err : goal.returns-in-Err-clause-err
-returns-in-Err-clause-err g c =
-    λ start text taken. record {
-      stopped = c.in-Err.ensures.err start text taken.written (sym taken.counted);
-      closed = refl;
+pub returns-in-Ok-clause-put : goal.returns-in-Ok-clause-put
+returns-in-Ok-clause-put g c =
+    record {
+      after = λ start text taken. record {
+        written = g.met.W.Out.joined _ _ _ _ _ taken.written c.in-Ok.ensures.ok;
+        count_is = rw length-append (omega (arith, taken.count_is, c.saturating_add-self.ensures));
+        open_yet = taken.open_yet;
+      };
+    }
+
+pub returns-in-Err-clause-put : goal.returns-in-Err-clause-put
+returns-in-Err-clause-put g c =
+    record {
+      told = refl;
+      after = λ start text taken. record {
+        taken = _;
+        stopped = stops-after g.met.W.Out.joined taken.written c.in-Err.ensures.err;
+        count_is = omega (arith, taken.count_is, c.saturating_add-self-in-Err.ensures);
+        closed = refl;
+      };
     }

@@ -13,5 +13,6 @@ pub returns-in-None-clause-line : goal.returns-in-None-clause-line
 returns-in-None-clause-line c =
     let source = c.args.source.now in
     let first = never_ended source c.requires (sym c.line_end.ensures ∙ c.in-None.is) in
-    let none : take (length source - length source) (drop (length source) source) ≡ [] = take_rest source (length source) ∙ drop_all (length source) source (omega arith) in
+    let none : take (length source - length source) (drop (length source) source) ≡ [] = take_rest source (length source)
+    ∙ drop_all (length source) source (omega arith) in
     first ∙ ap (λ (rest : List ℕ). source ∷ lines rest) (sym none)

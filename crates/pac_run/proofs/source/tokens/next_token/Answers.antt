@@ -8,8 +8,8 @@ use Rattle.pac_run.proofs.source.tokens.next_token.Goals as goal
 pub returns-in_err-start : goal.returns-in_err-start
 returns-in_err-start c = rw c.from_residual.ensures (only_blanks c.args.line.now (sym c.first_character.ensures ∙ c.in_err-start.was))
 
-pub token_at_front-requires-clause-no_blank : goal.token_at_front-requires-clause-no_blank
-token_at_front-requires-clause-no_blank c =
+pub token_at_start-requires-clause-no_blank : goal.token_at_start-requires-clause-no_blank
+token_at_start-requires-clause-no_blank c =
     let first = first_place c.args.line.now c.in_ok-start.start (sym c.first_character.ensures ∙ c.in_ok-start.was) in
     rw (take_rest c.args.line.now c.in_ok-start.start, get_or-drop, add-zero) first.no_blank
 
@@ -17,4 +17,5 @@ pub returns : goal.returns
 returns c =
     let first = first_place c.args.line.now c.in_ok-start.start (sym c.first_character.ensures ∙ c.in_ok-start.was) in
     let same = first.same ∙ sym (ap tokens (take_rest c.args.line.now c.in_ok-start.start)) in
-    subst (λ (ts : List Token). MatchOption c.token_at_front.result (ts ≡ []) (λ next. ts ≡ token next.0 ∷ tokens next.1.now)) (sym same) c.token_at_front.ensures
+    subst (λ (ts : List Token). MatchOption c.token_at_start.result (ts ≡ []) (λ next. ts ≡ token next.0 ∷ tokens next.1.now))
+    (sym same) c.token_at_start.ensures

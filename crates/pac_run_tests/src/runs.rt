@@ -1,12 +1,12 @@
 //! Runs whose numbers follow from UM0080's T-states (NOP and a halted step 4, LD A,n 7, LD (nn),A 13, JP nn 10) and
 //! from a frame's 50,688; pictures by the schematics' places of the tiles.
 
-use crate::run::{Outcome, Output, RunFault, run_first};
-use crate::scarce::Hoard;
-use crate::source::{AsmCode, AsmFault};
 use pac_out::Out;
 use pac_out::faulty::Faulty;
 use pac_out::memory::Memory;
+use pac_run::run::{Outcome, Output, RunFault, run_first};
+use pac_run::source::{AsmCode, AsmFault};
+use pac_scarce::Hoard;
 use std::alloc::Global;
 use std::process::Abort;
 use std::test::Fail;

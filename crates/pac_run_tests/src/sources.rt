@@ -1,7 +1,10 @@
-use super::{AsmCode, AsmError, AsmFault, assemble};
+//! Sources of the five operations: their items and bytes, the lines that are refused, and the least fault.
+
+use pac_run::source::{AsmCode, AsmError, AsmFault, assemble};
 use std::alloc::{AllocError, Global};
 use std::io;
 
+/// The fault of a source, where it has one.
 fn fault_of(alloc: Global, source: &[u8]) -> Option<AsmFault> {
     match assemble(alloc, source) {
         Err(AsmError::Fault(fault)) => Some(fault),
@@ -9,6 +12,7 @@ fn fault_of(alloc: Global, source: &[u8]) -> Option<AsmFault> {
     }
 }
 
+/// A line so many times.
 fn repeated(alloc: Global, line: &[u8], count: u32) -> Result<Vec<u8>, AllocError> {
     let mut source = Vec::new(alloc);
     for _ in 0..count {

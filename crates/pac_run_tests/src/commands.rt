@@ -2,11 +2,11 @@
 
 ghost use Rattle.std.specs.Prelude.{◌≤◌, length, IfOk};
 
-use super::run_words;
-use crate::scarce::Hoard;
 use arrayvec::ArrayString;
 use pac_out::Out;
 use pac_out::memory::Memory;
+use pac_run::program::run_words;
+use pac_scarce::Hoard;
 use std::alloc::{AllocError, Global};
 use std::cell::RefCell;
 use std::fmt::{Display, Write};
@@ -23,7 +23,7 @@ struct Console {
     error: RefCell<Memory>,
 }
 
-/// Adds a front of the bytes.
+/// Adds a prefix of the bytes.
 fn add(kept: &RefCell<Memory>, bytes: &[u8]) -> io::Result<usize>
     ensures { IfOk result (λ count. count ≤ length bytes.now) }
 {
@@ -108,6 +108,7 @@ fn words_of(alloc: Global, line: &str) -> Result<Vec<String>, AllocError> {
     Ok(words)
 }
 
+/// Lays a file into a folder.
 fn lay(rt: &(impl Files + AllocGlobal), folder: &str, name: &str, bytes: &[u8]) -> io::Result<()> {
     let path = format!(in rt.alloc(); "{folder}/{name}")?;
     fs::write(rt, path.as_str(), bytes)

@@ -1,0 +1,113 @@
+-- What a file took, and where it stopped, in a text that is put together of parts.
+use Rattle.std.proofs.Common.{◌≡◌, ℕ, ◌+◌, ◌^◌, ◌<◌, ◌≤◌, List, [], ◌++◌, length, sym, subst, ◌∙◌, append_assoc, append-nil, length-append}
+use Rattle.std.proofs.Common.{arith}
+use Rattle.std.proofs.Math.Seq.{take-append-add}
+use Rattle.std.proofs.lemmas.List.{take-append-le}
+use Rattle.pac_out.specs.declared.counted.Counted.{Counted}
+use Rattle.pac_out.specs.declared.WriteFault.{WriteFault}
+use Rattle.pac_out.specs.Counted.{HasTaken, HasStopped, Takes, Refuses}
+use Rattle.std.specs.Borrow.{MutBor}
+use Rattle.pac_out.specs.Writes.{StopsAfter, lent_took, lent_refused}
+
+-- taking some bytes and then others is taking all of them
+abbrev pub Joins : {W : Type 0} → (W → List ℕ → W → Type 0) → Type 0
+Joins took = (first second third : _) (prefix suffix : List ℕ) → took first prefix second → took second suffix third
+    → took first (prefix ++ suffix) third
+
+-- A writer that took a text and then stopped in some bytes stopped in the text with those bytes.
+pub stops-after : {W : Type 0} {took : W → List ℕ → W → Type 0} {refused : W → W → Type 0} → Joins took
+    → {start old new : W} {text bytes : List ℕ} {count : ℕ}
+    → took start text old → StopsAfter took refused old bytes count new
+    → StopsAfter took refused start (text ++ bytes) (length text + count) new
+stops-after joined taken stop =
+    record {
+      some_left = let left = stop.some_left in rw length-append (omega arith);
+      asked = stop.asked;
+      before = rw take-append-add (joined _ _ _ _ _ taken stop.before);
+      refusal = stop.refusal;
+    }
+
+-- A writer that stopped in a text stopped in each longer one.
+pub stops-within : {W : Type 0} {took : W → List ℕ → W → Type 0} {refused : W → W → Type 0} {start new : W} {text : List ℕ} {count : ℕ}
+    → StopsAfter took refused start text count new → (more : List ℕ) → StopsAfter took refused start (text ++ more) count new
+stops-within {text = text} {count = count} stop more =
+    record {
+      some_left = let left = stop.some_left in rw length-append (omega arith);
+      asked = stop.asked;
+      before = let left = stop.some_left in let inside : count ≤ length text = omega (arith, left) in rw take-append-le stop.before;
+      refusal = stop.refusal;
+    }
+
+module _ {W : Type 0} {took : W → List ℕ → W → Type 0} where
+  -- nothing was put
+  pub takes-nothing : (file : Counted W) → Takes took file [] file
+  takes-nothing file = record {
+    after = λ start text taken. subst (λ (all : List ℕ). HasTaken took start all file)
+        (sym (append-nil text)) taken;
+  }
+
+  -- some bytes, and then others
+  pub takes-joined : {old mid new : Counted W} {one other : List ℕ} → Takes took old one mid → Takes took mid other new
+      → Takes took old (one ++ other) new
+  takes-joined {new = new} {one = one} {other = other} first second =
+      record {
+        after = λ start text taken. subst (λ (all : List ℕ). HasTaken took start all new) (append_assoc text one other)
+            (second.after start (text ++ one) (first.after start text taken));
+      }
+
+  module _ {refused : W → W → Type 0} where
+    -- a refusal after some bytes
+    pub refuses-after : {old mid new : Counted W} {one other : List ℕ} {fault : WriteFault} → Takes took old one mid
+        → Refuses took refused mid other fault new
+        → Refuses took refused old (one ++ other) fault new
+    refuses-after {new = new} {one = one} {other = other} first second =
+        record {
+          told = second.told;
+          after = λ start text taken. subst (λ (all : List ℕ). HasStopped took refused start all new) (append_assoc text one other)
+              (second.after start (text ++ one) (first.after start text taken));
+        }
+
+    -- a refusal within a longer text
+    pub refuses-within : {old new : Counted W} {bytes : List ℕ} {fault : WriteFault} → Refuses took refused old bytes fault new
+        → (more : List ℕ)
+        → Refuses took refused old (bytes ++ more) fault new
+    refuses-within {new = new} {bytes = bytes} stop more =
+        record {
+          told = stop.told;
+          after = λ start text taken. let stopped = stop.after start text taken in
+              subst (λ (all : List ℕ). HasStopped took refused start all new) (append_assoc text bytes more)
+              (record {
+                taken = stopped.taken;
+                stopped = stops-within stopped.stopped more;
+                count_is = stopped.count_is;
+                closed = stopped.closed;
+              });
+        }
+
+    -- a new file that refused within a text of fewer than 2^64 bytes: the fault's count is exact
+    pub refuses-exactly : {file new : Counted W} {start : W} {text : List ℕ} {fault : WriteFault} → HasTaken took start [] file
+        → Refuses took refused file text fault new
+        → length text < 2 ^ 64 → StopsAfter took refused start text fault.count new.writer
+    refuses-exactly {file = file} {new = new} {start = start} {text = text} {fault = fault} fresh stop short =
+        let stopped = stop.after start [] fresh in
+        let inside = stopped.stopped.some_left in
+        let exact : stopped.taken ≡ fault.count = omega (arith, stopped.count_is, stop.told, inside, short) in
+        subst (λ (count : ℕ). StopsAfter took refused start text count new.writer) exact stopped.stopped
+
+-- A new file over a writer that is lent, and that writer when the loan ends: what it took, and where it stopped.
+module _ {W : Type 0} (took : W → List ℕ → W → Type 0) {owner : MutBor W} {file new : Counted (MutBor W)} {text : List ℕ} {left : W} where
+  pub lent-takes : HasTaken (lent_took took) owner [] file → Takes (lent_took took) file text new
+      → (owner.ghost_name ≡ new.writer.ghost_name → left ≡ new.writer.now)
+      → took owner.now text left
+  lent-takes fresh takes ends =
+      let written = (takes.after owner [] fresh).written in
+      rw (ends (sym written.0)) written.1
+
+  pub lent-refuses : (refused : W → W → Type 0) {fault : WriteFault} → HasTaken (lent_took took) owner [] file
+      → Refuses (lent_took took) (lent_refused refused) file text fault new → length text < 2 ^ 64
+      → (owner.ghost_name ≡ new.writer.ghost_name → left ≡ new.writer.now)
+      → StopsAfter took refused owner.now text fault.count left
+  lent-refuses refused fresh refuses short ends =
+      let stop = refuses-exactly fresh refuses short in
+      let same = ends (sym stop.before.0 ∙ sym stop.refusal.0) in
+      record { some_left = stop.some_left; asked = stop.asked.now; before = stop.before.1; refusal = rw same stop.refusal.1 }
