@@ -105,9 +105,9 @@ pub struct Block {
     pub repeats: bool,
 }
 
-/// What an instruction does (UM0080, "Z80 Instruction Description").
+/// What an instruction does to the processor's states (UM0080, "General-Purpose Arithmetic and CPU Control Groups").
 #[derive(Clone, Copy)]
-pub enum Effect {
+pub enum Control {
     /// NOP.
     Nop,
     /// HALT.
@@ -118,12 +118,22 @@ pub enum Effect {
     EnableInterrupts,
     /// IM.
     SetInterruptMode(InterruptMode),
+}
+
+/// What a load of a byte does (UM0080, "8-Bit Load Group").
+#[derive(Clone, Copy)]
+pub enum ByteLoad {
     /// LD of a byte: where it goes, then where it comes from. No flag changes.
     Load(Place, Place),
     /// LD A,I and LD A,R, which set flags.
     LoadFromSpecial(Special),
     /// LD I,A and LD R,A.
     LoadSpecial(Special),
+}
+
+/// What a load of a word does, and the stack (UM0080, "16-Bit Load Group").
+#[derive(Clone, Copy)]
+pub enum WordLoad {
     /// LD dd,nn.
     LoadPair(Pair),
     /// LD dd,(nn).
@@ -136,14 +146,25 @@ pub enum Effect {
     Push(Pair),
     /// POP.
     Pop(Pair),
+}
+
+/// What is exchanged (UM0080, "Exchange, Block Transfer, and Search Group").
+#[derive(Clone, Copy)]
+pub enum Exchange {
     /// EX DE,HL.
-    ExchangeDeHl,
+    DeHl,
     /// EX AF,AF'.
-    ExchangeAf,
+    Af,
     /// EXX.
-    ExchangeBanks,
+    Banks,
     /// EX (SP),HL.
-    ExchangeStackTop(Pair),
+    StackTop(Pair),
+}
+
+/// What is done with a byte (UM0080, "8-Bit Arithmetic Group" and "General-Purpose Arithmetic and CPU Control
+/// Groups").
+#[derive(Clone, Copy)]
+pub enum ByteArithmetic {
     /// ADD, ADC, SUB, SBC, AND, XOR, OR or CP, by the first field, of A and a place.
     Alu(Place),
     /// INC of a byte.
@@ -160,20 +181,11 @@ pub enum Effect {
     SetCarry,
     /// CCF.
     ComplementCarry,
-    /// RLCA, RRCA, RLA, RRA.
-    RotateAccumulator(Rotation),
-    /// RLC, RRC, RL, RR, SLA, SRA or SRL, by the first field.
-    Shift(Place),
-    /// BIT; the first field is the bit's number.
-    TestBit(Place),
-    /// RES; the first field is the bit's number.
-    ResetBit(Place),
-    /// SET; the first field is the bit's number.
-    SetBit(Place),
-    /// RLD.
-    RotateDigitLeft,
-    /// RRD.
-    RotateDigitRight,
+}
+
+/// What is done with a word (UM0080, "16-Bit Arithmetic Group").
+#[derive(Clone, Copy)]
+pub enum WordArithmetic {
     /// ADD HL,ss and ADD IX,pp: the pair that grows by the pair in the first field, where 2 is that
     /// same pair.
     AddPair(Pair),
@@ -185,22 +197,56 @@ pub enum Effect {
     IncrementPair(Pair),
     /// DEC of a pair.
     DecrementPair(Pair),
+}
+
+/// How bits go round or along (UM0080, "Rotate and Shift Group").
+#[derive(Clone, Copy)]
+pub enum RotateAndShift {
+    /// RLCA, RRCA, RLA, RRA.
+    RotateAccumulator(Rotation),
+    /// RLC, RRC, RL, RR, SLA, SRA or SRL, by the first field.
+    Shift(Place),
+    /// RLD.
+    RotateDigitLeft,
+    /// RRD.
+    RotateDigitRight,
+}
+
+/// What is done with a bit (UM0080, "Bit Set, Reset, and Test Group"); the first field is its number.
+#[derive(Clone, Copy)]
+pub enum BitOperation {
+    /// BIT; the first field is the bit's number.
+    Test(Place),
+    /// RES; the first field is the bit's number.
+    Reset(Place),
+    /// SET; the first field is the bit's number.
+    Set(Place),
+}
+
+/// Where a jump goes (UM0080, "Jump Group").
+#[derive(Clone, Copy)]
+pub enum Jump {
     /// JP nn.
-    Jump,
+    Absolute,
     /// JP cc,nn.
-    JumpIf,
+    If,
     /// JP (HL).
-    JumpToPair(Pair),
+    ToPair(Pair),
     /// JR e.
-    JumpRelative,
+    Relative,
     /// JR cc,e.
-    JumpRelativeIf,
+    RelativeIf,
     /// DJNZ e.
     DecrementAndJump,
+}
+
+/// What a call or a return does (UM0080, "Call and Return Group").
+#[derive(Clone, Copy)]
+pub enum Call {
     /// CALL nn.
-    Call,
+    Always,
     /// CALL cc,nn.
-    CallIf,
+    If,
     /// RET.
     Return,
     /// RET cc.
@@ -211,6 +257,11 @@ pub enum Effect {
     ReturnFromNonMaskable,
     /// RST.
     Restart,
+}
+
+/// What goes in or out through a port (UM0080, "Input and Output Group"), a byte at a time.
+#[derive(Clone, Copy)]
+pub enum Port {
     /// IN A,(n).
     InputByte,
     /// OUT (n),A.
@@ -219,6 +270,33 @@ pub enum Effect {
     Input,
     /// OUT (C),r, with the register in the first field.
     Output,
+}
+
+/// What an instruction does (UM0080, "Z80 Instruction Description"), by the manual's groups.
+#[derive(Clone, Copy)]
+pub enum Effect {
+    /// A processor's state.
+    Control(Control),
+    /// A load of a byte.
+    ByteLoad(ByteLoad),
+    /// A load of a word, PUSH or POP.
+    WordLoad(WordLoad),
+    /// An exchange.
+    Exchange(Exchange),
     /// LDI, CPI, INI, OUTI and their kin.
     Block(Block),
+    /// Arithmetic of a byte.
+    ByteArithmetic(ByteArithmetic),
+    /// Arithmetic of a word.
+    WordArithmetic(WordArithmetic),
+    /// A rotation or a shift.
+    RotateAndShift(RotateAndShift),
+    /// BIT, RES or SET.
+    BitOperation(BitOperation),
+    /// A jump.
+    Jump(Jump),
+    /// A call, a return or a restart.
+    Call(Call),
+    /// Input or output of a byte.
+    Port(Port),
 }

@@ -13,7 +13,9 @@ mod patterns;
 mod table;
 
 pub use effects::{
-    Block, BlockOperation, Direction, Effect, InterruptMode, Pair, Place, Rotation, Special,
+    BitOperation, Block, BlockOperation, ByteArithmetic, ByteLoad, Call, Control, Direction,
+    Effect, Exchange, InterruptMode, Jump, Pair, Place, Port, RotateAndShift, Rotation, Special,
+    WordArithmetic, WordLoad,
 };
 pub use instruction::Instr;
 pub use operands::{Mnemonic, Operands, Shape};
