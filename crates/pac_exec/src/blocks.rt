@@ -51,6 +51,7 @@ fn compare<B: Bus>(direction: Direction, regs: &mut Regs, bus: &B) -> bool
 
 /// Counts a byte between HL's cell and a port, and moves HL; whether another one follows where the
 /// instruction repeats.
+#[inline]
 fn count_byte(direction: Direction, regs: &mut Regs) -> bool
     ensures regs { regs.new ≡ (blocks.byte_passed direction [] regs.old).regs }
     ensures goes_on { result ≡ (blocks.byte_passed direction [] regs.old).goes_on }

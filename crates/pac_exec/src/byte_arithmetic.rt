@@ -11,6 +11,7 @@ use pac_bus::Bus;
 use pac_table::{Instr, Place};
 
 /// Puts what an operation leaves into A and F; the instruction's time.
+#[inline]
 pub fn put_in_accumulator(outcome: Outcome, instr: &Instr, regs: &mut Regs) -> u8
     ensures { DidInRegisters (in_accumulator outcome instr.now regs.old) regs.new result }
 {

@@ -20,6 +20,7 @@ pub fn meets_condition(instr: &Instr, regs: &Regs) -> bool
 }
 
 /// JP nn.
+#[inline]
 pub fn jump(instr: &Instr, regs: &mut Regs) -> u8
     ensures { DidInRegisters (jump_transition instr.now regs.old) regs.new result }
 {

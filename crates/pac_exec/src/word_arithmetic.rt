@@ -24,6 +24,7 @@ fn addend_of(pair: Pair, instr: &Instr, regs: &Regs) -> u16
 }
 
 /// Puts what an operation leaves into a pair and F; the instruction's time.
+#[inline]
 fn put_in_pair(outcome: WordOutcome, pair: Pair, instr: &Instr, regs: &mut Regs) -> u8
     ensures { DidInRegisters (in_pair outcome pair instr.now regs.old) regs.new result }
 {
