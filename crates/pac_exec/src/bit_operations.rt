@@ -1,7 +1,7 @@
 //! Single bits of registers and cells (UM0080, "Bit Set, Reset, and Test Group"). Each gives its time in
 //! T-states.
 
-ghost use Rattle.pac_exec.specs.BitOperations.{test_bit_transition, reset_bit_transition, set_bit_transition};
+ghost use Rattle.pac_exec.specs.BitOperations.{bit_operation_effect, test_bit_transition, reset_bit_transition, set_bit_transition};
 ghost use Rattle.pac_exec.specs.Transition.{Did, DidInRegisters};
 
 use crate::places::{get, put_byte};
@@ -10,7 +10,7 @@ use pac_bus::Bus;
 use pac_table::{Instr, Place};
 
 /// BIT.
-pub fn test_bit<B: Bus>(place: Place, instr: &Instr, regs: &mut Regs, bus: &B) -> u8
+fn test_bit<B: Bus>(place: Place, instr: &Instr, regs: &mut Regs, bus: &B) -> u8
     ensures { DidInRegisters (test_bit_transition place instr.now regs.old (B.byte_at bus.now)) regs.new result }
 {
     let byte = get(place, instr, regs, bus);
@@ -19,7 +19,7 @@ pub fn test_bit<B: Bus>(place: Place, instr: &Instr, regs: &mut Regs, bus: &B) -
 }
 
 /// RES.
-pub fn reset_bit<B: Bus>(place: Place, instr: &Instr, regs: &mut Regs, bus: &mut B) -> u8
+fn reset_bit<B: Bus>(place: Place, instr: &Instr, regs: &mut Regs, bus: &mut B) -> u8
     ensures { Did B.after (reset_bit_transition place instr.now regs.old (B.byte_at bus.old)) bus.old regs.new bus.new result }
 {
     let byte = pac_alu::reset_bit(get(place, instr, regs, bus), instr.p());
@@ -27,9 +27,26 @@ pub fn reset_bit<B: Bus>(place: Place, instr: &Instr, regs: &mut Regs, bus: &mut
 }
 
 /// SET.
-pub fn set_bit<B: Bus>(place: Place, instr: &Instr, regs: &mut Regs, bus: &mut B) -> u8
+fn set_bit<B: Bus>(place: Place, instr: &Instr, regs: &mut Regs, bus: &mut B) -> u8
     ensures { Did B.after (set_bit_transition place instr.now regs.old (B.byte_at bus.old)) bus.old regs.new bus.new result }
 {
     let byte = pac_alu::set_bit(get(place, instr, regs, bus), instr.p());
     put_byte(place, byte, instr, regs, bus)
+}
+
+/// BIT, RES or SET, by its function; the time in T-states.
+#[tactic(auto, unfolding(crate::specs::BitOperations::bit_operation_effect))]
+pub fn perform_bit_operation<B: Bus>(
+    with: pac_table::BitOperation,
+    instr: &Instr,
+    regs: &mut Regs,
+    bus: &mut B,
+) -> u8
+    ensures { Did B.after (bit_operation_effect with instr.now regs.old (B.byte_at bus.old)) bus.old regs.new bus.new result }
+{
+    match with {
+        pac_table::BitOperation::Test(place) => test_bit(place, instr, regs, bus),
+        pac_table::BitOperation::Reset(place) => reset_bit(place, instr, regs, bus),
+        pac_table::BitOperation::Set(place) => set_bit(place, instr, regs, bus),
+    }
 }

@@ -1,7 +1,7 @@
 //! Arithmetic of 8 bits and of the carry (UM0080, "8-Bit Arithmetic Group" and "General-Purpose Arithmetic
 //! and CPU Control Groups"). Each gives its time in T-states.
 
-ghost use Rattle.pac_exec.specs.ByteArithmetic.{in_accumulator, in_place, alu_transition, increment_transition, decrement_transition, decimal_adjust_transition, complement_transition, negate_transition, set_carry_transition, complement_carry_transition};
+ghost use Rattle.pac_exec.specs.ByteArithmetic.{byte_arithmetic_effect, in_accumulator, in_place, alu_transition, increment_transition, decrement_transition, decimal_adjust_transition, complement_transition, negate_transition, set_carry_transition, complement_carry_transition};
 ghost use Rattle.pac_exec.specs.Transition.{Did, DidInRegisters};
 
 use crate::places::{get, put};
@@ -36,7 +36,7 @@ pub fn put_in_place<B: Bus>(
 }
 
 /// ADD, ADC, SUB, SBC, AND, XOR, OR and CP.
-pub fn alu<B: Bus>(place: Place, instr: &Instr, regs: &mut Regs, bus: &B) -> u8
+fn alu<B: Bus>(place: Place, instr: &Instr, regs: &mut Regs, bus: &B) -> u8
     ensures { DidInRegisters (alu_transition place instr.now regs.old (B.byte_at bus.now)) regs.new result }
 {
     let operand = get(place, instr, regs, bus);
@@ -46,7 +46,7 @@ pub fn alu<B: Bus>(place: Place, instr: &Instr, regs: &mut Regs, bus: &B) -> u8
 }
 
 /// INC of a byte.
-pub fn increment<B: Bus>(place: Place, instr: &Instr, regs: &mut Regs, bus: &mut B) -> u8
+fn increment<B: Bus>(place: Place, instr: &Instr, regs: &mut Regs, bus: &mut B) -> u8
     ensures { Did B.after (increment_transition place instr.now regs.old (B.byte_at bus.old)) bus.old regs.new bus.new result }
 {
     let outcome = pac_alu::increment(get(place, instr, regs, bus), regs.f);
@@ -54,7 +54,7 @@ pub fn increment<B: Bus>(place: Place, instr: &Instr, regs: &mut Regs, bus: &mut
 }
 
 /// DEC of a byte.
-pub fn decrement<B: Bus>(place: Place, instr: &Instr, regs: &mut Regs, bus: &mut B) -> u8
+fn decrement<B: Bus>(place: Place, instr: &Instr, regs: &mut Regs, bus: &mut B) -> u8
     ensures { Did B.after (decrement_transition place instr.now regs.old (B.byte_at bus.old)) bus.old regs.new bus.new result }
 {
     let outcome = pac_alu::decrement(get(place, instr, regs, bus), regs.f);
@@ -62,7 +62,7 @@ pub fn decrement<B: Bus>(place: Place, instr: &Instr, regs: &mut Regs, bus: &mut
 }
 
 /// DAA.
-pub fn decimal_adjust(instr: &Instr, regs: &mut Regs) -> u8
+fn decimal_adjust(instr: &Instr, regs: &mut Regs) -> u8
     ensures { DidInRegisters (decimal_adjust_transition instr.now regs.old) regs.new result }
 {
     let outcome = pac_alu::decimal_adjust(regs.a, regs.f);
@@ -70,7 +70,7 @@ pub fn decimal_adjust(instr: &Instr, regs: &mut Regs) -> u8
 }
 
 /// CPL.
-pub fn complement(instr: &Instr, regs: &mut Regs) -> u8
+fn complement(instr: &Instr, regs: &mut Regs) -> u8
     ensures { DidInRegisters (complement_transition instr.now regs.old) regs.new result }
 {
     let outcome = pac_alu::complement(regs.a, regs.f);
@@ -78,7 +78,7 @@ pub fn complement(instr: &Instr, regs: &mut Regs) -> u8
 }
 
 /// NEG.
-pub fn negate(instr: &Instr, regs: &mut Regs) -> u8
+fn negate(instr: &Instr, regs: &mut Regs) -> u8
     ensures { DidInRegisters (negate_transition instr.now regs.old) regs.new result }
 {
     let outcome = pac_alu::negate(regs.a, regs.f);
@@ -86,7 +86,7 @@ pub fn negate(instr: &Instr, regs: &mut Regs) -> u8
 }
 
 /// SCF.
-pub fn set_carry(instr: &Instr, regs: &mut Regs) -> u8
+fn set_carry(instr: &Instr, regs: &mut Regs) -> u8
     ensures { DidInRegisters (set_carry_transition instr.now regs.old) regs.new result }
 {
     regs.f = pac_alu::set_carry(regs.f);
@@ -94,9 +94,31 @@ pub fn set_carry(instr: &Instr, regs: &mut Regs) -> u8
 }
 
 /// CCF.
-pub fn complement_carry(instr: &Instr, regs: &mut Regs) -> u8
+fn complement_carry(instr: &Instr, regs: &mut Regs) -> u8
     ensures { DidInRegisters (complement_carry_transition instr.now regs.old) regs.new result }
 {
     regs.f = pac_alu::complement_carry(regs.f);
     instr.ticks()
+}
+
+/// Arithmetic of a byte, by its function; the time in T-states.
+#[tactic(auto, unfolding(crate::specs::ByteArithmetic::byte_arithmetic_effect))]
+pub fn perform_byte_arithmetic<B: Bus>(
+    with: pac_table::ByteArithmetic,
+    instr: &Instr,
+    regs: &mut Regs,
+    bus: &mut B,
+) -> u8
+    ensures { Did B.after (byte_arithmetic_effect with instr.now regs.old (B.byte_at bus.old)) bus.old regs.new bus.new result }
+{
+    match with {
+        pac_table::ByteArithmetic::Alu(place) => alu(place, instr, regs, bus),
+        pac_table::ByteArithmetic::Increment(place) => increment(place, instr, regs, bus),
+        pac_table::ByteArithmetic::Decrement(place) => decrement(place, instr, regs, bus),
+        pac_table::ByteArithmetic::DecimalAdjust => decimal_adjust(instr, regs),
+        pac_table::ByteArithmetic::Complement => complement(instr, regs),
+        pac_table::ByteArithmetic::Negate => negate(instr, regs),
+        pac_table::ByteArithmetic::SetCarry => set_carry(instr, regs),
+        pac_table::ByteArithmetic::ComplementCarry => complement_carry(instr, regs),
+    }
 }

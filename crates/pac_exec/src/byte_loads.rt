@@ -1,17 +1,35 @@
 //! Loads of bytes (UM0080, "8-Bit Load Group").
 
-ghost use Rattle.pac_exec.specs.ByteLoads.{load_transition};
+ghost use Rattle.pac_exec.specs.ByteLoads.{byte_load_effect, load_transition};
 ghost use Rattle.pac_exec.specs.Transition.{Did};
 
 use crate::places::{get, put_byte};
 use crate::regs::Regs;
+use crate::special_loads::{load_from_special, load_special};
 use pac_bus::Bus;
 use pac_table::{Instr, Place};
 
 /// LD of a byte; its time in T-states.
-pub fn load<B: Bus>(to: Place, from: Place, instr: &Instr, regs: &mut Regs, bus: &mut B) -> u8
+fn load<B: Bus>(to: Place, from: Place, instr: &Instr, regs: &mut Regs, bus: &mut B) -> u8
     ensures { Did B.after (load_transition to from instr.now regs.old (B.byte_at bus.old)) bus.old regs.new bus.new result }
 {
     let byte = get(from, instr, regs, bus);
     put_byte(to, byte, instr, regs, bus)
+}
+
+/// A load of a byte, by its function; the time in T-states.
+#[tactic(auto, unfolding(crate::specs::ByteLoads::byte_load_effect))]
+pub fn perform_byte_load<B: Bus>(
+    with: pac_table::ByteLoad,
+    instr: &Instr,
+    regs: &mut Regs,
+    bus: &mut B,
+) -> u8
+    ensures { Did B.after (byte_load_effect with instr.now regs.old (B.byte_at bus.old)) bus.old regs.new bus.new result }
+{
+    match with {
+        pac_table::ByteLoad::Load(to, from) => load(to, from, instr, regs, bus),
+        pac_table::ByteLoad::LoadFromSpecial(special) => load_from_special(special, instr, regs),
+        pac_table::ByteLoad::LoadSpecial(special) => load_special(special, instr, regs),
+    }
 }

@@ -1,7 +1,7 @@
 //! Calls and returns (UM0080, "Call and Return Group"). PC stands after the code. Each gives its time in
 //! T-states, the shorter one where a condition isn't met.
 
-ghost use Rattle.pac_exec.specs.Calls.{called, call_transition, call_if_transition, restart_transition, return_transition, return_if_transition, return_from_interrupt_transition, return_from_non_maskable_transition};
+ghost use Rattle.pac_exec.specs.Calls.{call_effect, called, call_transition, call_if_transition, restart_transition, return_transition, return_if_transition, return_from_interrupt_transition, return_from_non_maskable_transition};
 ghost use Rattle.pac_exec.specs.Transition.{Did, DidInRegisters};
 
 use crate::jumps::meets_condition;
@@ -20,14 +20,14 @@ fn call_address<B: Bus>(address: u16, instr: &Instr, regs: &mut Regs, bus: &mut 
 }
 
 /// CALL nn.
-pub fn call<B: Bus>(instr: &Instr, regs: &mut Regs, bus: &mut B) -> u8
+fn call<B: Bus>(instr: &Instr, regs: &mut Regs, bus: &mut B) -> u8
     ensures { Did B.after (call_transition instr.now regs.old) bus.old regs.new bus.new result }
 {
     call_address(instr.word(), instr, regs, bus)
 }
 
 /// CALL cc,nn.
-pub fn call_if<B: Bus>(instr: &Instr, regs: &mut Regs, bus: &mut B) -> u8
+fn call_if<B: Bus>(instr: &Instr, regs: &mut Regs, bus: &mut B) -> u8
     ensures { Did B.after (call_if_transition instr.now regs.old) bus.old regs.new bus.new result }
 {
     if meets_condition(instr, regs) {
@@ -38,14 +38,14 @@ pub fn call_if<B: Bus>(instr: &Instr, regs: &mut Regs, bus: &mut B) -> u8
 }
 
 /// RST p.
-pub fn restart<B: Bus>(instr: &Instr, regs: &mut Regs, bus: &mut B) -> u8
+fn restart<B: Bus>(instr: &Instr, regs: &mut Regs, bus: &mut B) -> u8
     ensures { Did B.after (restart_transition instr.now regs.old) bus.old regs.new bus.new result }
 {
     call_address(8 * instr.p() as u16, instr, regs, bus)
 }
 
 /// RET.
-pub fn return_to_caller<B: Bus>(instr: &Instr, regs: &mut Regs, bus: &B) -> u8
+fn return_to_caller<B: Bus>(instr: &Instr, regs: &mut Regs, bus: &B) -> u8
     ensures { DidInRegisters (return_transition instr.now regs.old (B.byte_at bus.now)) regs.new result }
 {
     regs.pc = pop_word(regs, bus);
@@ -53,7 +53,7 @@ pub fn return_to_caller<B: Bus>(instr: &Instr, regs: &mut Regs, bus: &B) -> u8
 }
 
 /// RET cc.
-pub fn return_if<B: Bus>(instr: &Instr, regs: &mut Regs, bus: &B) -> u8
+fn return_if<B: Bus>(instr: &Instr, regs: &mut Regs, bus: &B) -> u8
     ensures { DidInRegisters (return_if_transition instr.now regs.old (B.byte_at bus.now)) regs.new result }
 {
     if meets_condition(instr, regs) {
@@ -64,16 +64,37 @@ pub fn return_if<B: Bus>(instr: &Instr, regs: &mut Regs, bus: &B) -> u8
 }
 
 /// RETI: in this profile both interrupt flip-flops stay.
-pub fn return_from_interrupt<B: Bus>(instr: &Instr, regs: &mut Regs, bus: &B) -> u8
+fn return_from_interrupt<B: Bus>(instr: &Instr, regs: &mut Regs, bus: &B) -> u8
     ensures { DidInRegisters (return_from_interrupt_transition instr.now regs.old (B.byte_at bus.now)) regs.new result }
 {
     return_to_caller(instr, regs, bus)
 }
 
 /// RETN: IFF1 becomes IFF2.
-pub fn return_from_non_maskable<B: Bus>(instr: &Instr, regs: &mut Regs, bus: &B) -> u8
+fn return_from_non_maskable<B: Bus>(instr: &Instr, regs: &mut Regs, bus: &B) -> u8
     ensures { DidInRegisters (return_from_non_maskable_transition instr.now regs.old (B.byte_at bus.now)) regs.new result }
 {
     regs.iff1 = regs.iff2;
     return_to_caller(instr, regs, bus)
+}
+
+/// A call, a return or a restart, by its function; the time in T-states.
+#[tactic(auto, unfolding(crate::specs::Calls::call_effect))]
+pub fn perform_call<B: Bus>(
+    with: pac_table::Call,
+    instr: &Instr,
+    regs: &mut Regs,
+    bus: &mut B,
+) -> u8
+    ensures { Did B.after (call_effect with instr.now regs.old (B.byte_at bus.old)) bus.old regs.new bus.new result }
+{
+    match with {
+        pac_table::Call::Always => call(instr, regs, bus),
+        pac_table::Call::If => call_if(instr, regs, bus),
+        pac_table::Call::Return => return_to_caller(instr, regs, bus),
+        pac_table::Call::ReturnIf => return_if(instr, regs, bus),
+        pac_table::Call::ReturnFromInterrupt => return_from_interrupt(instr, regs, bus),
+        pac_table::Call::ReturnFromNonMaskable => return_from_non_maskable(instr, regs, bus),
+        pac_table::Call::Restart => restart(instr, regs, bus),
+    }
 }

@@ -1,14 +1,14 @@
 //! The processor's states (UM0080, "General-Purpose Arithmetic and CPU Control Groups"). Each gives its time in
 //! T-states.
 
-ghost use Rattle.pac_exec.specs.Control.{halt_transition, disable_interrupts_transition, enable_interrupts_transition, set_interrupt_mode_transition};
+ghost use Rattle.pac_exec.specs.Control.{control_effect, halt_transition, disable_interrupts_transition, enable_interrupts_transition, set_interrupt_mode_transition};
 ghost use Rattle.pac_exec.specs.Transition.{DidInRegisters};
 
 use crate::regs::Regs;
 use pac_table::{Instr, InterruptMode};
 
 /// HALT.
-pub fn halt(instr: &Instr, regs: &mut Regs) -> u8
+fn halt(instr: &Instr, regs: &mut Regs) -> u8
     ensures { DidInRegisters (halt_transition instr.now regs.old) regs.new result }
 {
     regs.halted = true;
@@ -16,7 +16,7 @@ pub fn halt(instr: &Instr, regs: &mut Regs) -> u8
 }
 
 /// DI.
-pub fn disable_interrupts(instr: &Instr, regs: &mut Regs) -> u8
+fn disable_interrupts(instr: &Instr, regs: &mut Regs) -> u8
     ensures { DidInRegisters (disable_interrupts_transition instr.now regs.old) regs.new result }
 {
     regs.set_interrupts(false);
@@ -24,7 +24,7 @@ pub fn disable_interrupts(instr: &Instr, regs: &mut Regs) -> u8
 }
 
 /// EI.
-pub fn enable_interrupts(instr: &Instr, regs: &mut Regs) -> u8
+fn enable_interrupts(instr: &Instr, regs: &mut Regs) -> u8
     ensures { DidInRegisters (enable_interrupts_transition instr.now regs.old) regs.new result }
 {
     regs.set_interrupts(true);
@@ -33,9 +33,23 @@ pub fn enable_interrupts(instr: &Instr, regs: &mut Regs) -> u8
 }
 
 /// IM.
-pub fn set_interrupt_mode(mode: InterruptMode, instr: &Instr, regs: &mut Regs) -> u8
+fn set_interrupt_mode(mode: InterruptMode, instr: &Instr, regs: &mut Regs) -> u8
     ensures { DidInRegisters (set_interrupt_mode_transition mode instr.now regs.old) regs.new result }
 {
     regs.mode = mode;
     instr.ticks()
+}
+
+/// What is done to the processor's states, by its function; the time in T-states.
+#[tactic(auto, unfolding(crate::specs::Control::control_effect))]
+pub fn perform_control(with: pac_table::Control, instr: &Instr, regs: &mut Regs) -> u8
+    ensures { DidInRegisters (control_effect with instr.now regs.old) regs.new result }
+{
+    match with {
+        pac_table::Control::Nop => instr.ticks(),
+        pac_table::Control::Halt => halt(instr, regs),
+        pac_table::Control::DisableInterrupts => disable_interrupts(instr, regs),
+        pac_table::Control::EnableInterrupts => enable_interrupts(instr, regs),
+        pac_table::Control::SetInterruptMode(mode) => set_interrupt_mode(mode, instr, regs),
+    }
 }

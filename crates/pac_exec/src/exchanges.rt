@@ -1,6 +1,6 @@
 //! The exchanges (UM0080, "Exchange, Block Transfer, and Search Group"). Each gives its time in T-states.
 
-ghost use Rattle.pac_exec.specs.Exchanges.{exchange_de_hl_transition, exchange_af_transition, exchange_banks_transition, exchange_stack_top_transition};
+ghost use Rattle.pac_exec.specs.Exchanges.{exchange_effect, exchange_de_hl_transition, exchange_af_transition, exchange_banks_transition, exchange_stack_top_transition};
 ghost use Rattle.pac_exec.specs.Transition.{Did, DidInRegisters};
 
 use crate::pairs::{get_pair, read_word, set_pair};
@@ -11,7 +11,7 @@ use pac_table::{Instr, Pair};
 use std::mem::swap;
 
 /// EX DE,HL.
-pub fn exchange_de_hl(instr: &Instr, regs: &mut Regs) -> u8
+fn exchange_de_hl(instr: &Instr, regs: &mut Regs) -> u8
     ensures { DidInRegisters (exchange_de_hl_transition instr.now regs.old) regs.new result }
 {
     swap(&mut regs.d, &mut regs.h);
@@ -20,7 +20,7 @@ pub fn exchange_de_hl(instr: &Instr, regs: &mut Regs) -> u8
 }
 
 /// EX AF,AF'.
-pub fn exchange_af(instr: &Instr, regs: &mut Regs) -> u8
+fn exchange_af(instr: &Instr, regs: &mut Regs) -> u8
     ensures { DidInRegisters (exchange_af_transition instr.now regs.old) regs.new result }
 {
     regs.exchange_af();
@@ -28,7 +28,7 @@ pub fn exchange_af(instr: &Instr, regs: &mut Regs) -> u8
 }
 
 /// EXX.
-pub fn exchange_banks(instr: &Instr, regs: &mut Regs) -> u8
+fn exchange_banks(instr: &Instr, regs: &mut Regs) -> u8
     ensures { DidInRegisters (exchange_banks_transition instr.now regs.old) regs.new result }
 {
     regs.exchange_bank();
@@ -36,7 +36,7 @@ pub fn exchange_banks(instr: &Instr, regs: &mut Regs) -> u8
 }
 
 /// EX (SP),HL.
-pub fn exchange_stack_top<B: Bus>(pair: Pair, instr: &Instr, regs: &mut Regs, bus: &mut B) -> u8
+fn exchange_stack_top<B: Bus>(pair: Pair, instr: &Instr, regs: &mut Regs, bus: &mut B) -> u8
     ensures { Did B.after (exchange_stack_top_transition pair instr.now regs.old (B.byte_at bus.old)) bus.old regs.new bus.new result }
 {
     let top = read_word(regs.sp, bus);
@@ -45,4 +45,22 @@ pub fn exchange_stack_top<B: Bus>(pair: Pair, instr: &Instr, regs: &mut Regs, bu
     bus.write(regs.sp, low_byte(word));
     set_pair(pair, top, instr, regs);
     instr.ticks()
+}
+
+/// An exchange, by its function; the time in T-states.
+#[tactic(auto, unfolding(crate::specs::Exchanges::exchange_effect))]
+pub fn perform_exchange<B: Bus>(
+    with: pac_table::Exchange,
+    instr: &Instr,
+    regs: &mut Regs,
+    bus: &mut B,
+) -> u8
+    ensures { Did B.after (exchange_effect with instr.now regs.old (B.byte_at bus.old)) bus.old regs.new bus.new result }
+{
+    match with {
+        pac_table::Exchange::DeHl => exchange_de_hl(instr, regs),
+        pac_table::Exchange::Af => exchange_af(instr, regs),
+        pac_table::Exchange::Banks => exchange_banks(instr, regs),
+        pac_table::Exchange::StackTop(pair) => exchange_stack_top(pair, instr, regs, bus),
+    }
 }

@@ -3,7 +3,7 @@
 
 ghost use Rattle.std.specs.Prelude.{◌≡◌};
 ghost use Rattle.pac_alu.specs.Flags.{condition_of, is_met};
-ghost use Rattle.pac_exec.specs.Jumps.{jump_transition, jump_if_transition, jump_to_pair_transition, jump_relative_transition, jump_relative_if_transition, decrement_and_jump_transition};
+ghost use Rattle.pac_exec.specs.Jumps.{jump_effect, jump_transition, jump_if_transition, jump_to_pair_transition, jump_relative_transition, jump_relative_if_transition, decrement_and_jump_transition};
 ghost use Rattle.pac_exec.specs.Transition.{DidInRegisters};
 
 use crate::pairs::get_pair;
@@ -21,7 +21,7 @@ pub fn meets_condition(instr: &Instr, regs: &Regs) -> bool
 
 /// JP nn.
 #[inline]
-pub fn jump(instr: &Instr, regs: &mut Regs) -> u8
+fn jump(instr: &Instr, regs: &mut Regs) -> u8
     ensures { DidInRegisters (jump_transition instr.now regs.old) regs.new result }
 {
     regs.pc = instr.word();
@@ -29,7 +29,7 @@ pub fn jump(instr: &Instr, regs: &mut Regs) -> u8
 }
 
 /// JP cc,nn.
-pub fn jump_if(instr: &Instr, regs: &mut Regs) -> u8
+fn jump_if(instr: &Instr, regs: &mut Regs) -> u8
     ensures { DidInRegisters (jump_if_transition instr.now regs.old) regs.new result }
 {
     if meets_condition(instr, regs) {
@@ -40,7 +40,7 @@ pub fn jump_if(instr: &Instr, regs: &mut Regs) -> u8
 }
 
 /// JP (HL).
-pub fn jump_to_pair(pair: Pair, instr: &Instr, regs: &mut Regs) -> u8
+fn jump_to_pair(pair: Pair, instr: &Instr, regs: &mut Regs) -> u8
     ensures { DidInRegisters (jump_to_pair_transition pair instr.now regs.old) regs.new result }
 {
     regs.pc = get_pair(pair, instr, regs);
@@ -48,7 +48,7 @@ pub fn jump_to_pair(pair: Pair, instr: &Instr, regs: &mut Regs) -> u8
 }
 
 /// JR e.
-pub fn jump_relative(instr: &Instr, regs: &mut Regs) -> u8
+fn jump_relative(instr: &Instr, regs: &mut Regs) -> u8
     ensures { DidInRegisters (jump_relative_transition instr.now regs.old) regs.new result }
 {
     regs.pc = displaced(regs.pc, instr.disp());
@@ -56,7 +56,7 @@ pub fn jump_relative(instr: &Instr, regs: &mut Regs) -> u8
 }
 
 /// JR cc,e.
-pub fn jump_relative_if(instr: &Instr, regs: &mut Regs) -> u8
+fn jump_relative_if(instr: &Instr, regs: &mut Regs) -> u8
     ensures { DidInRegisters (jump_relative_if_transition instr.now regs.old) regs.new result }
 {
     if meets_condition(instr, regs) {
@@ -67,7 +67,7 @@ pub fn jump_relative_if(instr: &Instr, regs: &mut Regs) -> u8
 }
 
 /// DJNZ e.
-pub fn decrement_and_jump(instr: &Instr, regs: &mut Regs) -> u8
+fn decrement_and_jump(instr: &Instr, regs: &mut Regs) -> u8
     ensures { DidInRegisters (decrement_and_jump_transition instr.now regs.old) regs.new result }
 {
     regs.b = b_left(regs);
@@ -75,5 +75,20 @@ pub fn decrement_and_jump(instr: &Instr, regs: &mut Regs) -> u8
         jump_relative(instr, regs)
     } else {
         instr.ticks_other()
+    }
+}
+
+/// A jump, by its function; the time in T-states.
+#[tactic(auto, unfolding(crate::specs::Jumps::jump_effect))]
+pub fn perform_jump(with: pac_table::Jump, instr: &Instr, regs: &mut Regs) -> u8
+    ensures { DidInRegisters (jump_effect with instr.now regs.old) regs.new result }
+{
+    match with {
+        pac_table::Jump::Absolute => jump(instr, regs),
+        pac_table::Jump::If => jump_if(instr, regs),
+        pac_table::Jump::ToPair(pair) => jump_to_pair(pair, instr, regs),
+        pac_table::Jump::Relative => jump_relative(instr, regs),
+        pac_table::Jump::RelativeIf => jump_relative_if(instr, regs),
+        pac_table::Jump::DecrementAndJump => decrement_and_jump(instr, regs),
     }
 }

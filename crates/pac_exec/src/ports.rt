@@ -1,7 +1,7 @@
 //! Input and output (UM0080, "Input and Output Group"), without the block instructions. Each gives its time
 //! in T-states.
 
-ghost use Rattle.pac_exec.specs.Ports.{input_byte_transition, output_byte_transition, input_transition, output_transition};
+ghost use Rattle.pac_exec.specs.Ports.{port_effect, input_byte_transition, output_byte_transition, input_transition, output_transition};
 ghost use Rattle.pac_exec.specs.Transition.{Did, DidInRegisters};
 
 use crate::regs::Regs;
@@ -10,7 +10,7 @@ use pac_num::low_byte;
 use pac_table::Instr;
 
 /// IN A,(n).
-pub fn input_byte<B: Bus>(instr: &Instr, regs: &mut Regs, bus: &B) -> u8
+fn input_byte<B: Bus>(instr: &Instr, regs: &mut Regs, bus: &B) -> u8
     ensures { DidInRegisters (input_byte_transition instr.now regs.old (B.input_at bus.now)) regs.new result }
 {
     regs.a = bus.input(low_byte(instr.word()));
@@ -18,7 +18,7 @@ pub fn input_byte<B: Bus>(instr: &Instr, regs: &mut Regs, bus: &B) -> u8
 }
 
 /// OUT (n),A.
-pub fn output_byte<B: Bus>(instr: &Instr, regs: &Regs, bus: &mut B) -> u8
+fn output_byte<B: Bus>(instr: &Instr, regs: &Regs, bus: &mut B) -> u8
     ensures { Did B.after (output_byte_transition instr.now regs.now) bus.old regs.now bus.new result }
 {
     bus.output(low_byte(instr.word()), regs.a);
@@ -26,7 +26,7 @@ pub fn output_byte<B: Bus>(instr: &Instr, regs: &Regs, bus: &mut B) -> u8
 }
 
 /// IN r,(C).
-pub fn input<B: Bus>(instr: &Instr, regs: &mut Regs, bus: &B) -> u8
+fn input<B: Bus>(instr: &Instr, regs: &mut Regs, bus: &B) -> u8
     ensures { DidInRegisters (input_transition instr.now regs.old (B.input_at bus.now)) regs.new result }
 {
     let byte = bus.input(regs.c);
@@ -36,9 +36,27 @@ pub fn input<B: Bus>(instr: &Instr, regs: &mut Regs, bus: &B) -> u8
 }
 
 /// OUT (C),r.
-pub fn output<B: Bus>(instr: &Instr, regs: &Regs, bus: &mut B) -> u8
+fn output<B: Bus>(instr: &Instr, regs: &Regs, bus: &mut B) -> u8
     ensures { Did B.after (output_transition instr.now regs.now) bus.old regs.now bus.new result }
 {
     bus.output(regs.c, regs.register(instr.p()));
     instr.ticks()
+}
+
+/// Input or output of a byte, by its function; the time in T-states.
+#[tactic(auto, unfolding(crate::specs::Ports::port_effect))]
+pub fn perform_port<B: Bus>(
+    with: pac_table::Port,
+    instr: &Instr,
+    regs: &mut Regs,
+    bus: &mut B,
+) -> u8
+    ensures { Did B.after (port_effect with instr.now regs.old (B.input_at bus.old)) bus.old regs.new bus.new result }
+{
+    match with {
+        pac_table::Port::InputByte => input_byte(instr, regs, bus),
+        pac_table::Port::OutputByte => output_byte(instr, regs, bus),
+        pac_table::Port::Input => input(instr, regs, bus),
+        pac_table::Port::Output => output(instr, regs, bus),
+    }
 }

@@ -1,7 +1,7 @@
 //! Rotations and shifts (UM0080, "Rotate and Shift Group"). Each gives its time in T-states.
 
 ghost use Rattle.std.specs.Prelude.{◌≡◌};
-ghost use Rattle.pac_exec.specs.Shifts.{named_after, rotate_accumulator_transition, shift_transition, in_digits, rotate_digit_left_transition, rotate_digit_right_transition};
+ghost use Rattle.pac_exec.specs.Shifts.{rotate_and_shift_effect, named_after, rotate_accumulator_transition, shift_transition, in_digits, rotate_digit_left_transition, rotate_digit_right_transition};
 ghost use Rattle.pac_exec.specs.Transition.{Did, DidInRegisters};
 
 use crate::byte_arithmetic::{put_in_accumulator, put_in_place};
@@ -24,7 +24,7 @@ fn shift_of_rotation(rotation: Rotation) -> Shift
 }
 
 /// RLCA, RRCA, RLA and RRA.
-pub fn rotate_accumulator(rotation: Rotation, instr: &Instr, regs: &mut Regs) -> u8
+fn rotate_accumulator(rotation: Rotation, instr: &Instr, regs: &mut Regs) -> u8
     ensures { DidInRegisters (rotate_accumulator_transition rotation instr.now regs.old) regs.new result }
 {
     let outcome = pac_alu::rotate_accumulator(shift_of_rotation(rotation), regs.a, regs.f);
@@ -32,7 +32,7 @@ pub fn rotate_accumulator(rotation: Rotation, instr: &Instr, regs: &mut Regs) ->
 }
 
 /// RLC, RRC, RL, RR, SLA, SRA and SRL.
-pub fn shift<B: Bus>(place: Place, instr: &Instr, regs: &mut Regs, bus: &mut B) -> u8
+fn shift<B: Bus>(place: Place, instr: &Instr, regs: &mut Regs, bus: &mut B) -> u8
     ensures { Did B.after (shift_transition place instr.now regs.old (B.byte_at bus.old)) bus.old regs.new bus.new result }
 {
     let byte = get(place, instr, regs, bus);
@@ -51,7 +51,7 @@ fn put_digits<B: Bus>(digits: Digits, instr: &Instr, regs: &mut Regs, bus: &mut 
 }
 
 /// RLD.
-pub fn rotate_digit_left<B: Bus>(instr: &Instr, regs: &mut Regs, bus: &mut B) -> u8
+fn rotate_digit_left<B: Bus>(instr: &Instr, regs: &mut Regs, bus: &mut B) -> u8
     ensures { Did B.after (rotate_digit_left_transition instr.now regs.old (B.byte_at bus.old)) bus.old regs.new bus.new result }
 {
     let digits = pac_alu::rotate_digits_left(regs.a, bus.read(regs.hl()), regs.f);
@@ -59,9 +59,29 @@ pub fn rotate_digit_left<B: Bus>(instr: &Instr, regs: &mut Regs, bus: &mut B) ->
 }
 
 /// RRD.
-pub fn rotate_digit_right<B: Bus>(instr: &Instr, regs: &mut Regs, bus: &mut B) -> u8
+fn rotate_digit_right<B: Bus>(instr: &Instr, regs: &mut Regs, bus: &mut B) -> u8
     ensures { Did B.after (rotate_digit_right_transition instr.now regs.old (B.byte_at bus.old)) bus.old regs.new bus.new result }
 {
     let digits = pac_alu::rotate_digits_right(regs.a, bus.read(regs.hl()), regs.f);
     put_digits(digits, instr, regs, bus)
+}
+
+/// A rotation or a shift, by its function; the time in T-states.
+#[tactic(auto, unfolding(crate::specs::Shifts::rotate_and_shift_effect))]
+pub fn perform_rotate_and_shift<B: Bus>(
+    with: pac_table::RotateAndShift,
+    instr: &Instr,
+    regs: &mut Regs,
+    bus: &mut B,
+) -> u8
+    ensures { Did B.after (rotate_and_shift_effect with instr.now regs.old (B.byte_at bus.old)) bus.old regs.new bus.new result }
+{
+    match with {
+        pac_table::RotateAndShift::RotateAccumulator(rotation) => rotate_accumulator(
+            rotation, instr, regs,
+        ),
+        pac_table::RotateAndShift::Shift(place) => shift(place, instr, regs, bus),
+        pac_table::RotateAndShift::RotateDigitLeft => rotate_digit_left(instr, regs, bus),
+        pac_table::RotateAndShift::RotateDigitRight => rotate_digit_right(instr, regs, bus),
+    }
 }

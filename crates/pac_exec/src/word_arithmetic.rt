@@ -1,7 +1,7 @@
 //! Arithmetic of 16 bits (UM0080, "16-Bit Arithmetic Group"). Each gives its time in T-states.
 
 ghost use Rattle.std.specs.Prelude.{◌≡◌};
-ghost use Rattle.pac_exec.specs.WordArithmetic.{addend, in_pair, add_pair_transition, add_pair_with_carry_transition, subtract_pair_with_carry_transition, increment_pair_transition, decrement_pair_transition};
+ghost use Rattle.pac_exec.specs.WordArithmetic.{word_arithmetic_effect, addend, in_pair, add_pair_transition, add_pair_with_carry_transition, subtract_pair_with_carry_transition, increment_pair_transition, decrement_pair_transition};
 ghost use Rattle.pac_exec.specs.Transition.{DidInRegisters};
 
 use crate::pairs::{get_pair, set_pair};
@@ -34,7 +34,7 @@ fn put_in_pair(outcome: WordOutcome, pair: Pair, instr: &Instr, regs: &mut Regs)
 }
 
 /// ADD HL,ss and ADD IX,pp.
-pub fn add_pair(pair: Pair, instr: &Instr, regs: &mut Regs) -> u8
+fn add_pair(pair: Pair, instr: &Instr, regs: &mut Regs) -> u8
     ensures { DidInRegisters (add_pair_transition pair instr.now regs.old) regs.new result }
 {
     let sum = add_words(
@@ -46,7 +46,7 @@ pub fn add_pair(pair: Pair, instr: &Instr, regs: &mut Regs) -> u8
 }
 
 /// ADC HL,ss.
-pub fn add_pair_with_carry(instr: &Instr, regs: &mut Regs) -> u8
+fn add_pair_with_carry(instr: &Instr, regs: &mut Regs) -> u8
     ensures { DidInRegisters (add_pair_with_carry_transition instr.now regs.old) regs.new result }
 {
     let sum = add_words_with_carry(regs.hl(), regs.pair(instr.p()), regs.f);
@@ -54,7 +54,7 @@ pub fn add_pair_with_carry(instr: &Instr, regs: &mut Regs) -> u8
 }
 
 /// SBC HL,ss.
-pub fn subtract_pair_with_carry(instr: &Instr, regs: &mut Regs) -> u8
+fn subtract_pair_with_carry(instr: &Instr, regs: &mut Regs) -> u8
     ensures { DidInRegisters (subtract_pair_with_carry_transition instr.now regs.old) regs.new result }
 {
     let difference = subtract_words_with_carry(regs.hl(), regs.pair(instr.p()), regs.f);
@@ -62,7 +62,7 @@ pub fn subtract_pair_with_carry(instr: &Instr, regs: &mut Regs) -> u8
 }
 
 /// INC of a pair.
-pub fn increment_pair(pair: Pair, instr: &Instr, regs: &mut Regs) -> u8
+fn increment_pair(pair: Pair, instr: &Instr, regs: &mut Regs) -> u8
     ensures { DidInRegisters (increment_pair_transition pair instr.now regs.old) regs.new result }
 {
     let word = increment_word(get_pair(pair, instr, regs));
@@ -71,10 +71,28 @@ pub fn increment_pair(pair: Pair, instr: &Instr, regs: &mut Regs) -> u8
 }
 
 /// DEC of a pair.
-pub fn decrement_pair(pair: Pair, instr: &Instr, regs: &mut Regs) -> u8
+fn decrement_pair(pair: Pair, instr: &Instr, regs: &mut Regs) -> u8
     ensures { DidInRegisters (decrement_pair_transition pair instr.now regs.old) regs.new result }
 {
     let word = decrement_word(get_pair(pair, instr, regs));
     set_pair(pair, word, instr, regs);
     instr.ticks()
+}
+
+/// Arithmetic of a word, by its function; the time in T-states.
+#[tactic(auto, unfolding(crate::specs::WordArithmetic::word_arithmetic_effect))]
+pub fn perform_word_arithmetic(
+    with: pac_table::WordArithmetic,
+    instr: &Instr,
+    regs: &mut Regs,
+) -> u8
+    ensures { DidInRegisters (word_arithmetic_effect with instr.now regs.old) regs.new result }
+{
+    match with {
+        pac_table::WordArithmetic::AddPair(pair) => add_pair(pair, instr, regs),
+        pac_table::WordArithmetic::AddPairWithCarry => add_pair_with_carry(instr, regs),
+        pac_table::WordArithmetic::SubtractPairWithCarry => subtract_pair_with_carry(instr, regs),
+        pac_table::WordArithmetic::IncrementPair(pair) => increment_pair(pair, instr, regs),
+        pac_table::WordArithmetic::DecrementPair(pair) => decrement_pair(pair, instr, regs),
+    }
 }

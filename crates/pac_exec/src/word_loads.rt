@@ -1,6 +1,6 @@
 //! Loads of 16 bits, the stack's among them (UM0080, "16-Bit Load Group"). Each gives its time in T-states.
 
-ghost use Rattle.pac_exec.specs.WordLoads.{load_pair_transition, load_pair_from_memory_transition, store_pair_transition, load_stack_pointer_transition, push_transition, pop_transition};
+ghost use Rattle.pac_exec.specs.WordLoads.{word_load_effect, load_pair_transition, load_pair_from_memory_transition, store_pair_transition, load_stack_pointer_transition, push_transition, pop_transition};
 ghost use Rattle.pac_exec.specs.Transition.{Did, DidInRegisters};
 
 use crate::pairs::{
@@ -12,7 +12,7 @@ use pac_num::{high_byte, low_byte, offset};
 use pac_table::{Instr, Pair};
 
 /// LD dd,nn.
-pub fn load_pair(pair: Pair, instr: &Instr, regs: &mut Regs) -> u8
+fn load_pair(pair: Pair, instr: &Instr, regs: &mut Regs) -> u8
     ensures { DidInRegisters (load_pair_transition pair instr.now regs.old) regs.new result }
 {
     set_pair(pair, instr.word(), instr, regs);
@@ -20,7 +20,7 @@ pub fn load_pair(pair: Pair, instr: &Instr, regs: &mut Regs) -> u8
 }
 
 /// LD dd,(nn).
-pub fn load_pair_from_memory<B: Bus>(pair: Pair, instr: &Instr, regs: &mut Regs, bus: &B) -> u8
+fn load_pair_from_memory<B: Bus>(pair: Pair, instr: &Instr, regs: &mut Regs, bus: &B) -> u8
     ensures { DidInRegisters (load_pair_from_memory_transition pair instr.now regs.old (B.byte_at bus.now)) regs.new result }
 {
     let word = read_word(instr.word(), bus);
@@ -29,7 +29,7 @@ pub fn load_pair_from_memory<B: Bus>(pair: Pair, instr: &Instr, regs: &mut Regs,
 }
 
 /// LD (nn),dd.
-pub fn store_pair<B: Bus>(pair: Pair, instr: &Instr, regs: &Regs, bus: &mut B) -> u8
+fn store_pair<B: Bus>(pair: Pair, instr: &Instr, regs: &Regs, bus: &mut B) -> u8
     ensures { Did B.after (store_pair_transition pair instr.now regs.now) bus.old regs.now bus.new result }
 {
     let word = get_pair(pair, instr, regs);
@@ -39,7 +39,7 @@ pub fn store_pair<B: Bus>(pair: Pair, instr: &Instr, regs: &Regs, bus: &mut B) -
 }
 
 /// LD SP,HL.
-pub fn load_stack_pointer(pair: Pair, instr: &Instr, regs: &mut Regs) -> u8
+fn load_stack_pointer(pair: Pair, instr: &Instr, regs: &mut Regs) -> u8
     ensures { DidInRegisters (load_stack_pointer_transition pair instr.now regs.old) regs.new result }
 {
     regs.sp = get_pair(pair, instr, regs);
@@ -47,7 +47,7 @@ pub fn load_stack_pointer(pair: Pair, instr: &Instr, regs: &mut Regs) -> u8
 }
 
 /// PUSH.
-pub fn push<B: Bus>(pair: Pair, instr: &Instr, regs: &mut Regs, bus: &mut B) -> u8
+fn push<B: Bus>(pair: Pair, instr: &Instr, regs: &mut Regs, bus: &mut B) -> u8
     ensures { Did B.after (push_transition pair instr.now regs.old) bus.old regs.new bus.new result }
 {
     let word = get_stack_pair(pair, instr, regs);
@@ -56,10 +56,32 @@ pub fn push<B: Bus>(pair: Pair, instr: &Instr, regs: &mut Regs, bus: &mut B) -> 
 }
 
 /// POP.
-pub fn pop<B: Bus>(pair: Pair, instr: &Instr, regs: &mut Regs, bus: &B) -> u8
+fn pop<B: Bus>(pair: Pair, instr: &Instr, regs: &mut Regs, bus: &B) -> u8
     ensures { DidInRegisters (pop_transition pair instr.now regs.old (B.byte_at bus.now)) regs.new result }
 {
     let word = pop_word(regs, bus);
     set_stack_pair(pair, word, instr, regs);
     instr.ticks()
+}
+
+/// A load of a word, PUSH or POP, by its function; the time in T-states.
+#[tactic(auto, unfolding(crate::specs::WordLoads::word_load_effect))]
+pub fn perform_word_load<B: Bus>(
+    with: pac_table::WordLoad,
+    instr: &Instr,
+    regs: &mut Regs,
+    bus: &mut B,
+) -> u8
+    ensures { Did B.after (word_load_effect with instr.now regs.old (B.byte_at bus.old)) bus.old regs.new bus.new result }
+{
+    match with {
+        pac_table::WordLoad::LoadPair(pair) => load_pair(pair, instr, regs),
+        pac_table::WordLoad::LoadPairFromMemory(pair) => load_pair_from_memory(
+            pair, instr, regs, bus,
+        ),
+        pac_table::WordLoad::StorePair(pair) => store_pair(pair, instr, regs, bus),
+        pac_table::WordLoad::LoadStackPointer(pair) => load_stack_pointer(pair, instr, regs),
+        pac_table::WordLoad::Push(pair) => push(pair, instr, regs, bus),
+        pac_table::WordLoad::Pop(pair) => pop(pair, instr, regs, bus),
+    }
 }
