@@ -21,7 +21,7 @@ static MANUAL: [(u8, u8, u8, (u8, u8), (u8, u8), u8, u8); 13] = [
 
 /// Whether the digits of A lie in their ranges.
 fn is_among(a: u8, highs: (u8, u8), lows: (u8, u8)) -> bool {
-    highs.0 <= a / 16 && a / 16 <= highs.1 && lows.0 <= a % 16 && a % 16 <= lows.1
+    (highs.0..=highs.1).contains(&(a / 16)) && (lows.0..=lows.1).contains(&(a % 16))
 }
 
 /// DAA by the bits of the correction: a carry or borrow between the digits flips bit 4 of the result.

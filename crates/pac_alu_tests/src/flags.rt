@@ -32,21 +32,18 @@ static MET: [(u8, [bool; 8]); 2] = [
 
 #[test]
 fn transfers(rt: HostRuntime) {
-    let wrong = LOADED.iter().find(|(a, iff2, f, after)| control_load_flags(*a, *iff2, *f)
+    let loaded = LOADED.iter().position(|(a, iff2, f, after)| control_load_flags(*a, *iff2, *f)
         != *after);
-    assert_eq!(rt; wrong, None);
-    let wrong = COPIED
+    let copied = COPIED
         .iter()
-        .find(|(count, f, after)| copy_flags(*count, *f) != *after);
-    assert_eq!(rt; wrong, None);
-    let wrong = SEARCHED.iter().find(|(a, byte, count, f, after)| search_flags(
+        .position(|(count, f, after)| copy_flags(*count, *f) != *after);
+    let searched = SEARCHED.iter().position(|(a, byte, count, f, after)| search_flags(
         *a, *byte, *count, *f,
     ) != *after);
-    assert_eq!(rt; wrong, None);
-    let wrong = PORTED
+    let ported = PORTED
         .iter()
-        .find(|(count, f, after)| port_flags(*count, *f) != *after);
-    assert_eq!(rt; wrong, None);
+        .position(|(count, f, after)| port_flags(*count, *f) != *after);
+    assert_eq!(rt; [loaded, copied, searched, ported], [None; 4]);
 }
 
 #[test]

@@ -58,16 +58,15 @@ static CHANGED: [(u8, u8, u8, u8); 5] = [
 
 #[test]
 fn shifts_and_rotations(rt: HostRuntime) {
-    let wrong = SHIFTS.iter().find(|(_, field, byte, f, value, after)| {
+    let shift = SHIFTS.iter().position(|(_, field, byte, f, value, after)| {
         let found = shift_byte(Shift::from_field(*field), *byte, *f);
         (found.value, found.f) != (*value, *after)
     });
-    assert_eq!(rt; wrong, None);
-    let wrong = ROTATIONS.iter().find(|(_, field, a, f, value, after)| {
+    let rotation = ROTATIONS.iter().position(|(_, field, a, f, value, after)| {
         let found = rotate_accumulator(Shift::from_field(*field), *a, *f);
         (found.value, found.f) != (*value, *after)
     });
-    assert_eq!(rt; wrong, None);
+    assert_eq!(rt; [shift, rotation], [None; 2]);
 }
 
 #[test]
@@ -85,10 +84,10 @@ fn digits(rt: HostRuntime) {
 
 #[test]
 fn bits(rt: HostRuntime) {
-    let wrong = TESTED.iter().find(|(byte, place, f, after)| test_bit(*byte, *place, *f) != *after);
-    assert_eq!(rt; wrong, None);
-    let wrong = CHANGED.iter().find(|(byte, place, set, reset)| {
+    let tested = TESTED.iter().position(|(byte, place, f, after)| test_bit(*byte, *place, *f)
+        != *after);
+    let changed = CHANGED.iter().position(|(byte, place, set, reset)| {
         (set_bit(*byte, *place), reset_bit(*byte, *place)) != (*set, *reset)
     });
-    assert_eq!(rt; wrong, None);
+    assert_eq!(rt; [tested, changed], [None; 2]);
 }

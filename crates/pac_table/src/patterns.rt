@@ -262,12 +262,12 @@ pub struct Pattern {
 }
 
 impl Pattern {
-    ghost use Rattle.pac_table.specs.Patterns.{opcode, is_opcode, matches};
+    ghost use Rattle.pac_table.specs.Patterns.{IsByte, is_opcode, matches, opcode};
 
     /// The opcode byte where the fields hold `p` and `q`.
     #[inline]
     pub fn opcode(self, p: u8, q: u8) -> u8
-        requires { opcode self p q < 256 }
+        requires { IsByte (opcode self p q) }
         ensures { result ≡ opcode self p q }
     {
         self.opcode + self.first.weight() * p + self.second.weight() * q
