@@ -1,7 +1,7 @@
 //! The board's output latch, its interrupt vector and request, and the watchdog's count of vertical blanks.
 #![tactic(auto)]
 
-ghost use Rattle.std.specs.Prelude.{◌≡◌, ◌≢◌, ◌==◌, ℕ, ◌≤◌, ◌<◌, Bool};
+ghost use Rattle.std.specs.Prelude.{◌≡◌, ◌≢◌, ℕ};
 ghost use Rattle.pac_latch.specs.Latched.{power_on, after_bit, after_vector, after_kick, after_accept, after_reset, after_blank};
 ghost use Rattle.pac_latch.specs.Latched as spec;
 
