@@ -61,7 +61,7 @@ impl Inputs {
     pub fn in0(&self) -> u8
         ensures { result ≡ in0 (mask self.now) }
     {
-        in0_of(self.0)
+        in0_of(self.bits())
     }
 
     /// The byte of the second input port: a held input of the high byte reads 0, every other one 1.
@@ -69,6 +69,6 @@ impl Inputs {
     pub fn in1(&self) -> u8
         ensures { result ≡ in1 (mask self.now) }
     {
-        in1_of(self.0)
+        in1_of(self.bits())
     }
 }
