@@ -4,6 +4,7 @@ use Rattle.std.specs.Prelude.{false}
 use Rattle.pac_table.specs.declared.effects.InterruptMode.TheVariants.{Zero}
 use Rattle.pac_exec.specs.declared.regs.Regs.{Regs}
 
+-- at power-on
 abbrev pub at_power_on : Regs
 at_power_on =
     record {
@@ -29,6 +30,7 @@ at_power_on =
       after_ei = false;
     }
 
+-- after a reset
 abbrev pub after_reset : Regs → Regs
 after_reset regs =
     record regs { pc = 0; i = 0; r = 0; mode = Zero; iff1 = false; iff2 = false; halted = false; after_ei = false }
