@@ -33,7 +33,6 @@ fn run_flat<F: Out, R: Out>(
     report: &mut R,
 ) -> Result<Outcome, RunFault> {
     let tiles = flat_tiles(alloc)?;
-    assert!(rt; tiles.len() == 4096);
     assert!(rt; (1..=15).contains(&n));
     run_first(alloc, source, &tiles, n, frames, report)
 }
