@@ -1,6 +1,12 @@
 -- The whole run, told by the history of the source's items.
-use Rattle.std.proofs.Common.{◌≡◌, ℕ, ◌/◌, List, sym, ap}
-use Rattle.std.proofs.Common.{◌∙◌}
+use Rattle.std.proofs.Common.{◌≡◌, ℕ, ◌/◌, ◌≤◌, List, [], Option, sym, ap, subst, ◌∙◌}
+use Rattle.std.specs.Borrow.{MutBor}
+use Rattle.pac_out.specs.declared.counted.Counted.{Counted}
+use Rattle.pac_out.specs.declared.WriteFault.{WriteFault}
+use Rattle.pac_out.specs.Counted.{HasTaken, Takes, Refuses}
+use Rattle.pac_out.specs.Writes.{StopsAfter, lent_took, lent_refused}
+use Rattle.pac_out.proofs.Files.{lent-takes, lent-refuses}
+use Rattle.pac_cpu.specs.declared.once.Stop.{Stop}
 use Rattle.pac_map.specs.Entry.{View, power_on}
 use Rattle.pac_board.specs.History.{view_of}
 use Rattle.pac_board.specs.Step.{frame_ticks}
@@ -11,10 +17,10 @@ use Rattle.pac_board.specs.State.{State}
 use Rattle.pac_board.proofs.Whole.{traces-agree, pictures-of-history, blanks-frames}
 use Rattle.pac_run.specs.Source.{items_of}
 use Rattle.pac_run.specs.Texts.{images}
-use Rattle.pac_run.specs.Turns.{switches, IsDone}
+use Rattle.pac_run.specs.Turns.{switches, most_frames, IsDone, outcome_at}
 use Rattle.pac_run.specs.Run.{IsMade, roms, run_trace, frames_text, outcome_of}
 use Rattle.pac_run.proofs.Loops.{whole_text}
-use Rattle.pac_run.specs.declared.run.Outcome.{Outcome}
+use Rattle.pac_run.proofs.Sizes.{frames-short}
 
 -- the board that a source and tiles make, and the run of its frames
 module _ (source tiles : List ℕ) (board : State) (frames : ℕ) (made : IsMade source tiles board) where
@@ -25,19 +31,32 @@ module _ (source tiles : List ℕ) (board : State) (frames : ℕ) (made : IsMade
   agree = traces-agree (roms source tiles) (items_of source) switches frames made.size made.lie
       ∙ ap (λ (r : Roms). view_trace r switches frames) (sym same)
 
-  pub text-agrees : whole_text board.roms frames ≡ frames_text source tiles frames
+  text-agrees : whole_text board.roms frames ≡ frames_text source tiles frames
   text-agrees =
       ap (λ (w : Walk View). images w.pictures) (sym agree)
       ∙ ap images (pictures-of-history (roms source tiles) (items_of source) switches frames)
 
-  pub outcome-agrees : (new : State) (outcome : Outcome) → IsDone board new frames outcome.stop
-      → outcome.frames ≡ new.now.time / frame_ticks → outcome.steps ≡ new.now.steps
-      → outcome.ticks ≡ new.now.time → outcome ≡ outcome_of (run_trace source tiles frames)
-  outcome-agrees new outcome done frames_is steps_is ticks_is =
+  pub outcome-agrees : (new : State) (stop : Option Stop) → IsDone board new frames stop
+      → outcome_at new stop ≡ outcome_of (run_trace source tiles frames)
+  outcome-agrees new stop done =
       let now = done.now ∙ ap (λ (w : Walk View). w.now) (sym agree) in
       let met = done.met ∙ ap (λ (w : Walk View). w.stop) (sym agree) in
-      let shown = frames_is ∙ ap (λ m. m.time / frame_ticks) now
-      ∙ sym (blanks-frames (roms source tiles) (items_of source) switches frames) in
-      let steps = steps_is ∙ ap (λ m. m.steps) now in
-      let ticks = ticks_is ∙ ap (λ m. m.time) now in
-      λ i. record { frames = shown i; steps = steps i; ticks = ticks i; stop = met i }
+      let shown = ap (λ m. m.time / frame_ticks) now ∙ sym (blanks-frames (roms source tiles) (items_of source) switches frames) in
+      λ i. record { frames = shown i; steps = (now i).steps; ticks = (now i).time; stop = met i }
+
+  -- what the frames' writer has when the run has ended, and where it stopped
+  module _ {F : Type 0} (took : F → List ℕ → F → Type 0) {owner : MutBor F} {file new : Counted (MutBor F)} {left : F}
+      (fresh : HasTaken (lent_took took) owner [] file) where
+    pub frames-taken : Takes (lent_took took) file (whole_text board.roms frames) new
+        → (owner.ghost_name ≡ new.writer.ghost_name → left ≡ new.writer.now) → took owner.now (frames_text source tiles frames) left
+    frames-taken takes ends =
+        lent-takes took fresh (subst (λ (text : List ℕ). Takes (lent_took took) file text new) text-agrees takes) ends
+
+    pub frames-stopped : (refused : F → F → Type 0) {fault : WriteFault} → frames ≤ most_frames
+        → Refuses (lent_took took) (lent_refused refused) file (whole_text board.roms frames) fault new
+        → (owner.ghost_name ≡ new.writer.ghost_name → left ≡ new.writer.now)
+        → StopsAfter took refused owner.now (frames_text source tiles frames) fault.count left
+    frames-stopped refused {fault = fault} few refuses ends =
+        lent-refuses took refused fresh
+        (subst (λ (text : List ℕ). Refuses (lent_took took) (lent_refused refused) file text fault new) text-agrees refuses)
+        (frames-short source tiles frames few) ends

@@ -166,7 +166,8 @@ module _ (first now : State) (frames : ℕ) (on : IsOn first now frames) (early 
         }
 
   -- a stop
-  module _ (new : State) (stop : Stop) (new_is : new ≡ state_after (next_of now) now) (once_is : once_of (next_of now) now ≡ Stopped stop) where
+  module _ (new : State) (stop : Stop) (new_is : new ≡ state_after (next_of now) now)
+      (once_is : once_of (next_of now) now ≡ Stopped stop) where
     stayed : Answered new (pictures_in (next_of now)) (Stopped stop)
     stayed =
         subst (λ (once : Once). Answered new (pictures_in (next_of now)) once) once_is

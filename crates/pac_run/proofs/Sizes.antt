@@ -19,6 +19,7 @@ use Rattle.pac_board.specs.Trace.{frame_steps, Roms, by_history, by_view, pictur
 use Rattle.pac_board.proofs.Whole.{timed, blanks-frames}
 use Rattle.pac_run.specs.Texts.{grey, image, images, counts_text, cause_text, end_text, report, hex_word, hex_byte}
 use Rattle.pac_run.specs.Turns.{switches, most_frames}
+use Rattle.pac_run.specs.declared.run.Outcome.{Outcome}
 use Rattle.pac_run.specs.Source.{items_of}
 use Rattle.pac_run.specs.Run.{roms, run_trace, frames_text}
 use Rattle.pac_run.proofs.Images.{image-none, image-more}
@@ -44,7 +45,8 @@ module _ {Board : Type 0} (ask : Questions Board) (limit : ℕ)
 -- so many frames end early
 pub trace-short : (roms : Roms) (frames : ℕ) → frames ≤ most_frames → (view_trace roms switches frames).now.time < 2 ^ 32
 trace-short roms frames few =
-    let slow = walk-slow (by_view roms) (frame_ticks * frames) (timed (by_view roms)) (start (power_on switches)) refl (frame_steps * frames) in
+    let slow = walk-slow (by_view roms) (frame_ticks * frames) (timed (by_view roms)) (start (power_on switches)) refl
+    (frame_steps * frames) in
     omega (arith, slow, few)
 
 -- an image of 224 rows of 288 pixels has 193,551 bytes
@@ -108,13 +110,14 @@ length-end : (stop : Option Stop) → length (end_text stop) ≤ 200
 length-end None = omega arith
 length-end (Some stop) = length-cause stop.pc stop.bytes stop.cause
 
-pub report-short : (shown total steps ticks : ℕ) (stop : Option Stop) → shown < 2 ^ 64 → total < 2 ^ 64 → steps < 2 ^ 64 → ticks < 2 ^ 64
-    → length (report shown total steps ticks stop) < 2 ^ 64
-report-short shown total steps ticks stop shown_fits total_fits steps_fits ticks_fits =
+pub report-short : (outcome : Outcome) (total : ℕ) → outcome.frames < 2 ^ 64 → total < 2 ^ 64 → outcome.steps < 2 ^ 64
+    → outcome.ticks < 2 ^ 64
+    → length (report outcome total) < 2 ^ 64
+report-short outcome total frames_fit total_fits steps_fit ticks_fit =
+    let counts = counts_text outcome.frames total outcome.steps outcome.ticks in
     omega (
       arith,
-      length-append (counts_text shown total steps ticks)
-          (end_text stop),
-      length-counts shown total steps ticks shown_fits total_fits steps_fits ticks_fits,
-      length-end stop,
+      length-append counts (end_text outcome.stop),
+      length-end outcome.stop,
+      length-counts outcome.frames total outcome.steps outcome.ticks frames_fit total_fits steps_fit ticks_fit,
     )

@@ -101,7 +101,12 @@ lie-each above (Operation i ∷ lines) pre post place valid =
     ap (λ n. take (length (code i)) (drop n (pre ++ ((code i ++ flat_map bytes lines) ++ post)))) (sym place)
     ∙ ap (λ xs. take (length (code i)) (drop (length pre) (pre ++ xs))) (append_assoc (code i) (flat_map bytes lines) post)
     ∙ middle pre (code i) (flat_map bytes lines ++ post) in (
-      record { valid = valid.0; inside = let all = ap length rom in let joined = length-append (pre ++ code i) (flat_map bytes lines ++ post) in omega (arith, all, joined); bytes = at },
+      record {
+        valid = valid.0;
+        inside = let all = ap length rom in
+            let joined = length-append (pre ++ code i) (flat_map bytes lines ++ post) in omega (arith, all, joined);
+        bytes = at;
+      },
       subst (λ (bytes : List ℕ). AllByRecursion (Lies bytes) (items_after (above ++ Operation i ∷ []) lines)) (sym rom)
           (lie-each (above ++ Operation i ∷ []) lines (pre ++ code i) post (omega (arith, sum_by_push size above (Operation i))) valid.1),
     )

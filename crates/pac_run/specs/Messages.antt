@@ -28,7 +28,15 @@ message Tiles = codes "refused M3 tiles"
 message (Write to count) = codes "write fault " ++ output to ++ codes " after " ++ decimal count ++ codes " bytes"
 message Memory = codes "out of memory"
 
--- the exit status: 1 refused input, 2 command line, 3 read or write fault, 4 memory
+-- the words of the program's one command: `first SOURCE TILES N FRAMES`
+abbrev pub command_words : ℕ
+command_words = 5
+
+-- the greatest exit status, that of a run whose board stopped
+abbrev pub most_status : ℕ
+most_status = 5
+
+-- the exit status of a failure: 1 refused input, 2 command line, 3 read or write fault, 4 memory
 abbrev pub status : Failure → ℕ
 status (Source fault) = 1
 status Tiles = 1

@@ -32,8 +32,7 @@ abbrev pub outcome_of : Walk (List Entry) → Outcome
 outcome_of end = record { frames = blanks end.now.board; steps = end.now.steps; ticks = end.now.time; stop = end.stop }
 
 abbrev pub report_text : List ℕ → List ℕ → ℕ → List ℕ
-report_text source tiles frames =
-    let end = outcome_of (run_trace source tiles frames) in report end.frames frames end.steps end.ticks end.stop
+report_text source tiles frames = report (outcome_of (run_trace source tiles frames)) frames
 
 -- What a run leaves in its two outputs, by its answer. Done: each has taken its text, and nothing else. A refused
 -- source: its fault, and nothing is written. A refused write: the output that refused took so many bytes of its text,

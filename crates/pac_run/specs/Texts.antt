@@ -3,6 +3,7 @@
 use Rattle.std.specs.Prelude.{ℕ, Option, None, Some, slice_index, ◌+◌, ◌*◌, ◌/◌, ◌%◌, List, [], ◌∷◌, ◌++◌, nat_lt, if◌then◌else◌, codes}
 use Rattle.std.specs.Prelude.{decimal}
 use Rattle.std.specs.List.{flat_map}
+use Rattle.pac_run.specs.declared.run.Outcome.{Outcome}
 use Rattle.pac_cpu.specs.declared.once.Stop.{Stop}
 use Rattle.pac_cpu.specs.declared.once.Cause.{Cause}
 use Rattle.pac_cpu.specs.declared.once.Cause.TheVariants.{Opcode, Vector}
@@ -53,5 +54,6 @@ counts_text shown total steps ticks =
     joined (codes "frames " ∷ decimal shown ∷ codes " of " ∷ decimal total ∷ codes "\nsteps " ∷ decimal steps ∷ codes " ticks "
     ∷ decimal ticks ∷ codes "\n" ∷ [])
 
-abbrev pub report : ℕ → ℕ → ℕ → ℕ → Option Stop → List ℕ
-report shown total steps ticks stop = counts_text shown total steps ticks ++ end_text stop
+-- the report of what a run of so many frames came to
+abbrev pub report : Outcome → ℕ → List ℕ
+report outcome total = counts_text outcome.frames total outcome.steps outcome.ticks ++ end_text outcome.stop

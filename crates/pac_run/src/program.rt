@@ -3,6 +3,7 @@
 ghost use Rattle.std.specs.Prelude.{◌≡◌, ◌≢◌, ◌≤◌, length, Some, Err, IfOk};
 ghost use Rattle.pac_run.specs.declared.program.Failure.TheVariants.{Words};
 ghost use Rattle.pac_run.specs.Messages as messages;
+ghost use Rattle.pac_run.specs.Turns.{most_frames};
 
 use crate::run::{Outcome, Output, RunFault, run_first};
 use crate::source::{AsmError, AsmFault, assemble};
@@ -79,7 +80,7 @@ impl Failure<'_> {
 /// Does what the program's words ask, and answers the exit status: 0 done, 1 refused input, 2 command line,
 /// 3 read or write fault, 4 memory, 5 board stopped. A failure is told in one line on standard error.
 pub fn run<R: Env + Files + Print + Eprint + AllocGlobal>(rt: &R) -> u8
-    ensures { result ≤ 5 }
+    ensures { result ≤ messages.most_status }
 {
     let mut words = Vec::new(rt.alloc());
     let args = match env::args(rt) {
@@ -102,8 +103,8 @@ pub fn run_words<R: Files + AllocGlobal, C: Print + Eprint>(
     console: &C,
     words: &[String],
 ) -> u8
-    ensures status { result ≤ 5 }
-    ensures words { length words.now ≢ 5 → result ≡ 2 }
+    ensures status { result ≤ messages.most_status }
+    ensures words { length words.now ≢ messages.command_words → result ≡ messages.status Words }
 {
     match work(rt, console, words) {
         Ok(outcome) => { if outcome.stop.is_some() { 5 } else { 0 } }
@@ -125,7 +126,7 @@ fn work<'a, R: Files + AllocGlobal, C: Print>(
     console: &C,
     words: &'a [String],
 ) -> Result<Outcome, Failure<'a>>
-    ensures { length words.now ≢ 5 → result ≡ Err Words }
+    ensures { length words.now ≢ messages.command_words → result ≡ Err Words }
 {
     if words.len() != 5 || words[0].as_str() != "first" {
         return Err(Failure::Words);
@@ -143,7 +144,7 @@ fn work<'a, R: Files + AllocGlobal, C: Print>(
 
 /// The count of frames that a word asks for, 1 to 15.
 fn frame_count(word: &str) -> Result<u32, Failure<'static>>
-    ensures { IfOk result (λ n. (1 ≤ n) × (n ≤ 15)) }
+    ensures { IfOk result (λ n. (1 ≤ n) × (n ≤ most_frames)) }
 {
     match word.parse::<u32>() {
         Ok(n) if 1 <= n && n <= 15 => Ok(n),
@@ -162,7 +163,7 @@ fn first<'a, R: Files + AllocGlobal, C: Print>(
     frames_name: &'a str,
 ) -> Result<Outcome, Failure<'a>>
     requires at_least { 1 ≤ n }
-    requires at_most { n ≤ 15 }
+    requires at_most { n ≤ most_frames }
 {
     let source = read_file(rt, source_name)?;
     let tiles = read_file(rt, tiles_name)?;

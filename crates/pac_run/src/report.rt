@@ -6,6 +6,7 @@ ghost use Rattle.pac_out.specs.Counted.{Puts};
 ghost use Rattle.pac_run.specs.Texts as text;
 
 use crate::pieces::put_pieces;
+use crate::run::Outcome;
 use itoa::Buffer;
 use pac_cpu::{Cause, Stop};
 use pac_out::counted::Counted;
@@ -134,14 +135,11 @@ fn put_end<W: Out>(output: &mut Counted<W>, stop: Option<Stop>) -> Result<(), Wr
 /// run ended.
 pub fn put_report<W: Out>(
     output: &mut Counted<W>,
-    shown: u32,
+    outcome: Outcome,
     total: u32,
-    steps: u64,
-    ticks: u64,
-    stop: Option<Stop>,
 ) -> Result<(), WriteFault>
-    ensures { Puts W.took W.refused output.old (text.report shown total steps ticks stop) result output.new }
+    ensures { Puts W.took W.refused output.old (text.report outcome total) result output.new }
 {
-    put_counts(output, shown, total, steps, ticks)?;
-    put_end(output, stop)
+    put_counts(output, outcome.frames, total, outcome.steps, outcome.ticks)?;
+    put_end(output, outcome.stop)
 }

@@ -1,11 +1,11 @@
 //! A run: the board from power-on to the last blank or a stop, its frames and its report.
 
-ghost use Rattle.std.specs.Prelude.{◌≡◌, ◌≤◌, ◌<◌, length, Some, IfOk};
+ghost use Rattle.std.specs.Prelude.{◌≡◌, ◌≤◌, ◌<◌, ◌^◌, length, Some, IfOk};
 ghost use Rattle.pac_out.specs.Counted.{Puts};
 ghost use Rattle.pac_board.specs.Trace.{view_trace, tiles_size};
 ghost use Rattle.pac_board.specs.State.{state_after, next_of, once_of, pictures_in, due_since, at_power_on, latest};
 ghost use Rattle.pac_run.specs.Texts.{images};
-ghost use Rattle.pac_run.specs.Turns.{IsDone, switches, most_frames};
+ghost use Rattle.pac_run.specs.Turns.{IsDone, outcome_at, switches, most_frames};
 ghost use Rattle.pac_run.specs.Run.{Makes, Runs};
 ghost use Rattle.pac_run.specs.declared.run.RunFault.TheVariants.{NoMemory};
 
@@ -115,6 +115,19 @@ fn run_frames<W: Out>(
     Ok(None)
 }
 
+/// What a run came to that ended on this board.
+fn outcome_of(board: &Board, stop: Option<Stop>) -> Outcome
+    requires { board.now.now.time < 2 ^ 32 }
+    ensures { result ≡ outcome_at board.now stop }
+{
+    Outcome {
+        frames: board.frames() as u32,
+        steps: board.steps(),
+        ticks: board.time(),
+        stop,
+    }
+}
+
 impl From<AllocError> for RunFault {
     ghost from_gives = { λ _ fault. fault ≡ NoMemory };
 
@@ -159,20 +172,8 @@ pub fn run_first<F: Out, R: Out>(
         Ok(stop) => stop,
         Err(fault) => return Err(RunFault::Write(Output::Frames, fault.count)),
     };
-    let outcome = Outcome {
-        frames: board.frames() as u32,
-        steps: board.steps(),
-        ticks: board.time(),
-        stop,
-    };
-    match put_report(
-        &mut Counted::new(report),
-        outcome.frames,
-        n,
-        outcome.steps,
-        outcome.ticks,
-        stop,
-    ) {
+    let outcome = outcome_of(&board, stop);
+    match put_report(&mut Counted::new(report), outcome, n) {
         Ok(()) => Ok(outcome),
         Err(fault) => Err(RunFault::Write(Output::Report, fault.count)),
     }

@@ -2,6 +2,7 @@
 
 ghost use Rattle.std.specs.Prelude.{◌≤◌, length, IfOk};
 
+use crate::tiles::flat_tiles;
 use arrayvec::ArrayString;
 use pac_out::Out;
 use pac_out::memory::Memory;
@@ -119,14 +120,7 @@ fn lay(rt: &(impl Files + AllocGlobal), folder: &str, name: &str, bytes: &[u8]) 
 fn lay_files(rt: &(impl Files + AllocGlobal), folder: &str) -> io::Result<()> {
     let _ = fs::remove_dir_all(rt, folder);
     fs::create_dir(rt, folder)?;
-    let tiles: Vec<u8> = (0..4096u16)
-        .map(|place| match place / 16 % 4 {
-            0 => 0x00,
-            1 => 0x0F,
-            2 => 0xF0,
-            _ => 0xFF,
-        })
-        .collect(rt.alloc())?;
+    let tiles = flat_tiles(rt.alloc())?;
     lay(rt, folder, "flat.tiles", &tiles)?;
     lay(rt, folder, "short.tiles", &tiles[1..])?;
     lay(rt, folder, "cell.asm", b"LD A,42H\nLD (4040H),A\nHALT\n")?;

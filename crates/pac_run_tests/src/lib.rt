@@ -7,3 +7,5 @@ mod commands;
 mod runs;
 #[cfg(test)]
 mod sources;
+#[cfg(test)]
+mod tiles;

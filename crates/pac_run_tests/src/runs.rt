@@ -1,6 +1,7 @@
 //! Runs whose numbers follow from UM0080's T-states (NOP and a halted step 4, LD A,n 7, LD (nn),A 13, JP nn 10) and
 //! from a frame's 50,688; pictures by the schematics' places of the tiles.
 
+use crate::tiles::flat_tiles;
 use pac_out::Out;
 use pac_out::faulty::Faulty;
 use pac_out::memory::Memory;
@@ -31,15 +32,7 @@ fn run_flat<F: Out, R: Out>(
     frames: &mut F,
     report: &mut R,
 ) -> Result<Outcome, RunFault> {
-    let tiles: Vec<u8> = (0..4096u16)
-        .map(|place| match place / 16 % 4 {
-            0 => 0x00,
-            1 => 0x0F,
-            2 => 0xF0,
-            _ => 0xFF,
-        })
-        .collect(alloc)?;
-    assert!(rt; tiles.len() == 4096);
+    let tiles = flat_tiles(alloc)?;
     assert!(rt; (1..=15).contains(&n));
     run_first(alloc, source, &tiles, n, frames, report)
 }

@@ -3,6 +3,7 @@
 ghost use Rattle.std.specs.Prelude.{◌≡◌, ◌==◌, ◌<◌, ◌∷◌, nat_lt, length};
 ghost use Rattle.std.specs.List.{position};
 ghost use Rattle.std.specs.Str.Lines.{lines, strip_carriage_return};
+ghost use Rattle.pac_run.specs.Source.{most_lines};
 
 /// The first line of a source that isn't empty, and what follows it. A line ends at LF, and one CR
 /// before that is dropped.
@@ -36,7 +37,7 @@ fn without_return(line: &[u8]) -> &[u8]
 
 /// Whether a source has more than 65,535 lines.
 pub fn has_too_many_lines(source: &[u8]) -> bool
-    ensures { result ≡ nat_lt 65535 (length (lines source.now)) }
+    ensures { result ≡ nat_lt most_lines (length (lines source.now)) }
 {
     let mut rest = source;
     for _ in 0..65535u32 {
