@@ -11,7 +11,7 @@ use Rattle.std.specs.List.{AllByRecursion}
 use Rattle.std.specs.Option.{option_or}
 use Rattle.pac_num.specs.Numbers.{address}
 use Rattle.pac_table.specs.Instructions.{Instruction, IsInstruction, code, decoded}
-use Rattle.pac_code.specs.Codes.{DecodesFront}
+use Rattle.pac_code.specs.Codes.{DecodesPrefix}
 use Rattle.pac_code.specs.Items.{Item, Content, Code, Data, IsValid, bytes_in, instruction_in, instruction_at, Lies, AllLie}
 use Rattle.pac_cpu.specs.Step.{four_bytes}
 use Rattle.pac_map.specs.declared.bus_table.Place.{Place}
@@ -104,7 +104,7 @@ abbrev place_by : ℕ → Bool → Bool → Bool → Bool → Bool → Bool → 
 place_by at a b c d e f g h =
     unwrap_or (cond a (Some (Program (at % 32768))) (cond b (Some (ram_by at c d e)) None)) (port_by f g h)
 
-module _ (again : DecodesFront) (short : (instruction : Instruction) → IsInstruction instruction → length (code instruction) ≤ 4) where
+module _ (again : DecodesPrefix) (short : (instruction : Instruction) → IsInstruction instruction → length (code instruction) ≤ 4) where
   -- an item is the instruction that its bytes hold, where it is one
   item-agrees : (program : List ℕ) (view : View) (item : Item) (at : ℕ) → length program ≡ program_size → Lies program item
       → item.at ≡ at % 32768 → Agrees (instruction_in item.content) (decoded (bytes_at program view at))

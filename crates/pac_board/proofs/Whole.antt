@@ -6,7 +6,7 @@ use Rattle.std.proofs.lemmas.Bool.Decides.{nat_tests}
 use Rattle.std.proofs.lemmas.List.{append-nil}
 use mathlib.Core.List.{IsPrefix}
 use Rattle.pac_table.proofs.Lengths.{length-code}
-use Rattle.pac_code.proofs.RoundTrip.{decodes_front}
+use Rattle.pac_code.proofs.RoundTrip.{decodes-prefix}
 use Rattle.pac_cpu.specs.Power.{at_power_on}
 use Rattle.pac_cpu.specs.Step.{cpu_step, IsInTime}
 use Rattle.pac_cpu.proofs.CpuSteps.{cpu-step-in-time}
@@ -32,7 +32,7 @@ pub traces-agree : TracesAgree
 traces-agree roms items switches frames whole lie =
     let first = power_on switches in
     walk-carried (view_of first) (by_history roms items first) (by_view roms)
-    (view-carries decodes_front length-code roms items first whole lie (power-on-sized switches))
+    (view-carries decodes-prefix length-code roms items first whole lie (power-on-sized switches))
     (frame_ticks * frames) (start []) (frame_steps * frames)
 
 pub pictures-of-history : PicturesAreOfTheHistory
