@@ -3,17 +3,29 @@
 use Rattle.std.specs.Prelude.{ℕ, ◌+◌, ◌*◌, ◌%◌, List, [], ◌∷◌, slice_index}
 use Rattle.pac_num.specs.Numbers.{bit}
 
+-- the bytes of the lookup PROM, and how many colour numbers there are
+abbrev pub lookup_size : ℕ
+lookup_size = 256
+
+abbrev pub numbers : ℕ
+numbers = 16
+
 -- the colour number, 0 to 15, of a pixel's value in a colour: the low five bits of a colour byte say the colour,
 -- and the low four bits of a lookup byte the number
 abbrev pub index_of : List ℕ → ℕ → ℕ → ℕ
-index_of lookup colour pixel = slice_index lookup (4 * (colour % 32) + pixel) % 16
+index_of lookup colour pixel = slice_index lookup (4 * (colour % 32) + pixel) % numbers
 
--- red, green and blue of a byte of the colour PROM: each bit that is 1 adds the weight of its resistor
+-- what three bits of a byte of the colour PROM, from a place on, add up to: each bit that is 1 the weight of its
+-- resistor
+abbrev pub three_bits : ℕ → ℕ → ℕ
+three_bits byte place = 33 * bit byte place + 71 * bit byte (place + 1) + 151 * bit byte (place + 2)
+
+-- red, green and blue of a byte of the colour PROM; blue has two bits, with resistors of its own
 abbrev pub red_of : ℕ → ℕ
-red_of byte = 33 * bit byte 0 + 71 * bit byte 1 + 151 * bit byte 2
+red_of byte = three_bits byte 0
 
 abbrev pub green_of : ℕ → ℕ
-green_of byte = 33 * bit byte 3 + 71 * bit byte 4 + 151 * bit byte 5
+green_of byte = three_bits byte 3
 
 abbrev pub blue_of : ℕ → ℕ
 blue_of byte = 81 * bit byte 6 + 174 * bit byte 7

@@ -1,8 +1,8 @@
 //! Colours of the picture: the colour number of a pixel, and red, green and blue of a byte of the colour PROM.
 #![tactic(auto)]
 
-ghost use Rattle.std.specs.Prelude.{◌≡◌, ◌<◌, length};
-ghost use Rattle.pac_colour.specs.Colours.{index_of, rgb_of};
+ghost use Rattle.std.specs.Prelude.{◌≡◌, ◌<◌, ◌+◌, length};
+ghost use Rattle.pac_colour.specs.Colours as colours;
 
 use pac_num::bit;
 
@@ -10,10 +10,10 @@ use pac_num::bit;
 /// The high three bits of the colour byte are not wired.
 #[inline]
 pub fn index(lookup: &[u8], colour: u8, pixel: u8) -> u8
-    requires lookup { length lookup.now ≡ 256 }
+    requires lookup { length lookup.now ≡ colours.lookup_size }
     requires pixel { pixel < 4 }
-    ensures index { result ≡ index_of lookup.now colour pixel }
-    ensures below { result < 16 }
+    ensures index { result ≡ colours.index_of lookup.now colour pixel }
+    ensures below { result < colours.numbers }
 {
     lookup[4 * (colour % 32) as usize + pixel as usize] % 16
 }
@@ -21,12 +21,19 @@ pub fn index(lookup: &[u8], colour: u8, pixel: u8) -> u8
 /// Red, green and blue, 0 to 255 each, of a byte of the colour PROM.
 #[inline]
 pub fn rgb(byte: u8) -> [u8; 3]
-    ensures { result ≡ rgb_of byte }
+    ensures { result ≡ colours.rgb_of byte }
 {
-    let red = 33 * bit(byte, 0) + 71 * bit(byte, 1) + 151 * bit(byte, 2);
-    let green = 33 * bit(byte, 3) + 71 * bit(byte, 4) + 151 * bit(byte, 5);
     let blue = 81 * bit(byte, 6) + 174 * bit(byte, 7);
-    [red, green, blue]
+    [three_bits(byte, 0), three_bits(byte, 3), blue]
+}
+
+/// What three bits of a byte of the colour PROM, from a place on, add up to.
+#[inline]
+fn three_bits(byte: u8, place: u8) -> u8
+    requires { place + 2 < 8 }
+    ensures { result ≡ colours.three_bits byte place }
+{
+    33 * bit(byte, place) + 71 * bit(byte, place + 1) + 151 * bit(byte, place + 2)
 }
 
 #[cfg(test)]

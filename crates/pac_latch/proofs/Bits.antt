@@ -1,57 +1,60 @@
--- Each bit of the latch is the bit of its place in the latch's byte.
-use Rattle.std.proofs.Common.{◌≡◌, ℕ, zero, suc, ◌+◌, ◌*◌, ◌/◌, ◌%◌, ◌<◌, ◌≤◌, ◌==◌, Bool, true, false, if◌then◌else◌, refl, arith}
+-- The latch's bits as a list, and as a byte.
+use Rattle.std.proofs.Common.{◌≡◌, ◌≢◌, ℕ, zero, suc, ◌+◌, ◌*◌, ◌/◌, ◌%◌, ◌^◌, ◌<◌, ◌==◌, Bool, true, false, refl, sym, ap, ◌∙◌, arith}
+use Rattle.std.proofs.Common.{List, [], ◌∷◌, length, get_or, set, get_or-set_same, get_or-set_other}
+use Rattle.std.proofs.Math.ListN.{length-set}
+use Rattle.std.proofs.Math.Nat.{zero-div, div-div-eq-div-mul}
+use Rattle.std.proofs.lemmas.List.{ext_get_or}
+use Rattle.std.proofs.lemmas.Grind.{common_steps}
 use Rattle.pac_num.specs.Numbers.{bit}
-use Rattle.pac_latch.specs.Latched.{Latched, is_set, byte_of}
+use Rattle.pac_latch.specs.Latched.{Bits, Latched, listed, of_list, place_of, is_set, digit, number_of, byte_of, bits_of, after_bit}
 
-abbrev digit : Bool → ℕ
-digit on = if on then 1 else 0
+-- eight bits, listed again, are those bits
+listed-at : (bits : List Bool) (place : ℕ) → place < 8 → get_or (listed (of_list bits)) place false ≡ get_or bits place false
+listed-at bits place below = grind (arith, common_steps)
 
-at_most : (on : Bool) → digit on ≤ 1
-at_most true = omega arith
-at_most false = omega arith
+pub listed-of_list : (bits : List Bool) → length bits ≡ 8 → listed (of_list bits) ≡ bits
+listed-of_list bits long = ext_get_or false _ _ (rw long refl) (λ place below. listed-at bits place below)
 
-weighted : (on : Bool) (weight : ℕ) → (if on then weight else 0) ≡ weight * digit on
-weighted true weight = omega arith
-weighted false weight = omega arith
+-- what a written bit leaves in the bit of a place
+after_bit-at : (latched : Latched) (place : ℕ) (bit : Bool) (other : ℕ) →
+    is_set (after_bit latched place bit) other ≡ get_or (set (listed latched.bits) (place_of place) bit) (place_of other) false
+after_bit-at latched place bit other =
+    ap (λ (bits : List Bool). get_or bits (place_of other) false)
+    (listed-of_list (set (listed latched.bits) (place_of place) bit) (rw length-set refl))
 
-tested : (on : Bool) (n : ℕ) → n ≡ digit on → (n == 1) ≡ on
-tested true n is = rw is refl
-tested false n is = rw is refl
+-- it is the bit of its place, and the others stay
+pub is_set-written : (latched : Latched) (place : ℕ) (bit : Bool) → is_set (after_bit latched place bit) place ≡ bit
+is_set-written latched place bit =
+    let inside : place_of place < length (listed latched.bits) = omega arith in
+    after_bit-at latched place bit place ∙ rw get_or-set_same refl
 
--- a digit of a number in base 2
-digit-at : (a b c d e f g h : ℕ) → a ≤ 1 → b ≤ 1 → c ≤ 1 → d ≤ 1 → e ≤ 1 → f ≤ 1 → g ≤ 1 → h ≤ 1 →
-    let n : ℕ = 1 * a + 2 * b + 4 * c + 8 * d + 16 * e + 32 * f + 64 * g + 128 * h in
-    (n / 1 % 2 ≡ a) × (n / 2 % 2 ≡ b) × (n / 4 % 2 ≡ c) × (n / 8 % 2 ≡ d) × (n / 16 % 2 ≡ e) × (n / 32 % 2 ≡ f) × (n / 64 % 2 ≡ g) × (n / 128 % 2 ≡ h)
-digit-at a b c d e f g h a1 b1 c1 d1 e1 f1 g1 h1 =
-    (omega arith, omega arith, omega arith, omega arith, omega arith, omega arith, omega arith, omega arith)
+pub is_set-others : (latched : Latched) (place : ℕ) (bit : Bool) (other : ℕ) → place_of other ≢ place_of place →
+    is_set (after_bit latched place bit) other ≡ is_set latched other
+is_set-others latched place bit other apart = after_bit-at latched place bit other ∙ rw get_or-set_other refl
 
--- the latch's byte by its digits
-summed : (latched : Latched) → byte_of latched ≡ 1 * digit (is_set latched 0) + 2 * digit (is_set latched 1) + 4 * digit (is_set latched 2) + 8 * digit (is_set latched 3) + 16 * digit (is_set latched 4) + 32 * digit (is_set latched 5) + 64 * digit (is_set latched 6) + 128 * digit (is_set latched 7)
-summed latched =
-    let a = weighted (is_set latched 0) 1 in
-    let b = weighted (is_set latched 1) 2 in
-    let c = weighted (is_set latched 2) 4 in
-    let d = weighted (is_set latched 3) 8 in
-    let e = weighted (is_set latched 4) 16 in
-    let f = weighted (is_set latched 5) 32 in
-    let g = weighted (is_set latched 6) 64 in
-    let h = weighted (is_set latched 7) 128 in
-    cc
+-- the bit of a place of the number that binary digits make is the digit there
+digit-lowest : (lowest : Bool) (more : ℕ) → ((digit lowest + 2 * more) / 1 % 2 == 1) ≡ lowest
+digit-lowest true more = let one : (1 + 2 * more) / 1 % 2 ≡ 1 = omega arith in rw one refl
+digit-lowest false more = let none : (0 + 2 * more) / 1 % 2 ≡ 0 = omega arith in rw none refl
 
-digits-of : (latched : Latched) →
-    let n : ℕ = byte_of latched in
-    (n / 1 % 2 ≡ digit (is_set latched 0)) × (n / 2 % 2 ≡ digit (is_set latched 1)) × (n / 4 % 2 ≡ digit (is_set latched 2)) × (n / 8 % 2 ≡ digit (is_set latched 3)) × (n / 16 % 2 ≡ digit (is_set latched 4)) × (n / 32 % 2 ≡ digit (is_set latched 5)) × (n / 64 % 2 ≡ digit (is_set latched 6)) × (n / 128 % 2 ≡ digit (is_set latched 7))
-digits-of latched =
-    rw summed (digit-at (digit (is_set latched 0)) (digit (is_set latched 1)) (digit (is_set latched 2)) (digit (is_set latched 3)) (digit (is_set latched 4)) (digit (is_set latched 5)) (digit (is_set latched 6)) (digit (is_set latched 7))
-    (at_most (is_set latched 0)) (at_most (is_set latched 1)) (at_most (is_set latched 2)) (at_most (is_set latched 3)) (at_most (is_set latched 4)) (at_most (is_set latched 5)) (at_most (is_set latched 6)) (at_most (is_set latched 7)))
+without-lowest : (lowest : Bool) (more : ℕ) → (digit lowest + 2 * more) / 2 ≡ more
+without-lowest true more = omega arith
+without-lowest false more = omega arith
 
-pub bits-of : (latched : Latched) (place : ℕ) → place < 8 → (bit (byte_of latched) place == 1) ≡ is_set latched place
-bits-of latched zero below = tested (is_set latched 0) (byte_of latched / 1 % 2) (digits-of latched).0
-bits-of latched (suc zero) below = tested (is_set latched 1) (byte_of latched / 2 % 2) (digits-of latched).1
-bits-of latched (suc (suc zero)) below = tested (is_set latched 2) (byte_of latched / 4 % 2) (digits-of latched).2
-bits-of latched (suc (suc (suc zero))) below = tested (is_set latched 3) (byte_of latched / 8 % 2) (digits-of latched).3
-bits-of latched (suc (suc (suc (suc zero)))) below = tested (is_set latched 4) (byte_of latched / 16 % 2) (digits-of latched).4
-bits-of latched (suc (suc (suc (suc (suc zero))))) below = tested (is_set latched 5) (byte_of latched / 32 % 2) (digits-of latched).5
-bits-of latched (suc (suc (suc (suc (suc (suc zero)))))) below = tested (is_set latched 6) (byte_of latched / 64 % 2) (digits-of latched).6
-bits-of latched (suc (suc (suc (suc (suc (suc (suc zero))))))) below = tested (is_set latched 7) (byte_of latched / 128 % 2) (digits-of latched).7
-bits-of latched (suc (suc (suc (suc (suc (suc (suc (suc n)))))))) below = absurd (omega (arith, below))
+bit-next : (n place : ℕ) → bit n (suc place) ≡ bit (n / 2) place
+bit-next n place =
+    let power : 2 ^ suc place ≡ 2 * 2 ^ place = omega arith in
+    rw power (ap (λ rest. rest % 2) (sym (div-div-eq-div-mul n 2 (2 ^ place))))
+
+number_of-bit : (digits : List Bool) (place : ℕ) → (bit (number_of digits) place == 1) ≡ get_or digits place false
+number_of-bit [] place = rw zero-div refl
+number_of-bit (lowest ∷ more) zero = digit-lowest lowest (number_of more)
+number_of-bit (lowest ∷ more) (suc place) =
+    ap (λ at. at == 1) (bit-next (number_of (lowest ∷ more)) place ∙ ap (λ n. bit n place) (without-lowest lowest (number_of more)))
+    ∙ number_of-bit more place
+
+-- so the latch of the latch's byte is the latch
+pub bits_of-byte_of : (bits : Bits) → bits_of (byte_of bits) ≡ bits
+bits_of-byte_of bits =
+    let at : (place : ℕ) → (bit (byte_of bits) place == 1) ≡ get_or (listed bits) place false = number_of-bit (listed bits) in
+    rw (at 0, at 1, at 2, at 3, at 4, at 5, at 6, at 7) refl

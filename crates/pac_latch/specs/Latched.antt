@@ -1,12 +1,48 @@
 -- What the board keeps beside its memories: the eight bits of the output latch, the interrupt vector, the
 -- interrupt request and the watchdog's count (Namco Pac-Man service schematics; that an output to port 0 sets
--- the vector, and the order at a blank, are this profile's).
-use Rattle.std.specs.Prelude.{ℕ, ◌+◌, ◌^◌, ◌==◌, Bool, false, not, ◌&&◌, ◌||◌, if◌then◌else◌, List, [], ◌∷◌, slice_index_or, slice_set, Option, Some, None}
-use Rattle.pac_latch.specs.declared.TheConstants.{INTERRUPT_ENABLE, WATCHDOG_LIMIT}
+-- the vector, the order at a blank, and that a count stays at its limit are this profile's).
+use Rattle.std.specs.Prelude.{ℕ, ◌+◌, ◌*◌, ◌%◌, ◌==◌, min, Bool, false, not, ◌&&◌, ◌||◌, if◌then◌else◌}
+use Rattle.std.specs.Prelude.{List, [], ◌∷◌, slice_index_or, slice_set, Option, Some, None}
+use Rattle.pac_num.specs.Numbers.{bit}
+
+-- the count of vertical blanks without a kick at which the watchdog resets the board
+abbrev pub watchdog_limit : ℕ
+watchdog_limit = 16
+
+-- the output latch
+pub record Bits : Type 0 where
+  -- a vertical blank asks for an interrupt
+  pub interrupt_enable : Bool
+  -- the wave generator sounds
+  pub sound_enable : Bool
+  pub auxiliary : Bool
+  -- the picture is flipped
+  pub flip : Bool
+  pub lamp_1 : Bool
+  pub lamp_2 : Bool
+  pub coin_lockout : Bool
+  pub coin_counter : Bool
+
+-- its bits by their places, from 0 to 7, and the latch that has these bits
+abbrev pub listed : Bits → List Bool
+listed bits =
+    bits.interrupt_enable ∷ bits.sound_enable ∷ bits.auxiliary ∷ bits.flip
+    ∷ bits.lamp_1 ∷ bits.lamp_2 ∷ bits.coin_lockout ∷ bits.coin_counter ∷ []
+
+abbrev pub of_list : List Bool → Bits
+of_list bits = record {
+  interrupt_enable = slice_index_or bits 0 false;
+  sound_enable = slice_index_or bits 1 false;
+  auxiliary = slice_index_or bits 2 false;
+  flip = slice_index_or bits 3 false;
+  lamp_1 = slice_index_or bits 4 false;
+  lamp_2 = slice_index_or bits 5 false;
+  coin_lockout = slice_index_or bits 6 false;
+  coin_counter = slice_index_or bits 7 false;
+}
 
 pub record Latched : Type 0 where
-  -- the latch, bit 0 first
-  pub bits : List Bool
+  pub bits : Bits
   pub vector : ℕ
   -- whether the board asks the processor for an interrupt
   pub request : Bool
@@ -15,26 +51,39 @@ pub record Latched : Type 0 where
 
 -- at power-on all is 0 (this profile)
 abbrev pub power_on : Latched
-power_on =
-    record {
-      bits = false ∷ false ∷ false ∷ false ∷ false ∷ false ∷ false ∷ false ∷ [];
-      vector = 0;
-      request = false;
-      count = 0;
-    }
+power_on = record { bits = of_list []; vector = 0; request = false; count = 0 }
+
+-- the place of a latch bit: an address says it by its lowest three lines alone
+abbrev pub place_of : ℕ → ℕ
+place_of place = place % 8
 
 -- whether a bit of the latch is 1
 abbrev pub is_set : Latched → ℕ → Bool
-is_set latched place = slice_index_or latched.bits place false
+is_set latched place = slice_index_or (listed latched.bits) (place_of place) false
 
--- the latch as one byte: each bit that is 1 adds its power of 2
-abbrev pub weight : Latched → ℕ → ℕ
-weight latched place = if is_set latched place then 2 ^ place else 0
+-- the number that binary digits make, the lowest one first
+abbrev pub digit : Bool → ℕ
+digit bit = if bit then 1 else 0
 
-abbrev pub byte_of : Latched → ℕ
-byte_of latched =
-    weight latched 0 + weight latched 1 + weight latched 2 + weight latched 3
-    + weight latched 4 + weight latched 5 + weight latched 6 + weight latched 7
+abbrev pub number_of : List Bool → ℕ
+number_of [] = 0
+number_of (bit ∷ more) = digit bit + 2 * number_of more
+
+-- the latch as one byte, and the latch of a byte
+abbrev pub byte_of : Bits → ℕ
+byte_of bits = number_of (listed bits)
+
+abbrev pub bits_of : ℕ → Bits
+bits_of byte = record {
+  interrupt_enable = bit byte 0 == 1;
+  sound_enable = bit byte 1 == 1;
+  auxiliary = bit byte 2 == 1;
+  flip = bit byte 3 == 1;
+  lamp_1 = bit byte 4 == 1;
+  lamp_2 = bit byte 5 == 1;
+  coin_lockout = bit byte 6 == 1;
+  coin_counter = bit byte 7 == 1;
+}
 
 -- the vector, where a request stands
 abbrev pub request_of : Latched → Option ℕ
@@ -42,13 +91,13 @@ request_of latched = if latched.request then Some latched.vector else None
 
 -- whether a bit that is written takes the request back: a 0 in interrupt enable does
 abbrev pub withdraws : ℕ → Bool → Bool
-withdraws place bit = place == INTERRUPT_ENABLE && not bit
+withdraws place bit = place_of place == 0 && not bit
 
 -- after a bit of the latch is written
 abbrev pub after_bit : Latched → ℕ → Bool → Latched
 after_bit latched place bit =
     record latched {
-      bits = slice_set latched.bits place bit;
+      bits = of_list (slice_set (listed latched.bits) (place_of place) bit);
       request = latched.request && not (withdraws place bit);
     }
 
@@ -68,14 +117,15 @@ after_accept latched = record latched { request = false }
 abbrev pub after_reset : Latched → Latched
 after_reset latched = record power_on { vector = latched.vector }
 
--- after a vertical blank: it asks for an interrupt where interrupts are enabled, and the watchdog counts it
+-- after a vertical blank: it asks for an interrupt where interrupts are enabled, and the watchdog counts it, up to
+-- its limit
 abbrev pub after_blank : Latched → Latched
 after_blank latched =
     record latched {
-      request = latched.request || is_set latched INTERRUPT_ENABLE;
-      count = latched.count + 1;
+      request = latched.request || latched.bits.interrupt_enable;
+      count = min watchdog_limit (latched.count + 1);
     }
 
 -- whether the watchdog resets the board now
 abbrev pub is_due : Latched → Bool
-is_due latched = latched.count == WATCHDOG_LIMIT
+is_due latched = latched.count == watchdog_limit

@@ -1,31 +1,31 @@
 //! The board's output latch, its interrupt vector and request, and the watchdog's count of vertical blanks.
 #![tactic(auto)]
 
-ghost use Rattle.std.specs.Prelude.{◌≡◌, ◌≢◌, ◌==◌, ℕ, ◌<◌, ◌≤◌, Bool, length};
+ghost use Rattle.std.specs.Prelude.{◌≡◌, ◌≢◌, ◌==◌, ℕ, ◌≤◌, ◌<◌, Bool};
 ghost use Rattle.pac_latch.specs.Latched.{power_on, after_bit, after_vector, after_kick, after_accept, after_reset, after_blank};
 ghost use Rattle.pac_latch.specs.Latched as spec;
-ghost use Rattle.pac_num.specs.Numbers as number;
 
+mod reading;
 #[cfg(test)]
 mod tests;
 
 use std::marker::Model;
 
 /// The latch's bit that lets a vertical blank ask for an interrupt.
-pub const INTERRUPT_ENABLE: u8 = 0;
+const INTERRUPT_ENABLE: u8 = 0;
 
 /// The latch's bit that lets the wave generator sound.
-pub const SOUND_ENABLE: u8 = 1;
+const SOUND_ENABLE: u8 = 1;
 
-/// The latch's bit that turns the picture by half a turn.
-pub const FLIP: u8 = 3;
+/// The latch's bit that flips the picture.
+const FLIP: u8 = 3;
 
 /// The count of vertical blanks without a kick at which the watchdog resets the board.
-pub const WATCHDOG_LIMIT: u8 = 16;
+const WATCHDOG_LIMIT: u8 = 16;
 
 /// The output latch's eight bits, the interrupt vector, the interrupt request and the watchdog's count (Namco
-/// Pac-Man service schematics). Bits 0, 1 and 3 have names; bit 2 (auxiliary), 4 and 5 (lamps), 6 (coin
-/// lockout) and 7 (coin counter) are only kept.
+/// Pac-Man service schematics). Bits 0, 1 and 3 let interrupts be asked for, let the sound out and flip the picture;
+/// bit 2 (auxiliary), 4 and 5 (lamps), 6 (coin lockout) and 7 (coin counter) are only kept.
 #[derive(Drop)]
 pub struct Latch {
     bits: [bool; 8],
@@ -35,19 +35,19 @@ pub struct Latch {
 }
 
 impl Model for Latch {
-    ghost use Rattle.std.specs.Prelude.{◌≡◌, ◌≤◌, length};
-    ghost use Rattle.pac_latch.specs.Latched.{Latched};
+    ghost use Rattle.std.specs.Prelude.{◌≤◌};
+    ghost use Rattle.pac_latch.specs.Latched.{Latched, of_list, watchdog_limit};
 
     ghost Value = { Latched };
 
     ghost view = { λ latch. record {
-      bits = latch.bits;
+      bits = of_list latch.bits;
       vector = latch.vector;
       request = latch.requested;
       count = latch.count;
     } };
 
-    ghost invariant = { λ latch. latch.count ≤ 16 };
+    ghost invariant = { λ latch. latch.count ≤ watchdog_limit };
 }
 
 /// Whether a write of a bit takes a request back.
@@ -55,7 +55,7 @@ impl Model for Latch {
 fn withdraws(place: u8, bit: bool) -> bool
     ensures { result ≡ spec.withdraws place bit }
 {
-    place == INTERRUPT_ENABLE && !bit
+    place % 8 == INTERRUPT_ENABLE && !bit
 }
 
 impl Latch {
@@ -71,16 +71,16 @@ impl Latch {
         }
     }
 
-    /// Writes a bit of the latch. A 0 written to interrupt enable clears the request.
+    /// Writes a bit of the latch, whose place is taken modulo 8. A 0 written to interrupt enable clears the request.
     #[inline]
     pub fn write_bit(&mut self, place: u8, bit: bool)
-        requires { place < 8 }
         ensures latched { self.new ≡ after_bit self.old place bit }
         ensures set { spec.is_set self.new place ≡ bit }
-        ensures others { (other : ℕ) → other ≢ place → spec.is_set self.new other ≡ spec.is_set self.old other }
+        ensures others { (other : ℕ) → spec.place_of other ≢ spec.place_of place →
+            spec.is_set self.new other ≡ spec.is_set self.old other }
     {
-        self.bits[place as usize] = bit;
-        self.requested = self.requested && !withdraws(place, bit);
+        self.bits[place as usize % 8] = bit;
+        self.requested &= !withdraws(place, bit);
     }
 
     /// Sets the interrupt vector.
@@ -117,79 +117,15 @@ impl Latch {
         };
     }
 
-    /// The vertical blank: asks for an interrupt where interrupts are enabled, then counts the blank. Answers
-    /// whether the watchdog resets the board now.
+    /// The vertical blank: asks for an interrupt where interrupts are enabled, then counts the blank, up to the
+    /// watchdog's limit. Answers whether the watchdog resets the board now.
     #[inline]
     pub fn blank(&mut self) -> bool
-        requires { self.old.count < 16 }
         ensures latched { self.new ≡ after_blank self.old }
         ensures due { result ≡ spec.is_due self.new }
     {
-        self.requested = self.requested || self.bits[INTERRUPT_ENABLE as usize];
-        self.count += 1;
+        self.requested = self.requested || self.is_set(INTERRUPT_ENABLE);
+        self.count = WATCHDOG_LIMIT.min(self.count + 1);
         self.count == WATCHDOG_LIMIT
-    }
-
-    /// The latch as one byte.
-    pub fn bits(&self) -> u8
-        ensures byte { result ≡ spec.byte_of self.now }
-        ensures bits { (place : ℕ) → place < 8 → (number.bit result place == 1) ≡ spec.is_set self.now place }
-    {
-        self.weight(0)
-            + self.weight(1)
-            + self.weight(2)
-            + self.weight(3)
-            + self.weight(4)
-            + self.weight(5)
-            + self.weight(6)
-            + self.weight(7)
-    }
-
-    /// What a bit is worth in the byte: 0, or its power of 2.
-    #[inline]
-    fn weight(&self, place: u8) -> u8
-        requires { place < 8 }
-        ensures { result ≡ spec.weight self.now place }
-    {
-        if self.is_set(place) { 1 << place } else { 0 }
-    }
-
-    /// Whether a bit of the latch is 1.
-    #[inline]
-    pub fn is_set(&self, place: u8) -> bool
-        requires { place < 8 }
-        ensures set { result ≡ spec.is_set self.now place }
-        ensures eight { length self.now.bits ≡ 8 }
-    {
-        self.bits[place as usize]
-    }
-
-    /// The interrupt vector, whether or not a request stands.
-    #[inline]
-    pub fn vector(&self) -> u8
-        ensures { result ≡ self.now.vector }
-    {
-        self.vector
-    }
-
-    /// The interrupt vector where a request stands.
-    #[inline]
-    pub fn request(&self) -> Option<u8>
-        ensures { result ≡ spec.request_of self.now }
-    {
-        if self.requested {
-            Some(self.vector)
-        } else {
-            None
-        }
-    }
-
-    /// The vertical blanks since the watchdog was last kicked, 0 to 16.
-    #[inline]
-    pub fn count(&self) -> u8
-        ensures count { result ≡ self.now.count }
-        ensures at_most { result ≤ 16 }
-    {
-        self.count
     }
 }

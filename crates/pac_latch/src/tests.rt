@@ -1,4 +1,6 @@
-use crate::{FLIP, INTERRUPT_ENABLE, Latch, SOUND_ENABLE, WATCHDOG_LIMIT};
+//! The latch's bits, the interrupt request and the watchdog, as the schematics tell them.
+
+use crate::Latch;
 
 #[test]
 fn a_0_in_interrupt_enable_takes_the_request_back(rt: HostRuntime) {
@@ -6,15 +8,15 @@ fn a_0_in_interrupt_enable_takes_the_request_back(rt: HostRuntime) {
     latch.set_vector(0xFA);
     latch.blank();
     assert_eq!(rt; latch.request(), None);
-    latch.write_bit(INTERRUPT_ENABLE, true);
+    latch.write_bit(0, true);
     assert_eq!(rt; latch.request(), None);
     latch.blank();
     assert_eq!(rt; latch.request(), Some(0xFA));
-    latch.write_bit(SOUND_ENABLE, false);
+    latch.write_bit(1, false);
     assert_eq!(rt; latch.request(), Some(0xFA));
-    latch.write_bit(INTERRUPT_ENABLE, false);
+    latch.write_bit(8, false);
     assert_eq!(rt; latch.request(), None);
-    latch.write_bit(INTERRUPT_ENABLE, true);
+    latch.write_bit(8, true);
     latch.blank();
     latch.accept();
     assert_eq!(rt; latch.request(), None);
@@ -27,7 +29,7 @@ fn sixteen_blanks_without_a_kick_reset_the_board(rt: HostRuntime) {
         assert_eq!(rt; latch.count(), blank - 1);
         assert_eq!(rt; latch.blank(), blank == 16, "blank {blank}");
     }
-    assert_eq!(rt; latch.count(), WATCHDOG_LIMIT);
+    assert_eq!(rt; latch.count(), 16);
 
     let mut latch = Latch::new();
     for blank in 1..=16u8 {
@@ -44,12 +46,15 @@ fn sixteen_blanks_without_a_kick_reset_the_board(rt: HostRuntime) {
 fn a_reset_keeps_the_vector_alone(rt: HostRuntime) {
     let mut latch = Latch::new();
     latch.set_vector(0x5A);
-    latch.write_bit(INTERRUPT_ENABLE, true);
-    latch.write_bit(FLIP, true);
+    latch.write_bit(0, true);
+    latch.write_bit(3, true);
     latch.write_bit(7, true);
     assert_eq!(rt; latch.bits(), 0x89);
-    assert!(rt; latch.is_set(FLIP));
-    assert!(rt; !latch.is_set(SOUND_ENABLE));
+    assert!(rt; latch.is_set(7));
+    assert!(rt; latch.is_flipped());
+    assert!(rt; !latch.is_sounding());
+    latch.write_bit(1, true);
+    assert!(rt; latch.is_sounding());
     latch.blank();
     latch.reset();
     assert_eq!(rt; latch.vector(), 0x5A);

@@ -1,8 +1,9 @@
-//! Bits, bytes and words as the processor and the board read them, as whole numbers.
+//! Bits, bytes and words as the processor and the board read them, as whole numbers, and the pixels of a byte.
 #![tactic(auto)]
 
 ghost use Rattle.std.specs.Prelude.{◌≡◌, ◌<◌, ◌+◌};
 ghost use Rattle.pac_num.specs.Numbers as number;
+ghost use Rattle.pac_num.specs.Pixels as pixels;
 
 /// Bit `place` of a byte, 0 or 1; bit 0 is the lowest.
 #[inline]
@@ -75,4 +76,14 @@ pub fn is_even(byte: u8) -> bool
     ensures { result ≡ number.is_even byte }
 {
     byte.count_ones() % 2 == 0
+}
+
+/// The value, 0 to 3, of the pixel in a column of the four that a byte of the tile or the sprite ROM has, from left
+/// to right; columns repeat every four.
+#[inline]
+pub fn pixel_value(byte: u8, x: u8) -> u8
+    ensures value { result ≡ pixels.pixel_value byte x }
+    ensures below { result < 4 }
+{
+    2 * bit(byte, 7 - x % 4) + bit(byte, 3 - x % 4)
 }

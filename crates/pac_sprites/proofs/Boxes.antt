@@ -1,21 +1,30 @@
 -- Lines and columns of a sprite's box.
-use Rattle.std.proofs.Common.{◌≡◌, ℕ, ℤ, pos, ◌+◌, ◌+ℤ◌, ◌<◌, ◌≤◌, ◌≢◌, ◌&&◌, nat_le, nat_lt, List, length, slice_index, slice_set, arith, get_or-set_other, get_or-set_same, below_more}
+use Rattle.std.proofs.Common.{◌≡◌, ℕ, ℤ, pos, ◌+◌, ◌+ℤ◌, ◌<◌, ◌≤◌, ◌≢◌, ◌&&◌, nat_le, nat_lt, arith}
+use Rattle.std.proofs.Common.{List, length, slice_index, slice_set, get_or-set_other, get_or-set_same, below_more}
 use Rattle.std.proofs.lemmas.Bool.Decides.{nat_tests}
 use Rattle.std.proofs.lemmas.Int.{ints}
 use Rattle.std.specs.Int.Signed.{le_z}
-use Rattle.pac_sprites.specs.Sprites.{value_of, is_within}
+use Rattle.pac_sprites.specs.Sprites.{is_within}
 
 -- one value more
-pub value-step : (values : List ℕ) (value : ℕ → ℕ) (place next : ℕ) → place < length values → next ≡ value place → ((k : ℕ) → k < place → slice_index values k ≡ value k) → (k : ℕ) → k < place + 1 → slice_index (slice_set values place next) k ≡ value k
+pub value-step : (values : List ℕ) (value : ℕ → ℕ) (place next : ℕ) → place < length values → next ≡ value place →
+    ((k : ℕ) → k < place → slice_index values k ≡ value k) →
+    (k : ℕ) → k < place + 1 → slice_index (slice_set values place next) k ≡ value k
 value-step values value place next inside is so_far =
     below_more _ _
     (λ k before. let other : k ≢ place = omega arith in rw get_or-set_other (so_far k before))
     (rw get_or-set_same is)
 
--- one of a byte's four pixel values is below 4
-pub value_of-below : (byte place : ℕ) → value_of byte place < 4
-value_of-below byte place = grind arith
-
--- the columns at which a sprite shows, by the first of them and the first behind them
-pub columns-between : (left first last : ℤ) (x start end : ℕ) → first ≡ left → last ≡ left +ℤ pos 16 → 16 ≤ start → end ≤ 272 → (16 ≤ x → x < 272 → nat_le start x ≡ le_z first (pos x)) → (16 ≤ x → x < 272 → nat_le end x ≡ le_z last (pos x)) → (nat_le 16 x && nat_lt x 272 && is_within left x) ≡ (nat_le start x && nat_lt x end)
+-- the columns at which a sprite shows, by the first of them and the first after them
+pub columns-between : (left first last : ℤ) (x start end : ℕ) → first ≡ left → last ≡ left +ℤ pos 16 → 16 ≤ start → end ≤ 272 →
+    (16 ≤ x → x < 272 → nat_le start x ≡ le_z first (pos x)) →
+    (16 ≤ x → x < 272 → nat_le end x ≡ le_z last (pos x)) →
+    (nat_le 16 x && nat_lt x 272 && is_within left x) ≡ (nat_le start x && nat_lt x end)
 columns-between left first last x start end begins ends low high from until = grind (arith, ints, nat_tests)
+
+-- they are in order: a place that is before the first of them can't be the first after them
+pub columns-ordered : (left first last : ℤ) (start end : ℕ) → first ≡ left → last ≡ left +ℤ pos 16 → 16 ≤ end → start ≤ 272 →
+    (16 ≤ end → end < 272 → nat_le start end ≡ le_z first (pos end)) →
+    (16 ≤ end → end < 272 → nat_le end end ≡ le_z last (pos end)) →
+    start ≤ end
+columns-ordered left first last start end begins ends low high from until = grind (arith, ints, nat_tests)

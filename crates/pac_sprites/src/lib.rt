@@ -1,75 +1,66 @@
 //! Sprites of the picture: the pixels of a sprite, what its bytes say, and the places that it covers.
 #![tactic(auto)]
 
-ghost use Rattle.std.specs.Prelude.{◌≡◌, ◌<◌, ◌≤◌, ◌≤ℤ◌, ℕ, pos, negsuc, nat_le, nat_lt, ◌&&◌, length, slice_index, Some, None, if◌then◌else◌, EachIndex, IfSome, is_some};
+ghost use Rattle.std.specs.Prelude.{◌≡◌, ◌<◌, ◌≤◌, ◌≤ℤ◌, ◌+ℤ◌, ℕ, pos, negsuc, nat_le, nat_lt, ◌&&◌, length, slice_index, EachIndex};
+ghost use Rattle.std.specs.Prelude.{Some, None, if◌then◌else◌, IfSome, is_some};
 ghost use Rattle.std.specs.Int.Signed.{le_z};
 ghost use Rattle.pac_sprites.specs.Sprites as sprites;
 
-use pac_num::bit;
+use pac_num::{bit, pixel_value};
 use std::ops::Range;
 
-// The first column of the picture at which sprites show.
+/// The first column of the picture at which sprites show.
 const FIRST_COLUMN: u16 = 16;
 
-// The first column behind those.
+/// The first column after those.
 const END_COLUMN: u16 = 272;
 
 /// The value, 0 to 3, of pixel (x, y) of a sprite, 0 to 63, of the sprite ROM's 4,096 bytes.
 #[inline]
 pub fn pixel(rom: &[u8], code: u8, x: u8, y: u8) -> u8
-    requires rom { length rom.now ≡ 4096 }
-    requires code { code < 64 }
-    requires x { x < 16 }
-    requires y { y < 16 }
+    requires rom { length rom.now ≡ sprites.rom_size }
+    requires code { code < sprites.codes }
+    requires x { x < sprites.side }
+    requires y { y < sprites.side }
     ensures value { result ≡ sprites.pixel_of rom.now code x y }
     ensures below { result < 4 }
 {
     let quarter = 8 * ((x / 4 + 1) % 4);
     let line = y % 8 + 32 * (y / 8);
-    value(rom[64 * code as usize + (quarter + line) as usize], x % 4)
+    pixel_value(rom[64 * code as usize + (quarter + line) as usize], x)
 }
 
-// One of the four pixel values of a byte, from left to right.
+/// The column or the line of a sprite that stands at a place of its box, with its flip.
 #[inline]
-fn value(byte: u8, place: u8) -> u8
-    requires { place < 4 }
-    ensures value { result ≡ sprites.value_of byte place }
-    ensures below { result < 4 }
+fn flipped(flip: bool, place: u8) -> u8
+    requires { place < sprites.side }
+    ensures value { result ≡ sprites.flipped flip place }
+    ensures below { result < sprites.side }
 {
-    2 * bit(byte, 7 - place) + bit(byte, 3 - place)
+    if flip { 15 - place } else { place }
 }
 
-// A line or a column of a sprite's box, turned or not.
-#[inline]
-fn flipped(turned: bool, place: u8) -> u8
-    requires { place < 16 }
-    ensures value { result ≡ sprites.flipped turned place }
-    ensures below { result < 16 }
-{
-    if turned { 15 - place } else { place }
-}
-
-// How far a place of the picture is behind the first of a box, where it is one of the box's 16.
+/// How far a place of the picture is from the first of a box, where it is one of the box's 16.
 #[inline]
 fn place_within(first: i16, place: u16) -> Option<u8>
     ensures value { result ≡
-        (if sprites.is_within first place then Some (sprites.behind first place) else None) }
-    ensures below { IfSome result (λ within. within < 16) }
+        (if sprites.is_within first place then Some (sprites.box_place first place) else None) }
+    ensures below { IfSome result (λ within. within < sprites.side) }
 {
-    let behind = i32::from(place) - i32::from(first);
-    if 0 <= behind && behind < 16 {
-        Some(behind as u8)
+    let within = i32::from(place) - i32::from(first);
+    if 0 <= within && within < 16 {
+        Some(within as u8)
     } else {
         None
     }
 }
 
-// The first column at which sprites show that is not left of a place, or the end of those columns.
+/// The first column at which sprites show that is not left of a place, or the end of those columns.
 #[inline]
 fn column_from(place: i32) -> u16
-    ensures first { (x : ℕ) → 16 ≤ x → x < 272 → nat_le result x ≡ le_z place (pos x) }
-    ensures low { 16 ≤ result }
-    ensures high { result ≤ 272 }
+    ensures first { (x : ℕ) → sprites.first_column ≤ x → x < sprites.end_column → nat_le result x ≡ le_z place (pos x) }
+    ensures low { sprites.first_column ≤ result }
+    ensures high { result ≤ sprites.end_column }
 {
     if place < i32::from(FIRST_COLUMN) {
         FIRST_COLUMN
@@ -81,13 +72,13 @@ fn column_from(place: i32) -> u16
 }
 
 /// What the bytes of one of the eight sprites say. A sprite is 16 by 16 pixels.
-#[derive(Clone, Copy, Debug, PartialEq, Eq)]
+#[derive(Clone, Copy, PartialEq, Eq)]
 pub struct Sprite {
     /// Which sprite of the sprite ROM, 0 to 63.
     pub code: u8,
-    /// Whether left and right are turned.
+    /// Whether left and right are swapped.
     pub flip_x: bool,
-    /// Whether top and bottom are turned.
+    /// Whether top and bottom are swapped.
     pub flip_y: bool,
     /// The colour, 0 to 31.
     pub colour: u8,
@@ -104,8 +95,8 @@ impl Sprite {
     pub fn of(attributes: [u8; 2], coordinates: [u8; 2]) -> Sprite
         ensures sprite { result ≡ sprites.sprite_of (slice_index attributes 0) (slice_index attributes 1)
             (slice_index coordinates 0) (slice_index coordinates 1) }
-        ensures code { result.code < 64 }
-        ensures colour { result.colour < 32 }
+        ensures code { result.code < sprites.codes }
+        ensures colour { result.colour < sprites.colours }
         // -31 to 224
         ensures top { (negsuc 30 ≤ℤ result.top) × (result.top ≤ℤ pos 224) }
         ensures left { (pos 17 ≤ℤ result.left) × (result.left ≤ℤ pos 272) }
@@ -136,8 +127,8 @@ impl Sprite {
     /// The value, 0 to 3, that the sprite has at (x, y) of the picture, where it shows there.
     #[inline]
     pub fn pixel(&self, rom: &[u8], x: u16, y: u8) -> Option<u8>
-        requires rom { length rom.now ≡ 4096 }
-        requires code { self.now.code < 64 }
+        requires rom { length rom.now ≡ sprites.rom_size }
+        requires code { self.now.code < sprites.codes }
         ensures value { result ≡ sprites.dot_of rom.now self.now x y }
         ensures below { IfSome result (λ value. value < 4) }
     {
@@ -154,8 +145,12 @@ impl Sprite {
     pub fn columns(&self) -> Range<u16>
         ensures columns { (x : ℕ) →
             sprites.is_column_of self.now x ≡ (nat_le result.start x && nat_lt x result.end) }
-        ensures start { 16 ≤ result.start }
-        ensures end { result.end ≤ 272 }
+        ensures ordered { result.start ≤ result.end }
+        ensures start { sprites.first_column ≤ result.start }
+        ensures end { result.end ≤ sprites.end_column }
+        // where there are any, they are columns of the sprite's box
+        ensures boxed { result.start < result.end →
+            (self.now.left ≤ℤ pos result.start) × (pos result.end ≤ℤ (self.now.left +ℤ pos sprites.side)) }
     {
         let left = i32::from(self.left);
         column_from(left)..column_from(left + 16)
@@ -164,22 +159,22 @@ impl Sprite {
     /// The values, 0 to 3, of the 16 pixels that the sprite has on line y of the picture, from left to right, where
     /// it covers that line; its columns may lie outside the picture.
     pub fn line(&self, rom: &[u8], y: u8) -> Option<[u8; 16]>
-        requires rom { length rom.now ≡ 4096 }
-        requires code { self.now.code < 64 }
+        requires rom { length rom.now ≡ sprites.rom_size }
+        requires code { self.now.code < sprites.codes }
         ensures covered { is_some result ≡ sprites.is_within self.now.top y }
         ensures values { IfSome result (λ values. EachIndex values (λ across.
-            slice_index values across ≡ sprites.boxed_of rom.now self.now across (sprites.behind self.now.top y))) }
+            slice_index values across ≡ sprites.boxed_of rom.now self.now across (sprites.box_place self.now.top y))) }
         ensures below { IfSome result (λ values. EachIndex values (λ across. slice_index values across < 4)) }
     {
         let down = place_within(self.top, u16::from(y))?;
         Some(self.boxed_line(rom, down))
     }
 
-    // The values of a line of the sprite's box.
+    /// The values of a line of the sprite's box.
     fn boxed_line(&self, rom: &[u8], down: u8) -> [u8; 16]
-        requires rom { length rom.now ≡ 4096 }
-        requires code { self.now.code < 64 }
-        requires down { down < 16 }
+        requires rom { length rom.now ≡ sprites.rom_size }
+        requires code { self.now.code < sprites.codes }
+        requires down { down < sprites.side }
         ensures values { EachIndex result (λ across.
             slice_index result across ≡ sprites.boxed_of rom.now self.now across down) }
         ensures below { EachIndex result (λ across. slice_index result across < 4) }
@@ -191,13 +186,13 @@ impl Sprite {
         values
     }
 
-    // The value of the pixel at a column and a line of the sprite's box.
+    /// The value of the pixel at a column and a line of the sprite's box.
     #[inline]
     fn boxed(&self, rom: &[u8], across: u8, down: u8) -> u8
-        requires rom { length rom.now ≡ 4096 }
-        requires code { self.now.code < 64 }
-        requires across { across < 16 }
-        requires down { down < 16 }
+        requires rom { length rom.now ≡ sprites.rom_size }
+        requires code { self.now.code < sprites.codes }
+        requires across { across < sprites.side }
+        requires down { down < sprites.side }
         ensures value { result ≡ sprites.boxed_of rom.now self.now across down }
         ensures below { result < 4 }
     {
@@ -253,63 +248,48 @@ mod tests {
 
     #[test]
     fn bytes_say_which_sprite_and_where(rt: HostRuntime) {
-        let plain = Sprite {
-            code: 1,
-            flip_x: false,
-            flip_y: false,
-            colour: 5,
-            left: 261,
-            top: 0,
-        };
-        assert!(rt; Sprite::of([0x04, 0x05], [0x1F, 0x0B]) == plain);
-        let turned = Sprite {
-            code: 63,
-            flip_x: true,
-            flip_y: false,
-            colour: 31,
-            left: 272,
-            top: -31,
-        };
-        assert!(rt; Sprite::of([0xFD, 0xFF], [0x00, 0x00]) == turned);
-        let last = Sprite {
-            code: 0,
-            flip_x: false,
-            flip_y: true,
-            colour: 0,
-            left: 17,
-            top: 224,
-        };
-        assert!(rt; Sprite::of([0x02, 0xE0], [0xFF, 0xFF]) == last);
-    }
-
-    #[test]
-    fn sprites_cover_their_boxes(rt: HostRuntime) {
-        let right = Sprite::of([0x04, 0x05], [0x1F, 0x0B]);
-        let hidden = Sprite::of([0x00, 0x00], [0x1F, 0x00]);
-        let above = Sprite::of([0x00, 0x00], [0x00, 0x0B]);
-        let one_line = Sprite::of([0x00, 0x00], [0x10, 0x0B]);
-        for x in 0..288u16 {
-            for y in 0..224u8 {
-                assert_eq!(rt;
-                    right.covers(x, y),
-                    261 <= x && x < 272 && y < 16,
-                    "({x}, {y})"
-                );
-                assert!(rt; !hidden.covers(x, y), "({x}, {y})");
-                assert!(rt; !above.covers(x, y), "({x}, {y})");
-                assert_eq!(rt;
-                    one_line.covers(x, y),
-                    261 <= x && x < 272 && y == 0,
-                    "({x}, {y})"
-                );
-            }
+        for (attributes, coordinates, code, flip_x, flip_y, colour, left, top) in [
+            ([0x04, 0x05], [0x1F, 0x0B], 1, false, false, 5, 261, 0),
+            ([0xFD, 0xFF], [0x00, 0x00], 63, true, false, 31, 272, -31),
+            ([0x02, 0xE0], [0xFF, 0xFF], 0, false, true, 0, 17, 224),
+        ] {
+            let sprite = Sprite {
+                code,
+                flip_x,
+                flip_y,
+                colour,
+                left,
+                top,
+            };
+            assert!(rt;
+                Sprite::of(attributes, coordinates) == sprite,
+                "code {code}"
+            );
         }
-        assert!(rt; right.columns() == (261..272));
-        assert!(rt; hidden.columns().is_empty());
+        for (coordinates, start, end, x, y, covered) in [
+            ([0x1F, 0x0B], 261, 272, 261, 0, true),
+            ([0x1F, 0x0B], 261, 272, 271, 15, true),
+            ([0x1F, 0x0B], 261, 272, 272, 15, false),
+            ([0x1F, 0x0B], 261, 272, 260, 0, false),
+            ([0x1F, 0x0B], 261, 272, 261, 16, false),
+            ([0x10, 0x0B], 261, 272, 261, 0, true),
+            ([0x10, 0x0B], 261, 272, 261, 1, false),
+            ([0x00, 0x0B], 261, 272, 261, 0, false),
+            ([0x1F, 0xFF], 17, 33, 17, 0, true),
+            ([0x1F, 0xFF], 17, 33, 33, 0, false),
+            ([0x1F, 0x00], 272, 272, 272, 0, false),
+        ] {
+            let sprite = Sprite::of([0x00, 0x00], coordinates);
+            assert!(rt;
+                sprite.columns() == (start..end),
+                "columns {start} to {end}"
+            );
+            assert_eq!(rt; sprite.covers(x, y), covered, "({x}, {y})");
+        }
     }
 
     #[test]
-    fn flips_turn_a_sprite_in_its_box(rt: HostRuntime) {
+    fn flips_mirror_a_sprite_in_its_box(rt: HostRuntime) {
         let mut corner = [0u8; 4096];
         corner[39] = 0b0001_0001;
         let both = Sprite::of([0x03, 0x00], [0x1F, 0xAC]);
@@ -324,7 +304,7 @@ mod tests {
         assert!(rt; plain.line(&rom, 16).is_none());
         let mut mirrored = LINE_8;
         mirrored.reverse();
-        let turned = Sprite::of([0x07, 0x00], [0x1F, 0xAC]);
-        assert!(rt; turned.line(&rom, 7) == Some(mirrored));
+        let flipped = Sprite::of([0x07, 0x00], [0x1F, 0xAC]);
+        assert!(rt; flipped.line(&rom, 7) == Some(mirrored));
     }
 }

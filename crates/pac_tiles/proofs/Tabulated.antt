@@ -1,5 +1,6 @@
 -- What a list by its places is made of.
-use Rattle.std.proofs.Common.{◌≡◌, ℕ, zero, suc, ◌+◌, ◌<◌, [], ◌∷◌, ◌++◌, length, get_or, refl, sym, ◌∙◌, append_assoc, append-nil, add-zero, arith}
+use Rattle.std.proofs.Common.{◌≡◌, ℕ, zero, suc, ◌+◌, ◌<◌, [], ◌∷◌, ◌++◌, length, get_or, slice_index, EachIndex, refl, sym, ◌∙◌}
+use Rattle.std.proofs.Common.{append_assoc, append-nil, add-zero, arith}
 use Rattle.std.proofs.lemmas.Bool.{cases_lt}
 use mathlib.Core.Logic.{inl, inr}
 use Rattle.std.proofs.lemmas.List.{length_push, get_or_push, get_or_append_left}
@@ -10,7 +11,8 @@ unfolding tabulate
 length-tabulate zero value = refl
 length-tabulate (suc count) value = let e = length-tabulate count value in rw length_push (omega (arith, e))
 
-pub get_or-tabulate : {A : Type 0} (count : ℕ) (value : ℕ → A) (place : ℕ) (other : A) → place < count → get_or (tabulate count value) place other ≡ value place
+pub get_or-tabulate : {A : Type 0} (count : ℕ) (value : ℕ → A) (place : ℕ) (other : A) → place < count →
+    get_or (tabulate count value) place other ≡ value place
 unfolding tabulate
 get_or-tabulate zero value place other below = absurd (omega (arith, below))
 get_or-tabulate (suc count) value place other below =
@@ -23,20 +25,30 @@ get_or-tabulate (suc count) value place other below =
           rw last (get_or_push _ _ other count long)
     ]
 
--- the first `front` values, then the others
-pub tabulate-add : {A : Type 0} (front back : ℕ) (value : ℕ → A) → tabulate (front + back) value ≡ tabulate front value ++ tabulate back (λ place. value (front + place))
+-- what holds of each value of a function holds of each element of the list
+pub tabulate-below : (count limit : ℕ) (value : ℕ → ℕ) → ((place : ℕ) → value place < limit) →
+    EachIndex (tabulate count value) (λ place. slice_index (tabulate count value) place < limit)
+tabulate-below count limit value below =
+    λ place inside.
+    let within : place < count = rw (length-tabulate count value) at inside in
+    rw (get_or-tabulate {A = ℕ} count value place 0 within) (below place)
+
+-- the first `count` values, then `more` of them
+pub tabulate-add : {A : Type 0} (count more : ℕ) (value : ℕ → A) →
+    tabulate (count + more) value ≡ tabulate count value ++ tabulate more (λ place. value (count + place))
 unfolding tabulate
-tabulate-add front zero value = rw add-zero (sym (append-nil _))
-tabulate-add front (suc back) value =
-    let more : front + suc back ≡ suc (front + back) = omega arith in
-    let before = tabulate-add front back value in
-    rw (more, before) (append_assoc (tabulate front value) (tabulate back (λ place. value (front + place))) (value (front + back) ∷ []))
+tabulate-add count zero value = rw add-zero (sym (append-nil _))
+tabulate-add count (suc more) value =
+    let one_more : count + suc more ≡ suc (count + more) = omega arith in
+    let before = tabulate-add count more value in
+    rw (one_more, before) (append_assoc (tabulate count value) (tabulate more (λ place. value (count + place))) (value (count + more) ∷ []))
 
 -- two functions that agree give the same list
-pub tabulate-same : {A : Type 0} (count : ℕ) (one other : ℕ → A) → ((place : ℕ) → place < count → one place ≡ other place) → tabulate count one ≡ tabulate count other
+pub tabulate-same : {A : Type 0} (count : ℕ) (one other : ℕ → A) → ((place : ℕ) → place < count → one place ≡ other place) →
+    tabulate count one ≡ tabulate count other
 unfolding tabulate
 tabulate-same zero one other same = refl
 tabulate-same (suc count) one other same =
-    let front = tabulate-same count one other (λ place below. same place (omega (arith, below))) in
+    let before = tabulate-same count one other (λ place below. same place (omega (arith, below))) in
     let last = same count (omega arith) in
-    rw (front, last) refl
+    rw (before, last) refl

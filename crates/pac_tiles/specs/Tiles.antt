@@ -1,17 +1,42 @@
 -- The tiles of a picture (Namco Pac-Man service schematics; the order of cells and bits is this profile's). The
--- picture is 288 pixels wide and 224 high, not turned: 36 columns and 28 rows of cells, each of 8 by 8 pixels.
+-- picture is 288 pixels wide and 224 high, not rotated: 36 columns and 28 rows of cells, each of 8 by 8 pixels.
 use Rattle.std.specs.Prelude.{ℕ, ◌+◌, ◌-◌, ◌*◌, ◌/◌, ◌%◌, nat_le, nat_lt, ◌&&◌, if◌then◌else◌, List, slice_index}
-use Rattle.pac_num.specs.Numbers.{bit}
+use Rattle.pac_num.specs.Pixels.{pixel_value}
 use Rattle.pac_tiles.specs.Tabulate.{tabulate}
 
--- one of a byte's four pixel values, 0 to 3, from left to right
-abbrev pub value_of : ℕ → ℕ → ℕ
-value_of byte place = 2 * bit byte (7 - place) + bit byte (3 - place)
+-- the picture's size in pixels
+abbrev pub width : ℕ
+width = 288
+
+abbrev pub height : ℕ
+height = 224
+
+-- and in cells
+abbrev pub columns : ℕ
+columns = 36
+
+abbrev pub rows : ℕ
+rows = 28
+
+-- the pixels on a side of a tile, and of the cell that shows it
+abbrev pub side : ℕ
+side = 8
+
+-- the bytes of the tile ROM and of tile RAM
+abbrev pub rom_size : ℕ
+rom_size = 4096
+
+abbrev pub ram_size : ℕ
+ram_size = 1024
 
 -- pixel (x, y) of a tile: a tile has 16 bytes of the tile ROM, first those of its right half from the top, then
 -- those of its left half
 abbrev pub pixel_of : List ℕ → ℕ → ℕ → ℕ → ℕ
-pixel_of rom tile x y = value_of (slice_index rom (16 * tile + y + (if nat_lt x 4 then 8 else 0))) (x % 4)
+pixel_of rom tile x y = pixel_value (slice_index rom (16 * tile + y + (if nat_lt x 4 then 8 else 0))) x
+
+-- line y of a tile's pixels, from left to right
+abbrev pub line_of : List ℕ → ℕ → ℕ → List ℕ
+line_of rom tile y = tabulate side (λ x. pixel_of rom tile x y)
 
 -- where in tile RAM the cell of a column and a row stands: the 32 columns in the middle go through RAM row by
 -- row, the two on either side column by column
@@ -23,12 +48,12 @@ offset_of column row =
 
 -- the value at pixel (x, y) of the picture, where tile RAM has `cell offset` at each offset
 abbrev pub dot_of : List ℕ → (ℕ → ℕ) → ℕ → ℕ → ℕ
-dot_of rom cell x y = pixel_of rom (cell (offset_of (x / 8) (y / 8))) (x % 8) (y % 8)
+dot_of rom cell x y = pixel_of rom (cell (offset_of (x / side) (y / side))) (x % side) (y % side)
 
 -- row y of the pixels of the picture, from left to right
 abbrev pub row_of : List ℕ → (ℕ → ℕ) → ℕ → List ℕ
-row_of rom cell y = tabulate 288 (λ x. dot_of rom cell x y)
+row_of rom cell y = tabulate width (λ x. dot_of rom cell x y)
 
 -- the picture, row by row from the top
 abbrev pub picture_of : List ℕ → (ℕ → ℕ) → List (List ℕ)
-picture_of rom cell = tabulate 224 (row_of rom cell)
+picture_of rom cell = tabulate height (row_of rom cell)

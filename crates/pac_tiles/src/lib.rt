@@ -1,38 +1,57 @@
-//! Tiles of the picture: the pixels of a tile, the place of a cell in tile RAM, and the lines that both make.
+//! Tiles of the picture: the pixels and the lines of a tile, the place of a cell in tile RAM, and the rows of the
+//! picture that both make.
 #![tactic(auto)]
 
 ghost use Rattle.std.specs.Prelude.{◌≡◌, ◌<◌, length, slice_index, EachIndex};
-ghost use Rattle.pac_tiles.specs.Tabulate.{tabulate};
-ghost use Rattle.pac_tiles.specs.Tiles.{value_of, pixel_of, offset_of, row_of};
+ghost use Rattle.pac_tiles.specs.Tiles as tiles;
 
-use pac_num::bit;
+use pac_num::pixel_value;
 
 /// The width of the picture, in pixels.
 pub const WIDTH: usize = 288;
 
-/// The height of the picture, in pixels.
-pub const HEIGHT: usize = 224;
-
 /// The value, 0 to 3, of pixel (x, y) of a tile of the tile ROM's 4,096 bytes.
 #[inline]
 pub fn pixel(rom: &[u8], tile: u8, x: u8, y: u8) -> u8
-    requires rom { length rom.now ≡ 4096 }
-    requires x { x < 8 }
-    requires y { y < 8 }
-    ensures value { result ≡ pixel_of rom.now tile x y }
+    requires rom { length rom.now ≡ tiles.rom_size }
+    requires x { x < tiles.side }
+    requires y { y < tiles.side }
+    ensures value { result ≡ tiles.pixel_of rom.now tile x y }
     ensures below { result < 4 }
 {
     let half = if x < 4 { 8 } else { 0 };
-    value(rom[16 * tile as usize + y as usize + half], x % 4)
+    pixel_value(rom[16 * tile as usize + y as usize + half], x)
+}
+
+/// The values, 0 to 3, of the eight pixels on line y of a tile, from left to right, from the tile ROM's 4,096 bytes.
+#[inline]
+pub fn line(rom: &[u8], tile: u8, y: u8) -> [u8; 8]
+    requires rom { length rom.now ≡ tiles.rom_size }
+    requires y { y < tiles.side }
+    ensures line { result ≡ tiles.line_of rom.now tile y }
+    ensures below { EachIndex result (λ x. slice_index result x < 4) }
+{
+    let top = 16 * tile as usize + y as usize;
+    let (left, right) = (rom[top + 8], rom[top]);
+    [
+        pixel_value(left, 0),
+        pixel_value(left, 1),
+        pixel_value(left, 2),
+        pixel_value(left, 3),
+        pixel_value(right, 4),
+        pixel_value(right, 5),
+        pixel_value(right, 6),
+        pixel_value(right, 7),
+    ]
 }
 
 /// The offset in tile RAM, and in colour RAM, of the cell in a column and a row of the picture.
 #[inline]
 pub fn offset(column: u8, row: u8) -> u16
-    requires column { column < 36 }
-    requires row { row < 28 }
-    ensures offset { result ≡ offset_of column row }
-    ensures below { result < 1024 }
+    requires column { column < tiles.columns }
+    requires row { row < tiles.rows }
+    ensures offset { result ≡ tiles.offset_of column row }
+    ensures below { result < tiles.ram_size }
 {
     let column = u16::from(column);
     let row = u16::from(row);
@@ -46,48 +65,17 @@ pub fn offset(column: u8, row: u8) -> u16
 /// Fills row y of the picture, from the top, with the values of its 288 pixels, from the tile ROM's 4,096
 /// bytes and the 1,024 bytes of tile RAM.
 pub fn row(rom: &[u8], tile_ram: &[u8], y: u8, out: &mut [u8; WIDTH])
-    requires rom { length rom.now ≡ 4096 }
-    requires tile_ram { length tile_ram.now ≡ 1024 }
-    requires y { y < 224 }
-    ensures row { out.new ≡ row_of rom.now (slice_index tile_ram.now) y }
+    requires rom { length rom.now ≡ tiles.rom_size }
+    requires tile_ram { length tile_ram.now ≡ tiles.ram_size }
+    requires y { y < tiles.height }
+    ensures row { out.new ≡ tiles.row_of rom.now (slice_index tile_ram.now) y }
     ensures below { EachIndex out.new (λ x. slice_index out.new x < 4) }
 {
     for column in 0..36u8 {
         let tile = tile_ram[offset(column, y / 8) as usize];
         let start = 8 * column as usize;
-        out[start..start + 8].copy_from_slice(&tile_line(rom, tile, y % 8));
+        out[start..start + 8].copy_from_slice(&line(rom, tile, y % 8));
     }
-}
-
-// The line y of a tile.
-#[inline]
-fn tile_line(rom: &[u8], tile: u8, y: u8) -> [u8; 8]
-    requires rom { length rom.now ≡ 4096 }
-    requires y { y < 8 }
-    ensures { result ≡ tabulate 8 (λ x. pixel_of rom.now tile x y) }
-{
-    let top = 16 * tile as usize + y as usize;
-    let (left, right) = (rom[top + 8], rom[top]);
-    [
-        value(left, 0),
-        value(left, 1),
-        value(left, 2),
-        value(left, 3),
-        value(right, 0),
-        value(right, 1),
-        value(right, 2),
-        value(right, 3),
-    ]
-}
-
-// One of the four pixel values of a byte, from left to right.
-#[inline]
-fn value(byte: u8, place: u8) -> u8
-    requires { place < 4 }
-    ensures value { result ≡ value_of byte place }
-    ensures below { result < 4 }
-{
-    2 * bit(byte, 7 - place) + bit(byte, 3 - place)
 }
 
 #[cfg(test)]
@@ -119,7 +107,7 @@ mod tests {
 
     // Tile 1 has its top row's left half 1, 2, 3, 0 and its right half 0, 3, 1, 2; all else is 0.
     #[test]
-    fn a_row_shows_the_pixels_of_its_tiles(rt: HostRuntime) -> Result<(), AllocError> {
+    fn lines_and_rows_show_the_pixels_of_their_tiles(rt: HostRuntime) -> Result<(), AllocError> {
         let mut rom = [0u8; 4096];
         rom[24] = 0b0110_1010;
         rom[16] = 0b0101_0110;
@@ -129,6 +117,7 @@ mod tests {
             assert_eq!(rt; pixel(&rom, 1, x, 1), 0);
             assert_eq!(rt; pixel(&rom, 0, x, 0), 0);
         }
+        assert!(rt; line(&rom, 1, 0) == shown);
 
         let mut tile_ram = [0u8; 1024];
         tile_ram[0x040] = 1;

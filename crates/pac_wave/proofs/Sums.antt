@@ -10,7 +10,8 @@ use Rattle.pac_wave.specs.Sums.{Tick, after_all, growth, AccumulatorsAreSums}
 grown-sum : (start frequency rest : ℕ) → ((start + frequency) % 2 ^ 20 + rest) % 2 ^ 20 ≡ (start + (frequency + rest)) % 2 ^ 20
 grown-sum start frequency rest = omega arith
 
-after-voice : (registers : List ℕ) (all : Accumulators) (voice : Voice) → accumulator (after registers true all) voice ≡ (accumulator all voice + frequency registers voice) % 2 ^ 20
+after-voice : (registers : List ℕ) (all : Accumulators) (voice : Voice) →
+    accumulator (after registers true all) voice ≡ (accumulator all voice + frequency registers voice) % 2 ^ 20
 after-voice registers all First = refl
 after-voice registers all Second = refl
 after-voice registers all Third = refl
@@ -20,14 +21,21 @@ within all First fit = fit.first
 within all Second fit = fit.second
 within all Third fit = fit.third
 
-sums-on : (on : Bool) (registers : List ℕ) (start : Accumulators) (ticks : List Tick) (voice : Voice) → ((all : Accumulators) → accumulator all voice < 2 ^ 20 → accumulator (after_all all ticks) voice ≡ (accumulator all voice + growth voice ticks) % 2 ^ 20) → accumulator start voice < 2 ^ 20 → accumulator (after_all (after registers on start) ticks) voice ≡ (accumulator start voice + growth voice (record { registers = registers; on = on } ∷ ticks)) % 2 ^ 20
+sums-on : (on : Bool) (registers : List ℕ) (start : Accumulators) (ticks : List Tick) (voice : Voice) →
+    ((all : Accumulators) → accumulator all voice < 2 ^ 20 →
+    accumulator (after_all all ticks) voice ≡ (accumulator all voice + growth voice ticks) % 2 ^ 20) →
+    accumulator start voice < 2 ^ 20 →
+    accumulator (after_all (after registers on start) ticks) voice
+    ≡ (accumulator start voice + growth voice (record { registers = registers; on = on } ∷ ticks)) % 2 ^ 20
 sums-on true registers start ticks voice rest below =
     let now = after-voice registers start voice in
     let less : accumulator (after registers true start) voice < 2 ^ 20 = rw now (omega arith) in
-    rest (after registers true start) less ∙ rw (now, sum_by-cons) (grown-sum (accumulator start voice) (frequency registers voice) (growth voice ticks))
+    rest (after registers true start) less
+    ∙ rw (now, sum_by-cons) (grown-sum (accumulator start voice) (frequency registers voice) (growth voice ticks))
 sums-on false registers start ticks voice rest below = rest start below
 
-pub sums : (voice : Voice) (ticks : List Tick) (start : Accumulators) → accumulator start voice < 2 ^ 20 → accumulator (after_all start ticks) voice ≡ (accumulator start voice + growth voice ticks) % 2 ^ 20
+pub sums : (voice : Voice) (ticks : List Tick) (start : Accumulators) → accumulator start voice < 2 ^ 20 →
+    accumulator (after_all start ticks) voice ≡ (accumulator start voice + growth voice ticks) % 2 ^ 20
 sums voice [] start below = omega (arith, below)
 sums voice (tick ∷ ticks) start below = sums-on tick.on tick.registers start ticks voice (λ all. sums voice ticks all) below
 

@@ -1,8 +1,8 @@
 -- Where the accumulators stand after many samples.
-use Rattle.std.specs.Prelude.{◌≡◌, ℕ, ◌+◌, ◌%◌, ◌^◌, Bool, List, fold, filter}
+use Rattle.std.specs.Prelude.{◌≡◌, ℕ, ◌+◌, ◌%◌, Bool, List, fold, filter}
 use Rattle.std.specs.List.{sum_by}
 use Rattle.pac_wave.specs.declared.Voice.{Voice}
-use Rattle.pac_wave.specs.Wave.{Accumulators, Fit20Bits, accumulator, frequency, after}
+use Rattle.pac_wave.specs.Wave.{Accumulators, Fit20Bits, accumulator_range, accumulator, frequency, after}
 
 -- the registers at a sample, and whether sound was on
 pub record Tick : Type 0 where
@@ -21,4 +21,4 @@ growth voice ticks = sum_by (λ tick. frequency tick.registers voice) (filter (�
 abbrev pub AccumulatorsAreSums : Type 0
 AccumulatorsAreSums =
     (start : Accumulators) (ticks : List Tick) (voice : Voice) → Fit20Bits start
-    → accumulator (after_all start ticks) voice ≡ (accumulator start voice + growth voice ticks) % 2 ^ 20
+    → accumulator (after_all start ticks) voice ≡ (accumulator start voice + growth voice ticks) % accumulator_range

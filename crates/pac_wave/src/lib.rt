@@ -1,8 +1,8 @@
 //! The wave generator: three voices that walk through the wave PROM, and the sound samples that they add up to.
 #![tactic(auto)]
 
-ghost use Rattle.std.specs.Prelude.{◌≡◌, ◌<◌, ◌^◌, ◌∷◌, [], pos, negsuc, ◌≤ℤ◌, length};
-ghost use Rattle.pac_wave.specs.Wave.{AreNibbles, Fit20Bits, power_on};
+ghost use Rattle.std.specs.Prelude.{◌≡◌, ◌<◌, ◌∷◌, [], length};
+ghost use Rattle.pac_wave.specs.Wave.{Fit20Bits, power_on};
 ghost use Rattle.pac_wave.specs.Wave as spec;
 
 pub mod laws;
@@ -12,7 +12,7 @@ mod tests;
 use std::marker::Model;
 
 /// One of the wave generator's voices.
-#[derive(Clone, Copy, PartialEq, Debug)]
+#[derive(Clone, Copy)]
 pub enum Voice {
     /// The one whose frequency has all 20 bits.
     First,
@@ -40,6 +40,16 @@ impl Model for Wave {
     ghost invariant = { λ wave. Fit20Bits (record { first = wave.first; second = wave.second; third = wave.third }) };
 }
 
+/// What a register holds: its low four bits.
+#[inline]
+fn register(registers: &[u8; 32], place: usize) -> u8
+    requires { place < 32 }
+    ensures register { result ≡ spec.register registers.now place }
+    ensures below { result < 16 }
+{
+    registers[place] % 16
+}
+
 /// The number of a voice's waveform, 0 to 7.
 #[inline]
 fn waveform(registers: &[u8; 32], voice: Voice) -> u8
@@ -47,23 +57,22 @@ fn waveform(registers: &[u8; 32], voice: Voice) -> u8
     ensures below { result < 8 }
 {
     match voice {
-        Voice::First => registers[0x05] % 8,
-        Voice::Second => registers[0x0A] % 8,
-        Voice::Third => registers[0x0F] % 8,
+        Voice::First => register(registers, 0x05) % 8,
+        Voice::Second => register(registers, 0x0A) % 8,
+        Voice::Third => register(registers, 0x0F) % 8,
     }
 }
 
 /// A voice's volume, 0 to 15.
 #[inline]
 fn volume(registers: &[u8; 32], voice: Voice) -> u8
-    requires { AreNibbles registers.now }
     ensures volume { result ≡ spec.volume registers.now voice }
     ensures below { result < 16 }
 {
     match voice {
-        Voice::First => registers[0x15],
-        Voice::Second => registers[0x1A],
-        Voice::Third => registers[0x1F],
+        Voice::First => register(registers, 0x15),
+        Voice::Second => register(registers, 0x1A),
+        Voice::Third => register(registers, 0x1F),
     }
 }
 
@@ -76,7 +85,7 @@ fn digits(a: u8, b: u8, c: u8, d: u8, e: u8) -> u32
     requires d { d < 16 }
     requires e { e < 16 }
     ensures digits { result ≡ spec.digits a b c d e }
-    ensures below { result < 2 ^ 20 }
+    ensures below { result < spec.accumulator_range }
 {
     u32::from(a)
         + 16 * u32::from(b)
@@ -88,31 +97,30 @@ fn digits(a: u8, b: u8, c: u8, d: u8, e: u8) -> u32
 /// A voice's frequency, 20 bits.
 #[inline]
 fn frequency(registers: &[u8; 32], voice: Voice) -> u32
-    requires { AreNibbles registers.now }
     ensures frequency { result ≡ spec.frequency registers.now voice }
-    ensures below { result < 2 ^ 20 }
+    ensures below { result < spec.accumulator_range }
 {
     match voice {
         Voice::First => digits(
-            registers[0x10],
-            registers[0x11],
-            registers[0x12],
-            registers[0x13],
-            registers[0x14],
+            register(registers, 0x10),
+            register(registers, 0x11),
+            register(registers, 0x12),
+            register(registers, 0x13),
+            register(registers, 0x14),
         ),
         Voice::Second => digits(
             0,
-            registers[0x16],
-            registers[0x17],
-            registers[0x18],
-            registers[0x19],
+            register(registers, 0x16),
+            register(registers, 0x17),
+            register(registers, 0x18),
+            register(registers, 0x19),
         ),
         Voice::Third => digits(
             0,
-            registers[0x1B],
-            registers[0x1C],
-            registers[0x1D],
-            registers[0x1E],
+            register(registers, 0x1B),
+            register(registers, 0x1C),
+            register(registers, 0x1D),
+            register(registers, 0x1E),
         ),
     }
 }
@@ -131,9 +139,8 @@ fn amplified(sample: u8, volume: u8) -> i16
 /// What a voice puts into the sound, from the wave PROM's 256 bytes.
 #[inline]
 fn level(prom: &[u8], registers: &[u8; 32], voice: Voice, accumulator: u32) -> i16
-    requires prom { length prom.now ≡ 256 }
-    requires registers { AreNibbles registers.now }
-    requires accumulator { accumulator < 2 ^ 20 }
+    requires prom { length prom.now ≡ spec.prom_size }
+    requires accumulator { accumulator < spec.accumulator_range }
     ensures level { result ≡ spec.level prom.now registers.now voice accumulator }
     ensures within { spec.IsLevel result }
 {
@@ -148,8 +155,7 @@ fn mixed(first: i16, second: i16, third: i16) -> i16
     requires second { spec.IsLevel second }
     requires third { spec.IsLevel third }
     ensures mixed { result ≡ spec.mixed first second third }
-    ensures low { negsuc 23039 ≤ℤ result }
-    ensures high { result ≤ℤ pos 20160 }
+    ensures within { spec.IsSample result }
 {
     64 * (first + second + third)
 }
@@ -157,10 +163,9 @@ fn mixed(first: i16, second: i16, third: i16) -> i16
 /// An accumulator a sample later.
 #[inline]
 fn grown(registers: &[u8; 32], voice: Voice, accumulator: u32) -> u32
-    requires registers { AreNibbles registers.now }
-    requires accumulator { accumulator < 2 ^ 20 }
+    requires accumulator { accumulator < spec.accumulator_range }
     ensures grown { result ≡ spec.grown registers.now voice accumulator }
-    ensures below { result < 2 ^ 20 }
+    ensures below { result < spec.accumulator_range }
 {
     (accumulator + frequency(registers, voice)) % 0x10_0000
 }
@@ -177,16 +182,14 @@ impl Wave {
         }
     }
 
-    /// The next sound sample, -23,040 to 20,160, from the wave PROM's 256 bytes and the 32 registers, each
-    /// below 16; register n is the one at address 5040H + n. While sound is off the sample is 0 and the
-    /// accumulators stay; else they grow by their voices' frequencies behind the sample.
+    /// The next sound sample, -23,040 to 20,160, from the wave PROM's 256 bytes and the 32 registers, of which the
+    /// low four bits count; register n is the one at address 5040H + n. While sound is off the sample is 0 and the
+    /// accumulators stay; else they grow by their voices' frequencies after the sample.
     pub fn tick(&mut self, prom: &[u8], registers: &[u8; 32], on: bool) -> i16
-        requires prom { length prom.now ≡ 256 }
-        requires registers { AreNibbles registers.now }
+        requires prom { length prom.now ≡ spec.prom_size }
         ensures sample { result ≡ spec.sample_of prom.now registers.now self.old on }
         ensures accumulators { self.new ≡ spec.after registers.now on self.old }
-        ensures low { negsuc 23039 ≤ℤ result }
-        ensures high { result ≤ℤ pos 20160 }
+        ensures within { spec.IsSample result }
     {
         if !on {
             return 0;

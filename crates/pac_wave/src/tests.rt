@@ -1,5 +1,4 @@
-ghost use Rattle.std.specs.Prelude.{◌<◌};
-ghost use Rattle.pac_wave.specs.Wave.{AreNibbles};
+//! Samples of single voices and of three, as worked out by hand from the schematics.
 
 use crate::Wave;
 
@@ -16,36 +15,20 @@ fn prom() -> [u8; 256] {
     prom
 }
 
-// All registers at a value below 16.
-fn all(value: u8) -> [u8; 32]
-    requires { value < 16 }
-    ensures { AreNibbles result }
-{
-    [value; 32]
-}
-
-// A register is written.
-fn write(registers: &mut [u8; 32], place: usize, value: u8)
-    requires registers { AreNibbles registers.old }
-    requires place { place < 32 }
-    requires value { value < 16 }
-    ensures { AreNibbles registers.new }
-{
-    registers[place] = value;
-}
-
 #[test]
 fn voices_add_up(rt: HostRuntime) {
     let mut wave = Wave::new();
-    let mut registers = all(0);
-    write(&mut registers, 0x15, 15);
+    let mut registers = [0; 32];
+    registers[0x15] = 15;
     assert_eq!(rt; wave.tick(&prom(), &registers, true), 6_720);
-    write(&mut registers, 0x1A, 15);
-    write(&mut registers, 0x1F, 15);
+    registers[0x15] = 0xEF;
+    assert_eq!(rt; wave.tick(&prom(), &registers, true), 6_720);
+    registers[0x1A] = 15;
+    registers[0x1F] = 15;
     assert_eq!(rt; wave.tick(&prom(), &registers, true), 20_160);
-    write(&mut registers, 0x05, 1);
-    write(&mut registers, 0x0A, 1);
-    write(&mut registers, 0x0F, 9);
+    registers[0x05] = 1;
+    registers[0x0A] = 1;
+    registers[0x0F] = 9;
     assert_eq!(rt; wave.tick(&prom(), &registers, true), -23_040);
     assert_eq!(rt; wave.accumulators(), [0, 0, 0]);
 }
@@ -53,10 +36,10 @@ fn voices_add_up(rt: HostRuntime) {
 #[test]
 fn a_voice_walks_through_its_waveform(rt: HostRuntime) {
     let mut wave = Wave::new();
-    let mut registers = all(0);
-    write(&mut registers, 0x05, 2);
-    write(&mut registers, 0x13, 8);
-    write(&mut registers, 0x15, 1);
+    let mut registers = [0; 32];
+    registers[0x05] = 2;
+    registers[0x13] = 8;
+    registers[0x15] = 1;
     for tick in 1..=33u16 {
         let sample = wave.tick(&prom(), &registers, true);
         match tick {
@@ -72,12 +55,12 @@ fn a_voice_walks_through_its_waveform(rt: HostRuntime) {
 #[test]
 fn accumulators_stay_while_sound_is_off(rt: HostRuntime) {
     let mut wave = Wave::new();
-    let mut registers = all(1);
+    let mut registers = [1; 32];
     wave.tick(&prom(), &registers, true);
     assert_eq!(rt; wave.accumulators(), [0x11111, 0x11110, 0x11110]);
     assert_eq!(rt; wave.tick(&prom(), &registers, false), 0);
     assert_eq!(rt; wave.accumulators(), [0x11111, 0x11110, 0x11110]);
-    write(&mut registers, 0x14, 15);
+    registers[0x14] = 15;
     wave.tick(&prom(), &registers, true);
     assert_eq!(rt; wave.accumulators(), [0x02222, 0x22220, 0x22220]);
 }

@@ -11,7 +11,7 @@ loop-column-init c = search rules
 pub loop-column-preserved : goal.loop-column-preserved
 loop-column-preserved c = (
   search (rules, places),
-  row-step _ _ _ _ _ _ _ _ c.offset.ensures.offset (c.copy_from_slice.ensures.after ∙ c.tile_line.ensures)
+  row-step _ _ _ _ _ _ _ _ c.offset.ensures.offset (c.copy_from_slice.ensures.after ∙ c.line.ensures.line)
       c.loop-column.invariant.0 c.loop-column-test.true c.loop-column.invariant.1,
 )
 

@@ -1,7 +1,22 @@
-use Rattle.pac_latch.proofs.Bits.{bits-of}
+use Rattle.std.proofs.Common.{sym, ap, ◌∙◌, arith}
+use Rattle.pac_latch.specs.Latched.{bits_of}
+use Rattle.pac_latch.proofs.Bits.{bits_of-byte_of}
 use Rattle.pac_latch.proofs.Latch.bits.Goals as goal
 
+pub returns-clause-byte : goal.returns-clause-byte
+returns-clause-byte c =
+    rw (← c.self.view_is)
+    (omega (
+      arith,
+      c.digit.ensures.value,
+      c.digit-2.ensures.value,
+      c.digit-3.ensures.value,
+      c.digit-4.ensures.value,
+      c.digit-5.ensures.value,
+      c.digit-6.ensures.value,
+      c.digit-7.ensures.value,
+      c.digit-8.ensures.value,
+    ))
+
 pub returns-clause-bits : goal.returns-clause-bits
-returns-clause-bits c = λ place below.
-    rw (c.weight.ensures, c.weight-2.ensures, c.weight-3.ensures, c.weight-4.ensures, c.weight-5.ensures, c.weight-6.ensures, c.weight-7.ensures, c.weight-8.ensures)
-    (bits-of c.args.self.now place below)
+returns-clause-bits c = sym (bits_of-byte_of c.args.self.now.bits) ∙ ap bits_of (sym (returns-clause-byte c))

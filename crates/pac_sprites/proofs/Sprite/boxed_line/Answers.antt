@@ -1,5 +1,6 @@
 use Rattle.std.proofs.Common.{◌<◌, ℕ, length, rules, arith}
-use Rattle.pac_sprites.proofs.Boxes.{value-step, value_of-below}
+use Rattle.pac_num.proofs.Pixels.{pixel_value-below}
+use Rattle.pac_sprites.proofs.Boxes.{value-step}
 use Rattle.pac_sprites.proofs.Sprite.boxed_line.Goals as goal
 
 pub loop-across-preserved : goal.loop-across-preserved
@@ -17,5 +18,5 @@ returns c =
     λ k inside. omega (arith, c.loop-across.invariant.long, c.loop-across-test.false) in
     record {
       values = λ k inside. c.loop-across.invariant.filled k (all k inside);
-      below = λ k inside. rw (c.loop-across.invariant.filled k (all k inside)) (value_of-below _ _);
+      below = λ k inside. rw (c.loop-across.invariant.filled k (all k inside)) (pixel_value-below _ _);
     }
