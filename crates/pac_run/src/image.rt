@@ -3,9 +3,7 @@
 ghost use Rattle.std.specs.Prelude.{◌≡◌, ◌<◌, length, slice_index, EachIndex};
 ghost use Rattle.std.specs.List.{flat_map};
 ghost use Rattle.pac_out.specs.Counted.{Puts};
-ghost use Rattle.pac_map.specs.Place.{ram_size};
-ghost use Rattle.pac_tiles.specs.Tiles.{picture_of};
-ghost use Rattle.pac_board.specs.Trace.{tiles_size};
+ghost use Rattle.pac_tiles.specs.Tiles as tile;
 ghost use Rattle.pac_run.specs.Texts.{grey, image};
 
 use arrayvec::ArrayVec;
@@ -33,9 +31,9 @@ pub fn put_image<W: Out>(
     tiles: &[u8],
     tile_ram: &[u8],
 ) -> Result<(), WriteFault>
-    requires tiles { length tiles.now ≡ tiles_size }
-    requires tile_ram { length tile_ram.now ≡ ram_size }
-    ensures { Puts W.took W.refused output.old (image (picture_of tiles.now (slice_index tile_ram.now))) result output.new }
+    requires tiles { length tiles.now ≡ tile.rom_size }
+    requires tile_ram { length tile_ram.now ≡ tile.ram_size }
+    ensures { Puts W.took W.refused output.old (image (tile.picture_of tiles.now (slice_index tile_ram.now))) result output.new }
 {
     output.put(b"P6\n288 224\n255\n")?;
     let mut row = [0; 288];
