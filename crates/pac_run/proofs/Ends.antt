@@ -17,8 +17,7 @@ use Rattle.pac_board.specs.State.{State}
 use Rattle.pac_board.proofs.Whole.{traces-agree, pictures-of-history, blanks-frames}
 use Rattle.pac_run.specs.Source.{items_of}
 use Rattle.pac_run.specs.Texts.{images}
-use Rattle.pac_run.specs.Turns.{switches, most_frames, IsDone, outcome_at}
-use Rattle.pac_run.specs.Run.{IsMade, roms, run_trace, frames_text, outcome_of}
+use Rattle.pac_run.specs.Run.{IsMade, IsDone, switches, most_frames, roms, run_trace, frames_text, outcome_at, outcome_of}
 use Rattle.pac_run.proofs.Loops.{whole_text}
 use Rattle.pac_run.proofs.Sizes.{frames-short}
 

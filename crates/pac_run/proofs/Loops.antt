@@ -21,7 +21,7 @@ use Rattle.pac_out.specs.declared.WriteFault.{WriteFault}
 use Rattle.pac_out.specs.Counted.{Takes, Refuses}
 use Rattle.pac_out.proofs.Files.{takes-nothing, takes-joined, refuses-after, refuses-within}
 use Rattle.pac_run.specs.Texts.{image, images}
-use Rattle.pac_run.specs.Turns.{IsDone, switches}
+use Rattle.pac_run.specs.Run.{IsDone, switches}
 
 -- the walk of a board from power-on, after so many steps, and the images of its pictures
 abbrev pub along : Roms → ℕ → ℕ → Walk View

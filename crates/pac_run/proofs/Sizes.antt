@@ -18,10 +18,9 @@ use Rattle.pac_board.specs.Walk.{Walk, walk, onward_if, after_step}
 use Rattle.pac_board.specs.Trace.{frame_steps, Roms, by_history, by_view, pictures_of, blanks, start, view_trace}
 use Rattle.pac_board.proofs.Whole.{timed, blanks-frames}
 use Rattle.pac_run.specs.Texts.{grey, image, images, counts_text, cause_text, end_text, report, hex_word, hex_byte}
-use Rattle.pac_run.specs.Turns.{switches, most_frames}
 use Rattle.pac_run.specs.declared.run.Outcome.{Outcome}
 use Rattle.pac_run.specs.Source.{items_of}
-use Rattle.pac_run.specs.Run.{roms, run_trace, frames_text}
+use Rattle.pac_run.specs.Run.{switches, most_frames, roms, run_trace, frames_text}
 use Rattle.pac_run.proofs.Images.{image-none, image-more}
 
 -- a step takes 23 T-states at most

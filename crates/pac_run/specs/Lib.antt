@@ -5,6 +5,5 @@ pub mod SourceResults
 pub mod SourceTokens
 pub mod SourceViews
 pub mod Texts
-pub mod Turns
 pub mod Run
 pub mod Messages

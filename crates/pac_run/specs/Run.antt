@@ -1,19 +1,28 @@
 -- What a run of a source on the board writes and answers.
-use Rattle.std.specs.Prelude.{◌≡◌, ℕ, List, length, None, Some, Result, Ok, Err}
+use Rattle.std.specs.Prelude.{◌≡◌, ℕ, ◌/◌, List, length, Option, None, Some, Result, Ok, Err}
+use Rattle.pac_cpu.specs.declared.once.Stop.{Stop}
 use Rattle.pac_out.specs.Writes.{StopsAfter}
 use Rattle.pac_code.specs.Items.{AllLie}
 use Rattle.pac_map.specs.Place.{program_size}
 use Rattle.pac_map.specs.Entry.{Entry, power_on}
 use Rattle.pac_board.specs.Walk.{Walk}
-use Rattle.pac_board.specs.Trace.{Roms, trace, pictures_of, blanks}
+use Rattle.pac_board.specs.Step.{frame_ticks}
+use Rattle.pac_board.specs.Trace.{Roms, trace, view_trace, pictures_of, blanks}
 use Rattle.pac_board.specs.State.{State, at_power_on}
 use Rattle.pac_run.specs.Source.{items_of, rom_of, fault_of}
 use Rattle.pac_run.specs.Texts.{images, report}
-use Rattle.pac_run.specs.Turns.{switches}
 use Rattle.pac_run.specs.declared.run.Outcome.{Outcome}
 use Rattle.pac_run.specs.declared.run.Output.TheVariants.{Frames, Report}
 use Rattle.pac_run.specs.declared.run.RunFault.{RunFault}
 use Rattle.pac_run.specs.declared.run.RunFault.TheVariants as fault
+
+-- the byte that the DIP switches give, C9H (this profile)
+abbrev pub switches : ℕ
+switches = 201
+
+-- the most frames of a run
+abbrev pub most_frames : ℕ
+most_frames = 15
 
 -- the ROMs that a source and a tile file make
 abbrev pub roms : List ℕ → List ℕ → Roms
@@ -64,6 +73,16 @@ Runs took_f refused_f took_r refused_r source tiles n old_f new_f old_r new_r (E
   frames : new_f ≡ old_f;
   report : new_r ≡ old_r;
 }
+
+-- A run has come to the end of its trace, with this stop.
+pub record IsDone (old new : State) (frames : ℕ) (stop : Option Stop) : Type 0 where
+  pub now : new.now ≡ (view_trace old.roms switches frames).now
+  pub met : stop ≡ (view_trace old.roms switches frames).stop
+
+-- What a run came to that ended on this board, with this stop.
+abbrev pub outcome_at : State → Option Stop → Outcome
+outcome_at board stop =
+    record { frames = board.now.time / frame_ticks; steps = board.now.steps; ticks = board.now.time; stop = stop }
 
 -- The board that a source and a tile file make, or why there is none.
 pub record IsMade (source tiles : List ℕ) (board : State) : Type 0 where

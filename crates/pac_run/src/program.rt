@@ -3,7 +3,7 @@
 ghost use Rattle.std.specs.Prelude.{◌≡◌, ◌≢◌, ◌≤◌, length, Some, Err, IfOk};
 ghost use Rattle.pac_run.specs.declared.program.Failure.TheVariants.{Words};
 ghost use Rattle.pac_run.specs.Messages as messages;
-ghost use Rattle.pac_run.specs.Turns.{most_frames};
+ghost use Rattle.pac_run.specs.Run.{most_frames};
 
 use crate::run::{Outcome, Output, RunFault, run_first};
 use crate::source::{AsmError, AsmFault, assemble};

@@ -5,8 +5,7 @@ ghost use Rattle.pac_out.specs.Counted.{Puts};
 ghost use Rattle.pac_board.specs.Trace.{view_trace, tiles_size};
 ghost use Rattle.pac_board.specs.State.{state_after, next_of, once_of, pictures_in, due_since, at_power_on, latest};
 ghost use Rattle.pac_run.specs.Texts.{images};
-ghost use Rattle.pac_run.specs.Turns.{IsDone, outcome_at, switches, most_frames};
-ghost use Rattle.pac_run.specs.Run.{Makes, Runs};
+ghost use Rattle.pac_run.specs.Run.{IsDone, Makes, Runs, outcome_at, switches, most_frames};
 ghost use Rattle.pac_run.specs.declared.run.RunFault.TheVariants.{NoMemory};
 
 use crate::image::put_image;

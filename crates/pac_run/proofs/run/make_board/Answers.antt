@@ -3,7 +3,7 @@ use Rattle.pac_code.specs.Items.{Item, AllLie}
 use Rattle.pac_map.specs.Place.{program_size}
 use Rattle.pac_board.specs.State.{at_power_on}
 use Rattle.pac_run.specs.Source.{items_of, rom_of}
-use Rattle.pac_run.specs.Turns.{switches}
+use Rattle.pac_run.specs.Run.{switches}
 use Rattle.pac_run.proofs.run.make_board.Goals as goal
 
 pub returns : goal.returns
