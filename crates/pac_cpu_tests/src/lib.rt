@@ -6,4 +6,6 @@ mod fields;
 #[cfg(test)]
 mod machine;
 #[cfg(test)]
+mod registers;
+#[cfg(test)]
 mod vectors;

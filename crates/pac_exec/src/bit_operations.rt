@@ -7,7 +7,7 @@ ghost use Rattle.pac_exec.specs.Transition.{Did, DidInRegisters};
 use crate::places::{get, put_byte};
 use crate::regs::Regs;
 use pac_bus::Bus;
-use pac_table::{Instr, Place};
+use pac_table::{BitOperation, Instr, Place};
 
 /// BIT.
 fn test_bit<B: Bus>(place: Place, instr: &Instr, regs: &mut Regs, bus: &B) -> u8
@@ -37,7 +37,7 @@ fn set_bit<B: Bus>(place: Place, instr: &Instr, regs: &mut Regs, bus: &mut B) ->
 /// BIT, RES or SET, by its function; the time in T-states.
 #[tactic(auto, unfolding(crate::specs::BitOperations::bit_operation_effect))]
 pub fn perform_bit_operation<B: Bus>(
-    with: pac_table::BitOperation,
+    with: BitOperation,
     instr: &Instr,
     regs: &mut Regs,
     bus: &mut B,
@@ -45,8 +45,8 @@ pub fn perform_bit_operation<B: Bus>(
     ensures { Did B.after (bit_operation_effect with instr.now regs.old (B.byte_at bus.old)) bus.old regs.new bus.new result }
 {
     match with {
-        pac_table::BitOperation::Test(place) => test_bit(place, instr, regs, bus),
-        pac_table::BitOperation::Reset(place) => reset_bit(place, instr, regs, bus),
-        pac_table::BitOperation::Set(place) => set_bit(place, instr, regs, bus),
+        BitOperation::Test(place) => test_bit(place, instr, regs, bus),
+        BitOperation::Reset(place) => reset_bit(place, instr, regs, bus),
+        BitOperation::Set(place) => set_bit(place, instr, regs, bus),
     }
 }

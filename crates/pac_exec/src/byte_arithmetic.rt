@@ -8,7 +8,7 @@ use crate::places::{get, put};
 use crate::regs::Regs;
 use pac_alu::{Operation, Outcome};
 use pac_bus::Bus;
-use pac_table::{Instr, Place};
+use pac_table::{ByteArithmetic, Instr, Place};
 
 /// Puts what an operation leaves into A and F; the instruction's time.
 #[inline]
@@ -104,7 +104,7 @@ fn complement_carry(instr: &Instr, regs: &mut Regs) -> u8
 /// Arithmetic of a byte, by its function; the time in T-states.
 #[tactic(auto, unfolding(crate::specs::ByteArithmetic::byte_arithmetic_effect))]
 pub fn perform_byte_arithmetic<B: Bus>(
-    with: pac_table::ByteArithmetic,
+    with: ByteArithmetic,
     instr: &Instr,
     regs: &mut Regs,
     bus: &mut B,
@@ -112,13 +112,13 @@ pub fn perform_byte_arithmetic<B: Bus>(
     ensures { Did B.after (byte_arithmetic_effect with instr.now regs.old (B.byte_at bus.old)) bus.old regs.new bus.new result }
 {
     match with {
-        pac_table::ByteArithmetic::Alu(place) => alu(place, instr, regs, bus),
-        pac_table::ByteArithmetic::Increment(place) => increment(place, instr, regs, bus),
-        pac_table::ByteArithmetic::Decrement(place) => decrement(place, instr, regs, bus),
-        pac_table::ByteArithmetic::DecimalAdjust => decimal_adjust(instr, regs),
-        pac_table::ByteArithmetic::Complement => complement(instr, regs),
-        pac_table::ByteArithmetic::Negate => negate(instr, regs),
-        pac_table::ByteArithmetic::SetCarry => set_carry(instr, regs),
-        pac_table::ByteArithmetic::ComplementCarry => complement_carry(instr, regs),
+        ByteArithmetic::Alu(place) => alu(place, instr, regs, bus),
+        ByteArithmetic::Increment(place) => increment(place, instr, regs, bus),
+        ByteArithmetic::Decrement(place) => decrement(place, instr, regs, bus),
+        ByteArithmetic::DecimalAdjust => decimal_adjust(instr, regs),
+        ByteArithmetic::Complement => complement(instr, regs),
+        ByteArithmetic::Negate => negate(instr, regs),
+        ByteArithmetic::SetCarry => set_carry(instr, regs),
+        ByteArithmetic::ComplementCarry => complement_carry(instr, regs),
     }
 }

@@ -7,7 +7,7 @@ use crate::places::{get, put_byte};
 use crate::regs::Regs;
 use crate::special_loads::{load_from_special, load_special};
 use pac_bus::Bus;
-use pac_table::{Instr, Place};
+use pac_table::{ByteLoad, Instr, Place};
 
 /// LD of a byte; its time in T-states.
 fn load<B: Bus>(to: Place, from: Place, instr: &Instr, regs: &mut Regs, bus: &mut B) -> u8
@@ -19,17 +19,12 @@ fn load<B: Bus>(to: Place, from: Place, instr: &Instr, regs: &mut Regs, bus: &mu
 
 /// A load of a byte, by its function; the time in T-states.
 #[tactic(auto, unfolding(crate::specs::ByteLoads::byte_load_effect))]
-pub fn perform_byte_load<B: Bus>(
-    with: pac_table::ByteLoad,
-    instr: &Instr,
-    regs: &mut Regs,
-    bus: &mut B,
-) -> u8
+pub fn perform_byte_load<B: Bus>(with: ByteLoad, instr: &Instr, regs: &mut Regs, bus: &mut B) -> u8
     ensures { Did B.after (byte_load_effect with instr.now regs.old (B.byte_at bus.old)) bus.old regs.new bus.new result }
 {
     match with {
-        pac_table::ByteLoad::Load(to, from) => load(to, from, instr, regs, bus),
-        pac_table::ByteLoad::LoadFromSpecial(special) => load_from_special(special, instr, regs),
-        pac_table::ByteLoad::LoadSpecial(special) => load_special(special, instr, regs),
+        ByteLoad::Load(to, from) => load(to, from, instr, regs, bus),
+        ByteLoad::LoadFromSpecial(special) => load_from_special(special, instr, regs),
+        ByteLoad::LoadSpecial(special) => load_special(special, instr, regs),
     }
 }

@@ -5,7 +5,7 @@ ghost use Rattle.pac_exec.specs.Control.{control_effect, halt_transition, disabl
 ghost use Rattle.pac_exec.specs.Transition.{DidInRegisters};
 
 use crate::regs::Regs;
-use pac_table::{Instr, InterruptMode};
+use pac_table::{Control, Instr, InterruptMode};
 
 /// HALT.
 fn halt(instr: &Instr, regs: &mut Regs) -> u8
@@ -42,14 +42,14 @@ fn set_interrupt_mode(mode: InterruptMode, instr: &Instr, regs: &mut Regs) -> u8
 
 /// What is done to the processor's states, by its function; the time in T-states.
 #[tactic(auto, unfolding(crate::specs::Control::control_effect))]
-pub fn perform_control(with: pac_table::Control, instr: &Instr, regs: &mut Regs) -> u8
+pub fn perform_control(with: Control, instr: &Instr, regs: &mut Regs) -> u8
     ensures { DidInRegisters (control_effect with instr.now regs.old) regs.new result }
 {
     match with {
-        pac_table::Control::Nop => instr.ticks(),
-        pac_table::Control::Halt => halt(instr, regs),
-        pac_table::Control::DisableInterrupts => disable_interrupts(instr, regs),
-        pac_table::Control::EnableInterrupts => enable_interrupts(instr, regs),
-        pac_table::Control::SetInterruptMode(mode) => set_interrupt_mode(mode, instr, regs),
+        Control::Nop => instr.ticks(),
+        Control::Halt => halt(instr, regs),
+        Control::DisableInterrupts => disable_interrupts(instr, regs),
+        Control::EnableInterrupts => enable_interrupts(instr, regs),
+        Control::SetInterruptMode(mode) => set_interrupt_mode(mode, instr, regs),
     }
 }

@@ -7,7 +7,7 @@ use crate::pairs::{get_pair, read_word, set_pair};
 use crate::regs::Regs;
 use pac_bus::Bus;
 use pac_num::{high_byte, low_byte, offset};
-use pac_table::{Instr, Pair};
+use pac_table::{Exchange, Instr, Pair};
 use std::mem::swap;
 
 /// EX DE,HL.
@@ -49,18 +49,13 @@ fn exchange_stack_top<B: Bus>(pair: Pair, instr: &Instr, regs: &mut Regs, bus: &
 
 /// An exchange, by its function; the time in T-states.
 #[tactic(auto, unfolding(crate::specs::Exchanges::exchange_effect))]
-pub fn perform_exchange<B: Bus>(
-    with: pac_table::Exchange,
-    instr: &Instr,
-    regs: &mut Regs,
-    bus: &mut B,
-) -> u8
+pub fn perform_exchange<B: Bus>(with: Exchange, instr: &Instr, regs: &mut Regs, bus: &mut B) -> u8
     ensures { Did B.after (exchange_effect with instr.now regs.old (B.byte_at bus.old)) bus.old regs.new bus.new result }
 {
     match with {
-        pac_table::Exchange::DeHl => exchange_de_hl(instr, regs),
-        pac_table::Exchange::Af => exchange_af(instr, regs),
-        pac_table::Exchange::Banks => exchange_banks(instr, regs),
-        pac_table::Exchange::StackTop(pair) => exchange_stack_top(pair, instr, regs, bus),
+        Exchange::DeHl => exchange_de_hl(instr, regs),
+        Exchange::Af => exchange_af(instr, regs),
+        Exchange::Banks => exchange_banks(instr, regs),
+        Exchange::StackTop(pair) => exchange_stack_top(pair, instr, regs, bus),
     }
 }

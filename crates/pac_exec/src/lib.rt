@@ -23,6 +23,3 @@ mod word_loads;
 pub use instructions::perform;
 pub use pairs::push_word;
 pub use regs::{Alternate, Regs, displaced};
-
-#[cfg(test)]
-mod tests;

@@ -7,7 +7,7 @@ ghost use Rattle.pac_exec.specs.Transition.{Did, DidInRegisters};
 use crate::regs::Regs;
 use pac_bus::Bus;
 use pac_num::low_byte;
-use pac_table::Instr;
+use pac_table::{Instr, Port};
 
 /// IN A,(n).
 fn input_byte<B: Bus>(instr: &Instr, regs: &mut Regs, bus: &B) -> u8
@@ -45,18 +45,13 @@ fn output<B: Bus>(instr: &Instr, regs: &Regs, bus: &mut B) -> u8
 
 /// Input or output of a byte, by its function; the time in T-states.
 #[tactic(auto, unfolding(crate::specs::Ports::port_effect))]
-pub fn perform_port<B: Bus>(
-    with: pac_table::Port,
-    instr: &Instr,
-    regs: &mut Regs,
-    bus: &mut B,
-) -> u8
+pub fn perform_port<B: Bus>(with: Port, instr: &Instr, regs: &mut Regs, bus: &mut B) -> u8
     ensures { Did B.after (port_effect with instr.now regs.old (B.input_at bus.old)) bus.old regs.new bus.new result }
 {
     match with {
-        pac_table::Port::InputByte => input_byte(instr, regs, bus),
-        pac_table::Port::OutputByte => output_byte(instr, regs, bus),
-        pac_table::Port::Input => input(instr, regs, bus),
-        pac_table::Port::Output => output(instr, regs, bus),
+        Port::InputByte => input_byte(instr, regs, bus),
+        Port::OutputByte => output_byte(instr, regs, bus),
+        Port::Input => input(instr, regs, bus),
+        Port::Output => output(instr, regs, bus),
     }
 }

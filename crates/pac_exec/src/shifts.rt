@@ -9,7 +9,7 @@ use crate::places::get;
 use crate::regs::Regs;
 use pac_alu::{Digits, Shift};
 use pac_bus::Bus;
-use pac_table::{Instr, Place, Rotation};
+use pac_table::{Instr, Place, RotateAndShift, Rotation};
 
 /// The rotation of a byte that a rotation of A is named after.
 fn shift_of_rotation(rotation: Rotation) -> Shift
@@ -69,7 +69,7 @@ fn rotate_digit_right<B: Bus>(instr: &Instr, regs: &mut Regs, bus: &mut B) -> u8
 /// A rotation or a shift, by its function; the time in T-states.
 #[tactic(auto, unfolding(crate::specs::Shifts::rotate_and_shift_effect))]
 pub fn perform_rotate_and_shift<B: Bus>(
-    with: pac_table::RotateAndShift,
+    with: RotateAndShift,
     instr: &Instr,
     regs: &mut Regs,
     bus: &mut B,
@@ -77,11 +77,9 @@ pub fn perform_rotate_and_shift<B: Bus>(
     ensures { Did B.after (rotate_and_shift_effect with instr.now regs.old (B.byte_at bus.old)) bus.old regs.new bus.new result }
 {
     match with {
-        pac_table::RotateAndShift::RotateAccumulator(rotation) => rotate_accumulator(
-            rotation, instr, regs,
-        ),
-        pac_table::RotateAndShift::Shift(place) => shift(place, instr, regs, bus),
-        pac_table::RotateAndShift::RotateDigitLeft => rotate_digit_left(instr, regs, bus),
-        pac_table::RotateAndShift::RotateDigitRight => rotate_digit_right(instr, regs, bus),
+        RotateAndShift::RotateAccumulator(rotation) => rotate_accumulator(rotation, instr, regs),
+        RotateAndShift::Shift(place) => shift(place, instr, regs, bus),
+        RotateAndShift::RotateDigitLeft => rotate_digit_left(instr, regs, bus),
+        RotateAndShift::RotateDigitRight => rotate_digit_right(instr, regs, bus),
     }
 }

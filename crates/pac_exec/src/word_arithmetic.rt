@@ -10,7 +10,7 @@ use pac_alu::{
     WordOutcome, add_words, add_words_with_carry, decrement_word, increment_word,
     subtract_words_with_carry,
 };
-use pac_table::{Instr, Pair};
+use pac_table::{Instr, Pair, WordArithmetic};
 
 /// The pair that ADD HL,ss and ADD IX,pp add: 2 names the sum's own register.
 fn addend_of(pair: Pair, instr: &Instr, regs: &Regs) -> u16
@@ -81,18 +81,14 @@ fn decrement_pair(pair: Pair, instr: &Instr, regs: &mut Regs) -> u8
 
 /// Arithmetic of a word, by its function; the time in T-states.
 #[tactic(auto, unfolding(crate::specs::WordArithmetic::word_arithmetic_effect))]
-pub fn perform_word_arithmetic(
-    with: pac_table::WordArithmetic,
-    instr: &Instr,
-    regs: &mut Regs,
-) -> u8
+pub fn perform_word_arithmetic(with: WordArithmetic, instr: &Instr, regs: &mut Regs) -> u8
     ensures { DidInRegisters (word_arithmetic_effect with instr.now regs.old) regs.new result }
 {
     match with {
-        pac_table::WordArithmetic::AddPair(pair) => add_pair(pair, instr, regs),
-        pac_table::WordArithmetic::AddPairWithCarry => add_pair_with_carry(instr, regs),
-        pac_table::WordArithmetic::SubtractPairWithCarry => subtract_pair_with_carry(instr, regs),
-        pac_table::WordArithmetic::IncrementPair(pair) => increment_pair(pair, instr, regs),
-        pac_table::WordArithmetic::DecrementPair(pair) => decrement_pair(pair, instr, regs),
+        WordArithmetic::AddPair(pair) => add_pair(pair, instr, regs),
+        WordArithmetic::AddPairWithCarry => add_pair_with_carry(instr, regs),
+        WordArithmetic::SubtractPairWithCarry => subtract_pair_with_carry(instr, regs),
+        WordArithmetic::IncrementPair(pair) => increment_pair(pair, instr, regs),
+        WordArithmetic::DecrementPair(pair) => decrement_pair(pair, instr, regs),
     }
 }

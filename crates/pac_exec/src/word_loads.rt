@@ -9,7 +9,7 @@ use crate::pairs::{
 use crate::regs::Regs;
 use pac_bus::Bus;
 use pac_num::{high_byte, low_byte, offset};
-use pac_table::{Instr, Pair};
+use pac_table::{Instr, Pair, WordLoad};
 
 /// LD dd,nn.
 fn load_pair(pair: Pair, instr: &Instr, regs: &mut Regs) -> u8
@@ -66,22 +66,15 @@ fn pop<B: Bus>(pair: Pair, instr: &Instr, regs: &mut Regs, bus: &B) -> u8
 
 /// A load of a word, PUSH or POP, by its function; the time in T-states.
 #[tactic(auto, unfolding(crate::specs::WordLoads::word_load_effect))]
-pub fn perform_word_load<B: Bus>(
-    with: pac_table::WordLoad,
-    instr: &Instr,
-    regs: &mut Regs,
-    bus: &mut B,
-) -> u8
+pub fn perform_word_load<B: Bus>(with: WordLoad, instr: &Instr, regs: &mut Regs, bus: &mut B) -> u8
     ensures { Did B.after (word_load_effect with instr.now regs.old (B.byte_at bus.old)) bus.old regs.new bus.new result }
 {
     match with {
-        pac_table::WordLoad::LoadPair(pair) => load_pair(pair, instr, regs),
-        pac_table::WordLoad::LoadPairFromMemory(pair) => load_pair_from_memory(
-            pair, instr, regs, bus,
-        ),
-        pac_table::WordLoad::StorePair(pair) => store_pair(pair, instr, regs, bus),
-        pac_table::WordLoad::LoadStackPointer(pair) => load_stack_pointer(pair, instr, regs),
-        pac_table::WordLoad::Push(pair) => push(pair, instr, regs, bus),
-        pac_table::WordLoad::Pop(pair) => pop(pair, instr, regs, bus),
+        WordLoad::LoadPair(pair) => load_pair(pair, instr, regs),
+        WordLoad::LoadPairFromMemory(pair) => load_pair_from_memory(pair, instr, regs, bus),
+        WordLoad::StorePair(pair) => store_pair(pair, instr, regs, bus),
+        WordLoad::LoadStackPointer(pair) => load_stack_pointer(pair, instr, regs),
+        WordLoad::Push(pair) => push(pair, instr, regs, bus),
+        WordLoad::Pop(pair) => pop(pair, instr, regs, bus),
     }
 }

@@ -1,8 +1,7 @@
-//! An instruction by UM0080's page, and the registers by its tables of r. The vectors of all families stand in
-//! pac_cpu_tests.
+//! An instruction by UM0080's page, and the registers by its tables of r.
 
-use crate::{Alternate, Regs, displaced, perform};
 use pac_bus::{Bus, Flat};
+use pac_exec::{Alternate, Regs, displaced, perform};
 use pac_table::{Instr, InterruptMode, Row, rows};
 use std::test::Fail;
 
