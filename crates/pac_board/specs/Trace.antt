@@ -9,7 +9,7 @@ use Rattle.pac_map.specs.declared.bus_table.Place.{Place}
 use Rattle.pac_map.specs.declared.bus_table.Place.TheVariants.{Program}
 use Rattle.pac_map.specs.Place.{read_place}
 use Rattle.pac_map.specs.Entry.{Entry, Blank, View, view_after, read_of, power_on}
-use Rattle.pac_tiles.specs.Tiles.{picture_of}
+use Rattle.pac_tiles.specs.Tiles.{picture_of, rom_size}
 use Rattle.pac_board.specs.History.{read, tile_at}
 use Rattle.pac_board.specs.Step.{Questions, Moment, Picture, frame_ticks}
 use Rattle.pac_board.specs.Walk.{Walk, walk}
@@ -21,7 +21,7 @@ pub record Roms : Type 0 where
 
 -- the bytes of the tile ROM
 abbrev pub tiles_size : ℕ
-tiles_size = 4096
+tiles_size = rom_size
 
 -- the instruction of the source's item that begins at a place, which is a cell of the program ROM
 abbrev pub item_in : List Item → Place → Option Instruction
