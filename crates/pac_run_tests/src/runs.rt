@@ -17,6 +17,12 @@ const PROGRAM: &[u8] = b"LD A,42H\nLD (4040H),A\nHALT\n";
 
 const PROGRAM_REPORT: &[u8] = b"frames 1 of 1\nsteps 12669 ticks 50688\nend done\n";
 
+/// A frame of an empty source: 12,672 NOPs.
+const REPORT_OF_NOPS: &[u8] = b"frames 1 of 1\nsteps 12672 ticks 50688\nend done\n";
+
+/// A frame of `JP 0`: 5,069 of them.
+const REPORT_OF_JUMPS: &[u8] = b"frames 1 of 1\nsteps 5069 ticks 50690\nend done\n";
+
 /// Two frames of an empty source: NOPs, then at 4800H, where nothing answers, CP A, which the bus's BFH is.
 const REPORT_OF_TWO: &[u8] = b"frames 2 of 2\nsteps 25343 ticks 101379\nend done\n";
 
@@ -62,30 +68,18 @@ fn one_tile_for_one_frame(rt: HostRuntime) -> Result<(), Fail> {
 }
 
 #[test]
-fn steps_and_ticks_of_a_frame(rt: HostRuntime) -> Result<(), Fail> {
-    for (source, steps, ticks) in [(b"".as_slice(), 12672, 50688), (b"JP 0", 5069, 50690)] {
-        let mut frames = Memory::new(rt.alloc(), 200_000)?;
+fn steps_and_ticks_of_whole_frames(rt: HostRuntime) -> Result<(), Fail> {
+    for (source, n, size, text) in [
+        (b"".as_slice(), 1, IMAGE, REPORT_OF_NOPS),
+        (b"JP 0", 1, IMAGE, REPORT_OF_JUMPS),
+        (b"", 2, 2 * IMAGE, REPORT_OF_TWO),
+    ] {
+        let mut frames = Memory::new(rt.alloc(), 400_000)?;
         let mut report = Memory::new(rt.alloc(), 200)?;
-        let outcome = Outcome {
-            frames: 1,
-            steps,
-            ticks,
-            stop: None,
-        };
-        let found = run_flat(&rt, rt.alloc(), source, 1, &mut frames, &mut report);
-        assert_eq!(rt; found, Ok(outcome));
-        assert_eq!(rt; frames.bytes().len(), IMAGE);
-        assert!(rt; frames.bytes().iter().skip(15).all(|level| *level == 0));
+        let found = run_flat(&rt, rt.alloc(), source, n, &mut frames, &mut report);
+        assert!(rt; found.is_ok() && report.bytes() == text, "{source:?}");
+        assert_eq!(rt; frames.bytes().len(), size, "{source:?}");
     }
-    Ok(())
-}
-
-#[test]
-fn two_frames_of_nothing(rt: HostRuntime) -> Result<(), Fail> {
-    let mut frames = Memory::new(rt.alloc(), 400_000)?;
-    let mut report = Memory::new(rt.alloc(), 200)?;
-    assert!(rt; run_flat(&rt, rt.alloc(), b"", 2, &mut frames, &mut report).is_ok());
-    assert!(rt; report.bytes() == REPORT_OF_TWO);
     Ok(())
 }
 
@@ -116,14 +110,17 @@ fn few_bytes_a_call_give_the_same_bytes(rt: HostRuntime) -> Result<(), Fail> {
 }
 
 #[test]
-fn a_refused_write_is_told_with_its_output_and_count(rt: HostRuntime) -> Result<(), Fail> {
+fn a_refusal_of_the_frames_is_told_with_its_count(rt: HostRuntime) -> Result<(), Fail> {
     let mut frames = Faulty::new(rt.alloc(), 200_000, 5, 5)?;
     let mut report = Memory::new(rt.alloc(), 200)?;
     let found = run_flat(&rt, rt.alloc(), PROGRAM, 1, &mut frames, &mut report);
     assert_eq!(rt; found, Err(RunFault::Write(Output::Frames, 20)));
-    assert_eq!(rt; frames.bytes().len(), 20);
-    assert!(rt; report.bytes().is_empty());
+    assert!(rt; frames.bytes().len() == 20 && report.bytes().is_empty());
+    Ok(())
+}
 
+#[test]
+fn a_refusal_of_the_report_is_told_with_its_count(rt: HostRuntime) -> Result<(), Fail> {
     let mut frames = Memory::new(rt.alloc(), 200_000)?;
     let mut report = Memory::new(rt.alloc(), 30)?;
     let found = run_flat(&rt, rt.alloc(), PROGRAM, 1, &mut frames, &mut report);

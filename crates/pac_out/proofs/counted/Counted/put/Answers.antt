@@ -7,7 +7,7 @@ returns-in-Ok-clause-put g c =
     record {
       after = λ start text taken. record {
         written = g.met.W.Out.joined _ _ _ _ _ taken.written c.in-Ok.ensures.ok;
-        count_is = rw length-append (omega (arith, taken.count_is, c.saturating_add-self.ensures));
+        count_is = rw length-append (omega (arith, taken.count_is));
         open_yet = taken.open_yet;
       };
     }
@@ -19,7 +19,7 @@ returns-in-Err-clause-put g c =
       after = λ start text taken. record {
         taken = _;
         stopped = stops-after g.met.W.Out.joined taken.written c.in-Err.ensures.err;
-        count_is = omega (arith, taken.count_is, c.saturating_add-self-in-Err.ensures);
+        count_is = omega (arith, taken.count_is);
         closed = refl;
       };
     }
