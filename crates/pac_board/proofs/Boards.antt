@@ -8,7 +8,7 @@ use Rattle.pac_cpu.specs.declared.once.Once.{Once}
 use Rattle.pac_cpu.specs.declared.once.Once.TheVariants.{Stepped}
 use Rattle.pac_cpu.specs.Step.{Did, Surroundings, CpuStep, Steps, Stops, cpu_step, surroundings_of, regs_after, actions_of, IsInTime}
 use Rattle.pac_cpu.specs.Step.{once_of as cpu_once_of}
-use Rattle.pac_exec.specs.Transition.{longest_ticks}
+use Rattle.pac_table.specs.Instructions.{most_ticks}
 use Rattle.pac_map.specs.Entry.{Entry, View, view_after, entries_of, Contents, byte_at, input_at, after}
 use Rattle.pac_map.specs.Lookups.{port_byte}
 use Rattle.pac_board.specs.Step.{Next, put_all, put_actions, composed, surroundings, events, frame_ticks}
@@ -53,7 +53,7 @@ surroundings-agree roms view = λ i. record {
   instruction_at = λ at. (by_view roms).instruction view at;
 }
 
-kept-short : (roms : Roms) (view : View) (time ticks : ℕ) → ticks ≤ longest_ticks → put_all (by_view roms) view (events time ticks) ≡ view
+kept-short : (roms : Roms) (view : View) (time ticks : ℕ) → ticks ≤ most_ticks → put_all (by_view roms) view (events time ticks) ≡ view
 kept-short roms view time ticks short =
     let below : ticks < frame_ticks = omega arith in
     ap (put_all (by_view roms) view) (events-short time ticks below) ∙ view-kept roms view time (time + ticks)

@@ -3,7 +3,7 @@ use Rattle.std.specs.Prelude.{◌≡◌, ◌≤◌, ◌<◌, ℕ, ◌+◌, ◌++
 use Rattle.pac_cpu.specs.declared.once.Once.{Once}
 use Rattle.pac_cpu.specs.declared.once.Once.TheVariants.{Stepped, Stopped}
 use Rattle.pac_cpu.specs.declared.once.Stop.{Stop}
-use Rattle.pac_exec.specs.Transition.{shortest_ticks, longest_ticks}
+use Rattle.pac_table.specs.Instructions.{least_ticks, most_ticks}
 use Rattle.pac_map.specs.Entry.{View}
 use Rattle.pac_board.specs.Step.{Moment, Picture}
 use Rattle.pac_board.specs.Walk.{Walk, walk}
@@ -22,8 +22,8 @@ pub record GoesOn (before after : Walk View) (old new : State) (given : List Pic
   pub roms : new.roms ≡ old.roms
   pub steps : new.now.steps ≡ old.now.steps + 1
   pub time : new.now.time ≡ old.now.time + ticks
-  pub long : shortest_ticks ≤ ticks
-  pub short : ticks ≤ longest_ticks
+  pub long : least_ticks ≤ ticks
+  pub short : ticks ≤ most_ticks
 
 pub record Stays (before after : Walk View) (old new : State) (given : List Picture) (stop : Stop) : Type 0 where
   pub now : after.now ≡ old.now

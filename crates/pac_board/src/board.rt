@@ -35,7 +35,7 @@ pub struct Board {
 
 impl Model for Board {
     ghost use Rattle.std.specs.Prelude.{◌≡◌, ◌≤◌, ◌*◌, length};
-    ghost use Rattle.pac_exec.specs.Transition.{shortest_ticks};
+    ghost use Rattle.pac_table.specs.Instructions.{least_ticks};
     ghost use Rattle.pac_board.specs.Trace.{tiles_size};
     ghost use Rattle.pac_board.specs.State.{State, latest_end};
 
@@ -48,7 +48,7 @@ impl Model for Board {
 
     ghost invariant = { λ board. record {
       tiles : length board.tiles.items ≡ tiles_size;
-      steps : shortest_ticks * board.steps ≤ board.clock;
+      steps : least_ticks * board.steps ≤ board.clock;
       time : board.clock ≤ latest_end;
     } };
 }

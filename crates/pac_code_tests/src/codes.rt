@@ -55,6 +55,15 @@ fn what_no_row_matches_is_nothing(rt: HostRuntime) {
     assert_eq!(rt; wrong, None);
 }
 
+/// Fields, n and d that LD r,n can't have: r is none of the registers, or what it has none of isn't 0.
+static NO_LOADS: [(u8, u8, u16, i8); 5] = [
+    (6, 0, 0, 0),
+    (8, 0, 0, 0),
+    (0, 1, 0, 0),
+    (0, 0, 0x100, 0),
+    (0, 0, 0, -1),
+];
+
 #[test]
 fn a_store(rt: HostRuntime) {
     let store = decode([0x32, 0x40, 0x40, 0x76]).map(|found| found.0);
@@ -77,6 +86,12 @@ fn a_store(rt: HostRuntime) {
                 && Instr::new(store.row(), 0, 0, 0x4040, 1).is_none()
         })
     );
+    let load = decode([0x06, 0x12, 0, 0]).map(|found| found.0.row());
+    assert!(rt; load.is_some_and(|row| Instr::new(row, 7, 0, 0xFF, 0).is_some()));
+    let taken = NO_LOADS.iter().find(|(p, q, word, disp)| load.is_some_and(|row| Instr::new(
+        row, *p, *q, *word, *disp,
+    ).is_some()));
+    assert_eq!(rt; taken, None);
     assert_eq!(rt; rows().len(), 140);
     assert!(rt; Instr::new(140, 0, 0, 0, 0).is_none());
 }

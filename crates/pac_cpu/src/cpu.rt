@@ -1,7 +1,7 @@
-//! The processor as a value: its registers after_all the calls that change them.
+//! The processor as a value: its registers, and the calls that change them.
 
 ghost use Rattle.std.specs.Prelude.{◌≡◌, ◌≤◌};
-ghost use Rattle.pac_exec.specs.Transition.{shortest_ticks, longest_ticks};
+ghost use Rattle.pac_table.specs.Instructions.{least_ticks, most_ticks};
 ghost use Rattle.pac_cpu.specs.Power.{at_power_on, after_reset};
 ghost use Rattle.pac_cpu.specs.Step.{Stops, cpu_step, surroundings_of, Did, IfStepped, IfStopped};
 
@@ -78,7 +78,7 @@ impl Cpu {
     pub fn step<B: Bus>(&mut self, bus: &mut B, request: Option<u8>) -> Once
         ensures did { Did B.after (cpu_step (surroundings_of B.byte_at B.input_at B.after bus.old) self.old request)
             self.old bus.old self.new bus.new result }
-        ensures time { IfStepped result (λ ticks kind. (shortest_ticks ≤ ticks) × (ticks ≤ longest_ticks)) }
+        ensures time { IfStepped result (λ ticks kind. (least_ticks ≤ ticks) × (ticks ≤ most_ticks)) }
         ensures stop { IfStopped result (λ stop. (self.new ≡ self.old) × (bus.new ≡ bus.old)) }
         ensures again { IfStopped result (λ stop.
             cpu_step (surroundings_of B.byte_at B.input_at B.after bus.new) self.new request ≡ Stops stop) }

@@ -1,6 +1,8 @@
 //! Expressions of the assembler: the tree that tokens spell, and its value.
 #![tactic(auto)]
 
+ghost use Rattle.pac_expr.specs.Parsing.{TreesAreSpelled};
+
 mod evaluation;
 mod expr;
 mod parsing;
@@ -9,3 +11,8 @@ mod pending;
 pub use evaluation::{Symbols, ValueError, value};
 pub use expr::{Expr, Operand, Operator, Sign};
 pub use parsing::{ParseError, parse};
+
+/// The tree of some tokens is the one that they spell, and there is none where they spell none.
+pub fn trees_are_spelled()
+    ensures { TreesAreSpelled }
+{}

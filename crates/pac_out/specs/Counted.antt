@@ -1,5 +1,5 @@
 -- A file: a writer with the count of the bytes that it took, over all calls.
-use Rattle.std.specs.Prelude.{◌≡◌, ℕ, ◌-◌, ◌^◌, min, List, ◌++◌, length, true, false, Result, Ok, Err}
+use Rattle.std.specs.Prelude.{◌≡◌, ℕ, ◌+◌, ◌-◌, ◌^◌, min, List, ◌++◌, length, true, false, Result, Ok, Err}
 use Rattle.pac_out.specs.declared.counted.Counted.{Counted}
 use Rattle.pac_out.specs.declared.WriteFault.{WriteFault}
 use Rattle.pac_out.specs.Writes.{StopsAfter}
@@ -39,6 +39,14 @@ pub record Refuses {W : Type 0} (took : W → List ℕ → W → Type 0) (refuse
     (new : Counted W) : Type 0 where
   pub told : fault.count ≡ new.count
   pub after : (start : W) (text : List ℕ) → HasTaken took start text old → HasStopped took refused start (text ++ bytes) new
+
+-- The writer of a file that hadn't refused took a prefix of these bytes, fewer than all, and refused; the file counts
+-- what it took.
+pub record Stops {W : Type 0} (took : W → List ℕ → W → Type 0) (refused : W → W → Type 0) (old : Counted W) (bytes : List ℕ)
+    (new : Counted W) : Type 0 where
+  pub taken : ℕ
+  pub stopped : StopsAfter took refused old.writer bytes taken new.writer
+  pub count_is : new.count ≡ counted (old.count + taken)
 
 -- What putting bytes into a file leaves of it, by the answer.
 abbrev pub Puts : {W A : Type 0} → (W → List ℕ → W → Type 0) → (W → W → Type 0) → Counted W → List ℕ → Result A WriteFault → Counted W

@@ -1,6 +1,6 @@
 //! A file: a writer with the count of the bytes that it took, over all calls.
 
-ghost use Rattle.std.specs.Prelude.{◌≡◌, [], true, IsErr, OnOk};
+ghost use Rattle.std.specs.Prelude.{◌≡◌, ◌≤◌, ◌+◌, [], length, true, false, IsErr, OnOk, OnErr};
 
 use crate::{Out, WriteFault};
 
@@ -17,7 +17,7 @@ pub struct Counted<W> {
 }
 
 impl<W: Out> Counted<W> {
-    ghost use Rattle.pac_out.specs.Counted.{HasTaken, Puts};
+    ghost use Rattle.pac_out.specs.Counted.{HasTaken, Puts, Stops, counted};
 
     /// A file of no bytes yet.
     pub fn new(writer: W) -> Counted<W>
@@ -34,6 +34,9 @@ impl<W: Out> Counted<W> {
     /// took.
     pub fn put(&mut self, bytes: &[u8]) -> Result<(), WriteFault>
         ensures put { Puts W.took W.refused self.old bytes.now result self.new }
+        ensures taken { OnOk result (self.new.count ≡ counted (self.old.count + length bytes.now)) }
+        ensures at_most { self.new.count ≤ self.old.count + length bytes.now }
+        ensures stops { self.old.failed ≡ false → OnErr result (Stops W.took W.refused self.old bytes.now self.new) }
         ensures later_err { self.old.failed ≡ true → IsErr result }
         ensures later_unchanged { self.old.failed ≡ true → self.new ≡ self.old }
     {

@@ -69,16 +69,24 @@ fn one_tile_for_one_frame(rt: HostRuntime) -> Result<(), Fail> {
 
 #[test]
 fn steps_and_ticks_of_whole_frames(rt: HostRuntime) -> Result<(), Fail> {
-    for (source, n, size, text) in [
-        (b"".as_slice(), 1, IMAGE, REPORT_OF_NOPS),
-        (b"JP 0", 1, IMAGE, REPORT_OF_JUMPS),
-        (b"", 2, 2 * IMAGE, REPORT_OF_TWO),
+    for (source, n, steps, ticks, text) in [
+        (b"".as_slice(), 1, 12672, 50688, REPORT_OF_NOPS),
+        (b"JP 0", 1, 5069, 50690, REPORT_OF_JUMPS),
+        (b"", 2, 25343, 101379, REPORT_OF_TWO),
     ] {
         let mut frames = Memory::new(rt.alloc(), 400_000)?;
         let mut report = Memory::new(rt.alloc(), 200)?;
         let found = run_flat(&rt, rt.alloc(), source, n, &mut frames, &mut report);
-        assert!(rt; found.is_ok() && report.bytes() == text, "{source:?}");
-        assert_eq!(rt; frames.bytes().len(), size, "{source:?}");
+        let outcome = Outcome {
+            frames: n,
+            steps,
+            ticks,
+            stop: None,
+        };
+        assert_eq!(rt; found, Ok(outcome));
+        assert!(rt; report.bytes() == text, "{source:?}");
+        assert_eq!(rt; frames.bytes().len(), n as usize * IMAGE, "{source:?}");
+        assert!(rt; n > 1 || frames.bytes().iter().skip(15).all(|level| *level == 0));
     }
     Ok(())
 }
