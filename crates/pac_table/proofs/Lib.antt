@@ -1,3 +1,4 @@
 pub mod TableRules
 pub mod Uniqueness
 pub mod Lengths
+pub mod Pages

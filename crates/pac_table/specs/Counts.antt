@@ -1,16 +1,15 @@
 -- How many opcodes the manual documents: 698, by the prefix under which they stand (Zilog Z80 CPU User
 -- Manual UM0080, "Z80 Instruction Set").
-use Rattle.std.specs.Prelude.{◌≡◌, ℕ, zero, suc, ◌+◌, ◌==◌, Bool, ◌&&◌, if◌then◌else◌}
+use Rattle.std.specs.Prelude.{◌≡◌, ℕ, zero, suc, ◌+◌, Bool, if◌then◌else◌}
 use Rattle.std.specs.List.{list_any}
 use Rattle.pac_table.specs.declared.patterns.Page.{Page}
 use Rattle.pac_table.specs.declared.patterns.Page.TheVariants as page
-use Rattle.pac_table.specs.Patterns.{page_number, is_opcode}
+use Rattle.pac_table.specs.Pages.{on_page}
 use Rattle.pac_table.specs.Table.{table}
 
 -- whether a row takes an opcode byte of a page
 abbrev pub is_documented : Page → ℕ → Bool
-is_documented page byte =
-    list_any (λ row. page_number row.pattern.page == page_number page && is_opcode row.pattern byte) table
+is_documented page byte = list_any (on_page page byte) table
 
 -- how many numbers below a limit pass
 abbrev pub count_below : (ℕ → Bool) → ℕ → ℕ

@@ -1,5 +1,6 @@
 pub mod Patterns
 pub mod Table
 pub mod Instructions
+pub mod Pages
 pub mod Counts
 pub mod Forms

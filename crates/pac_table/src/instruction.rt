@@ -56,15 +56,24 @@ impl Instr {
         ensures value { IfSome result (λ i. i ≡ record { row = row; p = p; q = q; word = word; disp = disp }) }
     {
         if is_instruction(row, p, q, word, disp) {
-            Some(Instr {
-                row,
-                p,
-                q,
-                word,
-                disp,
-            })
+            Some(Instr::of(row, p, q, word, disp))
         } else {
             None
+        }
+    }
+
+    /// The instruction of a row with these values, which are known to make one: nothing is asked.
+    #[inline]
+    pub fn of(row: u16, p: u8, q: u8, word: u16, disp: i8) -> Self
+        requires { IsInstruction (record { row = row; p = p; q = q; word = word; disp = disp }) }
+        ensures { result ≡ record { row = row; p = p; q = q; word = word; disp = disp } }
+    {
+        Instr {
+            row,
+            p,
+            q,
+            word,
+            disp,
         }
     }
 

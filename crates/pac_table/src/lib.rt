@@ -6,12 +6,14 @@ ghost use Rattle.pac_table.specs.Instructions.{AtMostOne};
 ghost use Rattle.pac_table.specs.Counts.{CountsOpcodes};
 ghost use Rattle.pac_table.specs.Forms.{FillsCodes};
 
+mod dispatch;
 mod effects;
 mod instruction;
 mod operands;
 mod patterns;
 mod table;
 
+pub use dispatch::matching_row;
 pub use effects::{
     BitOperation, Block, BlockOperation, ByteArithmetic, ByteLoad, Call, Control, Direction,
     Effect, Exchange, InterruptMode, Jump, Pair, Place, Port, RotateAndShift, Rotation, Special,
