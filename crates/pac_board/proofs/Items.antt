@@ -14,12 +14,13 @@ use Rattle.pac_table.specs.Instructions.{Instruction, IsInstruction, code, decod
 use Rattle.pac_code.specs.Codes.{DecodesPrefix}
 use Rattle.pac_code.specs.Items.{Item, Content, Code, Data, IsValid, bytes_in, instruction_in, instruction_at, Lies, AllLie}
 use Rattle.pac_cpu.specs.Step.{four_bytes}
-use Rattle.pac_map.specs.declared.bus_table.Place.{Place}
-use Rattle.pac_map.specs.declared.bus_table.Place.TheVariants.{Program, Tile, Colour, Work, Nothing, Inputs0, Inputs1, Switches, Kick}
-use Rattle.pac_map.specs.Place.{read_place, read_port, ram_place, program_size}
+use Rattle.pac_map.specs.declared.bus_table.BusPlace.{BusPlace}
+use Rattle.pac_map.specs.declared.bus_table.BusPlace.TheVariants.{Program, Tile, Colour, Work, Nothing, Inputs0, Inputs1, Switches, Kick}
+use Rattle.pac_map.specs.Place.{read_place, read_port, ram_place}
+use Rattle.pac_roms.specs.Parts.{program_size}
 use Rattle.pac_map.specs.Lookups.{answer}
-use Rattle.pac_map.specs.Entry.{View, read_of, lookups_of}
-use Rattle.pac_map.specs.Sizes.{IsSized}
+use Rattle.pac_map.specs.View.{View, IsWellFormed}
+use Rattle.pac_map.specs.Contents.{read_of, lookups_of}
 use Rattle.pac_board.specs.History.{tile_at, view_of}
 use Rattle.pac_board.specs.Trace.{Roms, item_in, by_history, by_view}
 use Rattle.pac_board.specs.Carried.{Carries}
@@ -94,13 +95,13 @@ abbrev Agrees : Option Instruction → Option Instruction → Type 0
 Agrees first next = option_or first next ≡ next
 
 -- the place that a read asks, by the tests on its address in their order
-abbrev ram_by : ℕ → Bool → Bool → Bool → Place
+abbrev ram_by : ℕ → Bool → Bool → Bool → BusPlace
 ram_by at c d e = cond c (Tile (at % 8192)) (cond d (Colour (at % 8192 - 1024)) (cond e Nothing (Work (at % 8192 - 3072))))
 
-abbrev port_by : Bool → Bool → Bool → Place
+abbrev port_by : Bool → Bool → Bool → BusPlace
 port_by f g h = cond f Inputs0 (cond g Inputs1 (cond h Switches Kick))
 
-abbrev place_by : ℕ → Bool → Bool → Bool → Bool → Bool → Bool → Bool → Bool → Place
+abbrev place_by : ℕ → Bool → Bool → Bool → Bool → Bool → Bool → Bool → Bool → BusPlace
 place_by at a b c d e f g h =
     unwrap_or (cond a (Some (Program (at % 32768))) (cond b (Some (ram_by at c d e)) None)) (port_by f g h)
 
@@ -153,7 +154,7 @@ module _ (again : DecodesPrefix) (short : (instruction : Instruction) → IsInst
       choose false false c d e false false false = refl
 
   pub view-carries : (roms : Roms) (items : List Item) (start : View) → length roms.program ≡ program_size → AllLie roms.program items
-      → IsSized start → Carries (view_of start) (by_history roms items start) (by_view roms)
+      → IsWellFormed start → Carries (view_of start) (by_history roms items start) (by_view roms)
   view-carries roms items start whole lie sized = record {
     put = λ entries entry. refl;
     read = λ entries at. read-viewed roms.program start entries at sized;

@@ -1,4 +1,6 @@
 pub mod Views
+pub mod Lists
+pub mod Latches
 pub mod Carried
 pub mod Traces
 pub mod Ends

@@ -4,7 +4,7 @@ use Rattle.std.proofs.Common.{add-one, arith}
 use Rattle.std.proofs.lemmas.Bool.Decides.{nat_tests}
 use Rattle.pac_cpu.specs.declared.once.Stop.{Stop}
 use Rattle.pac_cpu.specs.Step.{CpuStep, Steps, Stops, cpu_step, IsInTime}
-use Rattle.pac_map.specs.Entry.{View}
+use Rattle.pac_map.specs.View.{View}
 use Rattle.pac_board.specs.Step.{Questions, Moment, Next, step, surroundings, after_cpu_step}
 use Rattle.pac_board.specs.Walk.{Walk, walk, onward_if, after_step}
 use Rattle.pac_board.specs.Trace.{by_view}

@@ -7,7 +7,8 @@ use Rattle.pac_exec.specs.declared.regs.Regs.{Regs}
 use Rattle.pac_code.specs.Items.{Item}
 use Rattle.pac_cpu.specs.declared.once.Stop.{Stop}
 use Rattle.pac_cpu.specs.Step.{CpuStep, Steps, Stops, cpu_step}
-use Rattle.pac_map.specs.Entry.{Entry, Write, Vector, Blank, View, entries_of}
+use Rattle.pac_map.specs.Entry.{Entry, Write, Vector, Blank, entries_of}
+use Rattle.pac_map.specs.View.{View}
 use Rattle.pac_board.specs.Step.{Questions, Moment, Picture, put_all, put_actions, surroundings, composed, after_cpu_step, events}
 use Rattle.pac_board.specs.Walk.{Walk, walk, onward_if, after_step}
 use Rattle.pac_board.specs.Trace.{Roms, by_history, pictures_of}

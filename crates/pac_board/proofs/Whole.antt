@@ -10,8 +10,9 @@ use Rattle.pac_code.proofs.RoundTrip.{decodes-prefix}
 use Rattle.pac_cpu.specs.Power.{at_power_on}
 use Rattle.pac_cpu.specs.Step.{cpu_step, IsInTime}
 use Rattle.pac_cpu.proofs.CpuSteps.{cpu-step-in-time}
-use Rattle.pac_map.specs.Entry.{Entry, Blank, View, power_on}
-use Rattle.pac_map.proofs.Sizes.{power-on-sized}
+use Rattle.pac_map.specs.Entry.{Entry, Blank}
+use Rattle.pac_map.specs.View.{View, power_on}
+use Rattle.pac_map.proofs.WellFormed.{power-on-well-formed}
 use Rattle.pac_board.specs.History.{view_of}
 use Rattle.pac_board.specs.Step.{Questions, Moment, surroundings, frame_ticks}
 use Rattle.pac_board.specs.Walk.{Walk, has_ended}
@@ -32,7 +33,7 @@ pub traces-agree : TracesAgree
 traces-agree roms items switches frames whole lie =
     let first = power_on switches in
     walk-carried (view_of first) (by_history roms items first) (by_view roms)
-    (view-carries decodes-prefix length-code roms items first whole lie (power-on-sized switches))
+    (view-carries decodes-prefix length-code roms items first whole lie (power-on-well-formed switches))
     (frame_ticks * frames) (start []) (frame_steps * frames)
 
 pub pictures-of-history : PicturesAreOfTheHistory

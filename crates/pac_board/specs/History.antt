@@ -1,26 +1,38 @@
 -- What has happened to the board is a start view and the list of entries since, the newest first. Whatever the
 -- board answers is asked of these two: the last entry that decides, and where none does, the start view.
-use Rattle.std.specs.Prelude.{ℕ, List, [], ◌∷◌, ◌==◌, Bool, false, Option, Some, None, unwrap_or, if◌then◌else◌, slice_index}
-use Rattle.pac_map.specs.declared.bus_table.Place.{Place}
-use Rattle.pac_map.specs.declared.bus_table.Place.TheVariants.{Tile, Colour, Work}
+use Rattle.std.specs.Prelude.{ℕ, ◌+◌, ◌-◌, List, [], ◌∷◌, ◌==◌, Bool, false, Option, Some, None, unwrap_or, if◌then◌else◌, slice_index}
+use Rattle.pac_map.specs.declared.bus_table.BusPlace.{BusPlace}
+use Rattle.pac_map.specs.declared.bus_table.BusPlace.TheVariants.{Tile, Colour, Work, Wave, Coordinate}
 use Rattle.pac_map.specs.Lookups.{Lookups, answer_at}
-use Rattle.pac_map.specs.Entry.{Entry, Write, Hold, View, view_after}
+use Rattle.pac_map.specs.Entry.{Entry, Write, Hold, view_after}
+use Rattle.pac_map.specs.Place.{ram_size, coordinates_size, registers_size}
+use Rattle.pac_map.specs.View.{View, kept, attributes_size}
+use Rattle.pac_tiles.specs.Tabulate.{tabulate}
 
 -- whether a place is this cell of tile, colour or work RAM
-abbrev pub is_tile : ℕ → Place → Bool
+abbrev pub is_tile : ℕ → BusPlace → Bool
 is_tile cell (Tile other) = other == cell
 is_tile cell _ = false
 
-abbrev pub is_colour : ℕ → Place → Bool
+abbrev pub is_colour : ℕ → BusPlace → Bool
 is_colour cell (Colour other) = other == cell
 is_colour cell _ = false
 
-abbrev pub is_work : ℕ → Place → Bool
+abbrev pub is_work : ℕ → BusPlace → Bool
 is_work cell (Work other) = other == cell
 is_work cell _ = false
 
+-- whether a place is this one of the sprites' coordinates, or this register of the wave generator
+abbrev pub is_coordinate : ℕ → BusPlace → Bool
+is_coordinate place (Coordinate other) = other == place
+is_coordinate place _ = false
+
+abbrev pub is_register : ℕ → BusPlace → Bool
+is_register register (Wave other) = other == register
+is_register register _ = false
+
 -- the byte last written to the place that a test tells
-abbrev pub last_written : (Place → Bool) → List Entry → Option ℕ
+abbrev pub last_written : (BusPlace → Bool) → List Entry → Option ℕ
 last_written here [] = None
 last_written here (Write place byte ∷ older) = if here place then Some byte else last_written here older
 last_written here (entry ∷ older) = last_written here older
@@ -39,6 +51,24 @@ colour_at start entries cell = unwrap_or (last_written (is_colour cell) entries)
 
 abbrev pub work_at : View → List Entry → ℕ → ℕ
 work_at start entries cell = unwrap_or (last_written (is_work cell) entries) (slice_index start.work cell)
+
+abbrev pub coordinate_at : View → List Entry → ℕ → ℕ
+coordinate_at start entries place = unwrap_or (last_written (is_coordinate place) entries) (slice_index start.coordinates place)
+
+-- a register of the wave generator holds what it can of the byte last written
+abbrev pub register_at : View → List Entry → ℕ → ℕ
+register_at start entries register =
+    kept register (unwrap_or (last_written (is_register register) entries) (slice_index start.registers register))
+
+-- all of these as lists, and the sprites' attributes, which are the last bytes of work RAM
+abbrev pub coordinates : View → List Entry → List ℕ
+coordinates start entries = tabulate coordinates_size (λ place. coordinate_at start entries place)
+
+abbrev pub registers : View → List Entry → List ℕ
+registers start entries = tabulate registers_size (λ register. register_at start entries register)
+
+abbrev pub attributes : View → List Entry → List ℕ
+attributes start entries = tabulate attributes_size (λ place. work_at start entries (ram_size - attributes_size + place))
 
 abbrev pub held : View → List Entry → ℕ
 held start entries = unwrap_or (last_held entries) start.held

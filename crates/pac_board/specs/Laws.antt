@@ -1,11 +1,17 @@
 -- Laws of the board's definitions, each proved on a public function of the crate.
-use Rattle.std.specs.Prelude.{◌≡◌, ℕ, true, List, ◌*◌, ◌/◌, length}
+use Rattle.std.specs.Prelude.{◌≡◌, ◌<◌, ℕ, true, List, ◌*◌, ◌/◌, length, slice_index}
 use mathlib.Core.List.{IsPrefix}
 use Rattle.pac_code.specs.Items.{Item, AllLie}
-use Rattle.pac_map.specs.Place.{program_size}
-use Rattle.pac_map.specs.Entry.{Entry, View, read_of, power_on}
-use Rattle.pac_map.specs.Sizes.{IsSized}
-use Rattle.pac_board.specs.History.{read, view_of}
+use Rattle.pac_roms.specs.Parts.{program_size}
+use Rattle.pac_map.specs.Entry.{Entry}
+use Rattle.pac_latch.specs.Latched.{is_set, request_of}
+use Rattle.pac_latch.specs.Latched as latch
+use Rattle.pac_map.specs.Place.{ram_size}
+use Rattle.pac_map.specs.View.{View, power_on, IsWellFormed}
+use Rattle.pac_map.specs.View as view
+use Rattle.pac_map.specs.Contents.{read_of}
+use Rattle.pac_board.specs.History.{read, view_of, tile_at, colour_at, work_at, attributes, coordinates, registers, held}
+use Rattle.pac_board.specs.Queries.{bit_at, vector, request, is_due}
 use Rattle.pac_board.specs.Step.{frame_ticks}
 use Rattle.pac_board.specs.Walk.{has_ended}
 use Rattle.pac_board.specs.Carried.{walk_view}
@@ -14,8 +20,25 @@ use Rattle.pac_board.specs.Trace.{Roms, pictures_of, blanks, trace, view_walk, v
 -- The view that a history leaves answers each read as the history does.
 abbrev pub ViewAnswers : Type 0
 ViewAnswers =
-    (program : List ℕ) (start : View) (entries : List Entry) (address : ℕ) → IsSized start
+    (program : List ℕ) (start : View) (entries : List Entry) (address : ℕ) → IsWellFormed start
     → read program start entries address ≡ read_of program (view_of start entries) address
+
+-- It tells all that a step, a sample or a picture asks as the history does.
+pub record Tells (start : View) (entries : List Entry) : Type 0 where
+  pub tile : (cell : ℕ) → cell < ram_size → slice_index (view_of start entries).tile cell ≡ tile_at start entries cell
+  pub colour : (cell : ℕ) → cell < ram_size → slice_index (view_of start entries).colour cell ≡ colour_at start entries cell
+  pub work : (cell : ℕ) → cell < ram_size → slice_index (view_of start entries).work cell ≡ work_at start entries cell
+  pub attributes : view.attributes (view_of start entries) ≡ attributes start entries
+  pub coordinates : (view_of start entries).coordinates ≡ coordinates start entries
+  pub registers : (view_of start entries).registers ≡ registers start entries
+  pub held : (view_of start entries).held ≡ held start entries
+  pub bits : (place : ℕ) → is_set (view_of start entries).latched place ≡ bit_at start entries place
+  pub vector : (view_of start entries).latched.vector ≡ vector start entries
+  pub request : request_of (view_of start entries).latched ≡ request start entries
+  pub due : latch.is_due (view_of start entries).latched ≡ is_due start entries
+
+abbrev pub ViewTells : Type 0
+ViewTells = (start : View) (entries : List Entry) → IsWellFormed start → Tells start entries
 
 -- A trace told by the source's items and the history is the trace told by the bytes and the view.
 abbrev pub TracesAgree : Type 0

@@ -1,4 +1,5 @@
 pub mod History
+pub mod Queries
 pub mod Step
 pub mod Walk
 pub mod Carried

@@ -4,7 +4,7 @@ use Rattle.pac_cpu.specs.declared.once.Once.{Once}
 use Rattle.pac_cpu.specs.declared.once.Once.TheVariants.{Stepped, Stopped}
 use Rattle.pac_cpu.specs.declared.once.Stop.{Stop}
 use Rattle.pac_table.specs.Instructions.{least_ticks, most_ticks}
-use Rattle.pac_map.specs.Entry.{View}
+use Rattle.pac_map.specs.View.{View}
 use Rattle.pac_board.specs.Step.{Moment, Picture}
 use Rattle.pac_board.specs.Walk.{Walk, walk}
 use Rattle.pac_board.specs.Trace.{by_view}

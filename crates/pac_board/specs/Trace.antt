@@ -5,10 +5,12 @@ use Rattle.pac_table.specs.Instructions.{Instruction, decoded}
 use Rattle.pac_code.specs.Items.{Item, instruction_at}
 use Rattle.pac_cpu.specs.Power.{at_power_on}
 use Rattle.pac_cpu.specs.Step.{four_bytes}
-use Rattle.pac_map.specs.declared.bus_table.Place.{Place}
-use Rattle.pac_map.specs.declared.bus_table.Place.TheVariants.{Program}
+use Rattle.pac_map.specs.declared.bus_table.BusPlace.{BusPlace}
+use Rattle.pac_map.specs.declared.bus_table.BusPlace.TheVariants.{Program}
 use Rattle.pac_map.specs.Place.{read_place}
-use Rattle.pac_map.specs.Entry.{Entry, Blank, View, view_after, read_of, power_on}
+use Rattle.pac_map.specs.Entry.{Entry, Blank, view_after}
+use Rattle.pac_map.specs.View.{View, power_on}
+use Rattle.pac_map.specs.Contents.{read_of}
 use Rattle.pac_tiles.specs.Tiles.{picture_of, rom_size}
 use Rattle.pac_board.specs.History.{read, tile_at}
 use Rattle.pac_board.specs.Step.{Questions, Moment, Picture, frame_ticks}
@@ -24,7 +26,7 @@ abbrev pub tiles_size : ℕ
 tiles_size = rom_size
 
 -- the instruction of the source's item that begins at a place, which is a cell of the program ROM
-abbrev pub item_in : List Item → Place → Option Instruction
+abbrev pub item_in : List Item → BusPlace → Option Instruction
 item_in items (Program cell) = instruction_at items cell
 item_in items _ = None
 

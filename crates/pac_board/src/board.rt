@@ -1,13 +1,15 @@
 //! The board: processor, bus, ROMs and the vertical counter as one value.
 
 ghost use Rattle.std.specs.Prelude.{◌≡◌, ◌↔◌, ◌<◌, ◌≤◌, ◌+◌, ◌^◌, ◌/◌, length, IsErr, OnOk, OnErr, IfOk};
-ghost use Rattle.pac_map.specs.Place.{program_size, ram_size};
+ghost use Rattle.pac_roms.specs.Parts.{program_size};
+ghost use Rattle.pac_map.specs.Place.{ram_size};
 ghost use Rattle.pac_board.specs.Step.{frame_ticks};
 ghost use Rattle.pac_board.specs.Trace.{tiles_size};
 ghost use Rattle.pac_board.specs.State as state;
 
 use pac_cpu::{Cpu, Once};
-use pac_map::Map;
+use pac_map::{Map, Memory};
+use pac_roms::{Raw, RomSet};
 use std::alloc::{AllocError, Global};
 use std::marker::Model;
 use thiserror::Error;
@@ -28,26 +30,23 @@ pub struct TooFar;
 pub struct Board {
     cpu: Cpu,
     map: Map,
-    tiles: Vec<u8>,
     clock: u64,
     steps: u64,
 }
 
 impl Model for Board {
-    ghost use Rattle.std.specs.Prelude.{◌≡◌, ◌≤◌, ◌*◌, length};
+    ghost use Rattle.std.specs.Prelude.{◌≤◌, ◌*◌};
     ghost use Rattle.pac_table.specs.Instructions.{least_ticks};
-    ghost use Rattle.pac_board.specs.Trace.{tiles_size};
     ghost use Rattle.pac_board.specs.State.{State, latest_end};
 
     ghost Value = { State };
 
     ghost view = { λ board. record {
-      roms = record { program = board.map.program; tiles = board.tiles.items };
-      now = record { regs = board.cpu; board = board.map.view; time = board.clock; steps = board.steps };
+      roms = record { program = board.map.set.program; tiles = board.map.set.tiles };
+      now = record { regs = board.cpu; board = board.map.memory; time = board.clock; steps = board.steps };
     } };
 
     ghost invariant = { λ board. record {
-      tiles : length board.tiles.items ≡ tiles_size;
       steps : least_ticks * board.steps ≤ board.clock;
       time : board.clock ≤ latest_end;
     } };
@@ -66,11 +65,18 @@ impl Board {
         requires tiles { length tiles.items ≡ tiles_size }
         ensures { IfOk result (λ board. board ≡ state.at_power_on (record { program = program.items; tiles = tiles.items }) switches) }
     {
-        let map = Map::new(alloc, program, switches)?;
+        let raw = Raw {
+            tiles: &tiles,
+            sprites: &[0; 4096],
+            colours: &[0; 32],
+            lookup: &[0; 256],
+            wave: &[0; 256],
+        };
+        let set = RomSet::of(alloc, &program, &raw)?;
+        let memory = Memory::new(alloc, switches)?;
         Ok(Board {
             cpu: Cpu::power_on(),
-            map,
-            tiles,
+            map: Map { set, memory },
             clock: 0,
             steps: 0,
         })
@@ -101,7 +107,7 @@ impl Board {
         self.time() / TICKS_A_FRAME
     }
 
-    /// Does one step, with the events that fall in it. No request is made yet.
+    /// Does one step, with the events that fall in it. No request is asked of the memory yet, and no reset is made.
     pub fn step_once(&mut self) -> Result<Once, TooFar>
         ensures late { IsErr result ↔ (state.latest ≤ self.old.now.time) }
         ensures unchanged { OnErr result (self.new ≡ self.old) }
@@ -113,9 +119,11 @@ impl Board {
         if self.time() >= LATEST {
             return Err(TooFar);
         }
+        let before = self.clock;
         let once = self.cpu.step(&mut self.map, None);
         add(&mut self.clock, ticks_in(&once));
         add(&mut self.steps, steps_in(&once));
+        pass(&mut self.map.memory, before, self.clock);
         Ok(once)
     }
 
@@ -125,7 +133,7 @@ impl Board {
         ensures bytes { result.now ≡ self.now.roms.tiles }
         ensures size { length self.now.roms.tiles ≡ tiles_size }
     {
-        &self.tiles
+        self.map.set.tiles()
     }
 
     /// The tile RAM, 1,024 bytes.
@@ -134,7 +142,17 @@ impl Board {
         ensures bytes { result.now ≡ self.now.now.board.tile }
         ensures size { length self.now.now.board.tile ≡ ram_size }
     {
-        self.map.tile_ram()
+        self.map.memory.tile_ram()
+    }
+}
+
+/// The vertical blank, where a frame ended between two times.
+#[inline]
+fn pass(memory: &mut Memory, time: u64, end: u64)
+    ensures { memory.new ≡ state.passed memory.old time end }
+{
+    if time / TICKS_A_FRAME < end / TICKS_A_FRAME {
+        memory.blank();
     }
 }
 

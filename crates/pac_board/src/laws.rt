@@ -1,11 +1,16 @@
 //! Laws of the board's definitions.
 
 ghost use Rattle.pac_board.specs.Onward.{StepsFollowWalks};
-ghost use Rattle.pac_board.specs.Laws.{ViewAnswers, TracesAgree, PicturesAreOfTheHistory, BlanksAreFrames, TracesEnd, EndedWalksAreTraces, WalksArePrefixes};
+ghost use Rattle.pac_board.specs.Laws.{ViewAnswers, ViewTells, TracesAgree, PicturesAreOfTheHistory, BlanksAreFrames, TracesEnd, EndedWalksAreTraces, WalksArePrefixes};
 
 /// The view that a history leaves answers each read as the history does.
 pub fn view_answers()
     ensures { ViewAnswers }
+{}
+
+/// The view that a history leaves tells RAM, registers, inputs, latch, request and watchdog as the history does.
+pub fn view_tells()
+    ensures { ViewTells }
 {}
 
 /// Running the source's items over the history is running the bytes of the ROM over the view.

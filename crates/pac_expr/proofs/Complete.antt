@@ -14,10 +14,11 @@ use Rattle.pac_expr.specs.Trees.{IsRanked, view}
 use Rattle.pac_expr.specs.Parsing.{Waiting, sign, left, parenthesis, settled, needs, stands, operated, closed, whole, onward, tree_of}
 use Rattle.pac_expr.specs.Parsing.{Finds}
 use Rattle.pac_expr.proofs.Stack.{settled-more, settled-here}
-use Rattle.pac_expr.proofs.Sound.{room, found}
+use Rattle.pac_expr.specs.Reading.{room}
+use Rattle.pac_expr.proofs.Sound.{found}
 
 -- nothing is completed that binds looser
-settled-stays : (n : ℕ) (t : Tree) (waiting : List Waiting) → 0 < n → n ≤ room waiting → settled n t waiting ≡ (t, waiting)
+pub settled-stays : (n : ℕ) (t : Tree) (waiting : List Waiting) → 0 < n → n ≤ room waiting → settled n t waiting ≡ (t, waiting)
 settled-stays n t [] some low = refl
 settled-stays n t (sign s ∷ waiting) some low = absurd (omega arith)
 settled-stays n t (left operator l ∷ waiting) some low = settled-here n t (left operator l) waiting (omega arith)
@@ -30,19 +31,19 @@ record Comes (t : Tree) (n : ℕ) (waiting : List Waiting) (rest : List Mark) : 
   runs : onward (Some (needs waiting)) (spelling t ++ rest) ≡ onward (Some (stands tree before)) rest
   settles : (k : ℕ) → n ≤ k → settled k tree before ≡ settled k t waiting
 
-sign-runs : (s : Sign) (waiting : List Waiting) (ms : List Mark)
+pub sign-runs : (s : Sign) (waiting : List Waiting) (ms : List Mark)
     → onward (Some (needs waiting)) (sign_mark s ∷ ms) ≡ onward (Some (needs (sign s ∷ waiting))) ms
 sign-runs signs.Plus waiting ms = refl
 sign-runs signs.Minus waiting ms = refl
 
-operator-runs : (operator : Operator) (t : Tree) (waiting : List Waiting) (ms : List Mark)
+pub operator-runs : (operator : Operator) (t : Tree) (waiting : List Waiting) (ms : List Mark)
     → onward (Some (stands t waiting)) (operator_mark operator ∷ ms) ≡ onward (Some (operated operator t waiting)) ms
 operator-runs Add t waiting ms = refl
 operator-runs Subtract t waiting ms = refl
 operator-runs Multiply t waiting ms = refl
 operator-runs Divide t waiting ms = refl
 
-some-rank : (operator : Operator) → 0 < rank operator
+pub some-rank : (operator : Operator) → 0 < rank operator
 some-rank Add = omega arith
 some-rank Subtract = omega arith
 some-rank Multiply = omega arith

@@ -2,3 +2,5 @@ pub mod Stack
 pub mod Sound
 pub mod Complete
 pub mod Undefined
+pub mod Shaped
+pub mod Parts

@@ -1,5 +1,5 @@
 -- What the tokens taken so far spell: a tree that is found is ranked, and the tokens are its.
-use Rattle.std.proofs.Common.{◌≡◌, ℕ, ◌-◌, ◌<◌, ◌≤◌, Bool, true, false, cond, List, [], ◌∷◌, ◌++◌, Option, Some, None, IfSome, nat_le, refl}
+use Rattle.std.proofs.Common.{◌≡◌, ℕ, ◌<◌, ◌≤◌, Bool, true, false, cond, List, [], ◌∷◌, ◌++◌, Option, Some, None, IfSome, nat_le, refl}
 use Rattle.std.proofs.Common.{sym, ap, ◌∙◌, arith, append_assoc, append-nil}
 use Rattle.std.proofs.lemmas.Bool.{leb-true, leb-false}
 use Rattle.pac_expr.specs.declared.expr.Operator.{Operator}
@@ -7,6 +7,7 @@ use Rattle.pac_expr.specs.declared.expr.Operator.TheVariants.{Add, Subtract, Mul
 use Rattle.pac_expr.specs.Trees.{Tree, Mark, single, opening, closing, plus, minus, star, slash, sign_mark, operator_mark, spelling, rank}
 use Rattle.pac_expr.specs.Trees.{sum_rank, IsRanked}
 use Rattle.pac_expr.specs.Parsing.{Waiting, sign, left, parenthesis, completed, waiting_rank, settled, State, needs, stands, operated}
+use Rattle.pac_expr.specs.Reading.{room}
 use Rattle.pac_expr.specs.Parsing.{closed, next, whole, finished, onward, tree_of}
 
 -- the tokens that it was read from
@@ -18,13 +19,6 @@ own_marks parenthesis = opening ∷ []
 abbrev waiting_marks : List Waiting → List Mark
 waiting_marks [] = []
 waiting_marks (w ∷ waiting) = waiting_marks waiting ++ own_marks w
-
--- the highest rank that the operand which is waited for may have
-abbrev pub room : List Waiting → ℕ
-room [] = sum_rank
-room (sign s ∷ waiting) = 0
-room (left operator l ∷ waiting) = rank operator - 1
-room (parenthesis ∷ waiting) = sum_rank
 
 abbrev Fits : List Waiting → Type 0
 Fits [] = Unit {0}

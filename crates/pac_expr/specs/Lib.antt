@@ -3,3 +3,5 @@ pub mod Values
 pub mod Parsing
 pub mod Stack
 pub mod Codes
+pub mod Shape
+pub mod Reading

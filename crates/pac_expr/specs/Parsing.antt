@@ -1,6 +1,7 @@
 -- The tree of an expression as a function of its tokens: they are taken from left to right, and what
 -- still waits for an operand to its right is kept, the last first.
 use Rattle.std.specs.Prelude.{◌≡◌, ◌↔◌, ℕ, List, [], ◌∷◌, Option, Some, None, nat_le, if◌then◌else◌, Result, Ok, Err}
+use Rattle.pac_lex.specs.Tokens.{Lexeme}
 use Rattle.pac_expr.specs.declared.expr.Sign.{Sign}
 use Rattle.pac_expr.specs.declared.expr.Sign.TheVariants as signs
 use Rattle.pac_expr.specs.declared.expr.Operator.{Operator}
@@ -8,7 +9,7 @@ use Rattle.pac_expr.specs.declared.expr.Operator.TheVariants.{Add, Subtract, Mul
 use Rattle.pac_expr.specs.declared.parsing.ParseError.{ParseError}
 use Rattle.pac_expr.specs.declared.parsing.ParseError.TheVariants as errors
 use Rattle.pac_expr.specs.Trees.{Tree, atom, group, signed, joined, Mark, single, opening, closing, plus, minus, star, slash, rank}
-use Rattle.pac_expr.specs.Trees.{sum_rank, spelling, IsRanked}
+use Rattle.pac_expr.specs.Trees.{sum_rank, spelling, IsRanked, marks_of}
 
 -- what waits for an operand: a sign, an operator with its left operand, an open parenthesis
 pub data Waiting : Type 0 where
@@ -78,6 +79,10 @@ onward (Some state) (m ∷ ms) = onward (next state m) ms
 -- The tree that the tokens spell, if they spell one: the law says which.
 unfoldable pub tree_of : List Mark → Option Tree
 tree_of ms = onward (Some (needs [])) ms
+
+-- the same for tokens
+unfoldable pub tree_in : List Lexeme → Option Tree
+tree_in lexemes = tree_of (marks_of lexemes)
 
 -- the law: a tree is that of some tokens exactly where it is ranked and they are its spelling
 abbrev pub TreesAreSpelled : Type 0

@@ -5,6 +5,7 @@ use Rattle.pac_lex.specs.declared.token.Kind.{Kind}
 use Rattle.pac_lex.specs.declared.token.Kind.TheVariants as kinds
 use Rattle.pac_lex.specs.declared.token.Token.{Token}
 use Rattle.pac_lex.specs.Texts.{one_character}
+use Rattle.pac_lex.specs.Tokens.{Lexeme, views}
 use Rattle.pac_expr.specs.declared.expr.Operand.{Operand}
 use Rattle.pac_expr.specs.declared.expr.Operand.TheVariants as operands
 use Rattle.pac_expr.specs.declared.expr.Sign.{Sign}
@@ -68,11 +69,17 @@ kind_mark kinds.Star text = star
 kind_mark kinds.Slash text = slash
 kind_mark kind text = other
 
+abbrev pub lexeme_mark : Lexeme → Mark
+lexeme_mark lexeme = kind_mark lexeme.kind lexeme.text
+
+abbrev pub marks_of : List Lexeme → List Mark
+marks_of lexemes = map lexeme_mark lexemes
+
 abbrev pub mark : Token → Mark
 mark token = kind_mark token.kind token.text.now
 
 abbrev pub marks : List Token → List Mark
-marks tokens = map mark tokens
+marks tokens = marks_of (views tokens)
 
 abbrev pub sign_mark : Sign → Mark
 sign_mark signs.Plus = plus

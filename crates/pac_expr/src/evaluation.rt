@@ -70,7 +70,7 @@ fn evaluated<S: Symbols>(expr: &Expr<'_>, symbols: &S, here: u16) -> Result<i32,
 }
 
 /// The value of an operand.
-fn operand_value<S: Symbols>(
+pub(crate) fn operand_value<S: Symbols>(
     operand: &Operand<'_>,
     symbols: &S,
     here: u16,
@@ -86,7 +86,7 @@ fn operand_value<S: Symbols>(
 }
 
 /// What a sign makes of its operand's value.
-fn signed(sign: Sign, operand: Result<i32, ValueError>) -> Result<i32, ValueError>
+pub(crate) fn signed(sign: Sign, operand: Result<i32, ValueError>) -> Result<i32, ValueError>
     ensures { result ≡ sign_value sign operand }
 {
     match sign {
@@ -99,7 +99,7 @@ fn signed(sign: Sign, operand: Result<i32, ValueError>) -> Result<i32, ValueErro
 }
 
 /// What an operator makes of its operands' values, or the first fault of the two.
-fn joined(
+pub(crate) fn joined(
     operator: Operator,
     left: Result<i32, ValueError>,
     right: Result<i32, ValueError>,

@@ -1,8 +1,8 @@
 //! Expressions with their values or faults, and what is printed for each fault.
 
 use crate::names::OneByteNames;
-use pac_expr::{ParseError, ValueError, parse, value};
-use pac_lex::{LexError, tokens};
+use pac_expr::{ParseError, ValueError, evaluate, is_expression, parse, value};
+use pac_lex::{LexError, Token, tokens};
 use std::alloc::Global;
 use std::test::Fail;
 
@@ -13,19 +13,41 @@ enum Outcome {
     Fault(ValueError),
     NoTree(ParseError),
     NoTokens(LexError),
+    /// The value that its tokens give and that of its tree differ.
+    TwoAnswers,
 }
 
-/// A line at 1234H.
+/// A line at 1234H, read by its tree and straight from its tokens.
 fn outcome_of(alloc: Global, line: &[u8]) -> Outcome {
     match tokens(alloc, line) {
-        Ok(found) => match parse(alloc, found.as_slice()) {
-            Ok(expr) => match value(&expr, &OneByteNames, 0x1234) {
-                Ok(number) => Outcome::Value(number),
-                Err(fault) => Outcome::Fault(fault),
-            },
-            Err(error) => Outcome::NoTree(error),
-        },
+        Ok(found) => by_both(by_tree(alloc, found.as_slice()), found.as_slice()),
         Err(error) => Outcome::NoTokens(error),
+    }
+}
+
+/// The value of the tree.
+fn by_tree(alloc: Global, found: &[Token<'_>]) -> Outcome {
+    match parse(alloc, found) {
+        Ok(expr) => match value(&expr, &OneByteNames, 0x1234) {
+            Ok(number) => Outcome::Value(number),
+            Err(fault) => Outcome::Fault(fault),
+        },
+        Err(error) => Outcome::NoTree(error),
+    }
+}
+
+/// The same, if the tokens themselves give it too.
+fn by_both(outcome: Outcome, found: &[Token<'_>]) -> Outcome {
+    let again = evaluate(found, &OneByteNames, 0x1234);
+    let agree = match &outcome {
+        Outcome::Value(number) => again == Some(Ok(*number)),
+        Outcome::Fault(fault) => again == Some(Err(*fault)),
+        _ => again.is_none(),
+    };
+    if agree && is_expression(found) == again.is_some() {
+        outcome
+    } else {
+        Outcome::TwoAnswers
     }
 }
 
@@ -48,6 +70,9 @@ fn values(rt: HostRuntime) {
         (b"x*X", 25),
         (b"-32768*32768*2", -2_147_483_648),
         (b"+ - ( ( 1 ) )", -1),
+        (b"100/7*7-2*(3-10)/4", 101),
+        (b"-(2)*-(3)", 6),
+        (b"7-- -2", 5),
     ] {
         let found = outcome_of(rt.alloc(), line);
         assert!(rt;
@@ -72,6 +97,7 @@ fn faults(rt: HostRuntime) {
         (b"1/0+WHO", ValueError::Undefined),
         (b"65535*65535-WHO", ValueError::Undefined),
         (b"-WHO", ValueError::Undefined),
+        (b"2*(1/0-WHO)", ValueError::Undefined),
     ] {
         let found = outcome_of(rt.alloc(), line);
         assert!(rt;
@@ -95,6 +121,9 @@ fn no_trees(rt: HostRuntime) {
         b"(1+)",
         b"1 2",
         b"1(2)",
+        b"(1 2)",
+        b"((1)",
+        b"1)(2",
         b"1,2",
         b"'AB'+1",
         b"''",

@@ -85,6 +85,10 @@ bits_of byte = record {
   coin_counter = bit byte 7 == 1;
 }
 
+-- what is kept where the latch is this byte
+abbrev pub latched_of : (byte vector : ℕ) → Bool → (count : ℕ) → Latched
+latched_of byte vector request count = record { bits = bits_of byte; vector = vector; request = request; count = count }
+
 -- the vector, where a request stands
 abbrev pub request_of : Latched → Option ℕ
 request_of latched = if latched.request then Some latched.vector else None

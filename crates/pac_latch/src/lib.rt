@@ -1,8 +1,8 @@
 //! The board's output latch, its interrupt vector and request, and the watchdog's count of vertical blanks.
 #![tactic(auto)]
 
-ghost use Rattle.std.specs.Prelude.{◌≡◌, ◌≢◌, ℕ};
-ghost use Rattle.pac_latch.specs.Latched.{power_on, after_bit, after_vector, after_kick, after_accept, after_reset, after_blank};
+ghost use Rattle.std.specs.Prelude.{◌≡◌, ◌≢◌, ◌≤◌, ◌<◌, ◌/◌, ◌%◌, ◌==◌, ℕ};
+ghost use Rattle.pac_latch.specs.Latched.{power_on, latched_of, after_bit, after_vector, after_kick, after_accept, after_reset, after_blank};
 ghost use Rattle.pac_latch.specs.Latched as spec;
 
 mod reading;
@@ -58,6 +58,15 @@ fn withdraws(place: u8, bit: bool) -> bool
     place % 8 == INTERRUPT_ENABLE && !bit
 }
 
+/// Whether a byte has the bit of this weight.
+#[inline]
+fn is_one(byte: u8, weight: u8) -> bool
+    requires { 0 < weight }
+    ensures { result ≡ (byte / weight % 2 == 1) }
+{
+    byte / weight % 2 == 1
+}
+
 impl Latch {
     /// All 0, as at power-on.
     pub fn new() -> Latch
@@ -69,6 +78,39 @@ impl Latch {
             requested: false,
             count: 0,
         }
+    }
+
+    /// The latch as this byte, with this vector, a request or none, and this count of blanks, at most 16.
+    pub fn of(byte: u8, vector: u8, requested: bool, count: u8) -> Latch
+        requires { count ≤ spec.watchdog_limit }
+        ensures { result ≡ latched_of byte vector requested count }
+    {
+        Latch {
+            bits: [
+                is_one(byte, 1),
+                is_one(byte, 2),
+                is_one(byte, 4),
+                is_one(byte, 8),
+                is_one(byte, 16),
+                is_one(byte, 32),
+                is_one(byte, 64),
+                is_one(byte, 128),
+            ],
+            vector,
+            requested,
+            count,
+        }
+    }
+
+    /// Becomes what another one is.
+    #[inline]
+    pub fn copy_from(&mut self, other: &Latch)
+        ensures { self.new ≡ other.now }
+    {
+        self.bits = other.bits;
+        self.vector = other.vector;
+        self.requested = other.requested;
+        self.count = other.count;
     }
 
     /// Writes a bit of the latch, whose place is taken modulo 8. A 0 written to interrupt enable clears the request.

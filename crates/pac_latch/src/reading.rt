@@ -62,6 +62,14 @@ impl Latch {
         self.vector
     }
 
+    /// Whether a request stands.
+    #[inline]
+    pub fn is_requested(&self) -> bool
+        ensures { result ≡ self.now.request }
+    {
+        self.requested
+    }
+
     /// The interrupt vector where a request stands.
     #[inline]
     pub fn request(&self) -> Option<u8>

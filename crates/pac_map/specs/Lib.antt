@@ -1,5 +1,7 @@
 pub mod Place
 pub mod Lookups
-pub mod Entry
 pub mod Cleared
-pub mod Sizes
+pub mod View
+pub mod Entry
+pub mod Contents
+pub mod Fields

@@ -2,8 +2,8 @@
 -- schematics; what this profile adds is named).
 use Rattle.std.specs.Prelude.{ℕ}
 use Rattle.pac_inputs.specs.Ports.{in0, in1}
-use Rattle.pac_map.specs.declared.bus_table.Place.{Place}
-use Rattle.pac_map.specs.declared.bus_table.Place.TheVariants.{Program, Tile, Colour, Work, Nothing, Inputs0, Inputs1, Switches}
+use Rattle.pac_map.specs.declared.bus_table.BusPlace.{BusPlace}
+use Rattle.pac_map.specs.declared.bus_table.BusPlace.TheVariants.{Program, Tile, Colour, Work, Nothing, Inputs0, Inputs1, Switches}
 use Rattle.pac_map.specs.Place.{read_place}
 
 -- what a read asks: the cells of the program ROM and of the RAMs, the mask of inputs held, the DIP switches' byte
@@ -17,7 +17,7 @@ pub record Lookups : Type 0 where
 
 -- the byte that a place gives: the block with no chip reads BFH, and the watchdog's address FFH, as does what is
 -- only written (this profile)
-abbrev pub answer : Lookups → Place → ℕ
+abbrev pub answer : Lookups → BusPlace → ℕ
 answer lookups (Program cell) = lookups.program cell
 answer lookups (Tile cell) = lookups.tile cell
 answer lookups (Colour cell) = lookups.colour cell

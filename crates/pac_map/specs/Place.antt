@@ -2,19 +2,27 @@
 -- A14 low is the program ROM. A14 high leaves out A13: A12 low is the RAM page, A12 high the port page, which
 -- leaves out A11 to A8 too.
 use Rattle.std.specs.Prelude.{ℕ, ◌-◌, ◌%◌, ◌<◌, nat_lt, if◌then◌else◌, Option, Some, None, unwrap_or}
-use Rattle.pac_map.specs.declared.bus_table.Place.{Place}
-use Rattle.pac_map.specs.declared.bus_table.Place.TheVariants.{Program, Tile, Colour, Work, Nothing}
-use Rattle.pac_map.specs.declared.bus_table.Place.TheVariants.{Inputs0, Inputs1, Switches, Kick, Latch, Wave, Coordinate}
+use Rattle.pac_roms.specs.Parts.{program_size}
+use Rattle.pac_map.specs.declared.bus_table.BusPlace.{BusPlace}
+use Rattle.pac_map.specs.declared.bus_table.BusPlace.TheVariants.{Program, Tile, Colour, Work, Nothing}
+use Rattle.pac_map.specs.declared.bus_table.BusPlace.TheVariants.{Inputs0, Inputs1, Switches, Kick, Latch, Wave, Coordinate}
 
--- the bytes of the program ROM, and of each of the three RAMs
-abbrev pub program_size : ℕ
-program_size = 16384
-
+-- the bytes of each of the three RAMs; of the sprites' coordinates; the registers of the wave generator; and the bits
+-- of the output latch
 abbrev pub ram_size : ℕ
 ram_size = 1024
 
+abbrev pub coordinates_size : ℕ
+coordinates_size = 16
+
+abbrev pub registers_size : ℕ
+registers_size = 32
+
+abbrev pub latch_size : ℕ
+latch_size = 8
+
 -- the RAM page, 4,096 bytes: 000-3FF, 400-7FF, 800-BFF, C00-FFF
-abbrev pub ram_place : ℕ → Place
+abbrev pub ram_place : ℕ → BusPlace
 ram_place offset =
     if nat_lt offset 0x400 then Tile offset
     else if nat_lt offset 0x800 then Colour (offset - 0x400)
@@ -22,7 +30,7 @@ ram_place offset =
     else Work (offset - 0xC00)
 
 -- the port page when read, 256 bytes: 00-3F, 40-7F, 80-BF, C0-FF
-abbrev pub read_port : ℕ → Place
+abbrev pub read_port : ℕ → BusPlace
 read_port offset =
     if nat_lt offset 0x40 then Inputs0
     else if nat_lt offset 0x80 then Inputs1
@@ -30,7 +38,7 @@ read_port offset =
     else Kick
 
 -- the port page when written: 00-3F (three lines choose the bit), 40-5F, 60-6F, 70-BF, C0-FF
-abbrev pub write_port : ℕ → Place
+abbrev pub write_port : ℕ → BusPlace
 write_port offset =
     if nat_lt offset 0x40 then Latch (offset % 8)
     else if nat_lt offset 0x60 then Wave (offset - 0x40)
@@ -39,27 +47,27 @@ write_port offset =
     else Kick
 
 -- what an address selects in the ROM or in the RAM page; nothing of these where it selects a port
-abbrev pub memory_place : ℕ → Option Place
+abbrev pub memory_place : ℕ → Option BusPlace
 memory_place address =
     if nat_lt (address % 0x8000) 0x4000 then Some (Program (address % 0x8000))
     else if nat_lt (address % 0x2000) 0x1000 then Some (ram_place (address % 0x2000))
     else None
 
 -- the place that a read from an address asks
-abbrev pub read_place : ℕ → Place
+abbrev pub read_place : ℕ → BusPlace
 read_place address = unwrap_or (memory_place address) (read_port (address % 0x100))
 
 -- the place that a write to an address reaches
-abbrev pub write_place : ℕ → Place
+abbrev pub write_place : ℕ → BusPlace
 write_place address = unwrap_or (memory_place address) (write_port (address % 0x100))
 
 -- the cell, bit, register or byte lies in its place
-abbrev pub IsInRange : Place → Type 0
+abbrev pub IsInRange : BusPlace → Type 0
 IsInRange (Program cell) = cell < program_size
 IsInRange (Tile cell) = cell < ram_size
 IsInRange (Colour cell) = cell < ram_size
 IsInRange (Work cell) = cell < ram_size
-IsInRange (Latch bit) = bit < 8
-IsInRange (Wave register) = register < 32
-IsInRange (Coordinate byte) = byte < 16
+IsInRange (Latch bit) = bit < latch_size
+IsInRange (Wave register) = register < registers_size
+IsInRange (Coordinate byte) = byte < coordinates_size
 IsInRange _ = Unit {0}

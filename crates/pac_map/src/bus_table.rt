@@ -5,7 +5,7 @@ ghost use Rattle.pac_map.specs.Place as spec;
 
 /// A place on the bus (Namco Pac-Man service schematics). Numbers are cells, bits or registers of the place.
 #[derive(Clone, Copy, PartialEq, Debug)]
-pub enum Place {
+pub enum BusPlace {
     /// A cell of the program ROM, below 16,384. A write there changes nothing.
     Program(u16),
     /// A cell of the tile RAM, below 1,024.
@@ -33,67 +33,67 @@ pub enum Place {
 }
 
 /// A place of the RAM page, whose bytes are counted from 0 to 4,095.
-#[inline]
-fn ram_place(offset: u16) -> Place
+#[inline(always)]
+fn ram_place(offset: u16) -> BusPlace
     requires { offset < 0x1000 }
     ensures place { result ≡ spec.ram_place offset }
     ensures in_range { spec.IsInRange result }
 {
     if offset < 0x400 {
-        Place::Tile(offset)
+        BusPlace::Tile(offset)
     } else if offset < 0x800 {
-        Place::Colour(offset - 0x400)
+        BusPlace::Colour(offset - 0x400)
     } else if offset < 0xC00 {
-        Place::Nothing
+        BusPlace::Nothing
     } else {
-        Place::Work(offset - 0xC00)
+        BusPlace::Work(offset - 0xC00)
     }
 }
 
 /// A place of the port page, whose low eight address lines are wired, when read.
-#[inline]
-fn read_port(offset: u8) -> Place
+#[inline(always)]
+fn read_port(offset: u8) -> BusPlace
     ensures place { result ≡ spec.read_port offset }
     ensures in_range { spec.IsInRange result }
 {
     if offset < 0x40 {
-        Place::Inputs0
+        BusPlace::Inputs0
     } else if offset < 0x80 {
-        Place::Inputs1
+        BusPlace::Inputs1
     } else if offset < 0xC0 {
-        Place::Switches
+        BusPlace::Switches
     } else {
-        Place::Kick
+        BusPlace::Kick
     }
 }
 
 /// A place of the port page, whose low eight address lines are wired, when written.
-#[inline]
-fn write_port(offset: u8) -> Place
+#[inline(always)]
+fn write_port(offset: u8) -> BusPlace
     ensures place { result ≡ spec.write_port offset }
     ensures in_range { spec.IsInRange result }
 {
     if offset < 0x40 {
-        Place::Latch(offset % 8)
+        BusPlace::Latch(offset % 8)
     } else if offset < 0x60 {
-        Place::Wave(offset - 0x40)
+        BusPlace::Wave(offset - 0x40)
     } else if offset < 0x70 {
-        Place::Coordinate(offset - 0x60)
+        BusPlace::Coordinate(offset - 0x60)
     } else if offset < 0xC0 {
-        Place::Nothing
+        BusPlace::Nothing
     } else {
-        Place::Kick
+        BusPlace::Kick
     }
 }
 
 /// The place of the ROM or of the RAM page that an address selects, none where it selects a port.
-#[inline]
-fn memory_place(address: u16) -> Option<Place>
+#[inline(always)]
+fn memory_place(address: u16) -> Option<BusPlace>
     ensures place { result ≡ spec.memory_place address }
     ensures in_range { IfSome result spec.IsInRange }
 {
     if address % 0x8000 < 0x4000 {
-        Some(Place::Program(address % 0x8000))
+        Some(BusPlace::Program(address % 0x8000))
     } else if address % 0x2000 < 0x1000 {
         Some(ram_place(address % 0x2000))
     } else {
@@ -102,8 +102,8 @@ fn memory_place(address: u16) -> Option<Place>
 }
 
 /// The place that a read from an address asks.
-#[inline]
-pub fn read_place(address: u16) -> Place
+#[inline(always)]
+pub fn read_place(address: u16) -> BusPlace
     ensures place { result ≡ spec.read_place address }
     ensures in_range { spec.IsInRange result }
 {
@@ -114,8 +114,8 @@ pub fn read_place(address: u16) -> Place
 }
 
 /// The place that a write to an address reaches.
-#[inline]
-pub fn write_place(address: u16) -> Place
+#[inline(always)]
+pub fn write_place(address: u16) -> BusPlace
     ensures place { result ≡ spec.write_place address }
     ensures in_range { spec.IsInRange result }
 {

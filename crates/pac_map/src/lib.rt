@@ -1,10 +1,10 @@
-//! The board's bus: which chip an address selects, and what the processor reads and writes there.
+//! The board's bus: which chip an address selects, what the processor reads and writes there, and what the board keeps.
 #![tactic(auto)]
 
 mod board_bus;
 mod bus_table;
-#[cfg(test)]
-mod tests;
+mod memory;
 
 pub use board_bus::Map;
-pub use bus_table::{Place, read_place, write_place};
+pub use bus_table::{BusPlace, read_place, write_place};
+pub use memory::{Fields, Memory};

@@ -1,9 +1,14 @@
-//! Bits, bytes and words as the processor and the board read them, as whole numbers, and the pixels of a byte.
+//! Bits, bytes and words as the processor and the board read them, as whole numbers, the pixels of a byte, and
+//! hexadecimal digits.
 #![tactic(auto)]
 
 ghost use Rattle.std.specs.Prelude.{◌≡◌, ◌<◌, ◌+◌};
 ghost use Rattle.pac_num.specs.Numbers as number;
 ghost use Rattle.pac_num.specs.Pixels as pixels;
+
+mod hexadecimal;
+
+pub use hexadecimal::{hex_byte, hex_word};
 
 /// Bit `place` of a byte, 0 or 1; bit 0 is the lowest.
 #[inline]

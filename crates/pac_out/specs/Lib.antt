@@ -2,4 +2,5 @@ pub mod Counted
 pub mod Faulty
 pub mod Laws
 pub mod Memory
+pub mod Pending
 pub mod Writes

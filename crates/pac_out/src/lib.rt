@@ -8,6 +8,7 @@ ghost use Rattle.pac_out.specs.Writes.{IsWrite, StopsAfter, lent_took, lent_refu
 pub mod counted;
 pub mod faulty;
 pub mod memory;
+pub mod pending;
 #[cfg(test)]
 mod tests;
 pub mod through;

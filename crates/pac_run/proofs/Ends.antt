@@ -7,7 +7,7 @@ use Rattle.pac_out.specs.Counted.{HasTaken, Takes, Refuses}
 use Rattle.pac_out.specs.Writes.{StopsAfter, lent_took, lent_refused}
 use Rattle.pac_out.proofs.Files.{lent-takes, lent-refuses}
 use Rattle.pac_cpu.specs.declared.once.Stop.{Stop}
-use Rattle.pac_map.specs.Entry.{View, power_on}
+use Rattle.pac_map.specs.View.{View, power_on}
 use Rattle.pac_board.specs.History.{view_of}
 use Rattle.pac_board.specs.Step.{frame_ticks}
 use Rattle.pac_board.specs.Walk.{Walk}

@@ -1,10 +1,3 @@
-pub mod SourceWords
-pub mod SourceSteps
-pub mod SourceValid
-pub mod SourceRom
-pub mod SourceReading
-pub mod SourceCuts
-pub mod SourceRows
 pub mod Parts
 pub mod Images
 pub mod Loops

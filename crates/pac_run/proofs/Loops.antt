@@ -8,7 +8,7 @@ use Rattle.pac_cpu.specs.declared.once.Once.{Once}
 use Rattle.pac_cpu.specs.declared.once.Once.TheVariants.{Stepped, Stopped}
 use Rattle.pac_cpu.specs.declared.once.Kind.{Kind}
 use Rattle.pac_cpu.specs.declared.once.Stop.{Stop}
-use Rattle.pac_map.specs.Entry.{View, power_on}
+use Rattle.pac_map.specs.View.{View, power_on}
 use Rattle.pac_board.specs.Step.{Picture, frame_ticks}
 use Rattle.pac_board.specs.Walk.{Walk, has_ended}
 use Rattle.pac_board.specs.Trace.{Roms, start, view_walk, view_trace}

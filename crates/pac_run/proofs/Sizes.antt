@@ -8,7 +8,8 @@ use Rattle.pac_cpu.specs.declared.once.Stop.{Stop}
 use Rattle.pac_cpu.specs.declared.once.Cause.{Cause}
 use Rattle.pac_cpu.specs.declared.once.Cause.TheVariants.{Opcode, Vector}
 use Rattle.pac_cpu.specs.Step.{CpuStep, Steps, Stops, cpu_step, IsInTime}
-use Rattle.pac_map.specs.Entry.{Entry, Blank, View, power_on}
+use Rattle.pac_map.specs.Entry.{Entry, Blank}
+use Rattle.pac_map.specs.View.{View, power_on}
 use Rattle.pac_tiles.specs.Tabulate.{tabulate}
 use Rattle.pac_tiles.specs.Tiles.{row_of, dot_of}
 use Rattle.pac_tiles.proofs.Tabulated.{length-tabulate}
@@ -17,7 +18,8 @@ use Rattle.pac_board.specs.Step.{Questions, Moment, surroundings, after_cpu_step
 use Rattle.pac_board.specs.Walk.{Walk, walk, onward_if, after_step}
 use Rattle.pac_board.specs.Trace.{frame_steps, Roms, by_history, by_view, pictures_of, blanks, start, view_trace}
 use Rattle.pac_board.proofs.Whole.{timed, blanks-frames}
-use Rattle.pac_run.specs.Texts.{grey, image, images, counts_text, cause_text, end_text, report, hex_word, hex_byte}
+use Rattle.pac_run.specs.Texts.{grey, image, images, counts_text, cause_text, end_text, report}
+use Rattle.pac_num.specs.Hexadecimal.{hex_word, hex_byte}
 use Rattle.pac_run.specs.declared.run.Outcome.{Outcome}
 use Rattle.pac_run.specs.Source.{items_of}
 use Rattle.pac_run.specs.Run.{switches, most_frames, roms, run_trace, frames_text}

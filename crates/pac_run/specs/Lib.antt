@@ -1,9 +1,4 @@
 pub mod Source
-pub mod SourceForms
-pub mod SourceLines
-pub mod SourceResults
-pub mod SourceTokens
-pub mod SourceViews
 pub mod Texts
 pub mod Run
 pub mod Messages

@@ -1,18 +1,11 @@
 -- What is told where the program can't do its work: the line that goes to standard error, and the exit status.
 use Rattle.std.specs.Prelude.{ℕ, List, ◌++◌, codes}
 use Rattle.std.specs.Fmt.{decimal}
-use Rattle.pac_run.specs.declared.source.AsmCode.{AsmCode}
-use Rattle.pac_run.specs.declared.source.AsmCode.TheVariants.{Syntax, PastEnd, TooManyLines}
+use Rattle.pac_asm.specs.Codes.{fault_text}
 use Rattle.pac_run.specs.declared.run.Output.{Output}
 use Rattle.pac_run.specs.declared.run.Output.TheVariants.{Frames, Report}
 use Rattle.pac_run.specs.declared.program.Failure.{Failure}
 use Rattle.pac_run.specs.declared.program.Failure.TheVariants.{Words, Read, Source, Tiles, Write, Memory}
-
--- the code of a source's fault
-abbrev pub code : AsmCode → List ℕ
-code Syntax = codes "A2"
-code PastEnd = codes "A5"
-code TooManyLines = codes "A7"
 
 -- the name of an output
 abbrev pub output : Output → List ℕ
@@ -23,7 +16,7 @@ output Report = codes "report"
 abbrev pub message : Failure → List ℕ
 message Words = codes "usage: pacboard first SOURCE TILES N FRAMES (N from 1 to 15)"
 message (Read name) = codes "read fault " ++ name.now
-message (Source fault) = codes "refused " ++ code fault.code ++ codes " line " ++ decimal fault.line
+message (Source fault) = codes "refused " ++ fault_text fault
 message Tiles = codes "refused M3 tiles"
 message (Write to count) = codes "write fault " ++ output to ++ codes " after " ++ decimal count ++ codes " bytes"
 message Memory = codes "out of memory"

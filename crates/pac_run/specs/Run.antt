@@ -3,8 +3,9 @@ use Rattle.std.specs.Prelude.{◌≡◌, ℕ, ◌/◌, List, length, Option, Non
 use Rattle.pac_cpu.specs.declared.once.Stop.{Stop}
 use Rattle.pac_out.specs.Writes.{StopsAfter}
 use Rattle.pac_code.specs.Items.{AllLie}
-use Rattle.pac_map.specs.Place.{program_size}
-use Rattle.pac_map.specs.Entry.{Entry, power_on}
+use Rattle.pac_roms.specs.Parts.{program_size}
+use Rattle.pac_map.specs.Entry.{Entry}
+use Rattle.pac_map.specs.View.{power_on}
 use Rattle.pac_board.specs.Walk.{Walk}
 use Rattle.pac_board.specs.Step.{frame_ticks}
 use Rattle.pac_board.specs.Trace.{Roms, trace, view_trace, pictures_of, blanks}
@@ -26,7 +27,7 @@ most_frames = 15
 
 -- the ROMs that a source and a tile file make
 abbrev pub roms : List ℕ → List ℕ → Roms
-roms source tiles = record { program = rom_of (items_of source); tiles = tiles }
+roms source tiles = record { program = rom_of source; tiles = tiles }
 
 -- the trace of a source's items
 abbrev pub run_trace : List ℕ → List ℕ → ℕ → Walk (List Entry)
@@ -88,8 +89,8 @@ outcome_at board stop =
 pub record IsMade (source tiles : List ℕ) (board : State) : Type 0 where
   pub faultless : fault_of source ≡ None
   pub board_is : board ≡ at_power_on (roms source tiles) switches
-  pub size : length (rom_of (items_of source)) ≡ program_size
-  pub lie : AllLie (rom_of (items_of source)) (items_of source)
+  pub size : length (rom_of source) ≡ program_size
+  pub lie : AllLie (rom_of source) (items_of source)
 
 abbrev pub Makes : List ℕ → List ℕ → Result State RunFault → Type 0
 Makes source tiles (Ok board) = IsMade source tiles board

@@ -1,8 +1,9 @@
 -- The texts that a run writes: binary PPM images (Netpbm, "PPM Format Specification", P6) one after another,
 -- and the report.
-use Rattle.std.specs.Prelude.{ℕ, Option, None, Some, slice_index, ◌+◌, ◌*◌, ◌/◌, ◌%◌, List, [], ◌∷◌, ◌++◌, nat_lt, if◌then◌else◌, codes}
+use Rattle.std.specs.Prelude.{ℕ, Option, None, Some, slice_index, ◌*◌, List, [], ◌∷◌, ◌++◌, codes}
 use Rattle.std.specs.Prelude.{decimal}
 use Rattle.std.specs.List.{flat_map}
+use Rattle.pac_num.specs.Hexadecimal.{hex_byte, hex_word}
 use Rattle.pac_run.specs.declared.run.Outcome.{Outcome}
 use Rattle.pac_cpu.specs.declared.once.Stop.{Stop}
 use Rattle.pac_cpu.specs.declared.once.Cause.{Cause}
@@ -21,16 +22,6 @@ image picture = header ++ flat_map (flat_map grey) picture
 
 abbrev pub images : List (List (List ℕ)) → List ℕ
 images pictures = flat_map image pictures
-
--- upper-case hexadecimal digits of a byte and of a word
-abbrev pub hex_digit : ℕ → ℕ
-hex_digit n = if nat_lt n 10 then 48 + n else 55 + n
-
-unfoldable pub hex_byte : ℕ → List ℕ
-hex_byte byte = hex_digit (byte / 16) ∷ hex_digit (byte % 16) ∷ []
-
-unfoldable pub hex_word : ℕ → List ℕ
-hex_word word = hex_digit (word / 4096) ∷ hex_digit (word / 256 % 16) ∷ hex_digit (word / 16 % 16) ∷ hex_digit (word % 16) ∷ []
 
 -- how a run ended: done, or at a stop with its bytes, or with the vector byte that is no RST. A text is the join
 -- of its pieces.

@@ -6,4 +6,3 @@ mod pieces;
 pub mod program;
 mod report;
 pub mod run;
-pub mod source;

@@ -6,7 +6,7 @@ ghost use Rattle.pac_run.specs.Messages as messages;
 ghost use Rattle.pac_run.specs.Run.{most_frames};
 
 use crate::run::{Outcome, Output, RunFault, run_first};
-use crate::source::{AsmError, AsmFault, assemble};
+use pac_asm::{AsmError, AsmFault, assemble};
 use pac_out::through::Through;
 use std::alloc::Global;
 use std::io::{ErrorKind, Read};
@@ -47,11 +47,7 @@ impl fmt::Display for Failure<'_> {
                 "usage: pacboard first SOURCE TILES N FRAMES (N from 1 to 15)",
             ),
             Failure::Read(name) => write!(f, "read fault {name}"),
-            Failure::Source(fault) => {
-                let code = fault.code;
-                let line = fault.line;
-                write!(f, "refused {code} line {line}")
-            }
+            Failure::Source(fault) => write!(f, "refused {fault}"),
             Failure::Tiles => f.write_str("refused M3 tiles"),
             Failure::Write(output, count) => {
                 write!(f, "write fault {output} after {count} bytes")

@@ -9,41 +9,9 @@ use crate::pieces::put_pieces;
 use crate::run::Outcome;
 use itoa::Buffer;
 use pac_cpu::{Cause, Stop};
+use pac_num::{hex_byte, hex_word};
 use pac_out::counted::Counted;
 use pac_out::{Out, WriteFault};
-
-/// An upper-case hexadecimal digit.
-fn hex_digit(nibble: u8) -> u8
-    requires { nibble < 16 }
-    ensures { result ≡ text.hex_digit nibble }
-{
-    if nibble < 10 {
-        48 + nibble
-    } else {
-        55 + nibble
-    }
-}
-
-/// The two digits of a byte.
-#[tactic(auto, unfolding(crate::specs::Texts::hex_byte))]
-fn hex_byte(byte: u8) -> [u8; 2]
-    ensures { result ≡ text.hex_byte byte }
-{
-    [hex_digit(byte / 16), hex_digit(byte % 16)]
-}
-
-/// The four digits of a word.
-#[tactic(auto, unfolding(crate::specs::Texts::hex_word))]
-fn hex_word(word: u16) -> [u8; 4]
-    ensures { result ≡ text.hex_word word }
-{
-    [
-        hex_digit((word / 4096) as u8),
-        hex_digit((word / 256 % 16) as u8),
-        hex_digit((word / 16 % 16) as u8),
-        hex_digit((word % 16) as u8),
-    ]
-}
 
 /// The frames that were shown of those asked for, the steps and the T-states: two lines.
 fn put_counts<W: Out>(

@@ -10,7 +10,7 @@ ghost use Rattle.pac_run.specs.declared.run.RunFault.TheVariants.{NoMemory};
 
 use crate::image::put_image;
 use crate::report::put_report;
-use crate::source::{AsmError, AsmFault, assemble};
+use pac_asm::{AsmError, AsmFault, assemble};
 use pac_board::{Board, TICKS_A_FRAME};
 use pac_cpu::{Once, Stop};
 use pac_out::counted::Counted;
@@ -145,8 +145,9 @@ fn make_board(alloc: Global, source: &[u8], tiles: &[u8]) -> Result<Board, RunFa
         Err(AsmError::Fault(fault)) => return Err(RunFault::Source(fault)),
         Err(AsmError::Memory) => return Err(RunFault::NoMemory),
     };
+    let rom = Vec::from_slice(alloc, program.rom())?;
     let tiles = Vec::from_slice(alloc, tiles)?;
-    let board = Board::init(alloc, program.rom, tiles, SWITCHES)?;
+    let board = Board::init(alloc, rom, tiles, SWITCHES)?;
     Ok(board)
 }
 

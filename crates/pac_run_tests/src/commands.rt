@@ -245,11 +245,11 @@ fn outputs_are_created_before_inputs_are_refused(rt: HostRuntime) -> io::Result<
     for (line, error) in [
         (
             "first refused/fault.asm refused/flat.tiles 1 refused/a.ppm",
-            "refused A2 line 1\n",
+            "refused A9 line 1\n",
         ),
         (
             "first refused/fault.asm refused/short.tiles 1 refused/a.ppm",
-            "refused A2 line 1\n",
+            "refused A9 line 1\n",
         ),
         (
             "first refused/cell.asm refused/short.tiles 1 refused/a.ppm",

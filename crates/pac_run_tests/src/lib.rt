@@ -1,11 +1,9 @@
-//! Nothing but tests of runs: sources, whole runs and command lines, held against what `pac_run` writes and answers.
+//! Nothing but tests of runs: whole runs and command lines, held against what `pac_run` writes and answers.
 #![tactic(auto)]
 
 #[cfg(test)]
 mod commands;
 #[cfg(test)]
 mod runs;
-#[cfg(test)]
-mod sources;
 #[cfg(test)]
 mod tiles;

@@ -2,11 +2,11 @@
 //! from a frame's 50,688; pictures by the schematics' places of the tiles.
 
 use crate::tiles::flat_tiles;
+use pac_asm::{AsmCode, AsmFault};
 use pac_out::Out;
 use pac_out::faulty::Faulty;
 use pac_out::memory::Memory;
 use pac_run::run::{Outcome, Output, RunFault, run_first};
-use pac_run::source::{AsmCode, AsmFault};
 use pac_scarce::Hoard;
 use std::alloc::Global;
 use std::process::Abort;
@@ -96,7 +96,7 @@ fn a_faulty_source_writes_nothing(rt: HostRuntime) -> Result<(), Fail> {
     let mut frames = Memory::new(rt.alloc(), 200_000)?;
     let mut report = Memory::new(rt.alloc(), 200)?;
     let fault = AsmFault {
-        code: AsmCode::Syntax,
+        code: AsmCode::OutOfRange,
         line: 1,
     };
     let found = run_flat(&rt, rt.alloc(), b"LD A,256", 1, &mut frames, &mut report);

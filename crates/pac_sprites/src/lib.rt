@@ -2,7 +2,7 @@
 #![tactic(auto)]
 
 ghost use Rattle.std.specs.Prelude.{◌≡◌, ◌<◌, ◌≤◌, ◌≤ℤ◌, ◌+ℤ◌, ℕ, pos, negsuc, nat_le, nat_lt, ◌&&◌, length, slice_index, EachIndex};
-ghost use Rattle.std.specs.Prelude.{Some, None, if◌then◌else◌, IfSome, is_some};
+ghost use Rattle.std.specs.Prelude.{Some, None, true, if◌then◌else◌, IfSome, is_some};
 ghost use Rattle.std.specs.Int.Signed.{le_z};
 ghost use Rattle.pac_sprites.specs.Sprites as sprites;
 
@@ -154,6 +154,27 @@ impl Sprite {
     {
         let left = i32::from(self.left);
         column_from(left)..column_from(left + 16)
+    }
+
+    /// Which line of the sprite's pixels shows on line y of the picture, where its box covers that line.
+    #[inline]
+    pub fn line_at(&self, y: u8) -> Option<u8>
+        ensures line { result ≡ (if sprites.is_within self.now.top y
+            then Some (sprites.flipped self.now.flip_y (sprites.box_place self.now.top y)) else None) }
+        ensures below { IfSome result (λ line. line < sprites.side) }
+    {
+        let down = place_within(self.top, u16::from(y))?;
+        Some(flipped(self.flip_y, down))
+    }
+
+    /// Which column of the sprite's pixels shows in column x of the picture, one at which the sprite shows.
+    #[inline]
+    pub fn column_at(&self, x: u16) -> u8
+        requires { sprites.is_column_of self.now x ≡ true }
+        ensures column { result ≡ sprites.flipped self.now.flip_x (sprites.box_place self.now.left x) }
+        ensures below { result < sprites.side }
+    {
+        flipped(self.flip_x, (i32::from(x) - i32::from(self.left)) as u8)
     }
 
     /// The values, 0 to 3, of the 16 pixels that the sprite has on line y of the picture, from left to right, where

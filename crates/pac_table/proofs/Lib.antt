@@ -2,3 +2,5 @@ pub mod TableRules
 pub mod Uniqueness
 pub mod Lengths
 pub mod Pages
+pub mod Index
+pub mod SameNames

@@ -1,21 +1,25 @@
 use Rattle.std.proofs.Common.{◌≡◌, List, ℕ, length, sym, ap, subst, ◌∙◌}
-use Rattle.pac_code.specs.Items.{Item, AllLie}
-use Rattle.pac_map.specs.Place.{program_size}
+use Rattle.std.specs.Option.{unwrap_or}
+use Rattle.std.specs.Result.{result_ok, result_err}
+use Rattle.pac_code.specs.Items.{AllLie}
+use Rattle.pac_roms.specs.Parts.{program_size}
+use Rattle.pac_program.specs.Programs.{Assembled, items_of as items_in}
 use Rattle.pac_board.specs.State.{at_power_on}
-use Rattle.pac_run.specs.Source.{items_of, rom_of}
+use Rattle.pac_run.specs.Source.{program_in, no_program}
 use Rattle.pac_run.specs.Run.{switches}
 use Rattle.pac_run.proofs.run.make_board.Goals as goal
 
 pub returns : goal.returns
+unfolding program_in
 returns c =
-    let program = c.in-Ok.ensures.exact in
-    let size : length (rom_of (items_of c.args.source.now)) ≡ program_size = ap length (sym program.rom) ∙ program.size in
+    let assembled = c.in-Ok.ensures.exact in
+    let same = ap (λ answer. unwrap_or (result_ok answer) no_program) assembled in
+    let rom = ap (λ (program : Assembled). program.rom) same in
     record {
-      faultless = program.faultless;
+      faultless = ap result_err assembled;
       board_is =
           c.in_ok-board.ensures
-          ∙ (λ i. at_power_on (record { program = program.rom i; tiles = c.in_ok-tiles.ensures.items i }) switches);
-      size = size;
-      lie = subst (λ (rom : List ℕ). AllLie rom (items_of c.args.source.now)) program.rom
-          (subst (λ (items : List Item). AllLie c.in-Ok.program.rom.items items) program.items_are c.in-Ok.ensures.lie);
+          ∙ (λ i. at_power_on (record { program = (c.in_ok-rom.ensures.items ∙ c.rom.ensures.value ∙ sym rom) i; tiles = c.in_ok-tiles.ensures.items i }) switches);
+      size = ap length rom ∙ sym (ap length c.rom.ensures.value) ∙ c.rom.ensures.size;
+      lie = subst (λ (program : Assembled). AllLie program.rom (items_in program)) (sym same) c.in-Ok.ensures.lie;
     }

@@ -1,0 +1,401 @@
+-- The symbols of the first phase are the one right assignment.
+use Rattle.std.proofs.Common.{◌≡◌, ℕ, ℤ, pos, negsuc, ◌+◌, Bool, true, false, List, [], ◌∷◌, ◌++◌, Option, Some, None, Result, Ok, Err}
+use Rattle.std.proofs.Common.{refl, ap, sym, ◌∙◌, subst, append_assoc, option_map, length, is_some, is_none, nat_le, nat_lt, if◌then◌else◌}
+use Rattle.std.specs.Map.{lookup}
+use Rattle.std.specs.Result.{is_ok}
+use Rattle.std.specs.Str.{bytes_eq}
+use Rattle.std.proofs.lemmas.Bool.{false≢true, true≢false, cond-true, cond-false}
+use Rattle.std.proofs.lemmas.Option.{none-some}
+use Rattle.std.proofs.lemmas.List.{append-nil}
+use Rattle.pac_expr.specs.declared.expr.Sign.{Sign}
+use Rattle.pac_expr.specs.declared.expr.Sign.TheVariants as signs
+use Rattle.pac_expr.specs.declared.expr.Operator.{Operator}
+use Rattle.pac_expr.specs.declared.evaluation.ValueError.TheVariants as errors
+use Rattle.pac_expr.specs.Trees.{Tree, atom, group, signed, joined}
+use Rattle.pac_expr.specs.Trees as trees
+use Rattle.pac_expr.specs.Values.{Answer, defined, sign_value, joined_value, value_of}
+use Rattle.pac_program.specs.Names.{Named, number_of, with_symbol}
+use Rattle.pac_program.specs.Programs.{rom_size}
+use Rattle.pac_source.specs.Statements.{Statement, nothing, origin, equate, bytes, words, space, condition, otherwise, end_condition}
+use Rattle.pac_source.specs.Statements.{operation, Form}
+use Rattle.pac_source.specs.Contents.{size_of}
+use Rattle.pac_asm.specs.declared.condition.Condition.{Condition}
+use Rattle.pac_asm.specs.declared.place.Span.{Span}
+use Rattle.pac_asm.specs.declared.fault.AsmCode.{AsmCode}
+use Rattle.pac_asm.specs.declared.fault.AsmCode.TheVariants.{OutsideRom, NeverClosed, DefinedBefore}
+use Rattle.pac_asm.specs.declared.fault.AsmFault.{AsmFault}
+use Rattle.pac_asm.specs.Results.{◌>>=◌, in_line}
+use Rattle.pac_asm.specs.Conditions.{is_judged, most_open, condition_of, after_else, after_end, after_skipped}
+use Rattle.pac_asm.specs.Unclosed.{word_of, is_never_closed}
+use Rattle.pac_asm.specs.Standings.{Standing, start, known, value_above, within_rom, is_new, with_label, room_for}
+use Rattle.pac_asm.specs.Phase1.{read, sized, after_item, after_statement, after_form, after_judged, after_passed, after_text, closed, after_line, phase1}
+use Rattle.pac_asm.specs.Assignments.{Spot, Step, labelled, counted, valued, with_conditions, with_bytes, step_by, step_read, step_if}
+use Rattle.pac_asm.specs.Assignments.{step_of, defined_after, defined_in, first_spot, IsRight, OneIsRight, SymbolsAreRight}
+
+-- ---- answers
+
+ok-or : {A E : Type 0} → A → Result A E → A
+ok-or d (Ok x) = x
+ok-or d (Err e) = d
+
+ok-same : {A E : Type 0} (x y : A) → ◌≡◌ {A = Result A E} (Ok x) (Ok y) → x ≡ y
+unfolding ok-or
+ok-same x y e = ap (ok-or x) e
+
+some-or : {A : Type 0} → A → Option A → A
+some-or d None = d
+some-or d (Some x) = x
+
+some-same : {A : Type 0} (x y : A) → Some x ≡ Some y → x ≡ y
+unfolding some-or
+some-same x y e = ap (some-or x) e
+
+err-ok : {A E : Type 0} (fault : E) (x : A) → ◌≡◌ {A = Result A E} (Err fault) (Ok x) → ⊥
+err-ok fault x e = false≢true (ap is_ok e)
+
+-- ---- names
+
+-- an assignment gives each of these names its number
+abbrev Extends : List Named → (List ℕ → Option ℤ) → Type 0
+Extends symbols names = (some : List ℕ) (z : ℤ) → number_of symbols some ≡ Some z → names some ≡ Some z
+
+found-by : (b : Bool) (z : ℤ) (first more : Option ℤ) (v : ℤ) → (first ≡ Some v → more ≡ Some v)
+    → (if b then Some z else first) ≡ Some v → (if b then Some z else more) ≡ Some v
+found-by true z first more v h e = e
+found-by false z first more v h e = h e
+
+-- what stands in the first of two lists stands in both
+found-first : (xs ys : List Named) → (some : List ℕ) (v : ℤ) → number_of xs some ≡ Some v → number_of (xs ++ ys) some ≡ Some v
+found-first [] ys some v e = absurd (none-some v e)
+found-first (x ∷ xs) ys some v e =
+    found-by (bytes_eq some x.0) x.1 (number_of xs some) (number_of (xs ++ ys) some) v (found-first xs ys some v) e
+
+-- ---- values
+
+defined-ok : (o : Option ℤ) (z : ℤ) → defined o ≡ Ok z → o ≡ Some z
+defined-ok None z e = absurd (err-ok _ z e)
+defined-ok (Some y) z e = ap Some (ok-same y z e)
+
+record Valued (answer : Answer) : Type 0 where
+  number : ℤ
+  is : answer ≡ Ok number
+
+sign-ok : (sign : Sign) (answer : Answer) (z : ℤ) → sign_value sign answer ≡ Ok z → Valued answer
+sign-ok signs.Plus answer z e = record { number = z; is = e }
+sign-ok signs.Minus (Ok y) z e = record { number = y; is = refl }
+sign-ok signs.Minus (Err fault) z e = absurd (err-ok fault z e)
+
+left-ok : (operator : Operator) (left right : Answer) (z : ℤ) → joined_value operator left right ≡ Ok z → Valued left
+left-ok operator (Ok x) right z e = record { number = x; is = refl }
+left-ok operator (Err fault) (Ok y) z e = absurd (err-ok fault z e)
+left-ok operator (Err fault) (Err other) z e = absurd (err-ok _ z e)
+
+right-ok : (operator : Operator) (left right : Answer) (z : ℤ) → joined_value operator left right ≡ Ok z → Valued right
+right-ok operator left (Ok y) z e = record { number = y; is = refl }
+right-ok operator (Ok x) (Err fault) z e = absurd (err-ok fault z e)
+right-ok operator (Err other) (Err fault) z e = absurd (err-ok _ z e)
+
+-- a value needs no more names than it has
+value-extends : (symbols : List Named) (names : List ℕ → Option ℤ) → Extends symbols names → (at : ℕ) (tree : Tree) (z : ℤ)
+    → value_of (number_of symbols) at tree ≡ Ok z → value_of names at tree ≡ Ok z
+value-extends symbols names extends at (atom (trees.number n)) z e = e
+value-extends symbols names extends at (atom (trees.character c)) z e = e
+value-extends symbols names extends at (atom (trees.name text)) z e =
+    ap defined (extends text z (defined-ok (number_of symbols text) z e))
+value-extends symbols names extends at (atom trees.here) z e = e
+value-extends symbols names extends at (group tree) z e = value-extends symbols names extends at tree z e
+value-extends symbols names extends at (signed sign tree) z e =
+    let inner = sign-ok sign (value_of (number_of symbols) at tree) z e in
+    ap (sign_value sign) (value-extends symbols names extends at tree inner.number inner.is ∙ sym inner.is) ∙ e
+value-extends symbols names extends at (joined operator left right) z e =
+    let l = left-ok operator (value_of (number_of symbols) at left) (value_of (number_of symbols) at right) z e in
+    let r = right-ok operator (value_of (number_of symbols) at left) (value_of (number_of symbols) at right) z e in
+    (λ i. joined_value operator
+    ((value-extends symbols names extends at left l.number l.is ∙ sym l.is) i)
+    ((value-extends symbols names extends at right r.number r.is ∙ sym r.is) i))
+    ∙ e
+
+-- ---- steps
+
+abbrev spot_of : Standing → Spot
+spot_of standing = record { at = standing.at; conditions = standing.conditions }
+
+-- what a line defines goes to the symbols, and the next line stands where the next standing has it
+record Agrees (above : Standing) (step : Option Step) (next : Standing) : Type 0 where
+  new : List Named
+  stepped : step ≡ Some (new, spot_of next)
+  grown : next.symbols ≡ above.symbols ++ new
+
+-- the same, for a standing that is known
+agrees-at : (above : Standing) (step : Option Step) (made next : Standing) → ◌≡◌ {A = Result Standing AsmCode} (Ok made) (Ok next)
+    → Agrees above step made → Agrees above step next
+agrees-at above step made next e h = subst (Agrees above step) (ok-same made next e) h
+
+record Known (answer : Answer) (go : ℤ → Result Standing AsmCode) (next : Standing) : Type 0 where
+  number : ℤ
+  is : answer ≡ Ok number
+  goes : go number ≡ Ok next
+
+known-ok : (answer : Answer) (go : ℤ → Result Standing AsmCode) (next : Standing) → (value_above answer >>= go) ≡ Ok next
+    → Known answer go next
+known-ok (Ok z) go next e = record { number = z; is = refl; goes = e }
+known-ok (Err errors.Undefined) go next e = absurd (err-ok _ next e)
+known-ok (Err errors.OutOfRange) go next e = absurd (err-ok _ next e)
+known-ok (Err errors.DivisionByZero) go next e = absurd (err-ok _ next e)
+
+record Within (z : ℤ) (go : ℕ → Result Standing AsmCode) (next : Standing) : Type 0 where
+  count : ℕ
+  is : z ≡ pos count
+  goes : go count ≡ Ok next
+
+within-by : (b : Bool) (n : ℕ) (go : ℕ → Result Standing AsmCode) (next : Standing)
+    → ((if b then Ok n else Err OutsideRom) >>= go) ≡ Ok next → go n ≡ Ok next
+within-by true n go next e = e
+within-by false n go next e = absurd (err-ok _ next e)
+
+within-ok : (z : ℤ) (go : ℕ → Result Standing AsmCode) (next : Standing) → (within_rom z >>= go) ≡ Ok next → Within z go next
+within-ok (pos n) go next e = record { count = n; is = refl; goes = within-by (nat_le n rom_size) n go next e }
+within-ok (negsuc n) go next e = absurd (err-ok _ next e)
+
+record Counted (answer : Answer) (go : ℕ → Result Standing AsmCode) (next : Standing) : Type 0 where
+  count : ℕ
+  is : answer ≡ Ok (pos count)
+  goes : go count ≡ Ok next
+
+counted-ok : (answer : Answer) (go : ℕ → Result Standing AsmCode) (next : Standing) → ((value_above answer >>= within_rom) >>= go) ≡ Ok next
+    → Counted answer go next
+counted-ok (Ok (pos n)) go next e = record { count = n; is = refl; goes = within-by (nat_le n rom_size) n go next e }
+counted-ok (Ok (negsuc n)) go next e = absurd (err-ok _ next e)
+counted-ok (Err errors.Undefined) go next e = absurd (err-ok _ next e)
+counted-ok (Err errors.OutOfRange) go next e = absurd (err-ok _ next e)
+counted-ok (Err errors.DivisionByZero) go next e = absurd (err-ok _ next e)
+
+record Gone {A B E : Type 0} (answer : Result A E) (go : A → Result B E) (next : B) : Type 0 where
+  found : A
+  is : answer ≡ Ok found
+  goes : go found ≡ Ok next
+
+gone : {A B E : Type 0} (answer : Result A E) (go : A → Result B E) (next : B) → (answer >>= go) ≡ Ok next → Gone answer go next
+gone (Ok x) go next e = record { found = x; is = refl; goes = e }
+gone (Err fault) go next e = absurd (err-ok fault next e)
+
+if-ok : {A E : Type 0} (b : Bool) (answer : Result A E) (fault : E) (next : A) → (if b then answer else Err fault) ≡ Ok next → answer ≡ Ok next
+if-ok true answer fault next e = e
+if-ok false answer fault next e = absurd (err-ok fault next e)
+
+-- a new label goes last
+new-name : (symbols : List Named) (name : List ℕ) (number : ℤ) (o : Option ℤ) → is_none o ≡ true
+    → (if is_some o then symbols else symbols ++ (name, number) ∷ []) ≡ symbols ++ (name, number) ∷ []
+new-name symbols name number None e = refl
+new-name symbols name number (Some z) e = absurd (false≢true e)
+
+new-label : (symbols : List Named) (label : Option (List ℕ)) (number : ℤ) → is_new symbols label ≡ true
+    → with_label symbols label number ≡ symbols ++ labelled label number
+new-label symbols None number e = sym (append-nil symbols)
+new-label symbols (Some name) number e = new-name symbols name number (number_of symbols name) e
+
+-- an item of so many bytes
+agree-item : (above : Standing) (label : Option (List ℕ)) (size : ℕ) (next : Standing) → is_new above.symbols label ≡ true
+    → after_item above label size ≡ Ok next → Agrees above (Some (with_bytes (spot_of above) label size)) next
+agree-item above label size next is-new e =
+    let g = gone (room_for above size) _ next e in
+    agrees-at above _ _ next g.goes (record {
+      new = labelled label (pos above.at);
+      stepped = refl;
+      grown = new-label above.symbols label (pos above.at) is-new;
+    })
+
+-- other open IFs
+agree-conditions : (above : Standing) (answer : Result (List Condition) AsmCode) (places : _) (next : Standing)
+    → (answer >>= λ conditions. Ok (record above { conditions = conditions; places = places })) ≡ Ok next
+    → Agrees above (with_conditions (spot_of above) answer) next
+agree-conditions above answer places next e =
+    let g = gone answer _ next e in
+    agrees-at above _ _ next g.goes (record {
+      new = [];
+      stepped = ap (with_conditions (spot_of above)) g.is;
+      grown = sym (append-nil above.symbols);
+    })
+
+agree-statement : (names : List ℕ → Option ℤ) (above : Standing) → Extends above.symbols names → (label : Option (List ℕ)) (statement : Statement)
+    → is_new above.symbols label ≡ true → (next : Standing) → after_statement above label statement ≡ Ok next
+    → Agrees above (step_by names (spot_of above) label statement) next
+agree-statement names above extends label nothing is-new next e =
+    agrees-at above _ _ next e (record {
+      new = labelled label (pos above.at);
+      stepped = refl;
+      grown = new-label above.symbols label (pos above.at) is-new;
+    })
+agree-statement names above extends label (origin place) is-new next e =
+    let k = known-ok (value_of (number_of above.symbols) above.at place) _ next e in
+    let w = within-ok k.number _ next k.goes in
+    let value : value_of names above.at place ≡ Ok (pos w.count) =
+    value-extends above.symbols names extends above.at place k.number k.is ∙ ap Ok w.is in
+    agrees-at above _ _ next w.goes (record {
+      new = [];
+      stepped = ap (λ answer. option_map (λ at. ([], record (spot_of above) { at = at })) (counted answer)) value;
+      grown = sym (append-nil above.symbols);
+    })
+agree-statement names above extends label (equate number) is-new next e =
+    let k = known-ok (value_of (number_of above.symbols) above.at number) _ next e in
+    agrees-at above _ _ next k.goes (record {
+      new = labelled label k.number;
+      stepped = ap (λ answer. option_map (λ value. (labelled label value, spot_of above)) (valued answer))
+          (value-extends above.symbols names extends above.at number k.number k.is);
+      grown = new-label above.symbols label k.number is-new;
+    })
+agree-statement names above extends label (condition test) is-new next e =
+    let inner = if-ok (nat_lt (length above.conditions) most_open) _ _ next e in
+    let k = known-ok (value_of (number_of above.symbols) above.at test) _ next inner in
+    agrees-at above _ _ next k.goes (record {
+      new = [];
+      stepped = ap (λ answer. option_map (λ value. ([], record (spot_of above) { conditions = condition_of value ∷ above.conditions })) (valued answer))
+          (value-extends above.symbols names extends above.at test k.number k.is);
+      grown = sym (append-nil above.symbols);
+    })
+agree-statement names above extends label otherwise is-new next e = agree-conditions above (after_else above.conditions) _ next e
+agree-statement names above extends label end_condition is-new next e = agree-conditions above (after_end above.conditions) _ next e
+agree-statement names above extends label (space size fill) is-new next e =
+    let k = counted-ok (value_of (number_of above.symbols) above.at size) (after_item above label) next e in
+    let item = agree-item above label k.count next is-new k.goes in
+    record {
+      new = item.new;
+      stepped = ap (λ answer. option_map (with_bytes (spot_of above) label) (counted answer))
+          (value-extends above.symbols names extends above.at size (pos k.count) k.is) ∙ item.stepped;
+      grown = item.grown;
+    }
+agree-statement names above extends label (bytes parts) is-new next e = agree-item above label (size_of (bytes parts)) next is-new e
+agree-statement names above extends label (words numbers) is-new next e = agree-item above label (size_of (words numbers)) next is-new e
+agree-statement names above extends label (operation written) is-new next e = agree-item above label (size_of (operation written)) next is-new e
+
+agree-new : (names : List ℕ → Option ℤ) (above : Standing) → Extends above.symbols names → (form : Form) (b : Bool)
+    → is_new above.symbols form.label ≡ b → (next : Standing)
+    → (if b then after_statement above form.label form.statement else Err DefinedBefore) ≡ Ok next
+    → Agrees above (step_by names (spot_of above) form.label form.statement) next
+agree-new names above extends form true is-new next e = agree-statement names above extends form.label form.statement is-new next e
+agree-new names above extends form false is-new next e = absurd (err-ok _ next e)
+
+agree-read : (names : List ℕ → Option ℤ) (above : Standing) → Extends above.symbols names → (answer : Result Form AsmCode) (next : Standing)
+    → (answer >>= after_form above) ≡ Ok next → Agrees above (step_read names (spot_of above) answer) next
+agree-read names above extends (Ok form) next e = agree-new names above extends form (is_new above.symbols form.label) refl next e
+agree-read names above extends (Err code) next e = absurd (err-ok code next e)
+
+agree-if : (names : List ℕ → Option ℤ) (above : Standing) → Extends above.symbols names → (line : List ℕ) (b : Bool) (next : Standing)
+    → (if b then after_judged above line else after_passed above (word_of line)) ≡ Ok next → Agrees above (step_if names (spot_of above) line b) next
+agree-if names above extends line true next e = agree-read names above extends (read line) next e
+agree-if names above extends line false next e = agree-conditions above (after_skipped (word_of line) above.conditions) _ next e
+
+agree-text : (names : List ℕ → Option ℤ) (above : Standing) → Extends above.symbols names → (line : List ℕ) (next : Standing)
+    → after_text above line ≡ Ok next → Agrees above (step_of names (spot_of above) line) next
+unfolding after_text step_of
+agree-text names above extends line next e = agree-if names above extends line (is_judged above.conditions (word_of line)) next e
+
+-- ---- lines
+
+open-ok : (b : Bool) (answer : Result Standing AsmCode) (next : Standing) → closed b answer ≡ Ok next → answer ≡ Ok next
+open-ok true (Ok after) next e = absurd (err-ok _ next e)
+open-ok false (Ok after) next e = e
+open-ok b (Err code) next e = absurd (err-ok code next e)
+
+in-line-ok : (number : ℕ) (answer : Result Standing AsmCode) (go : Standing → Result Standing AsmFault) (end : Standing)
+    → (in_line number answer >>= go) ≡ Ok end → (next : Standing) × (answer ≡ Ok next) × (go next ≡ Ok end)
+in-line-ok number (Ok next) go end e = (next, refl, e)
+in-line-ok number (Err code) go end e = absurd (err-ok _ end e)
+
+record First (number : ℕ) (above : Standing) (line : List ℕ) (below : List (List ℕ)) (end : Standing) : Type 0 where
+  next : Standing
+  after : after_text above line ≡ Ok next
+  others : phase1 (number + 1) next below ≡ Ok end
+
+first-line : (number : ℕ) (above : Standing) (line : List ℕ) (below : List (List ℕ)) (end : Standing)
+    → phase1 number above (line ∷ below) ≡ Ok end → First number above line below end
+unfolding phase1
+first-line number above line below end e =
+    let h = in-line-ok number (after_line above line below) _ end e in
+    record { next = h.0; after = open-ok (is_never_closed (word_of line) below) (after_text above line) h.0 h.1; others = h.2 }
+
+no-line : (number : ℕ) (above end : Standing) → phase1 number above [] ≡ Ok end → above ≡ end
+unfolding phase1
+no-line number above end e = ok-same above end e
+
+record Grown (before after : List Named) : Type 0 where
+  more : List Named
+  is : after ≡ before ++ more
+
+grows : (number : ℕ) (above : Standing) (lines : List (List ℕ)) (end : Standing) → phase1 number above lines ≡ Ok end
+    → Grown above.symbols end.symbols
+grows number above [] end e =
+    record { more = []; is = ap (λ (standing : Standing). standing.symbols) (sym (no-line number above end e)) ∙ sym (append-nil above.symbols) }
+grows number above (line ∷ below) end e =
+    let f = first-line number above line below end e in
+    let a = agree-text (number_of above.symbols) above (λ some z h. h) line f.next f.after in
+    let g = grows (number + 1) f.next below end f.others in
+    record { more = a.new ++ g.more; is = g.is ∙ ap (λ xs. xs ++ g.more) a.grown ∙ append_assoc above.symbols a.new g.more }
+
+-- ---- the symbols are right
+
+extends-less : (before more : List Named) (names : List ℕ → Option ℤ) → Extends (before ++ more) names → Extends before names
+extends-less before more names extends some z e = extends some z (found-first before more some z e)
+
+record Defined (names : List ℕ → Option ℤ) (above : Standing) (lines : List (List ℕ)) (end : Standing) : Type 0 where
+  more : List Named
+  defined : defined_in names (spot_of above) lines ≡ Some more
+  is : end.symbols ≡ above.symbols ++ more
+
+defines : (names : List ℕ → Option ℤ) (number : ℕ) (above : Standing) (lines : List (List ℕ)) (end : Standing)
+    → phase1 number above lines ≡ Ok end → Extends end.symbols names → Defined names above lines end
+unfolding defined_in
+defines names number above [] end e extends = record {
+  more = [];
+  defined = refl;
+  is = ap (λ (standing : Standing). standing.symbols) (sym (no-line number above end e)) ∙ sym (append-nil above.symbols);
+}
+defines names number above (line ∷ below) end e extends =
+    let f = first-line number above line below end e in
+    let g = grows number above (line ∷ below) end e in
+    let here = extends-less above.symbols g.more names (subst (λ symbols. Extends symbols names) g.is extends) in
+    let a = agree-text names above here line f.next f.after in
+    let d = defines names (number + 1) f.next below end f.others extends in
+    record {
+      more = a.new ++ d.more;
+      defined = ap (λ step. defined_after step (λ next. defined_in names next below)) a.stepped
+          ∙ ap (option_map (λ more. a.new ++ more)) d.defined;
+      is = d.is ∙ ap (λ xs. xs ++ d.more) a.grown ∙ append_assoc above.symbols a.new d.more;
+    }
+
+-- ---- and no other assignment is
+
+mapped : (new rest : List Named) (o : Option (List Named)) → option_map (λ more. new ++ more) o ≡ Some rest
+    → (more : List Named) × (o ≡ Some more) × (new ++ more ≡ rest)
+mapped new rest None e = absurd (none-some rest e)
+mapped new rest (Some more) e = (more, refl, some-same (new ++ more) rest e)
+
+agree-all : (names : List ℕ → Option ℤ) (number : ℕ) (above : Standing) (lines : List (List ℕ)) (end : Standing) (rest : List Named)
+    → phase1 number above lines ≡ Ok end → defined_in names (spot_of above) lines ≡ Some rest
+    → ((some : List ℕ) → names some ≡ number_of (above.symbols ++ rest) some)
+    → (some : List ℕ) → names some ≡ number_of end.symbols some
+unfolding defined_in
+agree-all names number above [] end rest e d assigned some =
+    let none : [] ≡ rest = some-same [] rest d in
+    let same : above.symbols ++ rest ≡ end.symbols =
+    ap (λ xs. above.symbols ++ xs) (sym none) ∙ append-nil above.symbols
+    ∙ ap (λ (standing : Standing). standing.symbols) (no-line number above end e) in
+    assigned some ∙ ap (λ symbols. number_of symbols some) same
+agree-all names number above (line ∷ below) end rest e d assigned some =
+    let f = first-line number above line below end e in
+    let here : Extends above.symbols names = λ n z h. assigned n ∙ found-first above.symbols rest n z h in
+    let a = agree-text names above here line f.next f.after in
+    let m = mapped a.new rest (defined_in names (spot_of f.next) below)
+    (sym (ap (λ step. defined_after step (λ next. defined_in names next below)) a.stepped) ∙ d) in
+    let same : above.symbols ++ rest ≡ f.next.symbols ++ m.0 =
+    ap (λ xs. above.symbols ++ xs) (sym m.2) ∙ sym (append_assoc above.symbols a.new m.0) ∙ ap (λ xs. xs ++ m.0) (sym a.grown) in
+    agree-all names (number + 1) f.next below end m.0 f.others m.1
+    (λ n. assigned n ∙ ap (λ symbols. number_of symbols n) same) some
+
+pub symbols-are-right : SymbolsAreRight
+symbols-are-right lines after e =
+    let d = defines (number_of after.symbols) 1 start lines after e (λ some z h. h) in
+    record {
+      right = record { definitions = d.more; defined = d.defined; assigned = λ some. ap (λ symbols. number_of symbols some) d.is };
+      only = λ names right some. agree-all names 1 start lines after right.definitions e right.defined right.assigned some;
+    }

@@ -1,0 +1,23 @@
+use Rattle.std.proofs.Common.{ℕ, List, sym, ◌∙◌, ap, subst}
+use Rattle.std.specs.List.{flat_map}
+use Rattle.std.specs.Str.Lines.{lines}
+use Rattle.pac_code.specs.Items.{AllLie}
+use Rattle.pac_program.specs.Programs.{Assembled, items_in, items_of}
+use Rattle.pac_program.specs.Rom.{rom_of}
+use Rattle.pac_program.specs.declared.line.Line.{Line}
+use Rattle.pac_asm.specs.Items.{AllFit}
+use Rattle.pac_asm.proofs.Sizes.{all-fit}
+use Rattle.pac_asm.proofs.assembly.assemble.Goals as goal
+
+pub fill_in-requires-clause-fit : goal.fill_in-requires-clause-fit
+fill_in-requires-clause-fit c =
+    subst (AllFit (lines c.args.source.now)) (sym (c.places.ensures.value ∙ c.parts-symbols.ensures.places))
+    (all-fit (lines c.args.source.now) c.in_ok-lay_out.field-0 c.in_ok-lay_out.ensures)
+
+pub returns-clause-lie : goal.returns-clause-lie
+returns-clause-lie c =
+    let items = flat_map items_in c.in_ok-lines.lines.items in
+    let made = c.in_ok-rom.ensures ∙ ap (λ (filled : List Line). rom_of (flat_map items_in filled)) c.deref.ensures.value in
+    subst (λ (program : Assembled). AllLie program.rom (items_of program)) (sym c.new.ensures)
+    (subst (λ (rom : List ℕ). AllLie rom items) (sym made)
+    (c.apart_items_lie.ensures items c.in_ok-lines.ensures.items.0 c.in_ok-lines.ensures.items.1))

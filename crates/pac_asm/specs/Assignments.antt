@@ -1,0 +1,103 @@
+-- Which numbers the names of a source stand for, told of all names at once: every expression is valued by the assignment
+-- that is judged, wherever its names are defined.
+use Rattle.std.specs.Prelude.{◌≡◌, ℕ, ℤ, pos, negsuc, ◌+◌, Bool, true, false, List, [], ◌∷◌, ◌++◌, Option, Some, None, option_map, Result, Ok, Err}
+use Rattle.std.specs.Option.{option_and_then}
+use Rattle.pac_expr.specs.Trees.{Tree}
+use Rattle.pac_expr.specs.Values.{Answer, value_of}
+use Rattle.pac_program.specs.Names.{Named, number_of}
+use Rattle.pac_source.specs.Statements.{Statement, nothing, origin, equate, bytes, words, space, condition, otherwise, end_condition}
+use Rattle.pac_source.specs.Statements.{operation, Form}
+use Rattle.pac_source.specs.Contents.{size_of}
+use Rattle.pac_asm.specs.declared.condition.Condition.{Condition}
+use Rattle.pac_asm.specs.declared.fault.AsmCode.{AsmCode}
+use Rattle.pac_asm.specs.declared.fault.AsmFault.{AsmFault}
+use Rattle.pac_asm.specs.Conditions.{is_judged, condition_of, after_else, after_end, after_skipped}
+use Rattle.pac_asm.specs.Unclosed.{word_of}
+use Rattle.pac_asm.specs.Standings.{Standing, start}
+use Rattle.pac_asm.specs.Phase1.{read, phase1}
+
+-- where a line stands: its address, and the open IFs, the innermost first
+pub record Spot : Type 0 where
+  pub at : ℕ
+  pub conditions : List Condition
+
+-- the names that a line defines, with their numbers, and where the next line stands
+abbrev pub Step : Type 0
+Step = List Named × Spot
+
+-- what a label defines
+abbrev pub labelled : Option (List ℕ) → ℤ → List Named
+labelled None number = []
+labelled (Some name) number = (name, number) ∷ []
+
+-- an address or a size, which is a number from 0 on
+abbrev pub counted : Answer → Option ℕ
+counted (Ok (pos n)) = Some n
+counted _ = None
+
+abbrev pub valued : Answer → Option ℤ
+valued (Ok z) = Some z
+valued (Err fault) = None
+
+abbrev pub with_conditions : Spot → Result (List Condition) AsmCode → Option Step
+with_conditions spot (Ok conditions) = Some ([], record spot { conditions = conditions })
+with_conditions spot (Err code) = None
+
+-- so many bytes, from the address reached
+abbrev pub with_bytes : Spot → Option (List ℕ) → ℕ → Step
+with_bytes spot label size = (labelled label (pos spot.at), record spot { at = spot.at + size })
+
+-- A line that counts: a label is its address, and the name of an EQU the value of its expression.
+abbrev pub step_by : (List ℕ → Option ℤ) → Spot → Option (List ℕ) → Statement → Option Step
+step_by names spot label nothing = Some (labelled label (pos spot.at), spot)
+step_by names spot label (origin place) =
+    option_map (λ at. ([], record spot { at = at })) (counted (value_of names spot.at place))
+step_by names spot label (equate number) =
+    option_map (λ value. (labelled label value, spot)) (valued (value_of names spot.at number))
+step_by names spot label (condition test) =
+    option_map (λ value. ([], record spot { conditions = condition_of value ∷ spot.conditions })) (valued (value_of names spot.at test))
+step_by names spot label otherwise = with_conditions spot (after_else spot.conditions)
+step_by names spot label end_condition = with_conditions spot (after_end spot.conditions)
+step_by names spot label (space size fill) = option_map (with_bytes spot label) (counted (value_of names spot.at size))
+step_by names spot label statement = Some (with_bytes spot label (size_of statement))
+
+abbrev pub step_read : (List ℕ → Option ℤ) → Spot → Result Form AsmCode → Option Step
+step_read names spot (Ok form) = step_by names spot form.label form.statement
+step_read names spot (Err code) = None
+
+-- a line that counts, and one that is skipped
+abbrev pub step_if : (List ℕ → Option ℤ) → Spot → List ℕ → Bool → Option Step
+step_if names spot line true = step_read names spot (read line)
+step_if names spot line false = with_conditions spot (after_skipped (word_of line) spot.conditions)
+
+unfoldable pub step_of : (List ℕ → Option ℤ) → Spot → List ℕ → Option Step
+step_of names spot line = step_if names spot line (is_judged spot.conditions (word_of line))
+
+-- what lines define, in order, where the first of them stands here
+abbrev pub defined_after : Option Step → (Spot → Option (List Named)) → Option (List Named)
+defined_after None below = None
+defined_after (Some step) below = option_map (λ more. step.0 ++ more) (below step.1)
+
+unfoldable pub defined_in : (List ℕ → Option ℤ) → Spot → List (List ℕ) → Option (List Named)
+defined_in names spot [] = Some []
+defined_in names spot (line ∷ below) = defined_after (step_of names spot line) (λ next. defined_in names next below)
+
+-- the first line stands at address 0, and no IF is open
+abbrev pub first_spot : Spot
+first_spot = record { at = 0; conditions = [] }
+
+-- An assignment of numbers to names is right where it has exactly the names that the lines define, each with the number
+-- that its line gives it.
+pub record IsRight (lines : List (List ℕ)) (names : List ℕ → Option ℤ) : Type 0 where
+  pub definitions : List Named
+  pub defined : defined_in names first_spot lines ≡ Some definitions
+  pub assigned : (name : List ℕ) → names name ≡ number_of definitions name
+
+-- The law. The first phase needs each name of an ORG, an EQU, a DEFS size or an IF defined above. Where it finds no fault,
+-- the symbols that it found are right, and no other assignment is.
+pub record OneIsRight (lines : List (List ℕ)) (after : Standing) : Type 0 where
+  pub right : IsRight lines (number_of after.symbols)
+  pub only : (names : List ℕ → Option ℤ) → IsRight lines names → (name : List ℕ) → names name ≡ number_of after.symbols name
+
+abbrev pub SymbolsAreRight : Type 0
+SymbolsAreRight = (lines : List (List ℕ)) (after : Standing) → phase1 1 start lines ≡ Ok after → OneIsRight lines after

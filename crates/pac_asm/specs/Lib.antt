@@ -1,0 +1,13 @@
+pub mod Codes
+pub mod Results
+pub mod Errors
+pub mod Conditions
+pub mod Unclosed
+pub mod Pairing
+pub mod Standings
+pub mod Layouts
+pub mod Phase1
+pub mod Phase2
+pub mod Items
+pub mod Programs
+pub mod Assignments

@@ -1,0 +1,15 @@
+-- What a step of assembling gives: what comes next, or what is wrong.
+use Rattle.std.specs.Prelude.{ℕ, Result, Ok, Err}
+use Rattle.pac_asm.specs.declared.fault.AsmCode.{AsmCode}
+use Rattle.pac_asm.specs.declared.fault.AsmFault.{AsmFault}
+
+-- one step after another, up to the first that something is wrong with
+infixl 10 ◌>>=◌
+abbrev pub ◌>>=◌ : {E A B : Type 0} → Result A E → (A → Result B E) → Result B E
+(Ok x) >>= f = f x
+(Err e) >>= f = Err e
+
+-- the step of the line with this number
+abbrev pub in_line : {A : Type 0} → ℕ → Result A AsmCode → Result A AsmFault
+in_line number (Ok x) = Ok x
+in_line number (Err code) = Err (record { code = code; line = number })

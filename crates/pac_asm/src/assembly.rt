@@ -1,0 +1,37 @@
+//! A source as a whole.
+
+ghost use Rattle.std.specs.Prelude.{◌≡◌, IfOk};
+ghost use Rattle.pac_code.specs.Items.{AllLie};
+ghost use Rattle.pac_program.specs.Programs.{items_of};
+ghost use Rattle.pac_asm.specs.Errors.{Gives};
+ghost use Rattle.pac_asm.specs.Programs.{program_of};
+
+use crate::fault::{AsmCode, AsmError, LineError};
+use crate::lines::{MOST_LINES, has_too_many_lines};
+use crate::phase1::lay_out;
+use crate::phase2::fill_in;
+use pac_program::{Program, apart_items_lie, rom_of};
+use std::alloc::Global;
+
+/// The program of a source, or its first fault: A7 before all others; then the first line that has a fault of the
+/// first phase, A1 to A6, A12 to A14 or A10 where a value is needed at once; then the first line that has one of the
+/// second, A8, A10 or A9.
+///
+/// Lines end at LF, and one CR before it is dropped. The bytes of a line stand where the last ORG (0 at first) and the
+/// sizes since put them.
+#[tactic(auto, unfolding(crate::specs::Programs::program_of))]
+pub fn assemble(alloc: Global, source: &[u8]) -> Result<Program, AsmError>
+    ensures exact { Gives result (program_of source.now) }
+    // Each item lies in the ROM, which has its bytes.
+    ensures lie { IfOk result (λ program. AllLie program.rom (items_of program)) }
+{
+    if has_too_many_lines(source) {
+        return Err(LineError::Code(AsmCode::TooManyLines).in_line(MOST_LINES + 1));
+    }
+    let (symbols, layout) = lay_out(alloc, source)?.parts();
+    let lines = fill_in(alloc, source, &symbols, layout.places())?;
+    let rom = rom_of(alloc, &lines)?;
+    // A law, with nothing to run: the lines' items are apart, so each has its bytes in the ROM.
+    apart_items_lie();
+    Ok(Program::new(lines, symbols, rom))
+}

@@ -1,0 +1,203 @@
+//! What can be wrong with a source.
+
+ghost use Rattle.std.specs.Prelude.{◌≡◌, Some};
+ghost use Rattle.pac_asm.specs.declared.fault.AsmError.TheVariants as errors;
+ghost use Rattle.pac_asm.specs.declared.fault.LineError.TheVariants as line;
+ghost use Rattle.pac_asm.specs.Errors.{in_line};
+
+use pac_lex::LexError;
+use pac_operation::OperationFault;
+use pac_source::ContentError;
+use std::alloc::{AllocError, AllocFailed};
+use std::fmt;
+use thiserror::Error;
+
+/// What is wrong with a line of a source. Where several faults are in one source, A7 is told before all others;
+/// then the first line that has one of A1 to A6, A12 to A14 or A10 in an ORG, EQU, DEFS or IF; then the first line that
+/// has A8, A10 or A9.
+#[derive(Clone, Copy, Debug, PartialEq, Eq)]
+pub enum AsmCode {
+    /// A1: something that is no token, with the code of what it is.
+    Token(pac_lex::Fault),
+    /// A2: tokens that are no line of the language.
+    Syntax,
+    /// A3: a label or the name of an EQU that a line above defines.
+    DefinedBefore,
+    /// A4: a name in an ORG, EQU, DEFS size or IF that no line above defines.
+    NotDefinedAbove,
+    /// A5: an ORG or a DEFS size outside 0 to 4000H, or bytes past 3FFFH.
+    OutsideRom,
+    /// A6: a byte where a line above has one.
+    Overlap,
+    /// A7: more than 65,535 lines.
+    TooManyLines,
+    /// A8: a name that no line defines.
+    Undefined,
+    /// A9: a number outside the range of its place.
+    OutOfRange,
+    /// A10: arithmetic outside 32 bits, or a division by zero.
+    Arithmetic,
+    /// A12: an IF inside eight open ones.
+    TooDeep,
+    /// A13: an ELSE or ENDIF without an open IF, or a second ELSE.
+    NoOpenIf,
+    /// A14: an IF that is never closed.
+    NeverClosed,
+}
+
+/// The first fault of a source: what is wrong, and in which line. Printed as `A6 line 10`.
+#[derive(Clone, Copy, Debug, PartialEq, Eq, Error)]
+pub struct AsmFault {
+    /// What is wrong.
+    pub code: AsmCode,
+    /// The number of the line, from 1.
+    pub line: u32,
+}
+
+/// Why a source became no program.
+#[derive(Clone, Copy, Debug, PartialEq, Eq, Error)]
+pub enum AsmError {
+    /// Memory ran out.
+    Memory,
+    /// The source has a fault.
+    Fault(AsmFault),
+}
+
+impl fmt::Display for AsmCode {
+    ghost use Rattle.pac_asm.specs.Codes.{code_text};
+
+    ghost output = { λ code. Some (code_text code) };
+
+    /// `A2`, or `A1 L3`.
+    fn fmt<W: fmt::Write>(&self, f: &mut fmt::Formatter<W>) -> fmt::Result {
+        match self {
+            AsmCode::Token(fault) => write!(f, "A1 {fault}"),
+            AsmCode::Syntax => f.write_str("A2"),
+            AsmCode::DefinedBefore => f.write_str("A3"),
+            AsmCode::NotDefinedAbove => f.write_str("A4"),
+            AsmCode::OutsideRom => f.write_str("A5"),
+            AsmCode::Overlap => f.write_str("A6"),
+            AsmCode::TooManyLines => f.write_str("A7"),
+            AsmCode::Undefined => f.write_str("A8"),
+            AsmCode::OutOfRange => f.write_str("A9"),
+            AsmCode::Arithmetic => f.write_str("A10"),
+            AsmCode::TooDeep => f.write_str("A12"),
+            AsmCode::NoOpenIf => f.write_str("A13"),
+            AsmCode::NeverClosed => f.write_str("A14"),
+        }
+    }
+}
+
+impl fmt::Display for AsmFault {
+    ghost use Rattle.pac_asm.specs.Codes.{fault_text};
+
+    ghost output = { λ fault. Some (fault_text fault) };
+
+    /// The code and the line.
+    fn fmt<W: fmt::Write>(&self, f: &mut fmt::Formatter<W>) -> fmt::Result {
+        let code = self.code;
+        let line = self.line;
+        write!(f, "{code} line {line}")
+    }
+}
+
+impl fmt::Display for AsmError {
+    ghost use Rattle.pac_asm.specs.Codes.{error_text};
+
+    ghost output = { λ error. Some (error_text error) };
+
+    /// The fault, or that memory ran out.
+    fn fmt<W: fmt::Write>(&self, f: &mut fmt::Formatter<W>) -> fmt::Result {
+        match self {
+            AsmError::Memory => f.write_str("out of memory"),
+            AsmError::Fault(fault) => write!(f, "{fault}"),
+        }
+    }
+}
+
+impl From<AllocError> for AsmError {
+    ghost from_gives = { λ _ e. e ≡ errors.Memory };
+
+    /// A refused allocation is want of memory.
+    fn from(_error: AllocError) -> AsmError {
+        AsmError::Memory
+    }
+}
+
+impl<T: Drop> From<AllocFailed<T>> for AsmError {
+    ghost from_gives = { λ _ e. e ≡ errors.Memory };
+
+    /// So is one that hands back what found no room.
+    fn from(_error: AllocFailed<T>) -> AsmError {
+        AsmError::from(AllocError)
+    }
+}
+
+/// Why a line can't be assembled.
+#[derive(Clone, Copy)]
+pub(crate) enum LineError {
+    /// Memory ran out.
+    Memory,
+    /// The line has a fault.
+    Code(AsmCode),
+}
+
+impl From<AllocError> for LineError {
+    ghost from_gives = { λ _ e. e ≡ line.Memory };
+
+    /// A refused allocation is want of memory.
+    fn from(_error: AllocError) -> LineError {
+        LineError::Memory
+    }
+}
+
+impl From<AsmCode> for LineError {
+    ghost from_gives = { λ code e. e ≡ line.Code code };
+
+    /// What is wrong is told.
+    fn from(code: AsmCode) -> LineError {
+        LineError::Code(code)
+    }
+}
+
+impl From<LexError> for LineError {
+    ghost use Rattle.pac_asm.specs.Errors.{of_tokens};
+
+    ghost from_gives = { λ error e. e ≡ of_tokens error };
+
+    /// A1, where the line isn't one of tokens.
+    fn from(error: LexError) -> LineError {
+        match error {
+            LexError::Memory => LineError::Memory,
+            LexError::Fault(fault) => LineError::Code(AsmCode::Token(fault)),
+        }
+    }
+}
+
+impl From<ContentError> for LineError {
+    ghost use Rattle.pac_asm.specs.Errors.{of_content};
+
+    ghost from_gives = { λ error e. e ≡ of_content error };
+
+    /// A8, A10 or A9, where an expression has no number, or one outside its range.
+    fn from(error: ContentError) -> LineError {
+        match error {
+            ContentError::Memory => LineError::Memory,
+            ContentError::Fault(OperationFault::Undefined) => LineError::Code(AsmCode::Undefined),
+            ContentError::Fault(OperationFault::Arithmetic) => LineError::Code(AsmCode::Arithmetic),
+            ContentError::Fault(OperationFault::Range) => LineError::Code(AsmCode::OutOfRange),
+        }
+    }
+}
+
+impl LineError {
+    /// The same, with the number of its line.
+    pub(crate) fn in_line(self, number: u32) -> AsmError
+        ensures { result ≡ in_line self number }
+    {
+        match self {
+            LineError::Memory => AsmError::Memory,
+            LineError::Code(code) => AsmError::Fault(AsmFault { code, line: number }),
+        }
+    }
+}

@@ -1,0 +1,8 @@
+//! Laws of the assembler, each carried by a function that does nothing.
+
+ghost use Rattle.pac_asm.specs.Assignments.{SymbolsAreRight};
+
+/// The numbers that the first phase finds for the names of a source are right, and no others are.
+pub fn symbols_are_right()
+    ensures { SymbolsAreRight }
+{}

@@ -1,0 +1,72 @@
+//! The first phase: each line of a source once, from the first on.
+
+ghost use Rattle.std.specs.Prelude.{◌≡◌, ◌≤◌, false, length, OnOk};
+ghost use Rattle.std.specs.Str.Lines.{lines};
+ghost use Rattle.pac_asm.specs.Errors.{Gives, Leads};
+ghost use Rattle.pac_asm.specs.Pairing.{is_at};
+ghost use Rattle.pac_asm.specs.Phase1.{after_text, closed, phase1};
+ghost use Rattle.pac_asm.specs.Programs.{most_lines};
+ghost use Rattle.pac_asm.specs.Results.{in_line};
+ghost use Rattle.pac_asm.specs.Standings.{start};
+
+use crate::fault::{AsmCode, AsmError, LineError};
+use crate::lines::first_unclosed;
+use crate::standing::Standing;
+use pac_lex::first_line;
+use std::alloc::Global;
+
+/// What all lines of a source leave, or its first fault of the first phase.
+pub(crate) fn lay_out(alloc: Global, source: &[u8]) -> Result<Standing, AsmError>
+    requires { length (lines source.now) ≤ most_lines }
+    ensures { Gives result (phase1 1 start (lines source.now)) }
+{
+    let unclosed = first_unclosed(source);
+    let mut standing = Standing::start(alloc)?;
+    let mut rest = source;
+    let mut above: u32 = 0;
+    while let Some((line, below)) = first_line(rest) {
+        take_line(
+            &mut standing,
+            alloc,
+            line,
+            above + 1,
+            is_at(unclosed, above),
+        )?;
+        rest = below;
+        above += 1;
+    }
+    Ok(standing)
+}
+
+/// Whether the line with so many lines above it is the one that is told.
+fn is_at(found: Option<u32>, above: u32) -> bool
+    ensures { result ≡ is_at found above }
+{
+    match found {
+        None => false,
+        Some(found) => found == above,
+    }
+}
+
+/// After the line of this number, which may be an IF that is never closed.
+fn take_line(
+    standing: &mut Standing,
+    alloc: Global,
+    line: &[u8],
+    number: u32,
+    is_open: bool,
+) -> Result<(), AsmError>
+    ensures exact { Leads result (in_line number (closed is_open (after_text standing.old line.now))) standing.new }
+    ensures closed { OnOk result (is_open ≡ false) }
+{
+    match standing.after_text(alloc, line) {
+        Err(error) => Err(error.in_line(number)),
+        Ok(()) => {
+            if is_open {
+                Err(LineError::Code(AsmCode::NeverClosed).in_line(number))
+            } else {
+                Ok(())
+            }
+        }
+    }
+}

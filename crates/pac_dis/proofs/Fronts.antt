@@ -1,0 +1,52 @@
+-- The instruction at the front of some bytes, found in their first four.
+use Rattle.std.proofs.Common.{◌≡◌, ℕ, zero, suc, ◌≤◌, ◌<◌, Some, None, List, [], ◌∷◌, length, take, refl, sym, ◌∙◌}
+use Rattle.std.proofs.Common.{ap, arith}
+use Rattle.std.specs.Prelude.{option_and_then}
+use Rattle.std.proofs.lemmas.List.{length-take}
+use Rattle.std.proofs.lemmas.Bool.{cond-true, cond-false, le-leb, lt-leb}
+use Rattle.pac_table.specs.Instructions.{Instruction, code, decoded}
+use Rattle.pac_code.specs.Codes.{Begins}
+use Rattle.pac_dis.specs.Front.{first_four, fitting, front}
+
+-- a front of the bytes that is no longer than four is one of the four
+take-first_four : (n : ℕ) (bytes : List ℕ) → n ≤ 4 → n ≤ length bytes → take n (first_four bytes) ≡ take n bytes
+take-first_four zero bytes most within = refl
+take-first_four (suc n) [] most within = absurd (omega (arith, within))
+take-first_four (suc zero) (a ∷ rest) most within = refl
+take-first_four (suc (suc n)) (a ∷ []) most within = absurd (omega (arith, within))
+take-first_four (suc (suc zero)) (a ∷ b ∷ rest) most within = refl
+take-first_four (suc (suc (suc n))) (a ∷ b ∷ []) most within = absurd (omega (arith, within))
+take-first_four (suc (suc (suc zero))) (a ∷ b ∷ c ∷ rest) most within = refl
+take-first_four (suc (suc (suc (suc n)))) (a ∷ b ∷ c ∷ []) most within = absurd (omega (arith, within))
+take-first_four (suc (suc (suc (suc zero)))) (a ∷ b ∷ c ∷ d ∷ rest) most within = refl
+take-first_four (suc (suc (suc (suc (suc n))))) (a ∷ b ∷ c ∷ d ∷ rest) most within = absurd (omega (arith, most))
+
+-- a code that bytes begin with lies within them
+pub begins-within : (prefix bytes : List ℕ) → Begins prefix bytes → length prefix ≤ length bytes
+begins-within prefix bytes begins = omega (arith, sym (ap length begins), length-take (length prefix) bytes)
+
+pub begins-first_four : (prefix bytes : List ℕ) → length prefix ≤ 4 → Begins prefix bytes → Begins prefix (first_four bytes)
+begins-first_four prefix bytes most begins =
+    take-first_four (length prefix) bytes most (begins-within prefix bytes begins) ∙ begins
+
+pub first_four-begins : (prefix bytes : List ℕ) → length prefix ≤ 4 → length prefix ≤ length bytes →
+    Begins prefix (first_four bytes) → Begins prefix bytes
+first_four-begins prefix bytes most within begins = sym (take-first_four (length prefix) bytes most within) ∙ begins
+
+-- ---- by what the four bytes hold
+
+pub front-found : (bytes : List ℕ) (i : Instruction) → decoded (first_four bytes) ≡ Some i → length (code i) ≤ length bytes →
+    Some i ≡ front bytes
+unfolding front
+front-found bytes i is within =
+    sym (ap (option_and_then (fitting (length bytes))) is ∙ cond-true _ _ _ (le-leb (length (code i)) (length bytes) within))
+
+pub front-cut : (bytes : List ℕ) (i : Instruction) → decoded (first_four bytes) ≡ Some i → length bytes < length (code i) →
+    None ≡ front bytes
+unfolding front
+front-cut bytes i is beyond =
+    sym (ap (option_and_then (fitting (length bytes))) is ∙ cond-false _ _ _ (lt-leb (length (code i)) (length bytes) beyond))
+
+pub front-none : (bytes : List ℕ) → decoded (first_four bytes) ≡ None → None ≡ front bytes
+unfolding front
+front-none bytes is = sym (ap (option_and_then (fitting (length bytes))) is)

@@ -1,0 +1,333 @@
+-- How long texts are: that of an instruction has 16 bytes at most.
+use Rattle.std.proofs.Common.{◌≡◌, ℕ, zero, suc, ◌+◌, ◌*◌, ◌/◌, ◌<◌, ◌≤◌, ℤ, pos, negsuc, Bool, true, false, nat_le, nat_lt, if◌then◌else◌}
+use Rattle.std.proofs.Common.{Option, Some, None, List, [], ◌∷◌, ◌++◌, length, get_or, not, ◌||◌, refl, sym, ◌∙◌, ap, subst, arith}
+use Rattle.std.specs.Prelude.{map, unwrap_or, codes, max}
+use Rattle.std.specs.Option.{option_map_or}
+use Rattle.std.specs.List.{list_all}
+use Rattle.std.proofs.lemmas.List.{length-append}
+use Rattle.std.proofs.lemmas.Bool.{leb-true, ltb-true, cond-true, lt-ltb, and_parts}
+use Rattle.std.proofs.lemmas.List.Folds.{list_all_at}
+use Rattle.std.proofs.lemmas.Int.{ints}
+use Rattle.pac_table.specs.declared.patterns.Immediate.{Immediate}
+use Rattle.pac_table.specs.declared.patterns.Immediate.TheVariants as immediate
+use Rattle.pac_table.specs.declared.operands.Mnemonic.{Mnemonic}
+use Rattle.pac_table.specs.declared.operands.Mnemonic.TheVariants as mnemonic
+use Rattle.pac_table.specs.declared.operands.Shape.{Shape}
+use Rattle.pac_table.specs.declared.operands.Shape.TheVariants as shape
+use Rattle.pac_table.specs.declared.operands.Operands.{Operands}
+use Rattle.pac_table.specs.declared.names.Name.{Name}
+use Rattle.pac_table.specs.declared.names.NumberKind.{NumberKind}
+use Rattle.pac_table.specs.declared.names.NumberKind.TheVariants as kind
+use Rattle.pac_table.specs.declared.names.Writing.{Writing}
+use Rattle.pac_table.specs.declared.names.Writing.TheVariants.{Nothing, Named, AlternateAf, AtName, FirstField, SecondField}
+use Rattle.pac_table.specs.declared.names.Writing.TheVariants.{Indexed, Number, AtNumber}
+use Rattle.pac_table.specs.declared.table.Row.{Row}
+use Rattle.pac_table.specs.Names.{names_of, operation_name, text, names_in, name_at, writing_of, has_accumulator, present, listed}
+use Rattle.pac_table.specs.Forms.{is_family}
+use Rattle.pac_table.specs.declared.patterns.Field.{Field}
+use Rattle.pac_table.specs.declared.patterns.Field.TheVariants as field
+use Rattle.pac_table.specs.Patterns.{lists, size, IsDisplacement, IsSignedByte}
+use Rattle.pac_table.specs.Table.{table}
+use Rattle.pac_table.specs.Instructions.{Instruction, IsInstruction, row_at, operands_of, pattern_of}
+use Rattle.pac_table.proofs.TableRules.{row-passes}
+use Rattle.pac_num.specs.Hexadecimal.{hex_byte, hex_word}
+use Rattle.pac_dis.specs.Numerals.{leading_zero, byte_text, word_text, displacement_text}
+use Rattle.pac_dis.specs.Texts.{number_text, name_text, in_parentheses, operand_text, shape_text}
+use Rattle.pac_dis.specs.Texts.{blank, comma, marked, operand_texts, instruction_text}
+use Rattle.pac_dis.specs.Texts.{operation_text}
+
+-- ---- numbers
+
+length-zero-le : (first : ℕ) (b : Bool) → nat_lt first 10 ≡ b → length (leading_zero first) ≤ 1
+length-zero-le first true is = rw is (omega arith)
+length-zero-le first false is = rw is (omega arith)
+
+length-hex-byte : (byte : ℕ) → length (hex_byte byte) ≡ 2
+unfolding hex_byte
+length-hex-byte byte = refl
+
+length-hex-word : (word : ℕ) → length (hex_word word) ≡ 4
+unfolding hex_word
+length-hex-word word = refl
+
+pub length-byte-le : (byte : ℕ) → length (byte_text byte) ≤ 4
+unfolding byte_text
+length-byte-le byte = simp length-append (omega (arith, length-zero-le (byte / 16) _ refl, length-hex-byte byte))
+
+pub length-word-le : (word : ℕ) → length (word_text word) ≤ 6
+unfolding word_text
+length-word-le word = simp length-append (omega (arith, length-zero-le (word / 4096) _ refl, length-hex-word word))
+
+-- a byte below A0H has no leading zero
+length-low-byte : (byte : ℕ) → byte < 160 → length (byte_text byte) ≡ 3
+unfolding byte_text hex_byte
+length-low-byte byte below =
+    let first : byte / 16 < 10 = omega (arith, below) in
+    ap (λ (zero : List ℕ). length (zero ++ hex_byte byte ++ codes "H")) (cond-true _ _ _ (lt-ltb (byte / 16) 10 first))
+
+pub length-displacement-le : (d : ℤ) → IsSignedByte d → length (displacement_text d) ≤ 4
+unfolding displacement_text
+length-displacement-le (pos d) is =
+    let below : d < 160 = omega (arith, ints, is.1) in
+    simp length-append (omega (arith, length-low-byte d below))
+length-displacement-le (negsuc d) is =
+    let below : d + 1 < 160 = omega (arith, ints, is.0) in
+    simp length-append (omega (arith, length-low-byte (d + 1) below))
+
+-- ---- operands
+
+-- the most bytes that a number of a kind has
+abbrev longest_number : NumberKind → ℕ
+longest_number kind.Byte = 4
+longest_number kind.Word = 6
+longest_number kind.Target = 6
+longest_number kind.Bit = 1
+longest_number kind.Restart = 4
+longest_number (kind.Mode number) = 1
+
+length-number-le : (at : ℕ) (i : Instruction) (some : NumberKind) → length (number_text at i some) ≤ longest_number some
+length-number-le at i kind.Byte = length-byte-le i.word
+length-number-le at i kind.Word = length-word-le i.word
+length-number-le at i kind.Target = length-word-le _
+length-number-le at i kind.Bit = omega arith
+length-number-le at i kind.Restart = length-byte-le (8 * i.p)
+length-number-le at i (kind.Mode number) = omega arith
+
+-- the most bytes that an entry of a list has, where some have none
+abbrev longest : {A : Type 0} → (A → ℕ) → List (Option A) → ℕ
+longest size [] = 0
+longest size (entry ∷ entries) = max (option_map_or size entry 0) (longest size entries)
+
+entry-le : {A : Type 0} (size : A → ℕ) (entries : List (Option A)) (k : ℕ) →
+    option_map_or size (get_or entries k None) 0 ≤ longest size entries
+entry-le size [] k = omega arith
+entry-le size (entry ∷ entries) zero = omega arith
+entry-le size (entry ∷ entries) (suc k) = omega (arith, entry-le size entries k)
+
+abbrev name_length : Name → ℕ
+name_length name = length (text name)
+
+length-name : (name : Option Name) → length (name_text name) ≡ option_map_or name_length name 0
+length-name None = refl
+length-name (Some name) = refl
+
+-- the most bytes that an operand has
+abbrev longest_operand : Writing → ℕ
+longest_operand Nothing = 0
+longest_operand (Named name) = name_length name
+longest_operand AlternateAf = 3
+longest_operand (AtName name) = name_length name + 2
+longest_operand (FirstField names) = longest name_length (names_in names)
+longest_operand (SecondField names) = longest name_length (names_in names)
+longest_operand (Indexed name) = name_length name + 6
+longest_operand (Number some) = longest_number some
+longest_operand (AtNumber some) = longest_number some + 2
+
+length-in-parentheses : (inner : List ℕ) → length (in_parentheses inner) ≡ length inner + 2
+length-in-parentheses inner = simp length-append (omega arith)
+
+length-operand-le : (at : ℕ) (i : Instruction) (some : Writing) → IsSignedByte i.disp →
+    length (operand_text at i some) ≤ longest_operand some
+length-operand-le at i Nothing is = omega arith
+length-operand-le at i (Named name) is = omega arith
+length-operand-le at i AlternateAf is = omega arith
+length-operand-le at i (AtName name) is = omega (arith, length-in-parentheses (text name))
+length-operand-le at i (FirstField names) is =
+    omega (arith, length-name (name_at names i.p), entry-le name_length (names_in names) i.p)
+length-operand-le at i (SecondField names) is =
+    omega (arith, length-name (name_at names i.q), entry-le name_length (names_in names) i.q)
+length-operand-le at i (Indexed name) is =
+    omega (
+      arith,
+      length-in-parentheses (text name ++ displacement_text i.disp),
+      length-append (text name) (displacement_text i.disp),
+      length-displacement-le i.disp is,
+    )
+length-operand-le at i (Number some) is = length-number-le at i some
+length-operand-le at i (AtNumber some) is =
+    omega (arith, length-in-parentheses (number_text at i some), length-number-le at i some)
+
+-- ---- operands one after another
+
+-- the bytes of operands, with a mark before each
+abbrev room : List (List ℕ) → ℕ
+room [] = 0
+room (operand ∷ operands) = length operand + 1 + room operands
+
+length-marked : (mark : ℕ) (operands : List (List ℕ)) → length (marked mark operands) ≡ room operands
+length-marked mark [] = refl
+length-marked mark (operand ∷ operands) =
+    omega (arith, length-append operand (marked comma operands), length-marked comma operands)
+
+room-of-text : (operand : List ℕ) (most : ℕ) → length operand ≤ most → room (operand ∷ []) ≤ most + 1
+room-of-text operand most within = omega (arith, within)
+
+room-present : (at : ℕ) (i : Instruction) (some : Shape) → IsSignedByte i.disp →
+    room (map (shape_text at i) (present some)) ≤ longest_operand (writing_of some) + 1
+room-present at i shape.Absent is = omega arith
+room-present at i some is = room-of-text (shape_text at i some) _ (length-operand-le at i (writing_of some) is)
+
+room-listed : (at : ℕ) (i : Instruction) (first second : Shape) → IsSignedByte i.disp →
+    room (map (shape_text at i) (listed first second)) ≤
+    (longest_operand (writing_of first) + 1) + (longest_operand (writing_of second) + 1)
+room-listed at i shape.Absent second is = omega arith
+room-listed at i first second is =
+    let before = length-operand-le at i (writing_of first) is in
+    omega (arith, before, room-present at i second is)
+
+-- the room of the A of ADD, ADC and SBC
+abbrev accumulator_room : Mnemonic → ℕ
+accumulator_room mnemonic.Alu = 2
+accumulator_room _ = 0
+
+has-room : (some : Mnemonic) (value : ℕ) → has_accumulator some value ≡ true → accumulator_room some ≡ 2
+has-room mnemonic.Alu value is = refl
+has-room some value is = absurd (cc)
+
+room-written : (at : ℕ) (i : Instruction) (form : Operands) (b : Bool) → IsSignedByte i.disp → has_accumulator form.mnemonic i.p ≡ b →
+    room (map (shape_text at i) (if b then listed shape.Accumulator form.first else listed form.first form.second)) ≤
+    accumulator_room form.mnemonic +
+    (longest_operand (writing_of form.first) + 1) + (longest_operand (writing_of form.second) + 1)
+room-written at i form true is has =
+    omega (arith, room-listed at i shape.Accumulator form.first is, has-room form.mnemonic i.p has)
+room-written at i form false is has = omega (arith, room-listed at i form.first form.second is)
+
+-- ---- whole texts
+
+-- the most bytes that the text of a row's instruction has
+abbrev longest_row : Row → ℕ
+longest_row row =
+    longest (λ (name : List ℕ). length name) (names_of row.operands.mnemonic) + accumulator_room row.operands.mnemonic +
+    (longest_operand (writing_of row.operands.first) + 1) + (longest_operand (writing_of row.operands.second) + 1)
+
+abbrev row_fits : Row → Bool
+row_fits row = nat_le (longest_row row) 16
+
+rows-fit : list_all row_fits table ≡ true
+unfolding table
+rows-fit = refl
+
+-- d and e are signed bytes; where a row has neither, 0
+signed-displacement : (some : Immediate) (d : ℤ) → IsDisplacement some d → IsSignedByte d
+signed-displacement immediate.Absent d is = subst IsSignedByte (sym is) (omega (arith, ints), omega (arith, ints))
+signed-displacement immediate.Byte d is = subst IsSignedByte (sym is) (omega (arith, ints), omega (arith, ints))
+signed-displacement immediate.Word d is = subst IsSignedByte (sym is) (omega (arith, ints), omega (arith, ints))
+signed-displacement immediate.Relative d is = is
+signed-displacement immediate.Displacement d is = is
+signed-displacement immediate.DisplacementByte d is = is
+
+pub is-signed : (i : Instruction) → IsInstruction i → IsSignedByte i.disp
+is-signed i is = signed-displacement (pattern_of i).immediate i.disp is.disp
+
+abbrev size_of_name : List ℕ → ℕ
+size_of_name name = length name
+
+length-operation : (name : Option (List ℕ)) → length (unwrap_or name []) ≡ option_map_or size_of_name name 0
+length-operation None = refl
+length-operation (Some name) = refl
+
+operation-le : (some : Mnemonic) (value : ℕ) →
+    option_map_or size_of_name (operation_name some value) 0 ≤ longest size_of_name (names_of some)
+operation-le some value = entry-le size_of_name (names_of some) (if is_family some then value else 0)
+
+room-operands : (at : ℕ) (i : Instruction) → IsSignedByte i.disp →
+    room (operand_texts at i) ≤
+    accumulator_room (operands_of i).mnemonic +
+    (longest_operand (writing_of (operands_of i).first) + 1) + (longest_operand (writing_of (operands_of i).second) + 1)
+room-operands at i is = room-written at i (operands_of i) _ is refl
+
+text-le : (at : ℕ) (i : Instruction) → IsInstruction i → length (instruction_text at i) ≤ longest_row (row_at i.row)
+unfolding instruction_text
+text-le at i is =
+    let name = operation_name (operands_of i).mnemonic i.p in
+    omega (
+      arith,
+      length-append (unwrap_or name []) (marked blank (operand_texts at i)),
+      length-marked blank (operand_texts at i),
+      length-operation name,
+      operation-le (operands_of i).mnemonic i.p,
+      room-operands at i (is-signed i is),
+    )
+
+-- an instruction's text has 16 bytes at most
+pub text-fits : (at : ℕ) (i : Instruction) → IsInstruction i → length (instruction_text at i) ≤ 16
+text-fits at i is =
+    omega (arith, text-le at i is, leb-true (longest_row (row_at i.row)) 16 (row-passes row_fits rows-fit i.row is.row))
+
+-- ---- texts that aren't empty
+
+abbrev first_eight : List ℕ
+first_eight = 0 ∷ 1 ∷ 2 ∷ 3 ∷ 4 ∷ 5 ∷ 6 ∷ 7 ∷ []
+
+-- whether an operation has a name, where its first field may hold a value
+abbrev is_named : Row → ℕ → Bool
+is_named row value =
+    not (lists row.pattern.first value) || nat_lt 0 (length (unwrap_or (operation_name row.operands.mnemonic value) []))
+
+abbrev row_is_named : Row → Bool
+row_is_named row = list_all (is_named row) first_eight
+
+rows-are-named : list_all row_is_named table ≡ true
+unfolding table
+rows-are-named = refl
+
+passes-at : (p : ℕ → Bool) (values : List ℕ) (k : ℕ) → list_all p values ≡ true → k < length values →
+    (b : Bool) → p (get_or values k 0) ≡ b → b ≡ true
+passes-at p values k all below true is = refl
+passes-at p values k all below false is = sym (list_all_at p values k 0 below is) ∙ all
+
+eight-at : (k : ℕ) → k < 8 → get_or first_eight k 0 ≡ k
+eight-at zero below = refl
+eight-at (suc zero) below = refl
+eight-at (suc (suc zero)) below = refl
+eight-at (suc (suc (suc zero))) below = refl
+eight-at (suc (suc (suc (suc zero)))) below = refl
+eight-at (suc (suc (suc (suc (suc zero))))) below = refl
+eight-at (suc (suc (suc (suc (suc (suc zero)))))) below = refl
+eight-at (suc (suc (suc (suc (suc (suc (suc zero))))))) below = refl
+eight-at (suc (suc (suc (suc (suc (suc (suc (suc k)))))))) below = absurd (omega (arith, below))
+
+size-le : (some : Field) → size some ≤ 8
+size-le field.Absent = omega arith
+size-le field.RegisterHigh = omega arith
+size-le field.RegisterLow = omega arith
+size-le field.Pair = omega arith
+size-le field.StackPair = omega arith
+size-le field.IndexPair = omega arith
+size-le field.Condition = omega arith
+size-le field.RelativeCondition = omega arith
+size-le field.BitNumber = omega arith
+size-le field.RestartPlace = omega arith
+size-le field.AluOperation = omega arith
+size-le field.ShiftOperation = omega arith
+
+-- the first field holds a number below 8
+field-below : (i : Instruction) → IsInstruction i → i.p < 8
+field-below i is =
+    let within : i.p < size (pattern_of i).first = ltb-true _ _ (and_parts _ _ is.first).0 in
+    omega (arith, within, size-le (pattern_of i).first)
+
+second-of-or : (a b : Bool) → a ≡ true → (not a || b) ≡ true → b ≡ true
+second-of-or true b is either = either
+second-of-or false b is either = absurd (cc)
+
+pub operation-named : (i : Instruction) → IsInstruction i → 0 < length (operation_text i)
+operation-named i is =
+    let named : is_named (row_at i.row) (get_or first_eight i.p 0) ≡ true =
+    passes-at (is_named (row_at i.row)) first_eight i.p (row-passes row_is_named rows-are-named i.row is.row) (field-below i is) _ refl in
+    let at_field : is_named (row_at i.row) i.p ≡ true =
+    subst (λ (n : ℕ). is_named (row_at i.row) n ≡ true) (eight-at i.p (field-below i is)) named in
+    ltb-true 0 _ (second-of-or _ _ is.first at_field)
+
+-- an instruction's text has a byte at least
+pub text-shown : (at : ℕ) (i : Instruction) → IsInstruction i → 0 < length (instruction_text at i)
+unfolding instruction_text
+text-shown at i is =
+    omega (arith, length-append (operation_text i) (marked blank (operand_texts at i)), operation-named i is)
+
+-- after the name of the operation there is room for the operands
+pub operands-fit : (at : ℕ) (i : Instruction) (text : List ℕ) → IsInstruction i → length text ≡ length (operation_text i) →
+    length text + length (marked blank (operand_texts at i)) ≤ 16
+unfolding instruction_text
+operands-fit at i text is same =
+    omega (arith, length-append (operation_text i) (marked blank (operand_texts at i)), text-fits at i is, same)

@@ -1,0 +1,4 @@
+pub mod Numerals
+pub mod Front
+pub mod Texts
+pub mod Ranges

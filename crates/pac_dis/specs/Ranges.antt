@@ -1,0 +1,26 @@
+-- The numbers that are written as a byte or as one digit are in that range, in each instruction of the table.
+use Rattle.std.specs.Prelude.{◌<◌, ⊤, List, [], ◌∷◌}
+use Rattle.pac_table.specs.declared.operands.Shape.{Shape}
+use Rattle.pac_table.specs.declared.names.NumberKind.{NumberKind}
+use Rattle.pac_table.specs.declared.names.NumberKind.TheVariants as kind
+use Rattle.pac_table.specs.declared.names.Writing.{Writing}
+use Rattle.pac_table.specs.declared.names.Writing.TheVariants.{Number, AtNumber}
+use Rattle.pac_table.specs.Names.{writing_of}
+use Rattle.pac_table.specs.Instructions.{Instruction}
+
+-- a number of an instruction is in range: n is a byte, and an interrupt mode one digit
+abbrev pub IsShown : Instruction → NumberKind → Type 0
+IsShown instruction kind.Byte = instruction.word < 256
+IsShown instruction (kind.Mode number) = number < 10
+IsShown instruction _ = ⊤
+
+-- the number of an operand is, if it has one
+abbrev pub ShowsNumbers : Instruction → Writing → Type 0
+ShowsNumbers instruction (Number kind) = IsShown instruction kind
+ShowsNumbers instruction (AtNumber kind) = IsShown instruction kind
+ShowsNumbers instruction _ = ⊤
+
+-- each operand's is
+abbrev pub ShowsEach : Instruction → List Shape → Type 0
+ShowsEach instruction [] = ⊤
+ShowsEach instruction (shape ∷ shapes) = ShowsNumbers instruction (writing_of shape) × ShowsEach instruction shapes

@@ -1,0 +1,110 @@
+-- The text of an instruction (Zilog Z80 CPU User Manual UM0080 for the names; the form of the numbers is this profile's):
+-- the name of the operation in capitals, a blank, and the operands with commas between them, as `LD (IX+05H),0FFH`.
+-- Names and what is written for an operand are those of the table, which sources are read by.
+use Rattle.std.specs.Prelude.{◌≡◌, ℕ, ◌+◌, ◌*◌, ◌<◌, ◌≤◌, Option, unwrap_or, List, [], ◌∷◌, ◌++◌, length, map, slice_index, codes}
+use Rattle.std.specs.Option.{option_map_or}
+use Rattle.pac_table.specs.declared.operands.Shape.{Shape}
+use Rattle.pac_table.specs.declared.names.Name.{Name}
+use Rattle.pac_table.specs.declared.names.NumberKind.{NumberKind}
+use Rattle.pac_table.specs.declared.names.NumberKind.TheVariants as kind
+use Rattle.pac_table.specs.declared.names.Writing.{Writing}
+use Rattle.pac_table.specs.declared.names.Writing.TheVariants.{Nothing, Named, AlternateAf, AtName, FirstField, SecondField}
+use Rattle.pac_table.specs.declared.names.Writing.TheVariants.{Indexed, Number, AtNumber}
+use Rattle.pac_table.specs.Names.{operation_name, text, name_at, writing_of, written}
+use Rattle.pac_table.specs.Instructions.{Instruction, IsInstruction, operands_of, code}
+use Rattle.pac_num.specs.Numbers.{address}
+use Rattle.pac_code.specs.Codes.{Begins}
+use Rattle.pac_dis.specs.Numerals.{byte_text, word_text, digit_text, displacement_text, jump_target}
+use Rattle.pac_dis.specs.Front.{front}
+
+-- the address after the code of an instruction, modulo 65,536
+abbrev pub address_after : ℕ → Instruction → ℕ
+address_after at instruction = address (at + length (code instruction))
+
+-- a number of an instruction that stands at an address: a relative jump shows the address to which it goes
+abbrev pub number_text : ℕ → Instruction → NumberKind → List ℕ
+number_text at instruction kind.Byte = byte_text instruction.word
+number_text at instruction kind.Word = word_text instruction.word
+number_text at instruction kind.Target = word_text (jump_target (address_after at instruction) instruction.disp)
+number_text at instruction kind.Bit = digit_text instruction.p
+number_text at instruction kind.Restart = byte_text (8 * instruction.p)
+number_text at instruction (kind.Mode number) = digit_text number
+
+-- the name of a field's value
+abbrev pub name_text : Option Name → List ℕ
+name_text name = option_map_or text name []
+
+abbrev pub in_parentheses : List ℕ → List ℕ
+in_parentheses inner = codes "(" ++ inner ++ codes ")"
+
+-- an operand, by what is written for it
+abbrev pub operand_text : ℕ → Instruction → Writing → List ℕ
+operand_text at instruction Nothing = []
+operand_text at instruction (Named name) = text name
+operand_text at instruction AlternateAf = codes "AF'"
+operand_text at instruction (AtName name) = in_parentheses (text name)
+operand_text at instruction (FirstField names) = name_text (name_at names instruction.p)
+operand_text at instruction (SecondField names) = name_text (name_at names instruction.q)
+operand_text at instruction (Indexed name) = in_parentheses (text name ++ displacement_text instruction.disp)
+operand_text at instruction (Number kind) = number_text at instruction kind
+operand_text at instruction (AtNumber kind) = in_parentheses (number_text at instruction kind)
+
+abbrev pub shape_text : ℕ → Instruction → Shape → List ℕ
+shape_text at instruction shape = operand_text at instruction (writing_of shape)
+
+-- the mark before the first operand, and the one before each further operand
+abbrev pub blank : ℕ
+blank = 32
+
+abbrev pub comma : ℕ
+comma = 44
+
+-- operands, the first after a mark and each further one after a comma
+abbrev pub marked : ℕ → List (List ℕ) → List ℕ
+marked mark [] = []
+marked mark (operand ∷ operands) = mark ∷ operand ++ marked comma operands
+
+-- the operands of an instruction, in the order in which they are written
+abbrev pub operand_texts : ℕ → Instruction → List (List ℕ)
+operand_texts at instruction = map (shape_text at instruction) (written (operands_of instruction) instruction.p)
+
+-- the name of an instruction's operation
+abbrev pub operation_text : Instruction → List ℕ
+operation_text instruction = unwrap_or (operation_name (operands_of instruction).mnemonic instruction.p) []
+
+-- an instruction that stands at an address
+unfoldable pub instruction_text : ℕ → Instruction → List ℕ
+instruction_text at instruction = operation_text instruction ++ marked blank (operand_texts at instruction)
+
+-- a byte that begins no instruction
+unfoldable pub data_text : ℕ → List ℕ
+data_text byte = codes "DEFB " ++ byte_text byte
+
+-- the text of what stands at the front of some bytes, the first of them at an address, and how many of them it has: the
+-- instruction whose whole code they begin with, or else the first of them alone
+abbrev pub text_at : ℕ → List ℕ → List ℕ
+text_at at bytes = option_map_or (instruction_text at) (front bytes) (data_text (slice_index bytes 0))
+
+abbrev pub size_at : List ℕ → ℕ
+size_at bytes = option_map_or (λ instruction. length (code instruction)) (front bytes) 1
+
+-- the same without a search: the bytes begin with the code of an instruction, which is shown, or of none
+abbrev pub BeginsWith : Instruction → List ℕ → Type 0
+BeginsWith instruction bytes = IsInstruction instruction × Begins (code instruction) bytes
+
+pub record Disassembles (at : ℕ) (bytes text : List ℕ) (size : ℕ) : Type 0 where
+  pub found :
+      (instruction : Instruction) → BeginsWith instruction bytes →
+      (text ≡ instruction_text at instruction) × (size ≡ length (code instruction))
+  pub alone :
+      ((instruction : Instruction) → BeginsWith instruction bytes → ⊥) →
+      (text ≡ data_text (slice_index bytes 0)) × (size ≡ 1)
+
+-- the most bytes that a text has, as `LD (IX+05H),0FFH` does
+abbrev pub longest_text : ℕ
+longest_text = 16
+
+abbrev pub TextsFit : Type 0
+TextsFit =
+    (at : ℕ) (instruction : Instruction) → IsInstruction instruction →
+    (0 < length (instruction_text at instruction)) × (length (instruction_text at instruction) ≤ longest_text)

@@ -1,0 +1,146 @@
+//! The operands of an instruction as text.
+
+ghost use Rattle.std.specs.Prelude.{◌≡◌, ◌<◌, ◌≤◌, ◌+◌, ◌++◌, length, map};
+ghost use Rattle.arrayvec.specs.ArrayString.{array_string_len};
+ghost use Rattle.pac_table.specs.Names.{listed, present, text as name_written, writing_of};
+ghost use Rattle.pac_table.specs.Instructions.{IsInstruction};
+ghost use Rattle.pac_dis.specs.Numerals.{displacement_text};
+ghost use Rattle.pac_dis.specs.Texts as spec;
+ghost use Rattle.pac_dis.specs.Ranges.{IsShown, ShowsEach, ShowsNumbers};
+ghost use Rattle.pac_dis.specs.Texts.{longest_text};
+
+use crate::numerals::{jump_target, put_byte, put_digit, put_displacement, put_word};
+use crate::text::{Text, put_character};
+use pac_num::offset;
+use pac_table::{Instr, Name, NumberKind, Shape, Writing};
+
+/// What the first field of an instruction holds.
+fn first_field(instr: &Instr) -> u8
+    ensures value { result ≡ instr.now.p }
+    ensures below { result < 8 }
+{
+    instr.p()
+}
+
+/// Appends the address to which a relative jump goes, where its code stands at an address.
+fn put_target(text: &mut Text, at: u16, instr: &Instr)
+    requires { array_string_len text.old + length (spec.number_text at instr.now NumberKind.Target) ≤ longest_text }
+    ensures { text.new.bytes ≡ text.old.bytes ++ spec.number_text at instr.now NumberKind.Target }
+{
+    let after = offset(at, u16::from(instr.size()));
+    put_word(text, jump_target(after, instr.disp()));
+}
+
+/// Appends a number of an instruction whose code stands at an address.
+fn put_number(text: &mut Text, at: u16, instr: &Instr, kind: NumberKind)
+    requires shown { IsShown instr.now kind }
+    requires room { array_string_len text.old + length (spec.number_text at instr.now kind) ≤ longest_text }
+    ensures { text.new.bytes ≡ text.old.bytes ++ spec.number_text at instr.now kind }
+{
+    match kind {
+        NumberKind::Byte => put_byte(text, instr.word() as u8),
+        NumberKind::Word => put_word(text, instr.word()),
+        NumberKind::Target => put_target(text, at, instr),
+        NumberKind::Bit => put_digit(text, first_field(instr)),
+        NumberKind::Restart => put_byte(text, 8 * first_field(instr)),
+        NumberKind::Mode(number) => put_digit(text, number),
+    }
+}
+
+/// Appends the name of a field's value.
+fn put_name(text: &mut Text, name: Option<Name>)
+    requires { array_string_len text.old + length (spec.name_text name) ≤ longest_text }
+    ensures { text.new.bytes ≡ text.old.bytes ++ spec.name_text name }
+{
+    if let Some(name) = name {
+        text.push_str(name.text());
+    }
+}
+
+/// Appends a name in parentheses.
+fn put_at_name(text: &mut Text, name: Name)
+    requires { array_string_len text.old + length (spec.in_parentheses (name_written name)) ≤ longest_text }
+    ensures { text.new.bytes ≡ text.old.bytes ++ spec.in_parentheses (name_written name) }
+{
+    text.push_str("(");
+    text.push_str(name.text());
+    text.push_str(")");
+}
+
+/// Appends IX or IY with a displacement, in parentheses.
+fn put_indexed(text: &mut Text, name: Name, displacement: i8)
+    requires { array_string_len text.old + length (spec.in_parentheses (name_written name ++ displacement_text displacement)) ≤ longest_text }
+    ensures { text.new.bytes ≡ text.old.bytes ++ spec.in_parentheses (name_written name ++ displacement_text displacement) }
+{
+    text.push_str("(");
+    text.push_str(name.text());
+    put_displacement(text, displacement);
+    text.push_str(")");
+}
+
+/// Appends a number in parentheses.
+fn put_at_number(text: &mut Text, at: u16, instr: &Instr, kind: NumberKind)
+    requires shown { IsShown instr.now kind }
+    requires room { array_string_len text.old + length (spec.in_parentheses (spec.number_text at instr.now kind)) ≤ longest_text }
+    ensures { text.new.bytes ≡ text.old.bytes ++ spec.in_parentheses (spec.number_text at instr.now kind) }
+{
+    text.push_str("(");
+    put_number(text, at, instr, kind);
+    text.push_str(")");
+}
+
+/// Appends an operand, by what is written for it.
+fn put_writing(text: &mut Text, at: u16, instr: &Instr, writing: Writing)
+    requires shown { ShowsNumbers instr.now writing }
+    requires room { array_string_len text.old + length (spec.operand_text at instr.now writing) ≤ longest_text }
+    ensures { text.new.bytes ≡ text.old.bytes ++ spec.operand_text at instr.now writing }
+{
+    match writing {
+        Writing::Nothing => {}
+        Writing::Named(name) => text.push_str(name.text()),
+        Writing::AlternateAf => text.push_str("AF'"),
+        Writing::AtName(name) => put_at_name(text, name),
+        Writing::FirstField(names) => put_name(text, names.name(instr.p())),
+        Writing::SecondField(names) => put_name(text, names.name(instr.q())),
+        Writing::Indexed(name) => put_indexed(text, name, instr.disp()),
+        Writing::Number(kind) => put_number(text, at, instr, kind),
+        Writing::AtNumber(kind) => put_at_number(text, at, instr, kind),
+    }
+}
+
+/// Appends the operand of a shape after a mark, where there is one.
+fn put_operand(text: &mut Text, mark: u8, at: u16, instr: &Instr, shape: Shape)
+    requires ascii { mark < 128 }
+    requires shown { ShowsNumbers instr.now (writing_of shape) }
+    requires room { array_string_len text.old + length (spec.marked mark (map (spec.shape_text at instr.now) (present shape))) ≤ longest_text }
+    ensures { text.new.bytes ≡ text.old.bytes ++ spec.marked mark (map (spec.shape_text at instr.now) (present shape)) }
+{
+    if matches!(shape, Shape::Absent) {
+        return;
+    }
+    put_character(text, mark);
+    put_writing(text, at, instr, shape.writing());
+}
+
+/// Appends one operand after another; after one that isn't there there is none.
+fn put_both(text: &mut Text, at: u16, instr: &Instr, first: Shape, second: Shape)
+    requires shown { ShowsEach instr.now (listed first second) }
+    requires room { array_string_len text.old + length (spec.marked spec.blank (map (spec.shape_text at instr.now) (listed first second))) ≤ longest_text }
+    ensures { text.new.bytes ≡ text.old.bytes ++ spec.marked spec.blank (map (spec.shape_text at instr.now) (listed first second)) }
+{
+    if matches!(first, Shape::Absent) {
+        return;
+    }
+    put_operand(text, b' ', at, instr, first);
+    put_operand(text, b',', at, instr, second);
+}
+
+/// Appends the operands of an instruction whose code stands at an address.
+pub fn put_operands(text: &mut Text, at: u16, instr: &Instr)
+    requires valid { IsInstruction instr.now }
+    requires room { array_string_len text.old + length (spec.marked spec.blank (spec.operand_texts at instr.now)) ≤ longest_text }
+    ensures { text.new.bytes ≡ text.old.bytes ++ spec.marked spec.blank (spec.operand_texts at instr.now) }
+{
+    let (first, second) = instr.operands().written(instr.p());
+    put_both(text, at, instr, first, second);
+}

@@ -1,0 +1,98 @@
+//! The whole table: each code is shown as text, and the text is read again as an operation.
+
+ghost use Rattle.std.specs.Prelude.{None};
+
+use pac_code::{Code, encode};
+use pac_dis::disassemble;
+use pac_expr::Symbols;
+use pac_lex::{LexError, tokens};
+use pac_operation::Operation;
+use pac_table::Instr;
+use std::alloc::Global;
+use std::test::Fail;
+
+/// No name is defined.
+struct NoNames;
+
+impl Symbols for NoNames {
+    ghost lookup = { λ _ name. None };
+
+    fn symbol(&self, _name: &[u8]) -> Option<i32> {
+        None
+    }
+}
+
+/// Where each code stands: relative jumps reach no end of memory, past which an assembler takes no target.
+const AT: u16 = 0x1000;
+
+/// Values of n and nn, and of d and e; a row takes some of them.
+static WORDS: [u16; 6] = [0, 9, 0xA0, 0xFF, 0x1234, 0xFFFF];
+
+static DISPLACEMENTS: [i8; 5] = [0, 5, 127, -1, -128];
+
+/// The instruction that a text of operations stands for at its place.
+fn read(alloc: Global, text: &[u8]) -> Result<Option<Instr>, LexError> {
+    let found = tokens(alloc, text)?;
+    let Some((word, operands)) = found.as_slice().split_first() else {
+        return Ok(None);
+    };
+    match Operation::read(word.text, operands) {
+        Some(operation) => Ok(operation.instruction(&NoNames, AT).ok()),
+        None => Ok(None),
+    }
+}
+
+/// Whether a code is the one wanted, or its short form: LD HL,(nn) and LD (nn),HL have one of four bytes after ED,
+/// and are read as 2A and 22.
+fn is_code(code: &[u8], wanted: &[u8]) -> bool {
+    match wanted {
+        [0xED, 0x6B, low, high] => code == [0x2A, *low, *high].as_slice(),
+        [0xED, 0x63, low, high] => code == [0x22, *low, *high].as_slice(),
+        _ => code == wanted,
+    }
+}
+
+/// Whether an instruction's text speaks of its whole code and is read as it again.
+fn is_read_again(alloc: Global, instr: &Instr) -> Result<bool, LexError> {
+    let code = encode(instr);
+    if code.is_empty() {
+        return Ok(false);
+    }
+    let (text, size) = disassemble(code.as_slice(), AT);
+    let again = read(alloc, text.as_str().as_bytes())?;
+    Ok(
+        usize::from(size) == code.len()
+            && again.is_some_and(|found| is_code(encode(&found).as_slice(), code.as_slice())),
+    )
+}
+
+/// Whether each instruction of a row with these fields is read again.
+fn are_read_again(alloc: Global, row: u16, p: u8, q: u8) -> Result<bool, LexError> {
+    for word in &WORDS {
+        for displacement in &DISPLACEMENTS {
+            if let Some(instr) = Instr::new(row, p, q, *word, *displacement) {
+                if !is_read_again(alloc, &instr)? {
+                    return Ok(false);
+                }
+            }
+        }
+    }
+    Ok(true)
+}
+
+#[test]
+fn each_code_is_read_again(rt: HostRuntime) -> Result<(), Fail> {
+    let mut opcodes: u16 = 0;
+    for row in 0..256u16 {
+        for fields in 0..64u8 {
+            let (p, q) = (fields / 8, fields % 8);
+            if Instr::new(row, p, q, 0, 0).is_some() {
+                opcodes = opcodes.saturating_add(1);
+            }
+            let again = are_read_again(rt.alloc(), row, p, q)?;
+            assert!(rt; again, "row {row} with {p} and {q}");
+        }
+    }
+    assert_eq!(rt; opcodes, 698);
+    Ok(())
+}

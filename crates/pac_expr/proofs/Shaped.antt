@@ -1,0 +1,89 @@
+-- Whether there is a tree, by what is left of a state without its trees.
+use Rattle.std.proofs.Common.{◌≡◌, ◌==◌, ℕ, ◌+◌, ◌≤◌, Bool, true, false, cond, List, [], ◌∷◌, Option, Some, None, is_some}
+use Rattle.std.proofs.Common.{option_map, nat_le, refl}
+use Rattle.std.proofs.Common.{sym, ap, ◌∙◌, arith}
+use Rattle.std.proofs.lemmas.Bool.{leb-true, ne_eqb}
+use Rattle.pac_expr.specs.declared.expr.Operator.TheVariants.{Add, Subtract, Multiply, Divide}
+use Rattle.pac_expr.specs.Trees.{Tree, Mark, single, closing, plus, minus, star, slash, product_rank, sum_rank}
+use Rattle.pac_expr.specs.Parsing.{Waiting, sign, left, parenthesis, completed, waiting_rank, settled, State, needs, stands}
+use Rattle.pac_expr.specs.Parsing.{closed, next, whole, finished, onward, tree_of}
+use Rattle.pac_expr.specs.Shape.{Shape, open_in, shape_of, continued_shape, next_shape, shaped}
+
+-- settling leaves the open parentheses
+keeps-if : (b : Bool) (n : ℕ) (t : Tree) (w : Waiting) (waiting : List Waiting) (s : Tree × List Waiting) → nat_le (waiting_rank w) n ≡ b
+    → n ≤ sum_rank → open_in s.1 ≡ open_in waiting → open_in (cond b s (t, w ∷ waiting)).1 ≡ open_in (w ∷ waiting)
+keeps-if true n t (sign s) waiting x is low e = e
+keeps-if true n t (left operator l) waiting x is low e = e
+keeps-if true n t parenthesis waiting x is low e = absurd (omega (arith, leb-true 3 n is))
+keeps-if false n t w waiting x is low e = refl
+
+settled-keeps : (n : ℕ) (t : Tree) (waiting : List Waiting) → n ≤ sum_rank → open_in (settled n t waiting).1 ≡ open_in waiting
+settled-keeps n t [] low = refl
+settled-keeps n t (w ∷ waiting) low =
+    keeps-if (nat_le (waiting_rank w) n) n t w waiting (settled n (completed w t) waiting) refl low
+    (settled-keeps n (completed w t) waiting low)
+
+-- what a whole sum leaves: nothing, or an open parenthesis first
+abbrev Stops : List Waiting → Type 0
+Stops [] = Unit {0}
+Stops (parenthesis ∷ waiting) = Unit {0}
+Stops (w ∷ waiting) = ⊥
+
+stops-if : (b : Bool) (t : Tree) (w : Waiting) (waiting : List Waiting) (s : Tree × List Waiting) → nat_le (waiting_rank w) sum_rank ≡ b
+    → Stops s.1 → Stops (cond b s (t, w ∷ waiting)).1
+stops-if true t w waiting s is h = h
+stops-if false t (sign x) waiting s is h = absurd cc
+stops-if false t (left Add l) waiting s is h = absurd cc
+stops-if false t (left Subtract l) waiting s is h = absurd cc
+stops-if false t (left Multiply l) waiting s is h = absurd cc
+stops-if false t (left Divide l) waiting s is h = absurd cc
+stops-if false t parenthesis waiting s is h = tt
+
+settled-stops : (t : Tree) (waiting : List Waiting) → Stops (settled sum_rank t waiting).1
+settled-stops t [] = tt
+settled-stops t (w ∷ waiting) =
+    stops-if (nat_le (waiting_rank w) sum_rank) t w waiting (settled sum_rank (completed w t) waiting) refl
+    (settled-stops (completed w t) waiting)
+
+one-less : (n k : ℕ) → k ≡ n + 1
+    → Some (true, n) ≡ continued_shape k closing
+one-less n k e = rw (ne_eqb k 0 (λ z. omega arith)) (ap (λ (j : ℕ). Some (true, j)) (omega arith))
+
+-- a closing parenthesis after a whole sum, and the end there
+closed-shape : (s : Tree × List Waiting) (k : ℕ) → Stops s.1 → open_in s.1 ≡ k
+    → option_map shape_of (closed s) ≡ continued_shape k closing
+closed-shape (t, []) k h e = rw (← e) refl
+closed-shape (t, parenthesis ∷ waiting) k h e = one-less (open_in waiting) k (sym e)
+closed-shape (t, sign x ∷ waiting) k h e = absurd h
+closed-shape (t, left operator l ∷ waiting) k h e = absurd h
+
+whole-shape : (s : Tree × List Waiting) (k : ℕ) → Stops s.1 → open_in s.1 ≡ k → is_some (whole s) ≡ k == 0
+whole-shape (t, []) k h e = rw (← e) refl
+whole-shape (t, parenthesis ∷ waiting) k h e = sym (ne_eqb k 0 (λ z. omega arith))
+whole-shape (t, sign x ∷ waiting) k h e = absurd h
+whole-shape (t, left operator l ∷ waiting) k h e = absurd h
+
+next-shape : (s : State) (m : Mark) → option_map shape_of (next s m) ≡ next_shape (shape_of s) m
+next-shape (needs waiting) (single a) = refl
+next-shape (needs waiting) m = refl
+next-shape (stands t waiting) plus = ap (λ (k : ℕ). Some (false, k)) (settled-keeps sum_rank t waiting (omega arith))
+next-shape (stands t waiting) minus = ap (λ (k : ℕ). Some (false, k)) (settled-keeps sum_rank t waiting (omega arith))
+next-shape (stands t waiting) star = ap (λ (k : ℕ). Some (false, k)) (settled-keeps product_rank t waiting (omega arith))
+next-shape (stands t waiting) slash = ap (λ (k : ℕ). Some (false, k)) (settled-keeps product_rank t waiting (omega arith))
+next-shape (stands t waiting) closing =
+    closed-shape (settled sum_rank t waiting) (open_in waiting) (settled-stops t waiting) (settled-keeps sum_rank t waiting (omega arith))
+next-shape (stands t waiting) m = refl
+
+finished-shape : (s : State) → is_some (finished s) ≡ shaped (Some (shape_of s)) []
+finished-shape (needs waiting) = refl
+finished-shape (stands t waiting) =
+    whole-shape (settled sum_rank t waiting) (open_in waiting) (settled-stops t waiting) (settled-keeps sum_rank t waiting (omega arith))
+
+onward-shape : (o : Option State) (ms : List Mark) → is_some (onward o ms) ≡ shaped (option_map shape_of o) ms
+onward-shape None ms = refl
+onward-shape (Some s) [] = finished-shape s
+onward-shape (Some s) (m ∷ ms) = onward-shape (next s m) ms ∙ ap (λ (o : Option Shape). shaped o ms) (next-shape s m)
+
+pub tree-shape : (ms : List Mark) → is_some (tree_of ms) ≡ shaped (Some (false, 0)) ms
+unfolding tree_of
+tree-shape ms = onward-shape (Some (needs [])) ms

@@ -1,0 +1,19 @@
+use Rattle.std.proofs.Common.{◌<◌, ◌+◌, ◌*◌, length}
+use Rattle.pac_expr.specs.Trees.{marks}
+use Rattle.pac_expr.specs.Reading.{Begins}
+use Rattle.pac_expr.proofs.reading.+reading.Given as goal
+
+abbrev pub decreases-operand : goal.decreases-operand
+decreases-operand g l = 2 * length l.tokens.now
+
+abbrev pub decreases-part : goal.decreases-part
+decreases-part g l = 2 * length l.tokens.now + 1
+
+abbrev pub invariant-part-loop-operator : goal.invariant-part-loop-operator
+invariant-part-loop-operator g l = record {
+  begins : Begins (g.S.Symbols.lookup l.symbols) l.here l.rank (marks l.tokens) l.left (marks l.rest);
+  shorter : length l.rest < length l.tokens;
+}
+
+abbrev pub decreases-part-loop-operator : goal.decreases-part-loop-operator
+decreases-part-loop-operator g l = length l.rest

@@ -1,0 +1,43 @@
+-- What is enough of a state to tell whether an expression can end there: whether an operand stands, and how
+-- many parentheses are open.
+use Rattle.std.specs.Prelude.{ℕ, ◌+◌, ◌-◌, ◌==◌, ◌&&◌, Bool, true, false, List, [], ◌∷◌, Option, Some, None, if◌then◌else◌}
+use Rattle.pac_expr.specs.Trees.{Mark, single, opening, closing, plus, minus, star, slash}
+use Rattle.pac_expr.specs.Parsing.{Waiting, parenthesis, State, needs, stands}
+
+abbrev pub open_in : List Waiting → ℕ
+open_in [] = 0
+open_in (parenthesis ∷ waiting) = open_in waiting + 1
+open_in (w ∷ waiting) = open_in waiting
+
+abbrev pub Shape : Type 0
+Shape = Bool × ℕ
+
+abbrev pub shape_of : State → Shape
+shape_of (needs waiting) = (false, open_in waiting)
+shape_of (stands t waiting) = (true, open_in waiting)
+
+-- after one token more, if an expression can go on with it: first where an operand must come, then after one
+abbrev pub begun_shape : ℕ → Mark → Option Shape
+begun_shape k (single a) = Some (true, k)
+begun_shape k opening = Some (false, k + 1)
+begun_shape k plus = Some (false, k)
+begun_shape k minus = Some (false, k)
+begun_shape k m = None
+
+abbrev pub continued_shape : ℕ → Mark → Option Shape
+continued_shape k plus = Some (false, k)
+continued_shape k minus = Some (false, k)
+continued_shape k star = Some (false, k)
+continued_shape k slash = Some (false, k)
+continued_shape k closing = if k == 0 then None else Some (true, k - 1)
+continued_shape k m = None
+
+abbrev pub next_shape : Shape → Mark → Option Shape
+next_shape (false, k) m = begun_shape k m
+next_shape (true, k) m = continued_shape k m
+
+-- whether an expression ends with the tokens from here on
+abbrev pub shaped : Option Shape → List Mark → Bool
+shaped None ms = false
+shaped (Some shape) [] = shape.0 && shape.1 == 0
+shaped (Some shape) (m ∷ ms) = shaped (next_shape shape m) ms

@@ -1,0 +1,135 @@
+//! The value of an expression, straight from its tokens.
+
+ghost use Rattle.std.specs.Prelude.{◌≡◌, ◌<◌, ◌≤◌, ◌∷◌, List, length, option_map, IfSome, MatchOption};
+ghost use Rattle.pac_lex.specs.Tokens.{views};
+ghost use Rattle.pac_expr.specs.Trees.{Mark, atom_of, closing, mark, marks, operator_mark, rank as rank_of};
+ghost use Rattle.pac_expr.specs.Parsing.{tree_in};
+ghost use Rattle.pac_expr.specs.Values.{value_of};
+ghost use Rattle.pac_expr.specs.Reading.{Begins, Ends, Refuses, atom_in, operator_in};
+
+use crate::evaluation::{Symbols, ValueError, joined, operand_value, signed};
+use crate::expr::{Operand, Operator, Sign};
+use crate::pending::{SUM_RANK, operator_rank};
+use pac_lex::{Kind, Token, one_character};
+
+/// The value of the expression that these tokens spell, all of them, where `here` is the address of its
+/// line; `None` where they spell none. It is the value of the tree that they spell, without the tree and
+/// without memory. Only signs, parentheses and tighter operators within one another make its calls deeper.
+pub fn evaluate<S: Symbols>(
+    tokens: &[Token<'_>],
+    symbols: &S,
+    here: u16,
+) -> Option<Result<i32, ValueError>>
+    ensures { result ≡ option_map (value_of (S.lookup symbols.now) here) (tree_in (views tokens.now)) }
+{
+    let (value, rest) = part(SUM_RANK, tokens, symbols, here)?;
+    if rest.is_empty() { Some(value) } else { None }
+}
+
+/// The value of the longest part at the left whose operators outside parentheses have this rank at most,
+/// and the tokens after it.
+#[cycle(reading)]
+fn part<'t, 'a, S: Symbols>(
+    rank: u8,
+    tokens: &'t [Token<'a>],
+    symbols: &S,
+    here: u16,
+) -> Option<(Result<i32, ValueError>, &'t [Token<'a>])>
+    ensures value { MatchOption result (Refuses rank (marks tokens.now))
+        (λ r. Begins (S.lookup symbols.now) here rank (marks tokens.now) r.0 (marks r.1.now)) }
+    ensures ends { IfSome result (λ r. Ends rank (marks r.1.now)) }
+    ensures shorter { IfSome result (λ r. length r.1.now < length tokens.now) }
+{
+    let (mut left, mut rest) = operand(tokens, symbols, here)?;
+    while let Some((operator, after)) = operator_up_to(rank, rest) {
+        let (right, after_right) = part(operator_rank(operator) - 1, after, symbols, here)?;
+        left = joined(operator, left, right);
+        rest = after_right;
+    }
+    Some((left, rest))
+}
+
+/// The value of the operand at the left, with the signs before it, and the tokens after it.
+#[cycle(reading)]
+fn operand<'t, 'a, S: Symbols>(
+    tokens: &'t [Token<'a>],
+    symbols: &S,
+    here: u16,
+) -> Option<(Result<i32, ValueError>, &'t [Token<'a>])>
+    ensures value { MatchOption result (Refuses 0 (marks tokens.now))
+        (λ r. Begins (S.lookup symbols.now) here 0 (marks tokens.now) r.0 (marks r.1.now)) }
+    ensures shorter { IfSome result (λ r. length r.1.now < length tokens.now) }
+{
+    let (first, after) = tokens.split_first()?;
+    match first.kind {
+        Kind::Plus => operand(after, symbols, here),
+        Kind::Minus => {
+            let (value, rest) = operand(after, symbols, here)?;
+            Some((signed(Sign::Minus, value), rest))
+        }
+        Kind::Open => {
+            let (value, rest) = part(SUM_RANK, after, symbols, here)?;
+            Some((value, after_closing(rest)?))
+        }
+        _ => Some((operand_value(&single(first)?, symbols, here), after)),
+    }
+}
+
+/// The operator at the left, if it has this rank at most, and the tokens after it.
+fn operator_up_to<'t, 'a>(rank: u8, tokens: &'t [Token<'a>]) -> Option<(Operator, &'t [Token<'a>])>
+    ensures { MatchOption result (Ends rank (marks tokens.now))
+        (λ r. (marks tokens.now ≡ operator_mark r.0 ∷ marks r.1.now) × (rank_of r.0 ≤ rank) × (length r.1.now < length tokens.now)) }
+{
+    let [first, after @ ..] = tokens else {
+        return None;
+    };
+    let operator = operator_of(first)?;
+    if operator_rank(operator) <= rank {
+        Some((operator, after))
+    } else {
+        None
+    }
+}
+
+/// The operator that a token is, if it is one.
+fn operator_of(token: &Token<'_>) -> Option<Operator>
+    ensures { result ≡ operator_in (mark token.now) }
+{
+    match token.kind {
+        Kind::Plus => Some(Operator::Add),
+        Kind::Minus => Some(Operator::Subtract),
+        Kind::Star => Some(Operator::Multiply),
+        Kind::Slash => Some(Operator::Divide),
+        _ => None,
+    }
+}
+
+/// The tokens after a closing parenthesis at the left.
+fn after_closing<'t, 'a>(tokens: &'t [Token<'a>]) -> Option<&'t [Token<'a>]>
+    ensures { MatchOption result ((ms : List Mark) → marks tokens.now ≡ closing ∷ ms → ⊥)
+        (λ rest. (marks tokens.now ≡ closing ∷ marks rest.now) × (length rest.now < length tokens.now)) }
+{
+    let [first, after @ ..] = tokens else {
+        return None;
+    };
+    match first.kind {
+        Kind::Close => Some(after),
+        _ => None,
+    }
+}
+
+/// The operand that a token is by itself, if it is one.
+fn single<'a>(token: &Token<'a>) -> Option<Operand<'a>>
+    ensures { option_map atom_of result ≡ atom_in (mark token.now) }
+{
+    match token.kind {
+        Kind::Number(number) => Some(Operand::Number(number)),
+        Kind::Name => Some(Operand::Name(token.text)),
+        Kind::Dollar => Some(Operand::Here),
+        Kind::Text => match one_character(token.text) {
+            None => None,
+            Some(code) => Some(Operand::Character(code)),
+        },
+        _ => None,
+    }
+}

@@ -1,0 +1,63 @@
+-- Rows, lines and symbols one after another.
+use Rattle.std.proofs.Common.{◌≡◌, ℕ, suc, ◌+◌, ◌<◌, List, [], ◌∷◌, ◌++◌, length, drop, refl}
+use Rattle.std.proofs.Common.{ap, sym, ◌∙◌, ℤ, Some, slice_get, arith, length-drop}
+use Rattle.std.proofs.lemmas.List.{drop_more}
+use Rattle.std.proofs.lemmas.Option.{get_or_from_slice_get, slice_get_within}
+use Rattle.std.specs.List.{flat_map}
+use Rattle.pac_program.specs.Names.{Named}
+use Rattle.pac_program.specs.declared.line.Line.{Line}
+use Rattle.pac_listing.specs.Texts.{row_bytes, hex_word, byte_columns}
+use Rattle.pac_listing.specs.Listing.{first_row, item_rows, further_row, further_rows, next_row, rows_of, all_rows}
+use Rattle.pac_listing.specs.Listing.{line_rows, lines_from, symbol_row}
+
+-- bytes that are left fill one row, and the bytes after it further ones
+pub rows-more : (at : ℕ) (bytes : List ℕ) → 0 < length bytes
+    → all_rows at bytes ≡ further_row at bytes ++ all_rows (next_row at) (drop row_bytes bytes)
+unfolding further_rows
+rows-more at bytes some =
+    let one : rows_of (length bytes) ≡ suc (rows_of (length (drop row_bytes bytes))) = rw length-drop (omega arith) in
+    ap (λ rows. further_rows rows at bytes) one
+
+pub rows-none : (at : ℕ) (bytes : List ℕ) → length bytes ≡ 0 → all_rows at bytes ≡ []
+unfolding further_rows
+rows-none at [] none = refl
+rows-none at (byte ∷ bytes) none = absurd (omega (arith, none))
+
+-- a line and its text, and those after them
+pub lines-more : (number : ℕ) (line : Line) (later : List Line) (text : List ℕ) (after : List (List ℕ)) {lines : List Line}
+    {texts : List (List ℕ)} → lines ≡ line ∷ later → texts ≡ text ∷ after
+    → lines_from number lines texts ≡ line_rows number line text ++ lines_from (number + 1) later after
+unfolding lines_from
+lines-more number line later text after first shown = λ i. lines_from number (first i) (shown i)
+
+-- no line is left
+pub lines-none : (number : ℕ) (lines : List Line) (texts : List (List ℕ)) → length lines ≡ 0 → lines_from number lines texts ≡ []
+unfolding lines_from
+lines-none number [] texts none = refl
+lines-none number (line ∷ lines) texts none = absurd (omega (arith, none))
+
+-- no text is left
+pub texts-none : (number : ℕ) (lines : List Line) → lines_from number lines [] ≡ []
+unfolding lines_from
+texts-none number [] = refl
+texts-none number (line ∷ lines) = refl
+
+-- an item of some bytes has one row, and further ones
+pub item-more : (number at : ℕ) (bytes text address columns rest : List ℕ) → 0 < length bytes → address ≡ hex_word at
+    → columns ≡ byte_columns bytes → rest ≡ drop row_bytes bytes
+    → first_row number address columns text ++ all_rows (next_row at) rest ≡ item_rows number at bytes text
+item-more number at [] text address columns rest some here shown left = absurd (omega (arith, some))
+item-more number at (byte ∷ bytes) text address columns rest some here shown left =
+    λ i. first_row number (here i) (shown i) text ++ all_rows (next_row at) (left i)
+
+-- a symbol's row, and those after it
+pub symbols-more : (symbols : List Named) (place : ℕ) (name : List ℕ) (passed : ℤ) {number : ℤ}
+    → Some (name, number) ≡ slice_get symbols place
+    → passed ≡ number
+    → flat_map symbol_row (drop place symbols) ≡ symbol_row (name, passed) ++ flat_map symbol_row (drop (place + 1) symbols)
+symbols-more symbols place name passed {number} there equal =
+    let found = get_or_from_slice_get symbols place (name, number) (name, number) (sym there) in
+    let inside = slice_get_within symbols place (name, number) (sym there) in
+    ap (flat_map symbol_row) (drop_more symbols place (name, number) inside)
+    ∙ (λ i. symbol_row (found i) ++ flat_map symbol_row (drop (place + 1) symbols))
+    ∙ (λ i. symbol_row (name, sym equal i) ++ flat_map symbol_row (drop (place + 1) symbols))

@@ -1,0 +1,19 @@
+use Rattle.std.proofs.Common.{List, ℕ, ◌<◌, length, sym, subst, arith, ◌∙◌}
+use Rattle.std.proofs.lemmas.Bool.{eqb-false}
+use Rattle.pac_out.specs.Pending.{Gathers}
+use Rattle.pac_out.proofs.Gathering.{gathers-both}
+use Rattle.pac_listing.specs.Listing.{first_row, all_rows, next_row}
+use Rattle.pac_listing.proofs.RowLemmas.{item-more}
+use Rattle.pac_listing.proofs.rows.put_item.Goals as goal
+
+pub returns : goal.returns
+returns g c =
+    let bytes = c.args.bytes.now in
+    let some : 0 < length bytes = omega (arith, eqb-false (length bytes) 0 (sym c.is_empty.ensures ∙ c.if-is_empty.false)) in
+    let rows = item-more c.args.number c.args.at bytes c.args.text.now c.hex_word.result c.byte_columns.result c.after_row.result.now some
+    c.hex_word.ensures c.byte_columns.ensures c.after_row.ensures.bytes in
+    subst (λ (text : List ℕ). Gathers g.W.Out.took g.W.Out.refused c.args.pending.now c.args.file.now text c.put_further_rows.result
+    c.put_further_rows.new.pending c.put_further_rows.new.file) rows
+    (gathers-both g.W.Out.refused c.args.pending.now (first_row c.args.number c.hex_word.result c.byte_columns.result c.args.text.now)
+    (all_rows (next_row c.args.at) c.after_row.result.now) c.put_further_rows.result c.put_further_rows.new.pending
+    c.put_further_rows.new.file c.in_ok-put_first_row.ensures c.put_further_rows.ensures)

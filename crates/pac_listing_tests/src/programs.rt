@@ -1,0 +1,71 @@
+//! Programs for the tests, put together by hand.
+
+use pac_code::decode;
+use pac_program::{Content, Item, Line, Program, Symbols};
+use std::alloc::Global;
+use std::test::Fail;
+
+/// What a line puts into a program.
+#[derive(Clone, Copy)]
+pub(crate) enum Entry {
+    /// Nothing.
+    Blank,
+    /// It is skipped.
+    Skipped,
+    /// The instruction that begins these bytes, at an address.
+    Code(u16, [u8; 4]),
+    /// Bytes at an address.
+    Data(u16, &'static [u8]),
+}
+
+/// What stands at an address, and the address, if anything does.
+fn placed(alloc: Global, entry: Entry) -> Result<Line, Fail> {
+    match entry {
+        Entry::Blank => Ok(Line::Blank),
+        Entry::Skipped => Ok(Line::Skipped),
+        Entry::Code(at, bytes) => {
+            let (instr, _) = decode(bytes).ok_or("no instruction")?;
+            Ok(Line::Placed(Item::new(at, Content::code(instr))))
+        }
+        Entry::Data(at, bytes) => {
+            let data = Vec::from_slice(alloc, bytes)?;
+            Ok(Line::Placed(Item::new(at, Content::data(data))))
+        }
+    }
+}
+
+/// A program with these lines and symbols, and a ROM of NOP.
+pub(crate) fn program(
+    alloc: Global,
+    entries: &[Entry],
+    symbols: &[(&'static [u8], i32)],
+) -> Result<Program, Fail> {
+    let mut lines = Vec::new(alloc);
+    for entry in entries {
+        lines.push(placed(alloc, *entry)?)?;
+    }
+    let mut table = Symbols::new(alloc);
+    for (name, number) in symbols {
+        table.define(alloc, name, *number)?;
+    }
+    let rom = Box::new(alloc, [0; 16384])?;
+    Ok(Program::new(lines, table, rom))
+}
+
+#[test]
+fn a_program_lends_its_parts(rt: HostRuntime) -> Result<(), Fail> {
+    let entries = [
+        Entry::Code(5, [0x32, 0x40, 0x40, 0x76]),
+        Entry::Data(8, b"AB"),
+    ];
+    let made = program(rt.alloc(), &entries, &[(b"TAB", 16)])?;
+    assert_eq!(rt; made.rom().len(), 16384);
+    assert_eq!(rt; made.symbols().len(), 1);
+    let [Line::Placed(store), Line::Placed(text)] = made.lines() else {
+        return Err(Fail::from("two lines with items"));
+    };
+    assert_eq!(rt; (store.at(), text.at()), (5, 8));
+    assert!(rt; store.content().bytes().as_slice() == [0x32, 0x40, 0x40].as_slice());
+    assert!(rt; text.content().bytes().as_slice() == b"AB".as_slice());
+    Ok(())
+}

@@ -1,0 +1,162 @@
+-- A view stays one that a board can have, at power-on and whatever happens to the board.
+use Rattle.std.proofs.Common.{◌≡◌, ◌≢◌, ℕ, zero, suc, ◌+◌, ◌%◌, ◌<◌, ◌≤◌, ◌==◌, Bool, true, false, cond, refl, sym, ap, ◌∙◌, arith}
+use Rattle.std.proofs.Common.{List, length, slice_index, slice_set, nat_lt}
+use Rattle.std.proofs.Math.Nat.{min-le_left}
+use Rattle.std.proofs.lemmas.Bool.Decides.{nat_tests}
+use Rattle.std.proofs.lemmas.Grind.{get_or-set_at}
+use Rattle.std.proofs.lemmas.List.{get_or-set_other, get_or_past, length-set, length-replicate}
+use Rattle.pac_latch.specs.Latched.{Latched, watchdog_limit, after_bit, after_vector, after_kick, after_accept, after_reset, after_blank}
+use Rattle.pac_map.specs.declared.bus_table.BusPlace.{BusPlace}
+use Rattle.pac_map.specs.declared.bus_table.BusPlace.TheVariants.{Tile, Colour, Work, Kick, Latch, Wave, Coordinate}
+use Rattle.pac_map.specs.Place.{ram_size, coordinates_size, registers_size}
+use Rattle.pac_map.specs.Cleared.{cleared}
+use Rattle.pac_map.specs.View.{View, IsWellFormed, power_on, is_kept, kept}
+use Rattle.pac_map.specs.Entry.{Entry, Write, Vector, Blank, Accept, Reset, Hold, written, view_after}
+
+pub length-cleared : (count : ℕ) → length (cleared count) ≡ count
+unfolding cleared
+length-cleared count = length-replicate count 0
+
+-- each cell of cleared RAM is 0
+pub cleared-at : (count place : ℕ) → slice_index (cleared count) place ≡ 0
+unfolding cleared
+cleared-at zero place = refl
+cleared-at (suc count) zero = refl
+cleared-at (suc count) (suc place) = cleared-at count place
+
+-- a register that holds 0, or what it holds already, keeps it
+kept-zero : (register : ℕ) → kept register 0 ≡ 0
+kept-zero register = choose (is_kept register)
+  where
+    choose : (b : Bool) → cond b (0 % 16) 0 ≡ 0
+    choose true = refl
+    choose false = refl
+
+pub kept-again : (register byte : ℕ) → kept register (kept register byte) ≡ kept register byte
+kept-again register byte = choose (is_kept register)
+  where
+    choose : (b : Bool) → cond b (cond b (byte % 16) 0 % 16) 0 ≡ cond b (byte % 16) 0
+    choose true = omega arith
+    choose false = refl
+
+pub power-on-well-formed : (switches : ℕ) → IsWellFormed (power_on switches)
+power-on-well-formed switches = record {
+  tile = length-cleared ram_size;
+  colour = length-cleared ram_size;
+  work = length-cleared ram_size;
+  coordinates = length-cleared coordinates_size;
+  registers = length-cleared registers_size;
+  nibbles = λ register.
+      ap (kept register) (cleared-at registers_size register) ∙ kept-zero register ∙ sym (cleared-at registers_size register);
+  count = omega arith;
+}
+
+-- registers that hold what they can go on so when one is written
+set-keeps : (registers : List ℕ) (register byte place : ℕ)
+    → ((other : ℕ) → kept other (slice_index registers other) ≡ slice_index registers other)
+    → let later = slice_set registers register (kept register byte) in kept place (slice_index later place) ≡ slice_index later place
+set-keeps registers register byte place holds = choose (place == register) refl (nat_lt place (length registers)) refl
+  where
+    later : List ℕ
+    later = slice_set registers register (kept register byte)
+
+    by-value : (value : ℕ) → slice_index later place ≡ value → kept place value ≡ value
+        → kept place (slice_index later place) ≡ slice_index later place
+    by-value value is stays = ap (kept place) is ∙ stays ∙ sym is
+
+    choose : (a : Bool) → (place == register) ≡ a → (b : Bool) → nat_lt place (length registers) ≡ b
+        → kept place (slice_index later place) ≡ slice_index later place
+    choose true p true q =
+        let same : place ≡ register = grind (arith, nat_tests) in
+        let inside : register < length registers = grind (arith, nat_tests) in
+        by-value (kept register byte) (get_or-set_at registers register place (kept register byte) 0 same inside)
+        (ap (λ other. kept other (kept register byte)) same ∙ kept-again register byte)
+    choose true p false q =
+        let past : length registers ≤ place = grind (arith, nat_tests) in
+        let past_too : length later ≤ place = rw (length-set registers register (kept register byte)) past in
+        by-value 0 (get_or_past later place 0 past_too) (kept-zero place)
+    choose false p b q =
+        let apart : place ≢ register = grind (arith, nat_tests) in
+        by-value (slice_index registers place) (get_or-set_other registers register place (kept register byte) 0 apart) (holds place)
+
+-- a view whose latch alone changes, as to a count in its range
+latched-well-formed : (view : View) (latched : Latched) → latched.count ≤ watchdog_limit → IsWellFormed view
+    → IsWellFormed (record view { latched = latched })
+latched-well-formed view latched low well = record {
+  tile = well.tile;
+  colour = well.colour;
+  work = well.work;
+  coordinates = well.coordinates;
+  registers = well.registers;
+  nibbles = well.nibbles;
+  count = low;
+}
+
+written-well-formed : (view : View) (place : BusPlace) (byte : ℕ) → IsWellFormed view → IsWellFormed (written view place byte)
+written-well-formed view (Tile cell) byte well = record {
+  tile = length-set view.tile cell byte ∙ well.tile;
+  colour = well.colour;
+  work = well.work;
+  coordinates = well.coordinates;
+  registers = well.registers;
+  nibbles = well.nibbles;
+  count = well.count;
+}
+written-well-formed view (Colour cell) byte well = record {
+  tile = well.tile;
+  colour = length-set view.colour cell byte ∙ well.colour;
+  work = well.work;
+  coordinates = well.coordinates;
+  registers = well.registers;
+  nibbles = well.nibbles;
+  count = well.count;
+}
+written-well-formed view (Work cell) byte well = record {
+  tile = well.tile;
+  colour = well.colour;
+  work = length-set view.work cell byte ∙ well.work;
+  coordinates = well.coordinates;
+  registers = well.registers;
+  nibbles = well.nibbles;
+  count = well.count;
+}
+written-well-formed view (Coordinate place) byte well = record {
+  tile = well.tile;
+  colour = well.colour;
+  work = well.work;
+  coordinates = length-set view.coordinates place byte ∙ well.coordinates;
+  registers = well.registers;
+  nibbles = well.nibbles;
+  count = well.count;
+}
+written-well-formed view (Wave register) byte well = record {
+  tile = well.tile;
+  colour = well.colour;
+  work = well.work;
+  coordinates = well.coordinates;
+  registers = length-set view.registers register (kept register byte) ∙ well.registers;
+  nibbles = λ place. set-keeps view.registers register byte place well.nibbles;
+  count = well.count;
+}
+written-well-formed view (Latch place) byte well =
+    latched-well-formed view (after_bit view.latched place (byte % 2 == 1)) well.count well
+written-well-formed view Kick byte well = latched-well-formed view (after_kick view.latched) (omega arith) well
+written-well-formed view _ byte well = well
+
+pub view-after-well-formed : (view : View) (entry : Entry) → IsWellFormed view → IsWellFormed (view_after view entry)
+view-after-well-formed view (Write place byte) well = written-well-formed view place byte well
+view-after-well-formed view (Vector byte) well = latched-well-formed view (after_vector view.latched byte) well.count well
+view-after-well-formed view (Blank frame) well =
+    latched-well-formed view (after_blank view.latched) (min-le_left watchdog_limit (view.latched.count + 1)) well
+view-after-well-formed view Accept well = latched-well-formed view (after_accept view.latched) well.count well
+view-after-well-formed view Reset well = latched-well-formed view (after_reset view.latched) (omega arith) well
+view-after-well-formed view (Hold mask) well = record {
+  tile = well.tile;
+  colour = well.colour;
+  work = well.work;
+  coordinates = well.coordinates;
+  registers = well.registers;
+  nibbles = well.nibbles;
+  count = well.count;
+}
+view-after-well-formed view _ well = well

@@ -1,0 +1,122 @@
+//! The board's memory made from its fields, told by them, and written over by another's.
+
+ghost use Rattle.std.specs.Prelude.{◌≡◌, ◌↔◌, IfOk, true, length};
+ghost use Rattle.pac_map.specs.Fields.{AreInRange, view_of};
+ghost use Rattle.pac_map.specs.View.{HoldWhatTheyCan};
+
+use super::{Memory, kept};
+use pac_inputs::Inputs;
+use pac_latch::Latch;
+use std::alloc::{AllocError, Global};
+
+/// The fields of the board's memory, as a save file has them.
+#[derive(Clone, Copy)]
+pub struct Fields<'a> {
+    /// The tile RAM.
+    pub tile: &'a [u8; 1024],
+    /// The colour RAM.
+    pub colour: &'a [u8; 1024],
+    /// The work RAM.
+    pub work: &'a [u8; 1024],
+    /// The sprites' coordinates.
+    pub coordinates: [u8; 16],
+    /// The wave generator's registers, four bits each; those that are ignored are 0.
+    pub registers: [u8; 32],
+    /// The output latch.
+    pub latch: u8,
+    /// The interrupt vector.
+    pub vector: u8,
+    /// Whether a request stands.
+    pub requested: bool,
+    /// The vertical blanks since the watchdog was last kicked, at most 16.
+    pub count: u8,
+    /// The inputs held.
+    pub held: Inputs,
+    /// The byte that the DIP switches give.
+    pub switches: u8,
+}
+
+/// Whether each register of the wave generator holds what it can.
+fn hold_what_they_can(registers: &[u8; 32]) -> bool
+    ensures { (result ≡ true) ↔ HoldWhatTheyCan registers.now }
+{
+    for register in 0..32u8 {
+        let byte = registers[register as usize];
+        if kept(register, byte) != byte {
+            return false;
+        }
+    }
+    true
+}
+
+impl Fields<'_> {
+    /// Whether a board can have these: each register of the wave generator holds what it can, and the watchdog's count is
+    /// at most 16.
+    pub fn are_in_range(&self) -> bool
+        ensures { (result ≡ true) ↔ AreInRange self.now }
+    {
+        self.count <= 16 && hold_what_they_can(&self.registers)
+    }
+}
+
+/// A copy of N bytes of RAM.
+fn copied<const N: usize>(alloc: Global, bytes: &[u8; N]) -> Result<Box<[u8; N]>, AllocError>
+    ensures bytes { IfOk result (λ copy. copy.value ≡ bytes.now) }
+    ensures size { length bytes.now ≡ N }
+{
+    Ok(Box::new(alloc, *bytes)?)
+}
+
+impl Memory {
+    /// The memory of these fields: each register holds what it can, and the count is in its range. Refused for want of
+    /// memory alone.
+    pub fn of(alloc: Global, fields: &Fields) -> Result<Memory, AllocError>
+        requires { AreInRange fields.now }
+        ensures { IfOk result (λ memory. memory ≡ view_of fields.now) }
+    {
+        Ok(Memory {
+            switches: fields.switches,
+            held: fields.held,
+            tile: copied(alloc, fields.tile)?,
+            colour: copied(alloc, fields.colour)?,
+            work: copied(alloc, fields.work)?,
+            coordinates: fields.coordinates,
+            registers: fields.registers,
+            latch: Latch::of(fields.latch, fields.vector, fields.requested, fields.count),
+        })
+    }
+
+    /// Its fields.
+    pub fn fields(&self) -> Fields
+        ensures fields { view_of result ≡ self.now }
+        ensures in_range { AreInRange result }
+    {
+        Fields {
+            tile: &self.tile,
+            colour: &self.colour,
+            work: &self.work,
+            coordinates: self.coordinates,
+            registers: self.registers,
+            latch: self.latch.bits(),
+            vector: self.latch.vector(),
+            requested: self.latch.is_requested(),
+            count: self.latch.count(),
+            held: self.held,
+            switches: self.switches,
+        }
+    }
+
+    /// Becomes what another one is. Takes no memory.
+    pub fn copy_from(&mut self, other: &Memory)
+        ensures { self.new ≡ other.now }
+    {
+        self.switches = other.switches;
+        self.held = other.held;
+        self.tile.copy_from_slice(&other.tile[..]);
+        self.colour.copy_from_slice(&other.colour[..]);
+        self.work.copy_from_slice(&other.work[..]);
+        self.coordinates = other.coordinates;
+        self.registers = other.registers;
+        self.latch.copy_from(&other.latch);
+    }
+}

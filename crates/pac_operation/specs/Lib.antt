@@ -1,0 +1,6 @@
+pub mod Directives
+pub mod Reserved
+pub mod Operands
+pub mod Operations
+pub mod Views
+pub mod Kept

@@ -1,0 +1,163 @@
+-- A line of the picture, dot by dot.
+use Rattle.std.proofs.Common.{◌≡◌, ◌≢◌, ℕ, ◌+◌, ◌*◌, ◌/◌, ◌%◌, ◌<◌, ◌≤◌, ◌++◌, Bool, true, false, nat_lt}
+use Rattle.std.proofs.Common.{if◌then◌else◌, List, [], length, get_or, set, slice_index, slice_index_or, take, refl, sym, ap, ◌∙◌, arith}
+use Rattle.std.proofs.Common.{get_or-set_other, get_or-set_same, Some, None}
+use Rattle.std.proofs.lemmas.Slice.{take-put_mid}
+use Rattle.std.proofs.lemmas.Bool.{cases_Bool, ltb-true, ltb-false, lt-ltb, le-ltb, and_parts, cases_eq}
+use Rattle.std.proofs.lemmas.Bool.Decides.{nat_tests}
+use Rattle.std.proofs.lemmas.List.{take_all}
+use mathlib.Core.Logic.{inl, inr}
+use borrow.Rule.Slice.PartMut.{put_mid}
+use Rattle.pac_tiles.specs.Tabulate.{tabulate}
+use Rattle.pac_tiles.proofs.Tabulated.{get_or-tabulate, tabulate-add}
+use Rattle.pac_sprites.specs.declared.Sprite.{Sprite}
+use Rattle.pac_sprites.specs.Sprites.{is_column_of, is_within, box_place, flipped}
+use Rattle.pac_picture.specs.Picture.{VideoRoms, sprite_dot, sprite_number}
+use Rattle.pac_picture.specs.Layer.{image_of}
+use Rattle.pac_picture.specs.Painting.{over, over_line, cell_dot}
+use Rattle.pac_picture.proofs.Places.{tabulate-is}
+
+-- the eight dots of a cell
+cell-dots : (cells : List (List (List ℕ))) (piece : List ℕ) (column y : ℕ) →
+    piece ≡ slice_index_or (slice_index_or cells column []) y [] → length piece ≡ 8 →
+    piece ≡ tabulate 8 (λ x. cell_dot cells (8 * column + x) y)
+unfolding cell_dot
+cell-dots cells piece column y is long =
+    tabulate-is piece 8 (λ x. cell_dot cells (8 * column + x) y) 0 long (λ x below.
+    let quotient : (8 * column + x) / 8 ≡ column = omega (arith, below) in
+    let remainder : (8 * column + x) % 8 ≡ x = omega (arith, below) in
+    rw (quotient, remainder, ← is) refl)
+
+-- one cell more
+pub cells-step : (cells : List (List (List ℕ))) (out piece : List ℕ) (column y part : ℕ) →
+    piece ≡ slice_index_or (slice_index_or cells column []) y [] → length piece ≡ 8 → length out ≡ 288 → column < 36 →
+    take (8 * column) out ≡ tabulate (8 * column) (λ x. cell_dot cells x y) →
+    take (8 * (column + 1)) (put_mid (8 * column) part out piece) ≡ tabulate (8 * (column + 1)) (λ x. cell_dot cells x y)
+cells-step cells out piece column y part is eight long inside so_far =
+    let end : 8 * (column + 1) ≡ 8 * column + length piece = omega (arith, eight) in
+    let fits : 8 * column ≤ length out = omega (arith, long, inside) in
+    let dot : ℕ → ℕ = λ x. cell_dot cells x y in
+    let eight_more : piece ≡ tabulate 8 (λ x. dot (8 * column + x)) = cell-dots cells piece column y is eight in
+    let step : 8 * (column + 1) ≡ 8 * column + 8 = omega arith in
+    let joined : tabulate (8 * column) dot ++ piece ≡ tabulate (8 * (column + 1)) dot =
+    rw (step, eight_more) (sym (tabulate-add (8 * column) 8 dot)) in
+    take-put_mid (8 * column) part out piece _ end fits ∙ (ap (λ before. before ++ piece) so_far ∙ joined)
+
+-- all cells
+pub cells-end : (dot : ℕ → ℕ) (out : List ℕ) (column : ℕ) → column ≡ 36 → length out ≡ 288 →
+    take (8 * column) out ≡ tabulate (8 * column) dot → out ≡ tabulate 288 dot
+cells-end dot out column last long so_far =
+    let all : 8 * column ≡ 288 = omega (arith, last) in
+    let within : length out ≤ 288 = omega (arith, long) in
+    let drawn : take 288 out ≡ tabulate 288 dot = rw all at so_far in
+    sym (take_all 288 out within) ∙ drawn
+
+-- what a line of a sprite does in a column at which it shows, and in another
+line-on : (line : List ℕ) (sprite : Sprite) (x below : ℕ) → is_column_of sprite x ≡ true →
+    over_line line sprite x below ≡ over (slice_index line (flipped sprite.flip_x (box_place sprite.left x))) below
+unfolding over_line
+line-on line sprite x below shows = rw shows refl
+
+line-off : (line : List ℕ) (sprite : Sprite) (x below : ℕ) → is_column_of sprite x ≡ false → over_line line sprite x below ≡ below
+unfolding over_line
+line-off line sprite x below off = rw off refl
+
+-- before the first column
+pub line-begin : (line old : List ℕ) (sprite : Sprite) (start : ℕ) → ((x : ℕ) → x < start → is_column_of sprite x ≡ false) →
+    (k : ℕ) → k < 288 →
+    get_or old k 0 ≡ (if nat_lt k start then over_line line sprite k (get_or old k 0) else get_or old k 0)
+line-begin line old sprite start off k inside =
+    elim (cases_Bool (nat_lt k start)) [
+      | inl before ↦ rw before (sym (line-off line sprite k (get_or old k 0) (off k (ltb-true k start before))))
+      | inr past ↦ rw past refl
+    ]
+
+-- one column more
+pub line-step : (line old out : List ℕ) (sprite : Sprite) (x number next : ℕ) →
+    is_column_of sprite x ≡ true → number ≡ slice_index line (flipped sprite.flip_x (box_place sprite.left x)) →
+    next ≡ over number (get_or out x 0) → length out ≡ 288 → x < 288 →
+    ((k : ℕ) → k < 288 → get_or out k 0 ≡ (if nat_lt k x then over_line line sprite k (get_or old k 0) else get_or old k 0)) →
+    (k : ℕ) → k < 288 →
+    get_or (set out x next) k 0 ≡ (if nat_lt k (x + 1) then over_line line sprite k (get_or old k 0) else get_or old k 0)
+line-step line old out sprite x number next shows is painted long inside so_far k below =
+    elim (cases_eq k x) [
+      | inl same ↦
+          let room : x < length out = omega (arith, long, inside) in
+          let now : nat_lt x (x + 1) ≡ true = lt-ltb x (x + 1) (omega arith) in
+          let before : nat_lt x x ≡ false = le-ltb x x (omega arith) in
+          let under : get_or out x 0 ≡ get_or old x 0 = rw before at (so_far x inside) in
+          rw (same, now, get_or-set_same out x next 0 room, line-on line sprite x (get_or old x 0) shows, painted, is, under) refl
+      | inr other ↦
+          let apart : k ≢ x = other in
+          let tests : nat_lt k (x + 1) ≡ nat_lt k x = grind (arith, nat_tests) in
+          rw (get_or-set_other out x k next 0 apart, tests) (so_far k below)
+    ]
+
+-- all columns
+pub line-end : (line old out : List ℕ) (sprite : Sprite) (end : ℕ) → ((x : ℕ) → end ≤ x → is_column_of sprite x ≡ false) →
+    ((k : ℕ) → k < 288 → get_or out k 0 ≡ (if nat_lt k end then over_line line sprite k (get_or old k 0) else get_or old k 0)) →
+    (x : ℕ) → x < 288 → slice_index out x ≡ over_line line sprite x (slice_index old x)
+line-end line old out sprite end off so_far x inside =
+    elim (cases_Bool (nat_lt x end)) [
+      | inl before ↦ rw before at (so_far x inside)
+      | inr past ↦
+          let same : get_or out x 0 ≡ get_or old x 0 = rw past at (so_far x inside) in
+          same ∙ sym (line-off line sprite x (get_or old x 0) (off x (ltb-false x end past)))
+    ]
+
+-- a sprite that doesn't cover a line leaves it
+pub dot-off : (roms : VideoRoms) (sprite : Sprite) (x y below : ℕ) → is_within sprite.top y ≡ false →
+    below ≡ over (sprite_dot roms sprite x y) below
+unfolding sprite_dot
+dot-off roms sprite x y below off =
+    elim (cases_Bool (is_column_of sprite x)) [
+      | inl shows ↦ rw (shows, off) refl
+      | inr hides ↦ rw hides refl
+    ]
+
+-- what a question about a line answers
+pub answer-none : (within : Bool) (value : ℕ) → None ≡ (if within then Some value else None) → within ≡ false
+answer-none true value is = cc
+answer-none false value is = refl
+
+pub answer-some : (within : Bool) (value line : ℕ) → Some line ≡ (if within then Some value else None) → (within ≡ true) × (line ≡ value)
+answer-some true value line is = (refl, cc)
+answer-some false value line is = cc
+
+flipped-below : (flip : Bool) (place : ℕ) → place < 16 → flipped flip place < 16
+flipped-below true place below = omega (arith, below)
+flipped-below false place below = below
+
+-- a sprite that covers a line shows its own there
+image-line : (roms : VideoRoms) (colour code x y : ℕ) → x < 16 → y < 16 →
+    slice_index (slice_index_or (image_of roms colour code) y []) x ≡ sprite_number roms colour code x y
+unfolding image_of
+image-line roms colour code x y across down =
+    rw (get_or-tabulate 16 (λ y. tabulate 16 (λ x. sprite_number roms colour code x y)) y [] down)
+    (get_or-tabulate 16 (λ x. sprite_number roms colour code x y) x 0 across)
+
+column-below : (sprite : Sprite) (x : ℕ) → is_column_of sprite x ≡ true → flipped sprite.flip_x (box_place sprite.left x) < 16
+column-below sprite x shows =
+    let inner = and_parts _ _ shows in
+    let within = and_parts _ _ inner.1 in
+    flipped-below sprite.flip_x (box_place sprite.left x) (ltb-true (box_place sprite.left x) 16 within.1)
+
+pub dot-on : (roms : VideoRoms) (sprite : Sprite) (image : List (List ℕ)) (line x y below : ℕ) →
+    image ≡ image_of roms sprite.colour sprite.code → is_within sprite.top y ≡ true →
+    line ≡ flipped sprite.flip_y (box_place sprite.top y) → line < 16 →
+    over_line (slice_index_or image line []) sprite x below ≡ over (sprite_dot roms sprite x y) below
+unfolding sprite_dot
+dot-on roms sprite image line x y below is within place down =
+    elim (cases_Bool (is_column_of sprite x)) [
+      | inl shows ↦
+          rw (
+            line-on (slice_index_or image line []) sprite x below shows,
+            is,
+            image-line roms sprite.colour sprite.code (flipped sprite.flip_x (box_place sprite.left x)) line
+                (column-below sprite x shows) down,
+            shows,
+            within,
+            place,
+          ) refl
+      | inr hides ↦ rw (line-off (slice_index_or image line []) sprite x below hides, hides) refl
+    ]

@@ -1,0 +1,149 @@
+-- The layer, row by row.
+use Rattle.std.proofs.Common.{◌≡◌, ◌≢◌, ℕ, suc, ◌+◌, ◌/◌, ◌%◌, ◌<◌, ◌≤◌, true, false, List, [], length, get_or, set, map, slice_index}
+use Rattle.std.proofs.Common.{refl, sym, ap, ◌∙◌, add-one, arith, get_or-set_other, get_or-set_same}
+use Rattle.std.specs.Prelude.{sum}
+use Rattle.std.proofs.lemmas.List.{same_lists, get_or_default, get_or_read, get_or-map, length-map}
+use Rattle.std.proofs.lemmas.List.Sums.{sum_by_push}
+use Rattle.std.proofs.lemmas.Bool.{true≢false}
+use Rattle.pac_tiles.specs.Tabulate.{tabulate}
+use Rattle.pac_tiles.specs.Tiles.{offset_of}
+use Rattle.pac_tiles.proofs.Tabulated.{length-tabulate, get_or-tabulate, tabulate-same}
+use Rattle.pac_picture.specs.declared.shadow.Shadow.{Shadow}
+use Rattle.pac_picture.specs.Picture.{VideoRoms, VideoMemory, tile_number, tile_dot}
+use Rattle.pac_picture.specs.Layer.{shadow_from, shadow_at, drawn_from, cells_of, differing_in, pattern_of}
+use Rattle.pac_picture.specs.Layer.{kept_dot, made_stale, stale, stale_row, IsDrawn, IsLayer, LayerState}
+use Rattle.pac_picture.specs.Painting.{cell_dot}
+use Rattle.pac_picture.proofs.Places.{set-step, tabulate-is}
+
+-- one row more that is stale
+pub made-step : (old now : List Shadow) (index : ℕ) → index < length now →
+    ((k : ℕ) → k < index → shadow_at now k ≡ made_stale (shadow_at old k)) →
+    ((k : ℕ) → index ≤ k → shadow_at now k ≡ shadow_at old k) →
+    (k : ℕ) → k < index + 1 → shadow_at (set now index (made_stale (shadow_at now index))) k ≡ made_stale (shadow_at old k)
+made-step old now index inside made rest =
+    set-step now (λ k. made_stale (shadow_at old k)) index (made_stale (shadow_at now index)) (shadow_from [] []) inside
+    (ap made_stale (rest index (omega arith))) made
+
+pub made-rest : (old now : List Shadow) (index : ℕ) (next : Shadow) →
+    ((k : ℕ) → index ≤ k → shadow_at now k ≡ shadow_at old k) →
+    (k : ℕ) → index + 1 ≤ k → shadow_at (set now index next) k ≡ shadow_at old k
+made-rest old now index next rest k past =
+    let apart : k ≢ index = omega (arith, past) in
+    get_or-set_other now index k next (shadow_from [] []) apart ∙ rest k (omega (arith, past))
+
+-- all rows
+pub made-end : (old now : List Shadow) → length now ≡ length old →
+    ((k : ℕ) → k < length now → shadow_at now k ≡ made_stale (shadow_at old k)) → now ≡ map made_stale old
+made-end old now long made =
+    same_lists now (map made_stale old) (long ∙ sym (length-map old made_stale))
+    (λ k d inside.
+    let within : k < length old = omega (arith, inside, long) in
+    get_or_default now k d (shadow_from [] []) inside ∙ (made k inside ∙ sym (get_or-map made_stale old k (shadow_from [] []) d within)))
+
+-- shadows of rows that were never drawn
+stale-at : (row : ℕ) → row < 28 → shadow_at stale row ≡ stale_row
+unfolding stale
+stale-at row below = get_or-tabulate 28 (λ _. stale_row) row (shadow_from [] []) below
+
+length-stale : length stale ≡ 28
+unfolding stale
+length-stale = length-tabulate 28 (λ _. stale_row)
+
+pub new-layer : (roms : VideoRoms) (shadows : List Shadow) (cells : List (List (List (List ℕ)))) → shadows ≡ stale → length cells ≡ 28 →
+    IsLayer roms shadows cells
+new-layer roms shadows cells is high = record {
+  shadows_high = rw is length-stale;
+  cells_high = high;
+  drawn = λ row below fresh.
+      let here : shadow_at shadows row ≡ stale_row = rw is (stale-at row below) in
+      let never : true ≡ false = rw here at fresh in
+      absurd (true≢false never);
+}
+
+-- what is read of a row
+pub drawn-read : (roms : VideoRoms) (shadows : List Shadow) (cells : List (List (List (List ℕ)))) (row : ℕ) (shadow : Shadow)
+    (strip : List (List (List ℕ))) → IsLayer roms shadows cells → row < 28 →
+    shadow ≡ get_or shadows row shadow → strip ≡ get_or cells row strip → IsDrawn roms shadow strip
+drawn-read roms shadows cells row shadow strip layer below is_shadow is_strip =
+    let one : row < length shadows = omega (arith, below, layer.shadows_high) in
+    let two : row < length cells = omega (arith, below, layer.cells_high) in
+    rw (get_or_read shadows row shadow one is_shadow (shadow_from [] []), get_or_read cells row strip two is_strip [])
+    (layer.drawn row below)
+
+-- a line of the layer
+dot-kept : (roms : VideoRoms) (shadow : Shadow) (strip : List (List (List ℕ))) (x y : ℕ) → IsDrawn roms shadow strip →
+    shadow.stale ≡ false → x < 288 → cell_dot strip x (y % 8) ≡ kept_dot roms shadow x y
+unfolding cell_dot kept_dot pattern_of
+dot-kept roms shadow strip x y drawn fresh across =
+    let column : x / 8 < 36 = omega (arith, across) in
+    let down : y % 8 < 8 = omega arith in
+    let right : x % 8 < 8 = omega arith in
+    let colour : ℕ = slice_index shadow.colours (x / 8) in
+    let tile : ℕ = slice_index shadow.tiles (x / 8) in
+    rw (
+      drawn fresh (x / 8) column,
+      get_or-tabulate 8 (λ (y : ℕ). tabulate 8 (λ (x : ℕ). tile_number roms colour tile x y)) (y % 8) [] down,
+    )
+    (get_or-tabulate 8 (λ (x : ℕ). tile_number roms colour tile x (y % 8)) (x % 8) 0 right)
+
+pub line-kept : (roms : VideoRoms) (shadow : Shadow) (strip : List (List (List ℕ))) (y : ℕ) → IsDrawn roms shadow strip →
+    shadow.stale ≡ false → tabulate 288 (λ x. cell_dot strip x (y % 8)) ≡ tabulate 288 (λ x. kept_dot roms shadow x y)
+line-kept roms shadow strip y drawn fresh =
+    tabulate-same 288 _ _ (λ x across. dot-kept roms shadow strip x y drawn fresh across)
+
+-- of a row that was drawn from memory
+pub dot-drawn : (roms : VideoRoms) (memory : VideoMemory) (x y : ℕ) → x < 288 →
+    kept_dot roms (drawn_from memory (y / 8)) x y ≡ tile_dot roms memory x y
+unfolding kept_dot tile_dot cells_of
+dot-drawn roms memory x y across =
+    let column : x / 8 < 36 = omega (arith, across) in
+    rw (
+      get_or-tabulate 36 (λ (column : ℕ). slice_index memory.colour_ram (offset_of column (y / 8))) (x / 8) 0 column,
+      get_or-tabulate 36 (λ (column : ℕ). slice_index memory.tile_ram (offset_of column (y / 8))) (x / 8) 0 column,
+    ) refl
+
+-- one row more that is drawn
+pub row-step : (memory : VideoMemory) (now : List Shadow) (row : ℕ) → row < length now →
+    ((k : ℕ) → k < row → shadow_at now k ≡ drawn_from memory k) →
+    (k : ℕ) → k < row + 1 → shadow_at (set now row (drawn_from memory row)) k ≡ drawn_from memory k
+row-step memory now row inside done = set-step now (drawn_from memory) row (drawn_from memory row) (shadow_from [] []) inside refl done
+
+sum-more : (value : ℕ → ℕ) (count : ℕ) → sum (tabulate (suc count) value) ≡ sum (tabulate count value) + value count
+unfolding tabulate
+sum-more value count = sum_by_push (λ x. x) (tabulate count value) (value count)
+
+pub sum-none : (value : ℕ → ℕ) → 0 ≡ sum (tabulate 0 value)
+unfolding tabulate
+sum-none value = refl
+
+pub sum-step : (old now : List Shadow) (memory : VideoMemory) (row so_far one : ℕ) →
+    so_far ≡ sum (tabulate row (differing_in old memory)) → one ≡ differing_in now memory row → shadow_at now row ≡ shadow_at old row →
+    so_far + one ≡ sum (tabulate (row + 1) (differing_in old memory))
+sum-step old now memory row so_far one is more same =
+    let here : one ≡ differing_in old memory row = rw same at more in
+    rw (add-one, sum-more (differing_in old memory) row, is, here) refl
+
+pub drawn-all : (memory : VideoMemory) (shadows : List Shadow) → length shadows ≡ 28 →
+    ((k : ℕ) → k < 28 → shadow_at shadows k ≡ drawn_from memory k) → shadows ≡ tabulate 28 (drawn_from memory)
+drawn-all memory shadows high done = tabulate-is shadows 28 (drawn_from memory) (shadow_from [] []) high done
+
+pub all-at : (memory : VideoMemory) (shadows : List Shadow) (row : ℕ) → shadows ≡ tabulate 28 (drawn_from memory) → row < 28 →
+    shadow_at shadows row ≡ drawn_from memory row
+all-at memory shadows row is below = rw is (get_or-tabulate 28 (drawn_from memory) row (shadow_from [] []) below)
+
+pub drawn-at : (roms : VideoRoms) (shadows : List Shadow) (cells : List (List (List (List ℕ)))) (row : ℕ)
+    (strip : List (List (List ℕ))) → IsLayer roms shadows cells → row < 28 → strip ≡ get_or cells row strip → IsDrawn roms
+    (shadow_at shadows row) strip
+drawn-at roms shadows cells row strip layer below is_strip =
+    let two : row < length cells = omega (arith, below, layer.cells_high) in
+    rw (get_or_read cells row strip two is_strip []) (layer.drawn row below)
+
+pub shadow-set : (shadows : List Shadow) (row : ℕ) (next : Shadow) → length shadows ≡ 28 → row < 28 → shadow_at
+    (set shadows row next) row ≡ next
+shadow-set shadows row next high below =
+    let room : row < length shadows = omega (arith, high, below) in
+    get_or-set_same shadows row next (shadow_from [] []) room
+
+pub layer-is : (layer : LayerState) (roms : VideoRoms) (shadows : List Shadow) → layer.roms ≡ roms → layer.shadows ≡ shadows →
+    layer ≡ record { roms = roms; shadows = shadows }
+layer-is layer roms shadows one two = rw (← one, ← two) refl

@@ -1,0 +1,9 @@
+pub mod Places
+pub mod Decoded
+pub mod Painted
+pub mod Dots
+pub mod Cells
+pub mod Masks
+pub mod Counts
+pub mod Layers
+pub mod Composed

@@ -1,0 +1,18 @@
+use Rattle.std.proofs.Common.{◌≡◌, ◌<◌, [], length, rules, arith}
+use Rattle.pac_picture.specs.Layer.{pattern_of}
+use Rattle.pac_picture.proofs.Places.{set-step, tabulate-is}
+use Rattle.pac_picture.proofs.graphics.Roms.pattern.Goals as goal
+
+pub loop-y-preserved : goal.loop-y-preserved
+loop-y-preserved c =
+    let inside : c.loop-y.y < length c.loop-y.lines = omega (arith, c.loop-y.invariant.long) in
+    record {
+      long = search rules;
+      filled = set-step c.loop-y.lines _ _ _ _ inside c.tile_line.ensures c.loop-y.invariant.filled;
+    }
+
+pub returns : goal.returns
+unfolding pattern_of
+returns c =
+    let all : c.loop-y.y ≡ 8 = omega arith in
+    tabulate-is c.loop-y.lines 8 _ [] c.loop-y.invariant.long (rw all at c.loop-y.invariant.filled)

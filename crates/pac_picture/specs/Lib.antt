@@ -1,0 +1,4 @@
+pub mod Picture
+pub mod Layer
+pub mod State
+pub mod Painting

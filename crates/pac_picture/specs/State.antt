@@ -1,0 +1,51 @@
+-- What clauses see of a picture, and what composing it does.
+use Rattle.std.specs.Prelude.{◌≡◌, ℕ, ◌-◌, ◌/◌, ◌<◌, if◌then◌else◌, List, [], length, replicate, slice_index, slice_index_or, slice_set}
+use Rattle.pac_tiles.specs.Tabulate.{tabulate}
+use Rattle.pac_tiles.specs.Tiles.{width, height, rows, side}
+use Rattle.pac_colour.specs.Colours.{rgb_of, numbers}
+use Rattle.pac_picture.specs.Picture.{VideoRoms, VideoMemory, line_of, picture_of}
+use Rattle.pac_picture.specs.declared.shadow.Shadow.{Shadow}
+use Rattle.pac_picture.specs.Layer.{drawn_from, differing_in, all_differing}
+
+-- the ROMs that the picture is drawn from; red, green and blue of the 16 colour numbers; the lines as they were last
+-- composed; the shadows of the rows of cells, and how many cells the last composing drew
+pub record State : Type 0 where
+  pub roms : VideoRoms
+  pub palette : List (List ℕ)
+  pub lines : List (List ℕ)
+  pub shadows : List Shadow
+  pub drawn : ℕ
+
+-- the palette of the colour PROM's first 16 bytes
+unfoldable pub palette_of : List ℕ → List (List ℕ)
+palette_of colours = tabulate numbers (λ n. rgb_of (slice_index colours n))
+
+-- lines of colour number 0 alone
+unfoldable pub black : List (List ℕ)
+black = tabulate height (λ _. replicate width 0)
+
+-- the lines have the picture's size, and their numbers are colour numbers
+pub record IsPicture (lines : List (List ℕ)) : Type 0 where
+  pub high : length lines ≡ height
+  pub wide : (y : ℕ) → y < height → length (slice_index_or lines y []) ≡ width
+  pub below : (x y : ℕ) → slice_index (slice_index_or lines y []) x < numbers
+
+-- the line of the picture that isn't flipped which line y of the shown one has
+abbrev pub source_of : VideoMemory → ℕ → ℕ
+source_of memory y = if memory.flip then height - 1 - y else y
+
+-- the whole picture composed from one memory: all its cells are drawn from it then
+abbrev pub composed : VideoMemory → State → State
+composed memory state = record state {
+  lines = picture_of state.roms memory;
+  shadows = tabulate rows (drawn_from memory);
+  drawn = all_differing state.shadows memory;
+}
+
+-- one line of it: the cells of the row that this line shows are drawn from it then
+abbrev pub line_composed : ℕ → VideoMemory → State → State
+line_composed y memory state = record state {
+  lines = slice_set state.lines y (line_of state.roms memory y);
+  shadows = slice_set state.shadows (source_of memory y / side) (drawn_from memory (source_of memory y / side));
+  drawn = differing_in state.shadows memory (source_of memory y / side);
+}

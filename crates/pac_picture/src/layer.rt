@@ -1,0 +1,256 @@
+//! The layer of tiles: each row of cells as it was last drawn, beside the bytes that it was drawn from.
+
+ghost use Rattle.std.specs.Prelude.{◌≡◌, ◌<◌, ◌≤◌, ◌/◌, ◌%◌, ◌||◌, ℕ, IfOk, true};
+ghost use Rattle.std.specs.Prelude.{false, if◌then◌else◌, [], length, map, count_by, slice_index, slice_index_or, slice_set};
+ghost use Rattle.pac_tiles.specs.Tabulate.{tabulate};
+ghost use Rattle.pac_tiles.specs.Tiles as tile;
+ghost use Rattle.pac_picture.specs.Layer.{cells_of, differs, differing, differing_in, drawn_from, shadow_at, shadow_from, pattern_of};
+ghost use Rattle.pac_picture.specs.Layer.{IsDrawn, all_differing, kept_dot, made_stale, stale};
+
+use crate::graphics::Graphics;
+use crate::laws::{changed, is_same};
+use crate::painting::{Cells, WIDTH, lay_cells};
+use crate::screen::Screen;
+use crate::shadow::Shadow;
+use std::alloc::{AllocError, Global};
+use std::marker::Model;
+
+/// Whether all places count, or one of two lists has the place.
+#[inline]
+fn either(all: bool, one: &[bool; 36], other: &[bool; 36]) -> [bool; 36]
+    ensures { (k : ℕ) → k < 36 → slice_index_or result k false
+        ≡ (all || slice_index_or one.now k false || slice_index_or other.now k false) }
+{
+    let mut any = [false; 36];
+    for k in 0..36usize {
+        any[k] = all || one[k] || other[k];
+    }
+    any
+}
+
+/// Which cells of a row differ from these bytes.
+#[inline]
+fn differing(shadow: &Shadow, tiles: &[u8; 36], colours: &[u8; 36]) -> [bool; 36]
+    ensures { (column : ℕ) → column < 36 → slice_index_or result column false
+        ≡ differs shadow.now tiles.now colours.now column }
+{
+    let mut by_tile = [false; 36];
+    let mut by_colour = [false; 36];
+    changed(tiles, &shadow.tiles, &mut by_tile);
+    changed(colours, &shadow.colours, &mut by_colour);
+    either(shadow.stale, &by_tile, &by_colour)
+}
+
+/// Draws a cell where it differs, and counts it.
+#[inline]
+fn redraw_cell(cells: &mut Cells, column: usize, pattern: &[[u8; 8]; 8], differs: bool) -> u32
+    requires { column < tile.columns }
+    ensures cells { cells.new ≡ (if differs then slice_set cells.old column pattern.now else cells.old) }
+    ensures count { result ≡ (if differs then 1 else 0) }
+{
+    if differs {
+        cells[column] = *pattern;
+        1
+    } else {
+        0
+    }
+}
+
+/// Draws the cells of a mask, and counts them.
+#[inline]
+fn redraw(
+    cells: &mut Cells,
+    graphics: &Graphics,
+    tiles: &[u8; 36],
+    colours: &[u8; 36],
+    mask: &[bool; 36],
+) -> u32
+    ensures cells { (k : ℕ) → k < 36 → slice_index_or cells.new k []
+        ≡ (if slice_index_or mask.now k false
+        then pattern_of graphics.now (slice_index colours.now k) (slice_index tiles.now k)
+        else slice_index_or cells.old k []) }
+    ensures count { result ≡ count_by (λ k. slice_index_or mask.now k false) (tabulate 36 (λ k. k)) }
+    ensures bound { result ≤ 36 }
+{
+    let mut count = 0;
+    for column in 0..36usize {
+        let pattern = graphics.pattern(colours[column], tiles[column]);
+        count += redraw_cell(cells, column, pattern, mask[column]);
+    }
+    count
+}
+
+/// The same, cell by cell.
+#[inline]
+fn refresh_cells(
+    cells: &mut Cells,
+    shadow: &mut Shadow,
+    graphics: &Graphics,
+    tiles: &[u8; 36],
+    colours: &[u8; 36],
+) -> u32
+    requires drawn { IsDrawn graphics.now shadow.old cells.old }
+    ensures drawn { IsDrawn graphics.now shadow.new cells.new }
+    ensures shadow { shadow.new ≡ shadow_from tiles.now colours.now }
+    ensures count { result ≡ differing shadow.old tiles.now colours.now }
+    ensures bound { result ≤ 36 }
+{
+    let mask = differing(shadow, tiles, colours);
+    let drawn = redraw(cells, graphics, tiles, colours, &mask);
+    shadow.tiles = *tiles;
+    shadow.colours = *colours;
+    shadow.stale = false;
+    drawn
+}
+
+/// Whether a row was drawn from these bytes, as most rows are when a line is composed: it is told at once then.
+#[inline]
+fn is_current(shadow: &Shadow, tiles: &[u8; 36], colours: &[u8; 36]) -> bool
+    ensures { result ≡ true → shadow.now ≡ shadow_from tiles.now colours.now }
+{
+    !shadow.stale && is_same(tiles, &shadow.tiles) && is_same(colours, &shadow.colours)
+}
+
+/// Draws those cells of a row again that differ from these bytes, and says how many they are.
+#[inline]
+fn refresh(
+    cells: &mut Cells,
+    shadow: &mut Shadow,
+    graphics: &Graphics,
+    tiles: &[u8; 36],
+    colours: &[u8; 36],
+) -> u32
+    requires drawn { IsDrawn graphics.now shadow.old cells.old }
+    ensures drawn { IsDrawn graphics.now shadow.new cells.new }
+    ensures shadow { shadow.new ≡ shadow_from tiles.now colours.now }
+    ensures count { result ≡ differing shadow.old tiles.now colours.now }
+    ensures bound { result ≤ 36 }
+{
+    if is_current(shadow, tiles, colours) {
+        return 0;
+    }
+    refresh_cells(cells, shadow, graphics, tiles, colours)
+}
+
+/// Makes every cell of some rows count as differing.
+#[inline]
+fn make_stale(shadows: &mut [Shadow])
+    ensures { shadows.new ≡ map made_stale shadows.old }
+{
+    for shadow in shadows.iter_mut() {
+        shadow.stale = true;
+    }
+}
+
+/// The cells of rows that were never drawn.
+fn undrawn(alloc: Global) -> Result<Vec<Cells>, AllocError>
+    ensures { IfOk result (λ rows. length rows.items ≡ tile.rows) }
+{
+    let mut rows = Vec::with_capacity(alloc, 28)?;
+    for _ in 0..28u8 {
+        rows.push([[[0; 8]; 8]; 36])?;
+    }
+    Ok(rows)
+}
+
+/// The shadows of rows that were never drawn.
+fn stale_shadows(alloc: Global) -> Result<Vec<Shadow>, AllocError>
+    ensures { IfOk result (λ shadows. shadows.items ≡ stale) }
+{
+    let mut shadows = Vec::with_capacity(alloc, 28)?;
+    for _ in 0..28u8 {
+        shadows.push(Shadow::new())?;
+    }
+    Ok(shadows)
+}
+
+/// The layer of tiles. Clauses see the ROMs that it is drawn from, and the shadows of its rows.
+#[derive(Drop)]
+pub(crate) struct Layer {
+    graphics: Graphics,
+    rows: Vec<Cells>,
+    shadows: Vec<Shadow>,
+}
+
+impl Model for Layer {
+    ghost use Rattle.pac_picture.specs.Layer.{LayerState, IsLayer};
+
+    ghost Value = { LayerState };
+
+    ghost view = { λ layer. record { roms = layer.graphics; shadows = layer.shadows.items } };
+
+    ghost invariant = { λ layer. IsLayer layer.graphics layer.shadows.items layer.rows.items };
+}
+
+impl Layer {
+    /// A layer of which nothing is drawn. Refused for want of memory alone.
+    pub(crate) fn new(alloc: Global, graphics: Graphics) -> Result<Layer, AllocError>
+        ensures { IfOk result (λ layer. layer ≡ record { roms = graphics; shadows = stale }) }
+    {
+        let rows = undrawn(alloc)?;
+        let shadows = stale_shadows(alloc)?;
+        Ok(Layer {
+            graphics,
+            rows,
+            shadows,
+        })
+    }
+
+    /// The ROMs, decoded.
+    #[inline]
+    pub(crate) fn graphics(&self) -> &Graphics
+        ensures { result.now ≡ self.now.roms }
+    {
+        &self.graphics
+    }
+
+    /// Makes every cell count as differing.
+    pub(crate) fn set_stale(&mut self)
+        ensures { self.new ≡ record self.old { shadows = map made_stale self.old.shadows } }
+    {
+        make_stale(&mut self.shadows);
+    }
+
+    /// Draws those cells of a row again that differ from what the screen has, and says how many they are.
+    #[inline]
+    pub(crate) fn refresh(&mut self, row: u8, screen: &Screen<'_>) -> u32
+        requires { row < tile.rows }
+        ensures layer { self.new ≡ record self.old { shadows = slice_set self.old.shadows row (drawn_from screen.now row) } }
+        ensures count { result ≡ differing_in self.old.shadows screen.now row }
+        ensures bound { result ≤ tile.columns }
+        ensures high { length self.old.shadows ≡ tile.rows }
+    {
+        let tiles = screen.tiles(row);
+        let colours = screen.colours(row);
+        let place = row as usize;
+        refresh(
+            &mut self.rows[place],
+            &mut self.shadows[place],
+            &self.graphics,
+            &tiles,
+            &colours,
+        )
+    }
+
+    /// Draws those cells of the picture again that differ from what the screen has, and says how many they are.
+    pub(crate) fn refresh_all(&mut self, screen: &Screen<'_>) -> u32
+        ensures layer { self.new ≡ record self.old { shadows = tabulate tile.rows (drawn_from screen.now) } }
+        ensures count { result ≡ all_differing self.old.shadows screen.now }
+    {
+        let mut drawn = 0;
+        for row in 0..28u8 {
+            drawn += self.refresh(row, screen);
+        }
+        drawn
+    }
+
+    /// Fills a line with line y of the picture's cells, whose row is drawn.
+    #[inline]
+    pub(crate) fn line(&self, y: u8, out: &mut [u8; WIDTH])
+        requires y { y < tile.height }
+        requires drawn { (shadow_at self.now.shadows (y / 8)).stale ≡ false }
+        ensures { out.new ≡ tabulate tile.width (λ x. kept_dot self.now.roms (shadow_at self.now.shadows (y / 8)) x y) }
+    {
+        lay_cells(&self.rows[(y / 8) as usize], y % 8, out);
+    }
+}

@@ -1,0 +1,19 @@
+//! The picture of the board, 288 by 224 colour numbers: composed whole or line by line from what a program wrote,
+//! through a layer of tiles in which only cells that differ are drawn again.
+#![tactic(auto)]
+
+mod graphics;
+pub mod laws;
+mod layer;
+mod lines;
+mod painting;
+mod picture;
+mod screen;
+mod shadow;
+
+pub use graphics::Graphics;
+pub use lines::Lines;
+pub use painting::WIDTH;
+pub use picture::Picture;
+pub use screen::Screen;
+pub use shadow::Shadow;

@@ -1,0 +1,114 @@
+//! The lines of a picture, as colour numbers.
+
+ghost use Rattle.std.specs.Prelude.{◌≡◌, ◌<◌, ◌/◌, ◌-◌, ℕ, [], IfOk};
+ghost use Rattle.std.specs.Prelude.{length, reverse, if◌then◌else◌, slice_index, slice_index_or, slice_set, EachIndex};
+ghost use Rattle.pac_tiles.specs.Tabulate.{tabulate};
+ghost use Rattle.pac_tiles.specs.Tiles as tile;
+ghost use Rattle.pac_colour.specs.Colours as colour;
+ghost use Rattle.pac_picture.specs.Picture.{line_of, picture_of};
+ghost use Rattle.pac_picture.specs.Layer.{shadow_at, drawn_from};
+ghost use Rattle.pac_picture.specs.State.{black, source_of};
+
+use crate::layer::Layer;
+use crate::painting::{WIDTH, paint_sprites};
+use crate::screen::Screen;
+use std::alloc::{AllocError, Global};
+use std::marker::Model;
+
+/// Flips a line, or leaves it.
+#[inline]
+fn turn(out: &mut [u8; WIDTH], flip: bool)
+    ensures { out.new ≡ (if flip then reverse out.old else out.old) }
+{
+    if flip {
+        out.reverse();
+    }
+}
+
+/// Composes line y of the shown picture, through a layer whose row of that line is drawn from the screen.
+#[inline]
+fn compose_line(layer: &Layer, screen: &Screen<'_>, y: u8, out: &mut [u8; WIDTH])
+    requires y { y < tile.height }
+    requires drawn { shadow_at layer.now.shadows (source_of screen.now y / 8) ≡ drawn_from screen.now (source_of screen.now y / 8) }
+    ensures { out.new ≡ line_of layer.now.roms screen.now y }
+{
+    let source = screen.source(y);
+    layer.line(source, out);
+    paint_sprites(layer.graphics(), screen, source, out);
+    turn(out, screen.flip());
+}
+
+/// The 224 lines of a picture, of 288 colour numbers each, from 0 to 15.
+#[derive(Drop)]
+pub struct Lines {
+    lines: Vec<[u8; WIDTH]>,
+}
+
+impl Model for Lines {
+    ghost use Rattle.std.specs.Prelude.{ℕ, List};
+    ghost use Rattle.pac_picture.specs.State.{IsPicture};
+
+    ghost Value = { List (List ℕ) };
+
+    ghost view = { λ picture. picture.lines.items };
+
+    ghost invariant = { λ picture. IsPicture picture.lines.items };
+}
+
+impl Lines {
+    /// Lines of colour number 0 alone. Refused for want of memory alone.
+    pub fn new(alloc: Global) -> Result<Lines, AllocError>
+        ensures { IfOk result (λ lines. lines ≡ black) }
+    {
+        let mut lines = Vec::with_capacity(alloc, 224)?;
+        for _ in 0..224u8 {
+            lines.push([0; WIDTH])?;
+        }
+        Ok(Lines { lines })
+    }
+
+    /// Line y, 0 to 223.
+    #[inline]
+    pub fn row(&self, y: u8) -> &[u8; WIDTH]
+        requires { y < tile.height }
+        ensures line { result.now ≡ slice_index_or self.now y [] }
+        ensures below { EachIndex result.now (λ x. slice_index result.now x < colour.numbers) }
+    {
+        &self.lines[y as usize]
+    }
+
+    /// Takes the numbers of line y, each below 16, from a line that is handed in.
+    pub fn set_row(&mut self, y: u8, numbers: &[u8; WIDTH])
+        requires y { y < tile.height }
+        requires numbers { EachIndex numbers.now (λ x. slice_index numbers.now x < colour.numbers) }
+        ensures { self.new ≡ slice_set self.old y numbers.now }
+    {
+        self.lines[y as usize] = *numbers;
+    }
+
+    /// Takes all lines from others.
+    pub fn copy_from(&mut self, other: &Lines)
+        ensures { self.new ≡ other.now }
+    {
+        self.lines.copy_from_slice(&other.lines);
+    }
+
+    /// Composes line y of the shown picture, through a layer whose row of that line is drawn from the screen.
+    pub(crate) fn compose_line(&mut self, y: u8, layer: &Layer, screen: &Screen<'_>)
+        requires y { y < tile.height }
+        requires drawn { shadow_at layer.now.shadows (source_of screen.now y / 8) ≡ drawn_from screen.now (source_of screen.now y / 8) }
+        ensures { self.new ≡ slice_set self.old y (line_of layer.now.roms screen.now y) }
+    {
+        compose_line(layer, screen, y, &mut self.lines[y as usize]);
+    }
+
+    /// Composes all lines, through a layer that is drawn from the screen.
+    pub(crate) fn compose(&mut self, layer: &Layer, screen: &Screen<'_>)
+        requires { layer.now.shadows ≡ tabulate tile.rows (drawn_from screen.now) }
+        ensures { self.new ≡ picture_of layer.now.roms screen.now }
+    {
+        for y in 0..224u8 {
+            compose_line(layer, screen, y, &mut self.lines[y as usize]);
+        }
+    }
+}

@@ -1,0 +1,150 @@
+//! The picture as a board keeps it.
+
+ghost use Rattle.std.specs.Prelude.{◌≡◌, ◌<◌, ◌/◌, ℕ, [], false, IfOk, length, map, slice_index, slice_index_or, slice_set, EachIndex};
+ghost use Rattle.pac_tiles.specs.Tiles as tile;
+ghost use Rattle.pac_colour.specs.Colours as colour;
+ghost use Rattle.pac_picture.specs.Layer.{made_stale, stale, differs, shadow_at, cells_of};
+ghost use Rattle.pac_picture.specs.State.{black, palette_of, composed, line_composed};
+
+use crate::graphics::Graphics;
+use crate::layer::Layer;
+use crate::lines::Lines;
+use crate::screen::Screen;
+use pac_colour::rgb;
+use std::alloc::{AllocError, Global};
+use std::marker::Model;
+
+/// The picture, with the layer through which it is composed. Clauses see its ROMs, its palette, its lines, the
+/// shadows of the layer's rows and the count of cells that the last composing drew.
+#[derive(Drop)]
+pub struct Picture {
+    layer: Layer,
+    palette: Vec<[u8; 3]>,
+    lines: Lines,
+    drawn: u32,
+}
+
+impl Model for Picture {
+    ghost use Rattle.std.specs.Prelude.{◌≡◌, length};
+    ghost use Rattle.pac_colour.specs.Colours.{numbers};
+    ghost use Rattle.pac_picture.specs.State.{State};
+
+    ghost Value = { State };
+
+    ghost view = { λ picture. record {
+      roms = picture.layer.roms;
+      palette = picture.palette.items;
+      lines = picture.lines;
+      shadows = picture.layer.shadows;
+      drawn = picture.drawn;
+    } };
+
+    ghost invariant = { λ picture. length picture.palette.items ≡ numbers };
+}
+
+/// The colours of the 16 colour numbers.
+fn palette(alloc: Global, colours: &[u8]) -> Result<Vec<[u8; 3]>, AllocError>
+    requires { length colours.now ≡ 32 }
+    ensures { IfOk result (λ palette. palette.items ≡ palette_of colours.now) }
+{
+    let mut palette = Vec::with_capacity(alloc, 16)?;
+    for number in 0..16usize {
+        palette.push(rgb(colours[number]))?;
+    }
+    Ok(palette)
+}
+
+impl Picture {
+    /// A picture of colour number 0 alone, drawn from these ROMs in the colours of a colour PROM's 32 bytes, with no
+    /// cell drawn. Refused for want of memory alone.
+    pub fn new(alloc: Global, graphics: Graphics, colours: &[u8]) -> Result<Picture, AllocError>
+        requires { length colours.now ≡ 32 }
+        ensures { IfOk result (λ picture. picture ≡ record {
+          roms = graphics;
+          palette = palette_of colours.now;
+          lines = black;
+          shadows = stale;
+          drawn = 0;
+        }) }
+    {
+        let layer = Layer::new(alloc, graphics)?;
+        let palette = palette(alloc, colours)?;
+        let lines = Lines::new(alloc)?;
+        Ok(Picture {
+            layer,
+            palette,
+            lines,
+            drawn: 0,
+        })
+    }
+
+    /// The lines as they were last composed or taken.
+    #[inline]
+    pub fn lines(&self) -> &Lines
+        ensures { result.now ≡ self.now.lines }
+    {
+        &self.lines
+    }
+
+    /// The 288 colour numbers of line y, 0 to 223.
+    #[inline]
+    pub fn row(&self, y: u8) -> &[u8]
+        requires { y < tile.height }
+        ensures line { result.now ≡ slice_index_or self.now.lines y [] }
+        ensures size { length result.now ≡ tile.width }
+        ensures below { EachIndex result.now (λ x. slice_index result.now x < colour.numbers) }
+    {
+        self.lines.row(y)
+    }
+
+    /// Red, green and blue of a colour number, 0 to 15.
+    #[inline]
+    pub fn colour(&self, number: u8) -> [u8; 3]
+        requires { number < colour.numbers }
+        ensures { result ≡ slice_index_or self.now.palette number [] }
+    {
+        self.palette[number as usize]
+    }
+
+    /// How many cells the last composing drew, 0 before any.
+    #[inline]
+    pub fn drawn(&self) -> u32
+        ensures { result ≡ self.now.drawn }
+    {
+        self.drawn
+    }
+
+    /// Makes every cell count as differing until it is drawn.
+    pub fn set_stale(&mut self)
+        ensures { self.new ≡ record self.old { shadows = map made_stale self.old.shadows } }
+    {
+        self.layer.set_stale();
+    }
+
+    /// Takes its lines from others; every cell counts as differing then.
+    pub fn copy_from(&mut self, lines: &Lines)
+        ensures { self.new ≡ record self.old { lines = lines.now; shadows = map made_stale self.old.shadows } }
+    {
+        self.lines.copy_from(lines);
+        self.layer.set_stale();
+    }
+
+    /// Composes the whole picture that the screen shows. Of its 1,008 cells only those are drawn again that differ
+    /// from what they were last drawn from, and `drawn` says then how many these were.
+    pub fn compose(&mut self, screen: &Screen<'_>)
+        ensures { self.new ≡ composed screen.now self.old }
+    {
+        self.drawn = self.layer.refresh_all(screen);
+        self.lines.compose(&self.layer, screen);
+    }
+
+    /// Composes line y of the picture that the screen shows, 0 to 223, and leaves the others. Of the 36 cells of the
+    /// row that it shows only those are drawn again that differ, and `drawn` says then how many these were.
+    pub fn compose_line(&mut self, y: u8, screen: &Screen<'_>)
+        requires { y < tile.height }
+        ensures { self.new ≡ line_composed y screen.now self.old }
+    {
+        self.drawn = self.layer.refresh(screen.source(y) / 8, screen);
+        self.lines.compose_line(y, &self.layer, screen);
+    }
+}

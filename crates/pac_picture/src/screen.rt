@@ -1,0 +1,145 @@
+//! What a program writes to choose the picture.
+
+ghost use Rattle.std.specs.Prelude.{◌≡◌, ◌<◌, length, if◌then◌else◌};
+ghost use Rattle.pac_tiles.specs.Tiles as tile;
+ghost use Rattle.pac_sprites.specs.Sprites as sprite;
+ghost use Rattle.pac_picture.specs.Picture.{sprite_at, sprite_bytes};
+ghost use Rattle.pac_picture.specs.Layer.{cells_of};
+ghost use Rattle.pac_picture.specs.State.{source_of};
+
+use pac_sprites::Sprite;
+use pac_tiles::offset;
+use std::marker::Model;
+
+/// The memory that a picture is composed from, borrowed. Clauses see it as its bytes.
+#[derive(Drop)]
+pub struct Screen<'a> {
+    tile_ram: &'a [u8],
+    colour_ram: &'a [u8],
+    attributes: &'a [u8],
+    coordinates: &'a [u8],
+    flip: bool,
+}
+
+impl<'a> Model for Screen<'a> {
+    ghost use Rattle.std.specs.Prelude.{◌≡◌, length};
+    ghost use Rattle.pac_tiles.specs.Tiles.{ram_size};
+    ghost use Rattle.pac_picture.specs.Picture.{VideoMemory, sprite_bytes};
+
+    ghost Value = { VideoMemory };
+
+    ghost view = { λ screen. record {
+      tile_ram = screen.tile_ram.now;
+      colour_ram = screen.colour_ram.now;
+      attributes = screen.attributes.now;
+      coordinates = screen.coordinates.now;
+      flip = screen.flip;
+    } };
+
+    ghost invariant = { λ screen. record {
+      tile_ram : length screen.tile_ram.now ≡ ram_size;
+      colour_ram : length screen.colour_ram.now ≡ ram_size;
+      attributes : length screen.attributes.now ≡ sprite_bytes;
+      coordinates : length screen.coordinates.now ≡ sprite_bytes;
+    } };
+}
+
+impl<'a> Screen<'a> {
+    /// The screen of 1,024 bytes of tile RAM, 1,024 of colour RAM, the 16 bytes of the sprites' attributes, from
+    /// 4FF0H on, the 16 of their coordinates, from 5060H on, and the latch's flip bit.
+    #[inline]
+    pub fn new(
+        tile_ram: &'a [u8],
+        colour_ram: &'a [u8],
+        attributes: &'a [u8],
+        coordinates: &'a [u8],
+        flip: bool,
+    ) -> Screen<'a>
+        requires tile_ram { length tile_ram.now ≡ tile.ram_size }
+        requires colour_ram { length colour_ram.now ≡ tile.ram_size }
+        requires attributes { length attributes.now ≡ sprite_bytes }
+        requires coordinates { length coordinates.now ≡ sprite_bytes }
+        ensures { result ≡ record {
+          tile_ram = tile_ram.now;
+          colour_ram = colour_ram.now;
+          attributes = attributes.now;
+          coordinates = coordinates.now;
+          flip = flip;
+        } }
+    {
+        Screen {
+            tile_ram,
+            colour_ram,
+            attributes,
+            coordinates,
+            flip,
+        }
+    }
+
+    /// Whether the picture is shown flipped.
+    #[inline]
+    pub(crate) fn flip(&self) -> bool
+        ensures { result ≡ self.now.flip }
+    {
+        self.flip
+    }
+
+    /// The line of the picture that isn't flipped which line y of the shown one has.
+    #[inline]
+    pub(crate) fn source(&self, y: u8) -> u8
+        requires { y < tile.height }
+        ensures line { result ≡ source_of self.now y }
+        ensures below { result < tile.height }
+    {
+        if self.flip { 223 - y } else { y }
+    }
+
+    /// A sprite, 0 to 7.
+    #[inline]
+    pub(crate) fn sprite(&self, k: u8) -> Sprite
+        requires { k < 8 }
+        ensures sprite { result ≡ sprite_at self.now k }
+        ensures code { result.code < sprite.codes }
+    {
+        let first = 2 * k as usize;
+        Sprite::of(
+            [self.attributes[first], self.attributes[first + 1]],
+            [self.coordinates[first], self.coordinates[first + 1]],
+        )
+    }
+
+    /// The tiles of a row of 36 cells.
+    #[inline]
+    pub(crate) fn tiles(&self, row: u8) -> [u8; 36]
+        requires { row < tile.rows }
+        ensures { result ≡ cells_of self.now.tile_ram row }
+    {
+        cells(self.tile_ram, row)
+    }
+
+    /// The colours of a row of 36 cells.
+    #[inline]
+    pub(crate) fn colours(&self, row: u8) -> [u8; 36]
+        requires { row < tile.rows }
+        ensures { result ≡ cells_of self.now.colour_ram row }
+    {
+        cells(self.colour_ram, row)
+    }
+}
+
+/// The bytes of 1,024 that a row of 36 cells has: the 32 in the middle follow one another.
+#[inline]
+fn cells(ram: &[u8], row: u8) -> [u8; 36]
+    requires ram { length ram.now ≡ tile.ram_size }
+    requires row { row < tile.rows }
+    ensures { result ≡ cells_of ram.now row }
+{
+    let mut cells = [0; 36];
+    let middle = 32 * (row as usize + 2);
+    cells[2..34].copy_from_slice(&ram[middle..middle + 32]);
+    cells[0] = ram[offset(0, row) as usize];
+    cells[1] = ram[offset(1, row) as usize];
+    cells[34] = ram[offset(34, row) as usize];
+    cells[35] = ram[offset(35, row) as usize];
+    cells
+}

@@ -1,0 +1,28 @@
+//! The bytes that a row of cells was drawn from.
+
+ghost use Rattle.std.specs.Prelude.{◌≡◌};
+ghost use Rattle.pac_picture.specs.Layer.{stale_row};
+
+/// The shadow of a row of 36 cells: what they were last drawn from.
+#[derive(Clone, Copy)]
+pub struct Shadow {
+    /// The bytes of tile RAM, from left to right.
+    pub tiles: [u8; 36],
+    /// The bytes of colour RAM.
+    pub colours: [u8; 36],
+    /// Whether every cell counts as differing, whatever its bytes are.
+    pub stale: bool,
+}
+
+impl Shadow {
+    /// The shadow of a row that was never drawn.
+    pub(crate) fn new() -> Shadow
+        ensures { result ≡ stale_row }
+    {
+        Shadow {
+            tiles: [0; 36],
+            colours: [0; 36],
+            stale: true,
+        }
+    }
+}

@@ -1,0 +1,3 @@
+mod Seen
+mod WrittenOver
+mod Apart

@@ -1,0 +1,4 @@
+pub mod Content
+pub mod Names
+pub mod Programs
+pub mod Rom

@@ -1,0 +1,21 @@
+-- Symbols: names that stand for numbers, in the order in which they were defined. Names are the same where their
+-- bytes are; small and capital letters differ (this profile).
+use Rattle.std.specs.Prelude.{ℕ, ℤ, List, [], ◌∷◌, ◌++◌, Option, is_some, bytes_eq, if◌then◌else◌}
+use Rattle.std.specs.Map.{lookup, keys_of}
+use Rattle.std.specs.List.{IsDistinct}
+
+-- a name's bytes with its number
+abbrev pub Named : Type 0
+Named = List ℕ × ℤ
+
+-- the number that a name stands for, if it is defined
+abbrev pub number_of : List Named → List ℕ → Option ℤ
+number_of symbols name = lookup (bytes_eq name) symbols
+
+-- the symbols after a name is defined: it goes last, and a name that stands already keeps its number
+abbrev pub with_symbol : List Named → List ℕ → ℤ → List Named
+with_symbol symbols name number = if is_some (number_of symbols name) then symbols else symbols ++ (name, number) ∷ []
+
+-- no name is defined twice
+abbrev pub AreDistinct : List Named → Type 0
+AreDistinct symbols = IsDistinct bytes_eq (keys_of symbols)

@@ -1,0 +1,8 @@
+//! The ROMs and PROMs in the sockets of the board: bytes that are put in once and never change.
+#![tactic(auto)]
+
+mod set;
+#[cfg(test)]
+mod tests;
+
+pub use set::{Raw, RomSet};

@@ -1,0 +1,30 @@
+//! A set of parts that differ, lent again one by one.
+
+use crate::{Raw, RomSet};
+use std::test::Fail;
+
+#[test]
+fn each_part_is_lent_as_it_was_put_in(rt: HostRuntime) -> Result<(), Fail> {
+    let raw = Raw {
+        tiles: &[1; 4096],
+        sprites: &[2; 4096],
+        colours: &[3; 32],
+        lookup: &[4; 256],
+        wave: &[5; 256],
+    };
+    let set = RomSet::of(rt.alloc(), &[0xC9; 16384], &raw)?;
+    let parts = [
+        (set.program(), 16384, 0xC9),
+        (set.tiles(), 4096, 1),
+        (set.sprites(), 4096, 2),
+        (set.colours(), 32, 3),
+        (set.lookup(), 256, 4),
+        (set.wave(), 256, 5),
+    ];
+    for (bytes, size, byte) in parts {
+        assert_eq!(rt; bytes.len(), size);
+        assert_eq!(rt; bytes.first().copied(), Some(byte));
+        assert_eq!(rt; bytes.last().copied(), Some(byte));
+    }
+    Ok(())
+}

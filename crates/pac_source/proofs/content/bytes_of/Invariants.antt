@@ -1,0 +1,14 @@
+use Rattle.std.proofs.Common.{◌≡◌, length, map}
+use Rattle.pac_source.specs.Contents.{gathered, joined, part_bytes}
+use Rattle.pac_source.specs.Gathered.{so_far}
+use Rattle.pac_source.specs.Views.{part, parts_of}
+use Rattle.pac_operation.specs.Operands.{parts_after}
+use Rattle.pac_source.proofs.content.bytes_of.Given as goal
+
+abbrev pub invariant-loop-rest : goal.invariant-loop-rest
+invariant-loop-rest g l =
+    joined (so_far l.found) (gathered (part_bytes (g.S.Symbols.lookup l.symbols) l.here) (map part (parts_after l.rest)))
+    ≡ gathered (part_bytes (g.S.Symbols.lookup l.symbols) l.here) (parts_of l.fn.operands)
+
+abbrev pub decreases-loop-rest : goal.decreases-loop-rest
+decreases-loop-rest g l = length (parts_after l.rest)

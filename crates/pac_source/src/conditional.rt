@@ -1,0 +1,30 @@
+//! The directives that tell which lines count, by a line's first word.
+
+ghost use Rattle.std.specs.Prelude.{◌≡◌};
+ghost use Rattle.pac_source.specs.Conditionals.{conditional_word};
+
+use pac_operation::{Directive, directive_of};
+
+/// A directive that tells which of the lines after it count.
+#[derive(Clone, Copy, Debug, PartialEq, Eq)]
+pub enum Conditional {
+    /// `IF`: the lines up to its `ELSE` or `ENDIF` count where its value isn't 0.
+    If,
+    /// `ELSE`: what counts where the `IF` doesn't.
+    Else,
+    /// `ENDIF`: the end of an `IF`.
+    EndIf,
+}
+
+/// What the first word of a line, in either case, opens, parts or closes. A line is counted or skipped by
+/// this word alone, whatever follows it.
+pub fn conditional_word(word: &[u8]) -> Option<Conditional>
+    ensures { result ≡ conditional_word word.now }
+{
+    match directive_of(word) {
+        Some(Directive::Condition) => Some(Conditional::If),
+        Some(Directive::Otherwise) => Some(Conditional::Else),
+        Some(Directive::EndCondition) => Some(Conditional::EndIf),
+        _ => None,
+    }
+}

@@ -1,0 +1,107 @@
+//! Prints, on standard error, how many lines a second are assembled and listed: the least time of some rounds over two
+//! sources of 65,535 lines, the most that a source may have. `pacbench N` does N rounds, 1 to 9; without N there is one.
+#![tactic(auto)]
+
+use pac_asm::assemble;
+use pac_listing::write_listing;
+use pac_out::counted::Counted;
+use pac_out::memory::Memory;
+use std::alloc::{AllocError, Global};
+use std::io;
+use std::process::ExitCode;
+use std::time::Instant;
+
+/// The lines of each source.
+const LINES: u32 = 65_535;
+
+/// The lines that have room for an instruction of one byte.
+const INSTRUCTIONS: u32 = 16_384;
+
+/// The most bytes of a listing of such a source: 64 a line are more than enough.
+const LISTING_BYTES: usize = 8_388_608;
+
+/// `L` and five digits.
+fn push_label(source: &mut Vec<u8>, number: u32) -> Result<(), AllocError> {
+    let digits = [
+        b'L',
+        b'0' + (number / 10_000 % 10) as u8,
+        b'0' + (number / 1_000 % 10) as u8,
+        b'0' + (number / 100 % 10) as u8,
+        b'0' + (number / 10 % 10) as u8,
+        b'0' + (number % 10) as u8,
+    ];
+    source.extend_from_slice(&digits)
+}
+
+/// A label with an instruction in each line as long as the ROM has room, then a name for a number in each.
+fn labels(alloc: Global) -> Result<Vec<u8>, AllocError> {
+    let mut source = Vec::new(alloc);
+    for number in 1..LINES + 1 {
+        push_label(&mut source, number)?;
+        if number <= INSTRUCTIONS {
+            source.extend_from_slice(b": NOP\n")?;
+        } else {
+            source.extend_from_slice(b" EQU 1\n")?;
+        }
+    }
+    Ok(source)
+}
+
+/// A name for the value of an expression with two names in each line.
+fn expressions(alloc: Global) -> Result<Vec<u8>, AllocError> {
+    let mut source = Vec::from_slice(alloc, b"L00001 EQU 1\n")?;
+    for number in 2..LINES + 1 {
+        push_label(&mut source, number)?;
+        source.extend_from_slice(b" EQU (L00001+3)*2-")?;
+        push_label(&mut source, number - 1)?;
+        source.extend_from_slice(b"/3+$ ; of the line above\n")?;
+    }
+    Ok(source)
+}
+
+/// The microseconds that one round takes, or nothing where it can't be done.
+fn round(rt: &HostRuntime, source: &[u8]) -> io::Result<u128> {
+    let mut listing = Memory::new(rt.alloc(), LISTING_BYTES)?;
+    let start = Instant::now(rt)?;
+    if let Ok(program) = assemble(rt.alloc(), source) {
+        let _ = write_listing(&mut Counted::new(&mut listing), &program, source);
+    }
+    Ok(start.elapsed(rt)?.as_micros())
+}
+
+/// Tells the least time of some rounds.
+fn measure(rt: &HostRuntime, name: &str, source: &[u8], rounds: u32) -> io::Result<()> {
+    let mut least = round(rt, source)?;
+    for _ in 1..rounds {
+        least = least.min(round(rt, source)?);
+    }
+    let rate = if least == 0 {
+        0
+    } else {
+        u128::from(LINES) * 1_000_000 / least
+    };
+    let _ = eprintln!(rt; "{name}: {LINES} lines in {least} microseconds, {rate} lines a second");
+    Ok(())
+}
+
+/// The count of rounds that the program's word asks for.
+fn rounds(rt: &HostRuntime) -> io::Result<u32> {
+    match std::env::args(rt)?.nth(1) {
+        Some(word) => Ok(word.parse::<u32>().unwrap_or(1).clamp(1, 9)),
+        None => Ok(1),
+    }
+}
+
+/// Both sources.
+fn run(rt: &HostRuntime) -> io::Result<()> {
+    let rounds = rounds(rt)?;
+    measure(rt, "labels", &labels(rt.alloc())?, rounds)?;
+    measure(rt, "expressions", &expressions(rt.alloc())?, rounds)
+}
+
+fn main(rt: HostRuntime) -> ExitCode {
+    match run(&rt) {
+        Ok(()) => ExitCode::from(0),
+        Err(_) => ExitCode::from(1),
+    }
+}
