@@ -1,76 +1,31 @@
--- Laws of the board's definitions, each proved on a public function of the crate.
-use Rattle.std.specs.Prelude.{◌≡◌, ◌<◌, ℕ, true, List, ◌*◌, ◌/◌, length, slice_index}
-use mathlib.Core.List.{IsPrefix}
-use Rattle.pac_code.specs.Items.{Item, AllLie}
-use Rattle.pac_roms.specs.Parts.{program_size}
-use Rattle.pac_map.specs.Entry.{Entry}
-use Rattle.pac_latch.specs.Latched.{is_set, request_of}
-use Rattle.pac_latch.specs.Latched as latch
-use Rattle.pac_map.specs.Place.{ram_size}
-use Rattle.pac_map.specs.View.{View, power_on, IsWellFormed}
-use Rattle.pac_map.specs.View as view
-use Rattle.pac_map.specs.Contents.{read_of}
-use Rattle.pac_board.specs.History.{read, view_of, tile_at, colour_at, work_at, attributes, coordinates, registers, held}
-use Rattle.pac_board.specs.Queries.{bit_at, vector, request, is_due}
-use Rattle.pac_board.specs.Step.{frame_ticks}
-use Rattle.pac_board.specs.Walk.{has_ended}
-use Rattle.pac_board.specs.Carried.{walk_view}
-use Rattle.pac_board.specs.Trace.{Roms, pictures_of, blanks, trace, view_walk, view_trace}
+-- Laws of the calls, each proved on a public function of the crate.
+use Rattle.std.specs.Prelude.{◌≡◌, ℕ, ◌+◌, List, ◌++◌}
+use Rattle.pac_step.specs.BoardView.{BoardView}
+use Rattle.pac_step.specs.Output.{Output}
+use Rattle.pac_board.specs.State.{Value, State, due_outputs, restored}
+use Rattle.pac_board.specs.Calls.{course, given, ran, next_of, stepped, outputs_in, IsRunRefused}
 
--- The view that a history leaves answers each read as the history does.
-abbrev pub ViewAnswers : Type 0
-ViewAnswers =
-    (program : List ℕ) (start : View) (entries : List Entry) (address : ℕ) → IsWellFormed start
-    → read program start entries address ≡ read_of program (view_of start entries) address
+-- Time in pieces is time at once: the board is the same, what is given is the same in the same order, and the ticks add up.
+pub record IsCut (board : Value) (first second : ℕ) : Type 0 where
+  pub board_is : ran (ran board first) second ≡ ran board (first + second)
+  pub given_is : given board first ++ given (ran board first) second ≡ given board (first + second)
+  pub stop_is : (course (ran board first) second).stop ≡ (course board (first + second)).stop
 
--- It tells all that a step, a sample or a picture asks as the history does.
-pub record Tells (start : View) (entries : List Entry) : Type 0 where
-  pub tile : (cell : ℕ) → cell < ram_size → slice_index (view_of start entries).tile cell ≡ tile_at start entries cell
-  pub colour : (cell : ℕ) → cell < ram_size → slice_index (view_of start entries).colour cell ≡ colour_at start entries cell
-  pub work : (cell : ℕ) → cell < ram_size → slice_index (view_of start entries).work cell ≡ work_at start entries cell
-  pub attributes : view.attributes (view_of start entries) ≡ attributes start entries
-  pub coordinates : (view_of start entries).coordinates ≡ coordinates start entries
-  pub registers : (view_of start entries).registers ≡ registers start entries
-  pub held : (view_of start entries).held ≡ held start entries
-  pub bits : (place : ℕ) → is_set (view_of start entries).latched place ≡ bit_at start entries place
-  pub vector : (view_of start entries).latched.vector ≡ vector start entries
-  pub request : request_of (view_of start entries).latched ≡ request start entries
-  pub due : latch.is_due (view_of start entries).latched ≡ is_due start entries
+abbrev pub TimeCanBeCut : Type 0
+TimeCanBeCut = (board : Value) (first second : ℕ) → IsCut board first second
 
-abbrev pub ViewTells : Type 0
-ViewTells = (start : View) (entries : List Entry) → IsWellFormed start → Tells start entries
+-- After a refusal, a call for no time goes on: where the sink takes all then, the board is what the refused call would have left,
+-- and the outputs of both are those that it would have given.
+pub record IsTakenUp (old new : Value) (microseconds : ℕ) (taken : List Output) : Type 0 where
+  pub board_is : ran new 0 ≡ ran old microseconds
+  pub given_is : taken ++ given new 0 ≡ given old microseconds
+  pub stop_is : (course new 0).stop ≡ (course old microseconds).stop
 
--- A trace told by the source's items and the history is the trace told by the bytes and the view.
-abbrev pub TracesAgree : Type 0
-TracesAgree =
-    (roms : Roms) (items : List Item) (switches frames : ℕ) → length roms.program ≡ program_size → AllLie roms.program items
-    → walk_view (view_of (power_on switches)) (trace roms items switches frames) ≡ view_trace roms switches frames
+abbrev pub RefusalsAreTakenUp : Type 0 → Type 0
+RefusalsAreTakenUp S =
+    (took refused : S → Output → S → Type 0) (old new : Value) (microseconds : ℕ) (sink later : S)
+    → (refusal : IsRunRefused took refused old microseconds sink new later) → IsTakenUp old new microseconds refusal.taken
 
--- A trace's pictures are those of its history, each of the entries before its blank, and as many as its blanks,
--- one for each frame's time.
-abbrev pub PicturesAreOfTheHistory : Type 0
-PicturesAreOfTheHistory =
-    (roms : Roms) (items : List Item) (switches frames : ℕ)
-    → (trace roms items switches frames).pictures ≡ pictures_of roms.tiles (power_on switches) (trace roms items switches frames).now.board
-
-abbrev pub BlanksAreFrames : Type 0
-BlanksAreFrames =
-    (roms : Roms) (items : List Item) (switches frames : ℕ)
-    → blanks (trace roms items switches frames).now.board ≡ (trace roms items switches frames).now.time / frame_ticks
-
--- A trace has ended: its time has come, or a step stopped.
-abbrev pub TracesEnd : Type 0
-TracesEnd =
-    (roms : Roms) (items : List Item) (switches frames : ℕ) → has_ended (frame_ticks * frames) (trace roms items switches frames) ≡ true
-
--- A walk by the view that has ended is the whole trace, and the pictures of each are a prefix of the trace's.
-abbrev pub EndedWalksAreTraces : Type 0
-EndedWalksAreTraces =
-    (roms : Roms) (switches frames count : ℕ)
-    → has_ended (frame_ticks * frames) (view_walk roms switches frames count) ≡ true
-    → view_walk roms switches frames count ≡ view_trace roms switches frames
-
-abbrev pub WalksArePrefixes : Type 0
-WalksArePrefixes =
-    (roms : Roms) (switches frames count : ℕ)
-    → IsPrefix (view_walk roms switches frames count).pictures (view_trace roms switches frames).pictures
+-- A step that is done again after its board was put back comes to the same.
+abbrev pub StepsAreDoneAgain : Type 0
+StepsAreDoneAgain = (board other : Value) → other.set ≡ board.set → next_of (restored other board.state) ≡ next_of board

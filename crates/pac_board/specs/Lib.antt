@@ -1,9 +1,4 @@
-pub mod History
-pub mod Queries
-pub mod Step
-pub mod Walk
-pub mod Carried
-pub mod Trace
+pub mod Sinks
 pub mod State
-pub mod Onward
+pub mod Calls
 pub mod Laws

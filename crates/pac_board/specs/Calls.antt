@@ -1,0 +1,164 @@
+-- What the calls that make steps do, by their answers.
+use Rattle.std.specs.Prelude.{◌≡◌, ◌≢◌, ℕ, suc, ◌+◌, ◌-◌, ◌<◌, ◌≤◌, List, [], ◌++◌, Result, Ok, Err, ◌⊎◌}
+use mathlib.Core.List.{IsPrefix}
+use Rattle.pac_cpu.specs.declared.once.Once.{Once}
+use Rattle.pac_cpu.specs.declared.once.Once.TheVariants.{Stepped, Stopped}
+use Rattle.pac_step.specs.BoardView.{BoardView}
+use Rattle.pac_step.specs.Output.{Output}
+use Rattle.pac_step.specs.Step.{Moment, Next, Goes, Ends, step}
+use Rattle.pac_step.specs.Trace.{by_view}
+use Rattle.pac_step.specs.Walk.{Walk, walk, walk_to}
+use Rattle.pac_board.specs.declared.due.Due.{Due}
+use Rattle.pac_board.specs.declared.fault.Fault.{Fault}
+use Rattle.pac_board.specs.declared.fault.Fault.TheVariants.{TooFar, Refused}
+use Rattle.pac_board.specs.declared.fault.Idle.{Idle}
+use Rattle.pac_board.specs.declared.fault.Idle.TheVariants as idle
+use Rattle.pac_board.specs.declared.exec.Ran.{Ran}
+use Rattle.pac_board.specs.Sinks.{TookAll, RefusesAt}
+use Rattle.pac_board.specs.State.{Value, due_outputs, nothing_due, latest, most_asked, time_of, counted}
+
+-- ---- one step
+
+-- what the next step of a board comes to
+abbrev pub next_of : Value → Next BoardView
+next_of board = step (by_view board.set) board.state.now
+
+abbrev pub outputs_in : Next BoardView → List Output
+outputs_in (Goes now outputs kind) = outputs
+outputs_in (Ends stop) = []
+
+abbrev pub once_of : Next BoardView → Value → Once
+once_of (Goes now outputs kind) board = Stepped (now.time - board.state.now.time) kind
+once_of (Ends stop) board = Stopped stop
+
+-- the board after it, with what is due then; a stop changes nothing
+abbrev pub stepped : Next BoardView → Value → Due → Value
+stepped (Goes now outputs kind) board due =
+    record { set = board.set; state = record { now = now; asked = board.state.asked; due = due }; made = counted board.made 1 }
+stepped (Ends stop) board due = board
+
+-- ---- offering what is due
+
+-- the board with something else due
+abbrev pub with_due : Value → Due → Value
+with_due board due =
+    record { set = board.set; state = record { now = board.state.now; asked = board.state.asked; due = due }; made = board.made }
+
+-- what was due was offered, and part of it refused
+pub record IsOfferRefused {S : Type 0} (took refused : S → Output → S → Type 0) (old : Value) (sink : S) (new : Value) (later : S)
+    : Type 0 where
+  pub board : new ≡ with_due old new.state.due
+  pub taken : List Output
+  pub parts : due_outputs old ≡ taken ++ due_outputs new
+  pub refuses : RefusesAt took refused sink taken (due_outputs new) later
+
+abbrev pub Offers : {S A E : Type 0} → (S → Output → S → Type 0) → (S → Output → S → Type 0)
+    → Value → S → Result A E → Value → S → Type 0
+Offers took refused old sink (Ok done) new later = (new ≡ with_due old nothing_due) × TookAll took sink (due_outputs old) later
+Offers took refused old sink (Err refusal) new later = IsOfferRefused took refused old sink new later
+
+-- ---- one step whose outputs become due
+
+pub record Advanced (old : Value) (once : Once) (new : Value) : Type 0 where
+  pub early : old.state.now.time < latest
+  pub nothing : due_outputs old ≡ []
+  pub board : new ≡ stepped (next_of old) old new.state.due
+  pub outputs : due_outputs new ≡ outputs_in (next_of old)
+  pub once_is : once ≡ once_of (next_of old) old
+
+abbrev pub WasIdle : Value → Idle → Type 0
+WasIdle old idle.Due = due_outputs old ≢ []
+WasIdle old idle.TooFar = (due_outputs old ≡ []) × (latest ≤ old.state.now.time)
+
+abbrev pub Advances : Value → Result Once Idle → Value → Type 0
+Advances old (Ok once) new = Advanced old once new
+Advances old (Err why) new = (new ≡ old) × WasIdle old why
+
+-- ---- what is due, and then one step
+
+-- all was taken: what was due, and what the step gave
+pub record IsOneStep {S : Type 0} (took : S → Output → S → Type 0) (old : Value) (sink : S) (once : Once) (new : Value) (later : S)
+    : Type 0 where
+  pub early : old.state.now.time < latest
+  pub board : new ≡ stepped (next_of old) (with_due old nothing_due) nothing_due
+  pub once_is : once ≡ once_of (next_of old) old
+  pub sink_is : TookAll took sink (due_outputs old ++ outputs_in (next_of old)) later
+
+-- the step was done, and part of what it gave was refused
+pub record IsStepRefused {S : Type 0} (took refused : S → Output → S → Type 0) (old : Value) (sink : S) (new : Value) (later : S)
+    : Type 0 where
+  pub board : new ≡ stepped (next_of old) (with_due old nothing_due) new.state.due
+  pub taken : List Output
+  pub parts : outputs_in (next_of old) ≡ taken ++ due_outputs new
+  pub refuses : RefusesAt took refused sink (due_outputs old ++ taken) (due_outputs new) later
+
+-- nothing was changed
+pub record IsUnchanged {S : Type 0} (old : Value) (sink : S) (new : Value) (later : S) : Type 0 where
+  pub board : new ≡ old
+  pub sink_is : later ≡ sink
+
+abbrev pub StepsOnce : {S : Type 0} → (S → Output → S → Type 0) → (S → Output → S → Type 0)
+    → Value → S → Result Once Fault → Value → S → Type 0
+StepsOnce took refused old sink (Ok once) new later = IsOneStep took old sink once new later
+StepsOnce took refused old sink (Err TooFar) new later = (latest ≤ old.state.now.time) × IsUnchanged old sink new later
+StepsOnce took refused old sink (Err Refused) new later =
+    (old.state.now.time < latest)
+    × (IsOfferRefused took refused old sink new later ⊎ IsStepRefused took refused old sink new later)
+
+-- ---- steps for so many microseconds
+
+-- the walk that a call for so many microseconds makes: after so many tries, and to its end
+abbrev pub course_at : Value → ℕ → ℕ → Walk BoardView
+course_at board microseconds tries =
+    walk (step (by_view board.set)) (time_of (board.state.asked + microseconds)) board.state.now tries
+
+abbrev pub course : Value → ℕ → Walk BoardView
+course board microseconds = walk_to (step (by_view board.set)) (time_of (board.state.asked + microseconds)) board.state.now
+
+-- what it offers in all: what was due, and what its steps give
+abbrev pub given : Value → ℕ → List Output
+given board microseconds = due_outputs board ++ (course board microseconds).outputs
+
+-- the board where a walk has brought it, nothing being due
+abbrev pub brought : Value → ℕ → Walk BoardView → Value
+brought board microseconds walked = record {
+  set = board.set;
+  state = record { now = walked.now; asked = board.state.asked + microseconds; due = nothing_due };
+  made = counted board.made (walked.now.steps - board.state.now.steps);
+}
+
+-- the board after the call where the sink takes all
+abbrev pub ran : Value → ℕ → Value
+ran board microseconds = brought board microseconds (course board microseconds)
+
+-- the call came to its end: by the time, or by a stop
+pub record HasRun {S : Type 0} (took : S → Output → S → Type 0) (old : Value) (microseconds : ℕ) (sink : S) (answer : Ran) (new : Value)
+    (later : S)
+    : Type 0 where
+  pub within : old.state.asked + microseconds ≤ most_asked
+  pub board : new ≡ ran old microseconds
+  pub sink_is : TookAll took sink (given old microseconds) later
+  pub ticks : answer.ticks ≡ new.state.now.time - old.state.now.time
+  pub stop : answer.stop ≡ (course old microseconds).stop
+
+-- The sink refused an output: the call ended after the step that gave it, and that output and the later one of its step are due.
+-- All that was given before was taken.
+pub record IsRunRefused {S : Type 0} (took refused : S → Output → S → Type 0) (old : Value) (microseconds : ℕ) (sink : S) (new : Value)
+    (later : S)
+    : Type 0 where
+  pub within : old.state.asked + microseconds ≤ most_asked
+  pub steps : ℕ
+  pub board : new ≡ with_due (brought old microseconds (course_at old microseconds steps)) new.state.due
+  pub all_steps : new.state.now.steps ≡ old.state.now.steps + steps
+  pub taken : List Output
+  pub parts : due_outputs old ++ (course_at old microseconds steps).outputs ≡ taken ++ due_outputs new
+  pub refuses : RefusesAt took refused sink taken (due_outputs new) later
+  pub of_last :
+      (before : ℕ) → steps ≡ suc before → IsPrefix (due_outputs old ++ (course_at old microseconds before).outputs) taken
+
+abbrev pub Runs : {S : Type 0} → (S → Output → S → Type 0) → (S → Output → S → Type 0)
+    → Value → ℕ → S → Result Ran Fault → Value → S → Type 0
+Runs took refused old microseconds sink (Ok answer) new later = HasRun took old microseconds sink answer new later
+Runs took refused old microseconds sink (Err TooFar) new later =
+    (most_asked < old.state.asked + microseconds) × IsUnchanged old sink new later
+Runs took refused old microseconds sink (Err Refused) new later = IsRunRefused took refused old microseconds sink new later

@@ -1,0 +1,35 @@
+-- What a sink took. A sink says by two relations between its value before and after what taking an output leaves of it, `took`,
+-- and what refusing one leaves, `refused`. It needn't keep what it took, and no law binds it.
+use Rattle.std.specs.Prelude.{◌≡◌, ◌++◌, List, [], ◌∷◌, Result, Ok, Err}
+use Rattle.pac_picture.specs.State as picture
+use Rattle.pac_step.specs.Output.{Output, Image}
+
+-- a picture as it is offered
+abbrev pub shown : picture.State → Image
+shown picture = record { lines = picture.lines; palette = picture.palette }
+
+-- one offer, by its answer
+abbrev pub IsOffer : {S A E : Type 0} → (S → Output → S → Type 0) → (S → Output → S → Type 0) → S → Output → Result A E → S → Type 0
+IsOffer took refused old output (Ok done) new = took old output new
+IsOffer took refused old output (Err refusal) new = refused old output new
+
+-- something happened first, and then something else
+pub record Then {S : Type 0} (first rest : S → Type 0) : Type 0 where
+  pub between : S
+  pub before : first between
+  pub after : rest between
+
+-- the sink took all of these outputs, one after another
+abbrev pub TookAll : {S : Type 0} → (S → Output → S → Type 0) → S → List Output → S → Type 0
+TookAll took old [] new = new ≡ old
+TookAll took old (output ∷ more) new = Then (took old output) (λ between. TookAll took between more new)
+
+-- it took some, and refused the first of those that are left
+pub record RefusesAt {S : Type 0} (took refused : S → Output → S → Type 0) (old : S) (taken left : List Output) (new : S)
+    : Type 0 where
+  pub asked : S
+  pub before : TookAll took old taken asked
+  pub first : Output
+  pub rest : List Output
+  pub left_is : left ≡ first ∷ rest
+  pub refusal : refused asked first new

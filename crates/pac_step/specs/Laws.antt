@@ -1,0 +1,185 @@
+-- Laws of the board's definitions, each proved on a public function of the crate.
+use Rattle.std.specs.Prelude.{◌≡◌, ◌<◌, ◌≤◌, ℕ, zero, suc, ◌+◌, ◌*◌, ◌/◌, Option, None, Some, true}
+use Rattle.std.specs.Prelude.{List, [], ◌++◌, ◌∷◌, slice_index, slice_index_or}
+use mathlib.Core.List.{IsPrefix}
+use Rattle.pac_code.specs.Items.{Item, AllLie}
+use Rattle.pac_cpu.specs.declared.once.Stop.{Stop}
+use Rattle.pac_table.specs.Instructions.{least_ticks, most_ticks}
+use Rattle.pac_roms.specs.Parts.{Parts, IsWhole}
+use Rattle.pac_latch.specs.Latched.{is_set, request_of}
+use Rattle.pac_latch.specs.Latched as latch
+use Rattle.pac_tiles.specs.Tiles.{height}
+use Rattle.pac_map.specs.Contents.{read_of}
+use Rattle.pac_map.specs.Entry.{Entry, Line, Blank, Hold}
+use Rattle.pac_map.specs.Place.{ram_size}
+use Rattle.pac_map.specs.View as view
+use Rattle.pac_picture.specs.Picture.{line_of}
+use Rattle.pac_step.specs.BoardView.{BoardView, IsBoard, power_on, board_after, video_roms}
+use Rattle.pac_step.specs.History.{read, board_of, tile_at, colour_at, work_at, attributes, coordinates, registers, held}
+use Rattle.pac_step.specs.Queries.{bit_at, vector, request, is_due}
+use Rattle.pac_step.specs.Shown.{accumulators_at, memory_at, lines_at, outputs_of, samples, blanks}
+use Rattle.pac_step.specs.Step.{Questions, Moment, Next, Goes, Ends, Met, note, lined, step, line_ticks, frame_ticks, sample_ticks}
+use Rattle.pac_step.specs.Walk.{Walk, walk, walk_to, begun, has_ended}
+use Rattle.pac_step.specs.Carried.{walk_view}
+use Rattle.pac_step.specs.Trace.{Play, by_history, by_view, run_at, trace, start, turned, play_step}
+
+-- ---- history and view
+
+-- The view that a history leaves answers each read as the history does.
+abbrev pub ViewAnswers : Type 0
+ViewAnswers =
+    (set : Parts) (start : BoardView) (entries : List Entry) (address : ℕ) → IsBoard start
+    → read set.program start.memory entries address ≡ read_of set.program (board_of set start entries).memory address
+
+-- It tells all that a step, a sample or a picture asks as the history does.
+pub record Tells (set : Parts) (start : BoardView) (entries : List Entry) : Type 0 where
+  pub tile : (cell : ℕ) → cell < ram_size
+      → slice_index (board_of set start entries).memory.tile cell ≡ tile_at start.memory entries cell
+  pub colour : (cell : ℕ) → cell < ram_size
+      → slice_index (board_of set start entries).memory.colour cell ≡ colour_at start.memory entries cell
+  pub work : (cell : ℕ) → cell < ram_size
+      → slice_index (board_of set start entries).memory.work cell ≡ work_at start.memory entries cell
+  pub attributes : view.attributes (board_of set start entries).memory ≡ attributes start.memory entries
+  pub coordinates : (board_of set start entries).memory.coordinates ≡ coordinates start.memory entries
+  pub registers : (board_of set start entries).memory.registers ≡ registers start.memory entries
+  pub held : (board_of set start entries).memory.held ≡ held start.memory entries
+  pub bits : (place : ℕ) → is_set (board_of set start entries).memory.latched place ≡ bit_at start.memory entries place
+  pub vector : (board_of set start entries).memory.latched.vector ≡ vector start.memory entries
+  pub request : request_of (board_of set start entries).memory.latched ≡ request start.memory entries
+  pub due : latch.is_due (board_of set start entries).memory.latched ≡ is_due start.memory entries
+  pub accumulators : (board_of set start entries).accumulators ≡ accumulators_at start entries
+  pub lines : (board_of set start entries).lines ≡ lines_at set start entries
+
+abbrev pub ViewTells : Type 0
+ViewTells = (set : Parts) (start : BoardView) (entries : List Entry) → IsBoard start → Tells set start entries
+
+-- A run told by the source's items and the history is the run told by the bytes and the view, at each index.
+abbrev pub RunsAgree : Type 0
+RunsAgree =
+    (set : Parts) (items : List Item) (switches index : ℕ) (play : Play) → IsWhole set → AllLie set.program items
+    → walk_view (board_of set (power_on switches)) (run_at (by_history set items (power_on switches)) play [] index)
+    ≡ run_at (by_view set) play (power_on switches) index
+
+-- ---- what a run gives out
+
+-- A run's outputs are those of its history: each sample and each picture of the entries before it.
+abbrev pub OutputsAreOfTheHistory : Type 0
+OutputsAreOfTheHistory =
+    (set : Parts) (items : List Item) (start : BoardView) (index : ℕ) (play : Play)
+    → let run = run_at (by_history set items start) play [] index in
+    run.outputs ≡ outputs_of set start run.now.board
+
+-- It has a sample for each 32 T-states, 1,584 a frame, and a picture for each frame.
+pub record AreTimed (set : Parts) (items : List Item) (switches index : ℕ) (play : Play) : Type 0 where
+  pub samples :
+      samples (run_at (by_history set items (power_on switches)) play [] index).now.board
+      ≡ (run_at (by_history set items (power_on switches)) play [] index).now.time / sample_ticks
+  pub blanks :
+      blanks (run_at (by_history set items (power_on switches)) play [] index).now.board
+      ≡ (run_at (by_history set items (power_on switches)) play [] index).now.time / frame_ticks
+
+abbrev pub OutputsAreTimed : Type 0
+OutputsAreTimed =
+    (set : Parts) (items : List Item) (switches index : ℕ) (play : Play) → AreTimed set items switches index play
+
+-- Line y of frame f is composed at 50688 (f - 1) + 192 (41 + y).
+abbrev pub LinesHaveTheirMoments : Type 0 → Type 0
+LinesHaveTheirMoments Board =
+    (ask : Questions Board) (earlier y : ℕ) (met : Met Board) → y < height
+    → lined ask (frame_ticks * earlier + line_ticks * (41 + y)) met ≡ note ask (Line (earlier + 1) y) met
+
+-- the entries among which a line of a frame was composed, and that the picture has this line
+pub record IsComposed (set : Parts) (start : BoardView) (frame y : ℕ) (entries : List Entry) : Type 0 where
+  pub after : List Entry
+  pub before : List Entry
+  pub among : entries ≡ after ++ Line frame y ∷ before
+  pub line : slice_index_or (lines_at set start entries) y [] ≡ line_of (video_roms set) (memory_at start.memory before) y
+
+-- Each frame's picture is, line by line, that of the entries before the line's own.
+abbrev pub PicturesAreLineExact : Type 0
+PicturesAreLineExact =
+    (set : Parts) (items : List Item) (switches index frame : ℕ) (play : Play) (later older : List Entry)
+    → (run_at (by_history set items (power_on switches)) play [] index).now.board ≡ later ++ Blank frame ∷ older
+    → (y : ℕ) → y < height → IsComposed set (power_on switches) frame y older
+
+-- ---- steps and walks
+
+-- A step that goes on takes 4 to 23 T-states, and is one step more.
+abbrev pub IsTimely : {Board : Type 0} → Moment Board → Next Board → Type 0
+IsTimely now (Goes after outputs kind) =
+    (now.time + least_ticks ≤ after.time) × (after.time ≤ now.time + most_ticks) × (after.steps ≡ now.steps + 1)
+IsTimely now (Ends stop) = Unit {0}
+
+abbrev pub StepsAreTimely : Type 0 → Type 0
+StepsAreTimely Board =
+    (ask : Questions Board) (held : ℕ → ℕ) (now : Moment Board)
+    → IsTimely now (step ask now) × IsTimely now (play_step ask held now)
+
+-- A run of as many steps as its frames can have has ended, and indices at which it has ended have one state.
+abbrev pub RunsEnd : Type 0 → Type 0
+RunsEnd Board =
+    (ask : Questions Board) (play : Play) (board : Board) (index : ℕ)
+    → (has_ended (frame_ticks * play.frames) (trace ask play board) ≡ true)
+    × (has_ended (frame_ticks * play.frames) (run_at ask play board index) ≡ true → run_at ask play board index ≡ trace ask play board)
+
+-- The outputs up to an index are a prefix of those of each later one.
+abbrev pub RunsAreJoined : Type 0 → Type 0
+RunsAreJoined Board =
+    (ask : Questions Board) (play : Play) (board : Board) (index more : ℕ)
+    → IsPrefix (run_at ask play board index).outputs (run_at ask play board (index + more)).outputs
+
+-- A walk to a limit has ended there, and is any walk that has ended there.
+abbrev pub WalksEnd : Type 0 → Type 0
+WalksEnd Board =
+    (ask : Questions Board) (limit tries : ℕ) (from : Moment Board)
+    → (has_ended limit (walk_to (step ask) limit from) ≡ true)
+    × (has_ended limit (walk (step ask) limit from tries) ≡ true → walk (step ask) limit from tries ≡ walk_to (step ask) limit from)
+
+-- Walks join: to a limit and then on to a later one is to the later one at once. A stop is met again.
+pub record Joins {Board : Type 0} (ask : Questions Board) (first second : ℕ) (from : Moment Board) : Type 0 where
+  pub now : (walk_to (step ask) second (walk_to (step ask) first from).now).now ≡ (walk_to (step ask) second from).now
+  pub stop : (walk_to (step ask) second (walk_to (step ask) first from).now).stop ≡ (walk_to (step ask) second from).stop
+  pub outputs :
+      (walk_to (step ask) first from).outputs ++ (walk_to (step ask) second (walk_to (step ask) first from).now).outputs
+      ≡ (walk_to (step ask) second from).outputs
+
+abbrev pub WalksJoin : Type 0 → Type 0
+WalksJoin Board =
+    (ask : Questions Board) (first second : ℕ) (from : Moment Board) → first ≤ second → Joins ask first second from
+
+-- The same from the middle of a walk: what is left of it to its limit.
+pub record GoesOn {Board : Type 0} (ask : Questions Board) (limit tries : ℕ) (from : Moment Board) : Type 0 where
+  pub now : (walk_to (step ask) limit (walk (step ask) limit from tries).now).now ≡ (walk_to (step ask) limit from).now
+  pub stop : (walk_to (step ask) limit (walk (step ask) limit from tries).now).stop ≡ (walk_to (step ask) limit from).stop
+  pub outputs :
+      (walk (step ask) limit from tries).outputs ++ (walk_to (step ask) limit (walk (step ask) limit from tries).now).outputs
+      ≡ (walk_to (step ask) limit from).outputs
+
+abbrev pub WalksGoOn : Type 0 → Type 0
+WalksGoOn Board = (ask : Questions Board) (limit tries : ℕ) (from : Moment Board) → GoesOn ask limit tries from
+
+-- ---- a run frame by frame
+
+-- A frame that is played after others: a walk to its end, after which the next one's inputs are held. A stop ends it, and the
+-- run stays there.
+abbrev pub with_frame : {Board : Type 0} → Questions Board → (ℕ → ℕ) → Walk Board → Walk Board → Option Stop → Walk Board
+with_frame ask held before frame None =
+    record { now = turned ask held frame.now; outputs = before.outputs ++ frame.outputs; stop = None }
+with_frame ask held before frame (Some stop) =
+    record { now = frame.now; outputs = before.outputs ++ frame.outputs; stop = Some stop }
+
+abbrev pub next_frame : {Board : Type 0} → Questions Board → (ℕ → ℕ) → ℕ → Walk Board → Option Stop → Walk Board
+next_frame ask held frame before None =
+    let walked = walk_to (step ask) (frame_ticks * frame) before.now in with_frame ask held before walked walked.stop
+next_frame ask held frame before (Some stop) = before
+
+abbrev pub by_frames : {Board : Type 0} → Questions Board → (ℕ → ℕ) → Board → (frames : ℕ) → Walk Board
+by_frames ask held board zero = begun (start (ask.put board (Hold (held 1))))
+by_frames ask held board (suc frames) =
+    let before = by_frames ask held board frames in next_frame ask held (suc frames) before before.stop
+
+-- A run is its frames, one played after another.
+abbrev pub RunsGoByFrames : Type 0 → Type 0
+RunsGoByFrames Board =
+    (ask : Questions Board) (held : ℕ → ℕ) (board : Board) (frames : ℕ)
+    → by_frames ask held board frames ≡ trace ask (record { frames = frames; held = held }) board

@@ -1,0 +1,10 @@
+pub mod BoardView
+pub mod Output
+pub mod History
+pub mod Queries
+pub mod Shown
+pub mod Step
+pub mod Walk
+pub mod Carried
+pub mod Trace
+pub mod Laws

@@ -1,0 +1,19 @@
+-- What a board gives out: sound samples and pictures.
+use Rattle.std.specs.Prelude.{ℕ, ℤ, List}
+use Rattle.pac_roms.specs.Parts.{Parts}
+use Rattle.pac_picture.specs.State.{palette_of}
+
+-- a picture as it is shown: 224 lines of 288 colour numbers, and red, green and blue of each of the 16 numbers
+pub record Image : Type 0 where
+  pub lines : List (List ℕ)
+  pub palette : List (List ℕ)
+
+pub data Output : Type 0 where
+  -- a sound sample, 16 bits with a sign
+  Sound : (sample : ℤ) → Output
+  -- a picture
+  Show : (image : Image) → Output
+
+-- lines in the colours of a set's colour PROM
+abbrev pub image_of : Parts → List (List ℕ) → Image
+image_of set lines = record { lines = lines; palette = palette_of set.colours }

@@ -1,0 +1,93 @@
+-- What a history sounds and shows: the voices' accumulators as sums over all samples, and each line of the picture as it was
+-- last composed. No loop and no buffer stands here.
+use Rattle.std.specs.Prelude.{ℕ, ℤ, zero, suc, ◌+◌, ◌%◌, ◌==◌, if◌then◌else◌, List, [], ◌∷◌, ◌++◌, slice_index_or}
+use Rattle.pac_roms.specs.Parts.{Parts}
+use Rattle.pac_tiles.specs.Tabulate.{tabulate}
+use Rattle.pac_tiles.specs.Tiles.{height}
+use Rattle.pac_map.specs.Entry.{Entry, Sample, Line, Blank}
+use Rattle.pac_map.specs.Place.{ram_size}
+use Rattle.pac_map.specs.View.{View}
+use Rattle.pac_wave.specs.declared.Voice.{Voice}
+use Rattle.pac_wave.specs.declared.Voice.TheVariants.{First, Second, Third}
+use Rattle.pac_wave.specs.Wave.{Accumulators, accumulator, accumulator_range, frequency, sample_of}
+use Rattle.pac_picture.specs.Picture.{VideoMemory, line_of}
+use Rattle.pac_step.specs.BoardView.{BoardView, video_roms}
+use Rattle.pac_step.specs.History.{tile_at, colour_at, attributes, coordinates, registers}
+use Rattle.pac_step.specs.Output.{Output, Sound, Show, Image, image_of}
+use Rattle.pac_step.specs.Queries.{bit_at}
+
+-- the places of two bits of the latch
+abbrev pub sound_enable : ℕ
+sound_enable = 1
+
+abbrev pub flip : ℕ
+flip = 3
+
+-- ---- sound
+
+-- what a voice's frequencies came to, over the samples at which sound was on
+abbrev pub growth : View → Voice → List Entry → ℕ
+growth start voice [] = 0
+growth start voice (Sample number ∷ older) =
+    growth start voice older + (if bit_at start older sound_enable then frequency (registers start older) voice else 0)
+growth start voice (entry ∷ older) = growth start voice older
+
+abbrev pub accumulator_at : BoardView → List Entry → Voice → ℕ
+accumulator_at start entries voice = (accumulator start.accumulators voice + growth start.memory voice entries) % accumulator_range
+
+abbrev pub accumulators_at : BoardView → List Entry → Accumulators
+accumulators_at start entries = record {
+  first = accumulator_at start entries First;
+  second = accumulator_at start entries Second;
+  third = accumulator_at start entries Third;
+}
+
+-- the sample that the voices add up to after these entries
+abbrev pub sample_at : Parts → BoardView → List Entry → ℤ
+sample_at set start entries =
+    sample_of set.wave (registers start.memory entries) (accumulators_at start entries) (bit_at start.memory entries sound_enable)
+
+-- ---- picture
+
+-- what a line is composed from after these entries
+abbrev pub memory_at : View → List Entry → VideoMemory
+memory_at start entries = record {
+  tile_ram = tabulate ram_size (tile_at start entries);
+  colour_ram = tabulate ram_size (colour_at start entries);
+  attributes = attributes start entries;
+  coordinates = coordinates start entries;
+  flip = bit_at start entries flip;
+}
+
+-- a line of the picture: the one that the entries before its last composing say
+abbrev pub line_at : Parts → BoardView → List Entry → ℕ → List ℕ
+line_at set start [] y = slice_index_or start.lines y []
+line_at set start (Line frame line ∷ older) y =
+    if line == y then line_of (video_roms set) (memory_at start.memory older) y else line_at set start older y
+line_at set start (entry ∷ older) y = line_at set start older y
+
+abbrev pub lines_at : Parts → BoardView → List Entry → List (List ℕ)
+lines_at set start entries = tabulate height (line_at set start entries)
+
+abbrev pub image_at : Parts → BoardView → List Entry → Image
+image_at set start entries = image_of set (lines_at set start entries)
+
+-- ---- all that was given out
+
+-- the outputs of a history in order: each sample and each picture is that of the entries before it
+abbrev pub outputs_of : Parts → BoardView → List Entry → List Output
+outputs_of set start [] = []
+outputs_of set start (Sample number ∷ older) = outputs_of set start older ++ Sound (sample_at set start older) ∷ []
+outputs_of set start (Blank frame ∷ older) = outputs_of set start older ++ Show (image_at set start older) ∷ []
+outputs_of set start (entry ∷ older) = outputs_of set start older
+
+-- how many samples and how many blanks a history has
+abbrev pub samples : List Entry → ℕ
+samples [] = 0
+samples (Sample number ∷ older) = suc (samples older)
+samples (entry ∷ older) = samples older
+
+abbrev pub blanks : List Entry → ℕ
+blanks [] = 0
+blanks (Blank frame ∷ older) = suc (blanks older)
+blanks (entry ∷ older) = blanks older
