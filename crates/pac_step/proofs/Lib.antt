@@ -5,3 +5,6 @@ pub mod Memories
 pub mod Voices
 pub mod Lines
 pub mod Told
+pub mod Carried
+pub mod Items
+pub mod Agreed
