@@ -8,3 +8,4 @@ pub mod Told
 pub mod Carried
 pub mod Items
 pub mod Agreed
+pub mod Composing
