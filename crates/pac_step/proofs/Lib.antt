@@ -9,3 +9,4 @@ pub mod Carried
 pub mod Items
 pub mod Agreed
 pub mod Composing
+pub mod Walks
