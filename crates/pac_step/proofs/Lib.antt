@@ -1,2 +1,4 @@
 pub mod Walks
 pub mod Runs
+pub mod RunsKeep
+pub mod Outputs
