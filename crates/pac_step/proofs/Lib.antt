@@ -10,3 +10,6 @@ pub mod Items
 pub mod Agreed
 pub mod Composing
 pub mod Walks
+pub mod Runs
+pub mod RunsKeep
+pub mod Outputs
