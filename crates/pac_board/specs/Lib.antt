@@ -1,4 +1,5 @@
 pub mod Sinks
 pub mod State
+pub mod Events
 pub mod Calls
 pub mod Laws
