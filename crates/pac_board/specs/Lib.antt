@@ -1,4 +1,5 @@
 pub mod Sinks
 pub mod State
 pub mod Calls
+pub mod Turns
 pub mod Laws
