@@ -4,3 +4,4 @@ pub mod Events
 pub mod Calls
 pub mod Turns
 pub mod Laws
+pub mod Kept

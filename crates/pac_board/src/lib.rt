@@ -7,6 +7,7 @@ mod due;
 mod exec;
 mod fault;
 mod frozen;
+pub mod kept;
 pub mod laws;
 mod machine;
 mod sink;
