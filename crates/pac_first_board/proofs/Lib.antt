@@ -1,0 +1,12 @@
+pub mod Views
+pub mod Lists
+pub mod Latches
+pub mod Carried
+pub mod Traces
+pub mod Ends
+pub mod Items
+pub mod Moments
+pub mod Frames
+pub mod Boards
+pub mod Whole
+pub mod Onward
