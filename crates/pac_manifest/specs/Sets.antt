@@ -80,7 +80,7 @@ broken manifest files part =
     file_of manifest part >>= λ name.
     option_map (fault_at part) (code_of part (digest_said manifest part) (bytes_named files name))
 
--- the first fault of all
+-- the first fault of all: M2 of any part, then M6, then part by part M5, M3 or M4
 abbrev pub fault_of : Manifest → List Part → Bool → Option SetFault
 fault_of manifest files assembled =
     option_or (first_answer (unnamed manifest assembled) in_order)
