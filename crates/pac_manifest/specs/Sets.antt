@@ -30,9 +30,9 @@ found manifest files part = file_of manifest part >>= bytes_named files
 -- ---- faults
 
 -- the first answer that a question has at the elements of a list
-abbrev pub first : {A B : Type 0} → (A → Option B) → List A → Option B
-first question [] = None
-first question (x ∷ xs) = option_or (question x) (first question xs)
+abbrev pub first_answer : {A B : Type 0} → (A → Option B) → List A → Option B
+first_answer question [] = None
+first_answer question (x ∷ xs) = option_or (question x) (first_answer question xs)
 
 abbrev pub fault_at : PartName → Code → SetFault
 fault_at part code = record { code = code; part = Some part }
@@ -80,16 +80,17 @@ broken manifest files part =
     file_of manifest part >>= λ name.
     option_map (fault_at part) (code_of part (digest_said manifest part) (bytes_named files name))
 
--- the first fault of all
+-- the first fault of all: M2 of any part, then M6, then part by part M5, M3 or M4
 abbrev pub fault_of : Manifest → List Part → Bool → Option SetFault
 fault_of manifest files assembled =
-    option_or (first (unnamed manifest assembled) in_order)
+    option_or (first_answer (unnamed manifest assembled) in_order)
     (option_or (two_programs manifest assembled)
-    (first (broken manifest files) in_order))
+    (first_answer (broken manifest files) in_order))
 
 -- ---- the set
 
-abbrev pub bytes_of : Manifest → List Part → PartName → List ℕ
+-- the bytes of a part, none where its file isn't there
+unfoldable pub bytes_of : Manifest → List Part → PartName → List ℕ
 bytes_of manifest files part = unwrap_or (found manifest files part) []
 
 -- the program: that of the source, or else the four ROMs one after another

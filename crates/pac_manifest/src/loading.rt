@@ -1,11 +1,12 @@
 //! A ROM set from its manifest and files.
 
-ghost use Rattle.std.specs.Prelude.{◌≡◌, IfSome, length, option_copied, is_some, unwrap_or, [], IfOk, ◌++◌};
+ghost use Rattle.std.specs.Prelude.{◌≡◌, IfSome, length, option_copied, IfOk};
 ghost use Rattle.pac_roms.specs.Parts.{program_size};
-ghost use Rattle.pac_manifest.specs.Manifests.{entry_of, file_of};
+ghost use Rattle.pac_manifest.specs.Manifests.{entry_of};
 ghost use Rattle.pac_manifest.specs.Results.{Gives, Finds};
 ghost use Rattle.pac_manifest.specs.Parts.{in_order};
-ghost use Rattle.pac_manifest.specs.Sets.{fault_at, bytes_named, found, first, unnamed, two_programs, code_of, broken, bytes_of, program_of, set_of, digest_of, needs, is_unnamed, differs};
+ghost use Rattle.pac_manifest.specs.Sets.{first_answer, needs, is_unnamed, unnamed, two_programs, differs};
+ghost use Rattle.pac_manifest.specs.Sets.{code_of, fault_at, broken, bytes_named, bytes_of, program_of, set_of, digest_of};
 
 use crate::fault::{Code, SetError, SetFault};
 use crate::manifest::Manifest;
@@ -57,7 +58,7 @@ pub fn digest(set: &RomSet) -> [u8; 20]
 
 /// M2, where a part that has to be there has no table, or its table no file.
 fn check_names(manifest: &Manifest, assembled: bool) -> Result<(), SetFault>
-    ensures { Finds result (first (unnamed manifest.now assembled) in_order) }
+    ensures { Finds result (first_answer (unnamed manifest.now assembled) in_order) }
 {
     for part in PartName::ALL {
         if is_unnamed(manifest, assembled, part) {
@@ -104,7 +105,7 @@ fn check_programs(manifest: &Manifest, assembled: bool) -> Result<(), SetFault>
 
 /// The first of M5, M3 and M4, part by part.
 fn check_files(manifest: &Manifest, files: &[Part<'_>]) -> Result<(), SetFault>
-    ensures { Finds result (first (broken manifest.now files.now) in_order) }
+    ensures { Finds result (first_answer (broken manifest.now files.now) in_order) }
 {
     for part in PartName::ALL {
         check_file(manifest, files, part)?;
@@ -165,15 +166,14 @@ fn fault_at(part: PartName, code: Code) -> SetFault
 fn bytes_named<'a>(files: &[Part<'a>], name: &str) -> Option<&'a [u8]>
     ensures { option_copied result ≡ bytes_named files.now name.now }
 {
-    for file in files {
-        if file.is_named(name) {
-            return Some(file.bytes);
-        }
-    }
-    None
+    files
+        .iter()
+        .find(|file| file.is_named(name))
+        .map(|file| file.bytes)
 }
 
-/// The bytes of a part, none where it has no file.
+/// The bytes of a part, none where its file isn't there.
+#[tactic(auto, unfolding(crate::specs::Sets::bytes_of))]
 fn bytes<'a>(manifest: &Manifest, files: &[Part<'a>], part: PartName) -> &'a [u8]
     ensures { result.now ≡ bytes_of manifest.now files.now part }
 {

@@ -4,7 +4,8 @@ ghost use Rattle.std.specs.Prelude.{◌≡◌, Some, codes, option_map};
 ghost use Rattle.toml.specs.Data.{array, get_member, as_str};
 ghost use Rattle.toml.specs.View.{view, items_view, table_view};
 ghost use Rattle.pac_manifest.specs.declared.reading.Misread.TheVariants as misread;
-ghost use Rattle.pac_manifest.specs.Manifests.{optional, digest_form, entry_form, program_form, table_form, manifest_form, tree_of, manifest_of};
+ghost use Rattle.pac_manifest.specs.Manifests.{optional, digest_form, entry_form, program_form, table_form};
+ghost use Rattle.pac_manifest.specs.Manifests.{manifest_form, tree_of, manifest_of};
 ghost use Rattle.pac_manifest.specs.Entries.{text_of};
 ghost use Rattle.pac_manifest.specs.Results.{Gives, Reads, ReadsAs, told_as};
 

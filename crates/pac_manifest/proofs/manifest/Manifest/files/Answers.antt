@@ -8,7 +8,9 @@ use Rattle.pac_manifest.proofs.manifest.Manifest.files.Goals as goal
 
 pub loop-part-preserved : goal.loop-part-preserved
 loop-part-preserved c =
-    let more = one_more (file_of c.args.self.now) in_order c.loop-part.part-index Program1 (option_copied c.file.result) c.loop-part-test.true c.file.ensures in
+    let more =
+    one_more (file_of c.args.self.now) in_order c.loop-part.part-index Program1 (option_copied c.file.result)
+    c.loop-part-test.true c.file.ensures in
     elim c.match-file.branch [
       | in-Some+in_ok-push w ↦
           rw (w.names-is, w.in_ok-push.ensures.items)
