@@ -39,7 +39,7 @@ PALETTES = {
     10: 'black orange light white',   # a gull
     11: 'black red white yellow',     # a buoy
     12: 'black blue cyan white',      # a splash
-    13: 'black red orange yellow',    # the sun
+    13: 'black orange yellow white',  # the sun
     14: 'black violet dark brown',    # what is far away
     # An evening's sky from its top to the horizon: a band's own colour, that of the band below it, then mountains.
     16: 'night violet dark light',
@@ -49,12 +49,12 @@ PALETTES = {
     20: 'orange yellow dark light',
     21: 'yellow white dark light',
     # The same bands in the water, each a shade darker.
-    24: 'black night forest dark',
-    25: 'night violet forest dark',
-    26: 'violet rose forest dark',
-    27: 'rose red forest dark',
-    28: 'red orange forest dark',
-    29: 'orange yellow forest dark',
+    24: 'black night dark light',
+    25: 'night violet dark light',
+    26: 'violet rose dark light',
+    27: 'rose red dark light',
+    28: 'red orange dark light',
+    29: 'orange yellow dark light',
 }
 
 # ---- Sounds: eight waveforms of 32 samples, each a hexadecimal digit; 8 is the middle.
@@ -162,6 +162,17 @@ SHAPES = {
 ........
 ........
 """,
+    # A shore far away.
+    0x04: """
+........
+........
+........
+........
+........
+........
+++++++++
+++++++++
+""",
     # The open sea.
     0x05: """
 ........
@@ -209,7 +220,7 @@ SHAPES = {
 ::::::::
 ..::::..
 """,
-    # A slope that rises to the right, one pixel in two; its second half; the same for one that falls; a summit.
+    # A slope that rises to the right, a pixel in two, in two halves, and one that falls.
     0x0c: """
 ........
 ........
@@ -231,10 +242,10 @@ SHAPES = {
 ++++++++
 """,
     0x0e: """
-##......
-####....
-++####..
-++++++##
+++......
+++++....
+++++++..
+++++++++
 ++++++++
 ++++++++
 ++++++++
@@ -245,10 +256,10 @@ SHAPES = {
 ........
 ........
 ........
-##......
-####....
-++####..
-++++++##
+++......
+++++....
+++++++..
+++++++++
 """,
 }
 
@@ -528,16 +539,16 @@ SPRITES[9] = """
 SPRITES[10] = """
 ............++++
 .........+++++++
-.......+++######
+.......+++++####
+......+++#######
 .....+++########
 ....++##########
 ...++###########
-...+############
+..+++###########
 ..++############
-..+#############
 .++#############
-.+##############
-.+##############
+.++#############
+.++#############
 ++##############
 ++##############
 ++##############
