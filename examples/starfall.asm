@@ -496,7 +496,7 @@ ONESTAR: LD A,(IX+STATE)
 
 SETTLE: LD (IX+STATE),WAITING   ; the burst or the splash is over
         LD (IY+1),0
-SHUFFLE1: CALL RANDOM
+PAUSE:  CALL RANDOM
         AND 31
         ADD A,8
         LD (IX+COUNT),A
@@ -548,15 +548,15 @@ LEAVE:  LD (IY+SHAPE-PLACE),A
 ; All stars wait, each for another while.
 SHUFFLE: LD IX,STATES
         LD B,STARS
-SHUFFLE2: PUSH BC
-        CALL SHUFFLE1
+SHUFFLE1: PUSH BC
+        CALL PAUSE
         POP BC
         LD DE,4
         ADD IX,DE
-        DJNZ SHUFFLE2
+        DJNZ SHUFFLE1
         RET
 
-; A random number in A. Keeps all but C.
+; A random number goes to A. Keeps all but C.
 RANDOM: LD A,(SEED)
         LD C,A
         ADD A,A
