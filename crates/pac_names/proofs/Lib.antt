@@ -1,2 +1,3 @@
 pub mod Index
 pub mod SameNames
+pub mod Distinct

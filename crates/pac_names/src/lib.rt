@@ -3,6 +3,7 @@
 #![tactic(auto)]
 
 mod by_name;
+pub mod laws;
 mod names;
 mod operations;
 mod writing;

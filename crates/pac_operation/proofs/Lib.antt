@@ -6,3 +6,4 @@ pub mod FilledParts
 pub mod RowSearch
 pub mod Held
 pub mod Found
+pub mod Distinct
