@@ -261,11 +261,17 @@ fn named(bytes: &[u8], words: &'static [Word]) -> Option<&'static Word>
     None
 }
 
+/// The bytes of the longest name; a longer word is none.
+const LONGEST: usize = 4;
+
 /// The name that bytes are.
 fn word_of(bytes: &[u8]) -> Option<&'static Word>
     ensures { option_copied result ≡ find (is_text bytes.now) word_list }
 {
     let first = bytes.first()?;
+    if bytes.len() > LONGEST {
+        return None;
+    }
     named(bytes, words_with(*first))
 }
 

@@ -350,11 +350,17 @@ static NAMES: [Name; 23] = [
     Name::M,
 ];
 
+/// The bytes of the longest of them; a longer word is none.
+const LONGEST: usize = 2;
+
 /// The register, pair or condition that a word names, in either case.
 #[tactic(auto, unfolding(crate::specs::Names::name_of))]
 pub fn name_of(word: &[u8]) -> Option<Name>
     ensures { result ≡ name_of word.now }
 {
+    if word.len() > LONGEST {
+        return None;
+    }
     name_among(word, &NAMES)
 }
 

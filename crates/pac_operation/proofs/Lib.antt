@@ -7,3 +7,4 @@ pub mod RowSearch
 pub mod Held
 pub mod Found
 pub mod Distinct
+pub mod Longer
