@@ -227,11 +227,14 @@ fault_of errors.Undefined = faults.Undefined
 fault_of errors.OutOfRange = faults.Arithmetic
 fault_of errors.DivisionByZero = faults.Arithmetic
 
--- of two faults the one that is told: an undefined name first, wherever it stands
+-- The first of two faults of a line. A name that isn't defined comes before arithmetic, and that before a range, wherever
+-- they stand in it.
 abbrev pub first : OperationFault → OperationFault → OperationFault
 first faults.Undefined other = faults.Undefined
-first fault faults.Undefined = faults.Undefined
-first fault other = fault
+first faults.Arithmetic faults.Undefined = faults.Undefined
+first faults.Arithmetic faults.Arithmetic = faults.Arithmetic
+first faults.Arithmetic faults.Range = faults.Arithmetic
+first faults.Range other = other
 
 -- an operand with the value of its expression
 abbrev pub with_value : (ℤ → Operand ℤ) → expressions.Answer → Result (Operand ℤ) OperationFault
