@@ -4,5 +4,6 @@ pub mod Pairs
 pub mod Laying
 pub mod LineCounts
 pub mod Filling
+pub mod Skipping
 pub mod Sizes
 pub mod Assigned

@@ -4,6 +4,7 @@ pub mod Errors
 pub mod Conditions
 pub mod Unclosed
 pub mod Pairing
+pub mod Skipping
 pub mod Standings
 pub mod Layouts
 pub mod Phase1

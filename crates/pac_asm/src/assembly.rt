@@ -3,6 +3,7 @@
 ghost use Rattle.std.specs.Prelude.{◌≡◌, IfOk};
 ghost use Rattle.pac_code.specs.Items.{AllLie};
 ghost use Rattle.pac_program.specs.Programs.{items_of};
+ghost use Rattle.pac_program.specs.Rom.{AreApart, IsZeroElsewhere};
 ghost use Rattle.pac_asm.specs.Errors.{Gives};
 ghost use Rattle.pac_asm.specs.Programs.{program_of};
 
@@ -22,8 +23,10 @@ use std::alloc::Global;
 #[tactic(auto, unfolding(crate::specs::Programs::program_of))]
 pub fn assemble(alloc: Global, source: &[u8]) -> Result<Program, AsmError>
     ensures exact { Gives result (program_of source.now) }
-    // Each item lies in the ROM, which has its bytes.
+    // No two items share an address; each lies wholly in the ROM, which has its bytes there, and 0 where no item lies.
+    ensures apart { IfOk result (λ program. AreApart (items_of program)) }
     ensures lie { IfOk result (λ program. AllLie program.rom (items_of program)) }
+    ensures zero { IfOk result (λ program. IsZeroElsewhere program.rom (items_of program)) }
 {
     if has_too_many_lines(source) {
         return Err(LineError::Code(AsmCode::TooManyLines).in_line(MOST_LINES + 1));

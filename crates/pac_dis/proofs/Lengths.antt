@@ -15,14 +15,14 @@ use Rattle.pac_table.specs.declared.operands.Mnemonic.TheVariants as mnemonic
 use Rattle.pac_table.specs.declared.operands.Shape.{Shape}
 use Rattle.pac_table.specs.declared.operands.Shape.TheVariants as shape
 use Rattle.pac_table.specs.declared.operands.Operands.{Operands}
-use Rattle.pac_table.specs.declared.names.Name.{Name}
-use Rattle.pac_table.specs.declared.names.NumberKind.{NumberKind}
-use Rattle.pac_table.specs.declared.names.NumberKind.TheVariants as kind
-use Rattle.pac_table.specs.declared.names.Writing.{Writing}
-use Rattle.pac_table.specs.declared.names.Writing.TheVariants.{Nothing, Named, AlternateAf, AtName, FirstField, SecondField}
-use Rattle.pac_table.specs.declared.names.Writing.TheVariants.{Indexed, Number, AtNumber}
+use Rattle.pac_names.specs.declared.names.Name.{Name}
+use Rattle.pac_names.specs.declared.writing.NumberKind.{NumberKind}
+use Rattle.pac_names.specs.declared.writing.NumberKind.TheVariants as kind
+use Rattle.pac_names.specs.declared.writing.Writing.{Writing}
+use Rattle.pac_names.specs.declared.writing.Writing.TheVariants.{Nothing, Named, AlternateAf, AtName, FirstField, SecondField}
+use Rattle.pac_names.specs.declared.writing.Writing.TheVariants.{Indexed, Number, AtNumber}
 use Rattle.pac_table.specs.declared.table.Row.{Row}
-use Rattle.pac_table.specs.Names.{names_of, operation_name, text, names_in, name_at, writing_of, has_accumulator, present, listed}
+use Rattle.pac_names.specs.Names.{names_of, operation_name, text, names_in, name_at, writing_of, has_accumulator, present, listed}
 use Rattle.pac_table.specs.Forms.{is_family}
 use Rattle.pac_table.specs.declared.patterns.Field.{Field}
 use Rattle.pac_table.specs.declared.patterns.Field.TheVariants as field

@@ -6,12 +6,12 @@ use Rattle.std.proofs.lemmas.Bool.{and_parts, leb-true, ltb-true}
 use Rattle.pac_table.specs.declared.patterns.Immediate.{Immediate}
 use Rattle.pac_table.specs.declared.operands.Shape.{Shape}
 use Rattle.pac_table.specs.declared.operands.Shape.TheVariants as shape
-use Rattle.pac_table.specs.declared.names.NumberKind.{NumberKind}
-use Rattle.pac_table.specs.declared.names.NumberKind.TheVariants as kind
-use Rattle.pac_table.specs.declared.names.Writing.{Writing}
-use Rattle.pac_table.specs.declared.names.Writing.TheVariants.{Number, AtNumber}
+use Rattle.pac_names.specs.declared.writing.NumberKind.{NumberKind}
+use Rattle.pac_names.specs.declared.writing.NumberKind.TheVariants as kind
+use Rattle.pac_names.specs.declared.writing.Writing.{Writing}
+use Rattle.pac_names.specs.declared.writing.Writing.TheVariants.{Number, AtNumber}
 use Rattle.pac_table.specs.declared.table.Row.{Row}
-use Rattle.pac_table.specs.Names.{writing_of, present, listed, written}
+use Rattle.pac_names.specs.Names.{writing_of, present, listed, written}
 use Rattle.pac_table.specs.Patterns.{word_limit}
 use Rattle.pac_table.specs.Table.{table}
 use Rattle.pac_table.specs.Instructions.{Instruction, IsInstruction, operands_of, pattern_of}

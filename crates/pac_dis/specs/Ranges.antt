@@ -1,11 +1,11 @@
 -- The numbers that are written as a byte or as one digit are in that range, in each instruction of the table.
 use Rattle.std.specs.Prelude.{◌<◌, ⊤, List, [], ◌∷◌}
 use Rattle.pac_table.specs.declared.operands.Shape.{Shape}
-use Rattle.pac_table.specs.declared.names.NumberKind.{NumberKind}
-use Rattle.pac_table.specs.declared.names.NumberKind.TheVariants as kind
-use Rattle.pac_table.specs.declared.names.Writing.{Writing}
-use Rattle.pac_table.specs.declared.names.Writing.TheVariants.{Number, AtNumber}
-use Rattle.pac_table.specs.Names.{writing_of}
+use Rattle.pac_names.specs.declared.writing.NumberKind.{NumberKind}
+use Rattle.pac_names.specs.declared.writing.NumberKind.TheVariants as kind
+use Rattle.pac_names.specs.declared.writing.Writing.{Writing}
+use Rattle.pac_names.specs.declared.writing.Writing.TheVariants.{Number, AtNumber}
+use Rattle.pac_names.specs.Names.{writing_of}
 use Rattle.pac_table.specs.Instructions.{Instruction}
 
 -- a number of an instruction is in range: n is a byte, and an interrupt mode one digit

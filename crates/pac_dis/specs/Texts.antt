@@ -4,13 +4,13 @@
 use Rattle.std.specs.Prelude.{◌≡◌, ℕ, ◌+◌, ◌*◌, ◌<◌, ◌≤◌, Option, unwrap_or, List, [], ◌∷◌, ◌++◌, length, map, slice_index, codes}
 use Rattle.std.specs.Option.{option_map_or}
 use Rattle.pac_table.specs.declared.operands.Shape.{Shape}
-use Rattle.pac_table.specs.declared.names.Name.{Name}
-use Rattle.pac_table.specs.declared.names.NumberKind.{NumberKind}
-use Rattle.pac_table.specs.declared.names.NumberKind.TheVariants as kind
-use Rattle.pac_table.specs.declared.names.Writing.{Writing}
-use Rattle.pac_table.specs.declared.names.Writing.TheVariants.{Nothing, Named, AlternateAf, AtName, FirstField, SecondField}
-use Rattle.pac_table.specs.declared.names.Writing.TheVariants.{Indexed, Number, AtNumber}
-use Rattle.pac_table.specs.Names.{operation_name, text, name_at, writing_of, written}
+use Rattle.pac_names.specs.declared.names.Name.{Name}
+use Rattle.pac_names.specs.declared.writing.NumberKind.{NumberKind}
+use Rattle.pac_names.specs.declared.writing.NumberKind.TheVariants as kind
+use Rattle.pac_names.specs.declared.writing.Writing.{Writing}
+use Rattle.pac_names.specs.declared.writing.Writing.TheVariants.{Nothing, Named, AlternateAf, AtName, FirstField, SecondField}
+use Rattle.pac_names.specs.declared.writing.Writing.TheVariants.{Indexed, Number, AtNumber}
+use Rattle.pac_names.specs.Names.{operation_name, text, name_at, writing_of, written}
 use Rattle.pac_table.specs.Instructions.{Instruction, IsInstruction, operands_of, code}
 use Rattle.pac_num.specs.Numbers.{address}
 use Rattle.pac_code.specs.Codes.{Begins}

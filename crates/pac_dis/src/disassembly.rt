@@ -11,6 +11,7 @@ use crate::front::front;
 use crate::numerals::put_byte;
 use crate::operands::put_operands;
 use crate::text::Text;
+use pac_names::operation_name;
 use pac_table::Instr;
 
 /// Appends the name of an instruction's operation.
@@ -18,7 +19,7 @@ fn put_operation(text: &mut Text, instr: &Instr)
     requires { array_string_len text.old + length (spec.operation_text instr.now) ≤ longest_text }
     ensures { text.new.bytes ≡ text.old.bytes ++ spec.operation_text instr.now }
 {
-    if let Some(name) = instr.operands().mnemonic.name(instr.p()) {
+    if let Some(name) = operation_name(instr.operands().mnemonic, instr.p()) {
         text.push_str(name);
     }
 }

@@ -2,7 +2,7 @@
 
 ghost use Rattle.std.specs.Prelude.{◌≡◌, ◌<◌, ◌≤◌, ◌+◌, ◌++◌, length, map};
 ghost use Rattle.arrayvec.specs.ArrayString.{array_string_len};
-ghost use Rattle.pac_table.specs.Names.{listed, present, text as name_written, writing_of};
+ghost use Rattle.pac_names.specs.Names.{listed, present, text as name_written, writing_of};
 ghost use Rattle.pac_table.specs.Instructions.{IsInstruction};
 ghost use Rattle.pac_dis.specs.Numerals.{displacement_text};
 ghost use Rattle.pac_dis.specs.Texts as spec;
@@ -11,8 +11,9 @@ ghost use Rattle.pac_dis.specs.Texts.{longest_text};
 
 use crate::numerals::{jump_target, put_byte, put_digit, put_displacement, put_word};
 use crate::text::{Text, put_character};
+use pac_names::{Name, NumberKind, Writing, written};
 use pac_num::offset;
-use pac_table::{Instr, Name, NumberKind, Shape, Writing};
+use pac_table::{Instr, Shape};
 
 /// What the first field of an instruction holds.
 fn first_field(instr: &Instr) -> u8
@@ -119,7 +120,7 @@ fn put_operand(text: &mut Text, mark: u8, at: u16, instr: &Instr, shape: Shape)
         return;
     }
     put_character(text, mark);
-    put_writing(text, at, instr, shape.writing());
+    put_writing(text, at, instr, Writing::of(shape));
 }
 
 /// Appends one operand after another; after one that isn't there there is none.
@@ -141,6 +142,6 @@ pub fn put_operands(text: &mut Text, at: u16, instr: &Instr)
     requires room { array_string_len text.old + length (spec.marked spec.blank (spec.operand_texts at instr.now)) ≤ longest_text }
     ensures { text.new.bytes ≡ text.old.bytes ++ spec.marked spec.blank (spec.operand_texts at instr.now) }
 {
-    let (first, second) = instr.operands().written(instr.p());
+    let (first, second) = written(instr.operands(), instr.p());
     put_both(text, at, instr, first, second);
 }

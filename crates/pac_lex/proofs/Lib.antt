@@ -12,3 +12,4 @@ pub mod TextLaws
 pub mod TokenLaws
 pub mod LineLaws
 pub mod AnswerLaws
+mod FirstPlace

@@ -4,6 +4,8 @@ ghost use Rattle.std.specs.Prelude.{◌≡◌, ◌<◌, ◌==◌, [], ◌∷◌,
 ghost use Rattle.std.specs.Str.Lines.{lines, strip_carriage_return};
 ghost use Rattle.pac_lex.specs.Lines.{first_line};
 
+use memchr::memchr;
+
 /// The first line of a text without its ending, and the text after that ending; `None` where the text
 /// is empty. A line ends at a line feed, with one carriage return before it dropped, or at the end of
 /// the text. Sources, input scripts and debugger commands are parted into lines so.
@@ -29,7 +31,7 @@ fn line_feed(bytes: &[u8]) -> Option<usize>
     ensures place { result ≡ position (λ b. b == 10) bytes.now }
     ensures bound { IfSome result (λ end. end < length bytes.now) }
 {
-    bytes.iter().position(|b| *b == b'\n')
+    memchr(b'\n', bytes)
 }
 
 /// A line without the carriage return at its end, if it has one.

@@ -18,6 +18,9 @@ use std::alloc::Global;
 /// The most bytes that a source line may have, its ending not counted (this profile).
 pub const LINE_LIMIT: usize = 255;
 
+/// Room for the tokens of most lines, taken at once.
+const USUAL_TOKENS: usize = 16;
+
 /// The tokens of a line, which stands here without its ending. Blanks and a comment after `;` are
 /// none. Where the line has a fault, the answer is L4, or else the leftmost of L1 to L3.
 pub fn tokens(alloc: Global, line: &[u8]) -> Result<Vec<Token<'_>>, LexError>
@@ -49,7 +52,7 @@ fn checked(alloc: Global, line: &[u8]) -> Result<Vec<Token<'_>>, LexError>
 fn read(alloc: Global, line: &[u8]) -> Result<Vec<Token<'_>>, LexError>
     ensures { Gives (λ v. views v.items) result (scan 0 line.now) }
 {
-    let mut found = Vec::new(alloc);
+    let mut found = Vec::with_capacity(alloc, USUAL_TOKENS)?;
     let mut rest = line;
     while let Some((token, after)) = next_token(rest)? {
         found.push(token)?;

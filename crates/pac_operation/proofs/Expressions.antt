@@ -13,7 +13,7 @@ use Rattle.pac_lex.specs.Texts.{one_character}
 use Rattle.pac_expr.specs.Trees.{Tree, atom, group, signed, joined, here, Mark, opening, closing, text_mark, kind_mark, marks_of, spelling}
 use Rattle.pac_expr.specs.Parsing.{tree_of, tree_in}
 use Rattle.pac_expr.proofs.Complete.{tree-of-spelling}
-use Rattle.pac_table.specs.declared.names.Name.{Name}
+use Rattle.pac_names.specs.declared.names.Name.{Name}
 use Rattle.pac_operation.specs.declared.operand.Operand.TheVariants.{Indexed, Memory, Value}
 use Rattle.pac_operation.specs.Reserved.{reserves, is_reserved_token, expression_in}
 use Rattle.pac_operation.specs.Operands.{opens, closes, ends_closed, is_sign, by_tree, expression_operand, displaced}

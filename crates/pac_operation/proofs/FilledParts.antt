@@ -5,7 +5,7 @@ use Rattle.std.proofs.lemmas.Bool.{and_parts, false≢true}
 use Rattle.pac_table.specs.declared.operands.Shape.{Shape}
 use Rattle.pac_table.specs.declared.operands.Shape.TheVariants as shape
 use Rattle.pac_table.specs.Instructions.{Instruction}
-use Rattle.pac_table.specs.Names.{writing_of, present, listed}
+use Rattle.pac_names.specs.Names.{writing_of, present, listed}
 use Rattle.pac_operation.specs.declared.operand.Operand.{Operand}
 use Rattle.pac_operation.specs.Operations.{are_forms, takes, all_take, with_operand, with_all}
 use Rattle.pac_operation.specs.Views.{pair}

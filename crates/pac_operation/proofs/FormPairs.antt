@@ -3,8 +3,8 @@ use Rattle.std.proofs.Common.{◌≡◌, Bool, true, false, ◌&&◌, List, [], 
 use Rattle.std.specs.Prelude.{Option, Some, None}
 use Rattle.pac_table.specs.declared.operands.Shape.{Shape}
 use Rattle.pac_table.specs.declared.operands.Shape.TheVariants as shape
-use Rattle.pac_table.specs.declared.names.Writing.TheVariants.{Nothing}
-use Rattle.pac_table.specs.Names.{writing_of, present, listed}
+use Rattle.pac_names.specs.declared.writing.Writing.TheVariants.{Nothing}
+use Rattle.pac_names.specs.Names.{writing_of, present, listed}
 use Rattle.pac_operation.specs.declared.operand.Operand.{Operand}
 use Rattle.pac_operation.specs.declared.operand.Operand.TheVariants.{Named, AlternateAf, AtName, Indexed, Memory, Value}
 use Rattle.pac_operation.specs.Operations.{is_form, are_forms}

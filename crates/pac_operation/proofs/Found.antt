@@ -15,12 +15,12 @@ use Rattle.pac_table.specs.declared.operands.Operands.{Operands}
 use Rattle.pac_table.specs.declared.operands.Shape.{Shape}
 use Rattle.pac_table.specs.declared.operands.Shape.TheVariants as shape
 use Rattle.pac_table.specs.declared.patterns.Page.{Page}
-use Rattle.pac_table.specs.declared.names.Writing.{Writing}
+use Rattle.pac_names.specs.declared.writing.Writing.{Writing}
 use Rattle.pac_table.specs.Patterns.{prefix, is_displaced, immediate_bytes, code_bytes}
 use Rattle.pac_table.specs.Table.{table}
 use Rattle.pac_table.specs.Instructions.{Instruction, row_at, row_count, opcode_of, code}
-use Rattle.pac_table.specs.Names.{value_named, writing_of, has_accumulator, present, listed, written}
-use Rattle.pac_table.specs.ByName.{AreNamed, family_in, rows_named}
+use Rattle.pac_names.specs.Names.{value_named, writing_of, has_accumulator, present, listed, written}
+use Rattle.pac_names.specs.ByName.{AreNamed, family_in, rows_named}
 use Rattle.pac_table.proofs.Lengths.{length-immediate-bytes}
 use Rattle.pac_operation.specs.declared.fault.OperationFault.{OperationFault}
 use Rattle.pac_operation.specs.declared.fault.OperationFault.TheVariants.{Range}

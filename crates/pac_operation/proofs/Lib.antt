@@ -6,3 +6,5 @@ pub mod FilledParts
 pub mod RowSearch
 pub mod Held
 pub mod Found
+pub mod Distinct
+pub mod Longer

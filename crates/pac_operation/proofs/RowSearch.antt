@@ -10,8 +10,8 @@ use Rattle.std.proofs.lemmas.Bool.Decides.{nat_tests}
 use Rattle.pac_table.specs.declared.table.Row.{Row}
 use Rattle.pac_table.specs.Table.{table}
 use Rattle.pac_table.specs.Instructions.{row_at}
-use Rattle.pac_table.specs.Names.{value_named}
-use Rattle.pac_table.specs.ByName.{named_from, rows_named}
+use Rattle.pac_names.specs.Names.{value_named}
+use Rattle.pac_names.specs.ByName.{named_from, rows_named}
 
 -- ---- a search by places
 

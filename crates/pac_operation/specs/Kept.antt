@@ -7,7 +7,7 @@ use Rattle.pac_lex.specs.Tokens.{Lexeme, views}
 use Rattle.pac_expr.specs.Trees.{Tree}
 use Rattle.pac_expr.specs.Values as expressions
 use Rattle.pac_table.specs.Instructions.{Instruction, row_at, row_count}
-use Rattle.pac_table.specs.ByName.{AreNamed, family_in, rows_named}
+use Rattle.pac_names.specs.ByName.{AreNamed, family_in, rows_named}
 use Rattle.pac_operation.specs.declared.operand.Operand.{Operand}
 use Rattle.pac_operation.specs.declared.fault.OperationFault.{OperationFault}
 use Rattle.pac_operation.specs.declared.coding.Parts.{Parts}

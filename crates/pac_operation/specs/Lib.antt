@@ -1,5 +1,6 @@
 pub mod Directives
 pub mod Reserved
+pub mod Distinct
 pub mod Operands
 pub mod Operations
 pub mod Views

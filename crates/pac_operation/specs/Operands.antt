@@ -8,8 +8,8 @@ use Rattle.std.specs.Borrow.{Bor}
 use Rattle.pac_lex.specs.declared.token.Token.{Token}
 use Rattle.pac_lex.specs.Tokens.{Lexeme, views}
 use Rattle.pac_expr.specs.Trees.{Tree, group}
-use Rattle.pac_table.specs.declared.names.Name.{Name}
-use Rattle.pac_table.specs.Names.{name_of}
+use Rattle.pac_names.specs.declared.names.Name.{Name}
+use Rattle.pac_names.specs.Names.{name_of}
 use Rattle.pac_operation.specs.declared.operand.Operand.{Operand}
 use Rattle.pac_operation.specs.declared.operand.Operand.TheVariants.{Named, AlternateAf, AtName, Indexed, Memory, Value}
 use Rattle.pac_operation.specs.Reserved.{expression_in}

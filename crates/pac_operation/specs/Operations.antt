@@ -11,11 +11,11 @@ use Rattle.pac_expr.specs.declared.evaluation.ValueError.TheVariants as errors
 use Rattle.pac_expr.specs.Trees.{Tree}
 use Rattle.pac_expr.specs.Values as expressions
 use Rattle.pac_table.specs.declared.operands.Shape.{Shape}
-use Rattle.pac_table.specs.declared.names.Name.{Name}
-use Rattle.pac_table.specs.declared.names.NumberKind.{NumberKind}
-use Rattle.pac_table.specs.declared.names.NumberKind.TheVariants as kind
-use Rattle.pac_table.specs.declared.names.Writing.{Writing}
-use Rattle.pac_table.specs.declared.names.Writing.TheVariants as writing
+use Rattle.pac_names.specs.declared.names.Name.{Name}
+use Rattle.pac_names.specs.declared.writing.NumberKind.{NumberKind}
+use Rattle.pac_names.specs.declared.writing.NumberKind.TheVariants as kind
+use Rattle.pac_names.specs.declared.writing.Writing.{Writing}
+use Rattle.pac_names.specs.declared.writing.Writing.TheVariants as writing
 use Rattle.pac_table.specs.declared.table.Row.{Row}
 use Rattle.pac_table.specs.declared.patterns.Immediate.{Immediate}
 use Rattle.pac_table.specs.declared.patterns.Immediate.TheVariants as immediate
@@ -23,7 +23,7 @@ use Rattle.pac_table.specs.declared.patterns.Pattern.{Pattern}
 use Rattle.pac_table.specs.Patterns.{lists, word_limit, code_bytes, immediate_bytes}
 use Rattle.pac_table.specs.Table.{table}
 use Rattle.pac_table.specs.Instructions.{Instruction, row_at}
-use Rattle.pac_table.specs.Names.{value_named, is_same, value_of, writing_of, written}
+use Rattle.pac_names.specs.Names.{value_named, is_same, value_of, writing_of, written}
 use Rattle.pac_operation.specs.declared.operand.Operand.{Operand}
 use Rattle.pac_operation.specs.declared.operand.Operand.TheVariants.{Named, AlternateAf, AtName, Indexed, Memory, Value}
 use Rattle.pac_operation.specs.declared.fault.OperationFault.{OperationFault}
@@ -227,11 +227,14 @@ fault_of errors.Undefined = faults.Undefined
 fault_of errors.OutOfRange = faults.Arithmetic
 fault_of errors.DivisionByZero = faults.Arithmetic
 
--- of two faults the one that is told: an undefined name first, wherever it stands
+-- The first of two faults of a line. A name that isn't defined comes before arithmetic, and that before a range, wherever
+-- they stand in it.
 abbrev pub first : OperationFault → OperationFault → OperationFault
 first faults.Undefined other = faults.Undefined
-first fault faults.Undefined = faults.Undefined
-first fault other = fault
+first faults.Arithmetic faults.Undefined = faults.Undefined
+first faults.Arithmetic faults.Arithmetic = faults.Arithmetic
+first faults.Arithmetic faults.Range = faults.Arithmetic
+first faults.Range other = other
 
 -- an operand with the value of its expression
 abbrev pub with_value : (ℤ → Operand ℤ) → expressions.Answer → Result (Operand ℤ) OperationFault

@@ -7,7 +7,7 @@ use Rattle.pac_lex.specs.declared.token.Kind.TheVariants as kinds
 use Rattle.pac_lex.specs.Tokens.{Lexeme}
 use Rattle.pac_expr.specs.Trees.{Tree}
 use Rattle.pac_expr.specs.Parsing.{tree_in}
-use Rattle.pac_table.specs.Names.{is_operation, name_of}
+use Rattle.pac_names.specs.Names.{is_operation, name_of}
 use Rattle.pac_operation.specs.Directives.{is_directive}
 
 -- the name of an operation or a directive, of a register, a pair or a condition, in either case

@@ -11,8 +11,8 @@ use Rattle.pac_operation.specs.declared.operand.Operand.TheVariants.{Named, Alte
 use Rattle.pac_table.specs.declared.operands.Shape.{Shape}
 use Rattle.pac_table.specs.declared.operands.Shape.TheVariants as shape
 use Rattle.pac_table.specs.Instructions.{row_at}
-use Rattle.pac_table.specs.Names.{writing_of}
-use Rattle.pac_table.specs.ByName.{family_in}
+use Rattle.pac_names.specs.Names.{writing_of}
+use Rattle.pac_names.specs.ByName.{family_in}
 use Rattle.pac_operation.specs.Reserved.{expression_in}
 use Rattle.pac_operation.specs.Operations.{is_form, fits_as}
 use Rattle.pac_operation.specs.Operands.{is_comma, opens, ends_closed}

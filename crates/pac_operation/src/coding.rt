@@ -3,14 +3,15 @@
 ghost use Rattle.std.specs.Prelude.{◌≡◌, ◌<◌, Some, None, find, option_map, if◌then◌else◌, ◌+◌, ◌/◌, ◌%◌, ◌==◌, ◌&&◌, ◌≤ℤ◌, neg_ℤ, pos, negsuc, unsigned_abs, true};
 ghost use Rattle.std.specs.List.{All};
 ghost use Rattle.pac_table.specs.Instructions.{row_at, row_count};
-ghost use Rattle.pac_table.specs.Names.{listed};
+ghost use Rattle.pac_names.specs.Names.{listed};
 ghost use Rattle.pac_operation.specs.Operations.{all_take, are_forms, complement, holds, within, is_number, is_written_number, takes, with_all, with_name, with_number, with_operand, with_written};
 ghost use Rattle.pac_operation.specs.Views.{pair};
 ghost use Rattle.pac_operation.specs.Kept.{as_instruction, in_place, in_row, suits_row};
 
 use crate::form::{family_in, fits, row_size};
 use crate::operand::Operand;
-use pac_table::{Instr, Name, NumberKind, Shape, Writing, row_numbered};
+use pac_names::{Name, NumberKind, Writing, written};
+use pac_table::{Instr, Shape, row_numbered};
 
 /// The parts of a code.
 #[derive(Clone, Copy)]
@@ -71,7 +72,7 @@ fn placed_in(
         word: 0,
         disp: 0,
     };
-    let parts = filled(form.written(value), next, first, second, start)?;
+    let parts = filled(written(form, value), next, first, second, start)?;
     made(row, &parts)
 }
 
@@ -99,10 +100,10 @@ fn filled(
     let Some(operand) = first else {
         return Some(parts);
     };
-    let parts = with_operand(shapes.0.writing(), next, *operand, parts)?;
+    let parts = with_operand(Writing::of(shapes.0), next, *operand, parts)?;
     match second {
         None => Some(parts),
-        Some(operand) => with_operand(shapes.1.writing(), next, *operand, parts),
+        Some(operand) => with_operand(Writing::of(shapes.1), next, *operand, parts),
     }
 }
 

@@ -45,11 +45,17 @@ static NAMES: [(&[u8], Directive); 13] = [
     (b"ENDIF", Directive::EndCondition),
 ];
 
+/// The bytes of the longest of them; a longer word is none.
+const LONGEST: usize = 5;
+
 /// The directive that a word is, in either case, if it is one.
 #[tactic(auto, unfolding(crate::specs::Directives::directive_of))]
 pub fn directive_of(word: &[u8]) -> Option<Directive>
     ensures { result ≡ directive_of word.now }
 {
+    if word.len() > LONGEST {
+        return None;
+    }
     found(word, &NAMES)
 }
 

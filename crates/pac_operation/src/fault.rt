@@ -1,5 +1,8 @@
 //! Why an operation is no instruction.
 
+ghost use Rattle.std.specs.Prelude.{◌≡◌};
+ghost use Rattle.pac_operation.specs.Operations.{first};
+
 /// Why an operation is no instruction at an address; the first in this order is told.
 #[derive(Clone, Copy, Debug, PartialEq, Eq)]
 pub enum OperationFault {
@@ -9,4 +12,20 @@ pub enum OperationFault {
     Arithmetic,
     /// A number out of its range.
     Range,
+}
+
+impl OperationFault {
+    /// The first of two faults of a line: an undefined name, then arithmetic, then a range.
+    pub fn first(self, other: OperationFault) -> OperationFault
+        ensures { result ≡ first self other }
+    {
+        match self {
+            OperationFault::Undefined => OperationFault::Undefined,
+            OperationFault::Range => other,
+            OperationFault::Arithmetic => match other {
+                OperationFault::Undefined => OperationFault::Undefined,
+                _ => OperationFault::Arithmetic,
+            },
+        }
+    }
 }

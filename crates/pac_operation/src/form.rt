@@ -3,13 +3,14 @@
 ghost use Rattle.std.specs.Prelude.{◌≡◌, ◌<◌, find};
 ghost use Rattle.std.specs.List.{All};
 ghost use Rattle.pac_table.specs.Instructions.{row_at, row_count};
-ghost use Rattle.pac_table.specs.Names.{listed, writing_of};
-ghost use Rattle.pac_table.specs.ByName.{family_in};
+ghost use Rattle.pac_names.specs.Names.{listed, writing_of};
+ghost use Rattle.pac_names.specs.ByName.{family_in};
 ghost use Rattle.pac_operation.specs.Operations.{are_forms, fits_as, is_form, row_size, takes_alternate, takes_at_name, takes_indexed, takes_memory, takes_name, takes_value};
 ghost use Rattle.pac_operation.specs.Views.{fits_row, is_absent, is_form_if, pair};
 
 use crate::operand::Operand;
-use pac_table::{Mnemonic, Name, Shape, Writing, row_numbered};
+use pac_names::{Name, Writing, written};
+use pac_table::{Mnemonic, Shape, row_numbered};
 
 /// The first row whose form the operands have.
 pub(crate) fn first_row<T>(
@@ -41,7 +42,7 @@ pub(crate) fn fits<T>(
 {
     let form = row_numbered(u16::from(row)).operands;
     let value = family_in(form.mnemonic, family);
-    are_forms(form.written(value), first, second)
+    are_forms(written(form, value), first, second)
 }
 
 /// The value of the first field at first: what the name tells in a family.
@@ -70,7 +71,7 @@ fn are_forms<T>(
 {
     match first {
         None => is_absent(shapes.0),
-        Some(operand) => is_form(shapes.0.writing(), operand) && is_form_if(shapes.1, second),
+        Some(operand) => is_form(Writing::of(shapes.0), operand) && is_form_if(shapes.1, second),
     }
 }
 
@@ -80,7 +81,7 @@ fn is_form_if<T>(shape: Shape, operand: &Option<Operand<T>>) -> bool
 {
     match operand {
         None => is_absent(shape),
-        Some(operand) => is_form(shape.writing(), operand),
+        Some(operand) => is_form(Writing::of(shape), operand),
     }
 }
 

@@ -6,6 +6,7 @@ mod coding;
 mod directive;
 mod fault;
 mod form;
+pub mod laws;
 mod operand;
 mod operation;
 mod parsing;

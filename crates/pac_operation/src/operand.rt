@@ -4,7 +4,7 @@ ghost use Rattle.std.specs.Prelude.{◌≡◌};
 ghost use Rattle.pac_operation.specs.Operands.{name_in, opens, closes, is_sign};
 
 use pac_lex::{Kind, Token};
-use pac_table::{Name, name_of};
+use pac_names::{Name, name_of};
 
 /// An operand, with the tokens or the value of its expression where it has one.
 #[derive(Clone, Copy)]

@@ -12,7 +12,8 @@ use crate::parsing::operands;
 use crate::values::values;
 use pac_expr::Symbols;
 use pac_lex::Token;
-use pac_table::{Instr, rows_named};
+use pac_names::rows_named;
+use pac_table::Instr;
 use std::marker::Model;
 
 /// An operation of the source that fits a row of the table, with its name and its operands.

@@ -8,7 +8,7 @@ ghost use Rattle.pac_operation.specs.Reserved.{expression_in, is_reserved, is_re
 use crate::directive::directive_of;
 use pac_expr::is_expression;
 use pac_lex::{Kind, Token};
-use pac_table::{is_operation, name_of};
+use pac_names::{is_operation, name_of};
 
 /// Whether a word is reserved, in either case: the name of an operation or a directive, of a register, a pair or a
 /// condition. Such a word is no symbol.

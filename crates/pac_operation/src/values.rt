@@ -2,7 +2,7 @@
 
 ghost use Rattle.std.specs.Prelude.{◌≡◌};
 ghost use Rattle.pac_expr.specs.Values as expressions;
-ghost use Rattle.pac_operation.specs.Operations.{all_valued, fault_of, first, valued};
+ghost use Rattle.pac_operation.specs.Operations.{all_valued, fault_of, valued};
 ghost use Rattle.pac_operation.specs.Views.{IsKnown, IsKnownIf, IsTree, pair_seen, seen, tree_within};
 ghost use Rattle.pac_operation.specs.Kept.{number_of, pair_of};
 
@@ -37,20 +37,7 @@ pub(crate) fn values<S: Symbols>(
         },
         Err(fault) => match second {
             Ok(_) => Err(fault),
-            Err(other) => Err(first_fault(fault, other)),
-        },
-    }
-}
-
-/// Of two faults the one that is told.
-fn first_fault(fault: OperationFault, other: OperationFault) -> OperationFault
-    ensures { result ≡ first fault other }
-{
-    match fault {
-        OperationFault::Undefined => OperationFault::Undefined,
-        _ => match other {
-            OperationFault::Undefined => OperationFault::Undefined,
-            _ => fault,
+            Err(other) => Err(fault.first(other)),
         },
     }
 }

@@ -1,13 +1,15 @@
--- Items that share no address lie in their ROM.
+-- Items that share no address lie in their ROM, and where no item lies it holds 0.
 use Rattle.std.proofs.Common.{◌≡◌, ℕ, ◌+◌, ◌-◌, ◌<◌, true, false, List, [], ◌∷◌, length, map, get_or, take, drop, ap}
-use Rattle.std.proofs.Common.{sym, ◌∙◌, arith, ⊎_elim, zero, suc}
+use Rattle.std.proofs.Common.{sym, ◌∙◌, arith, ⊎_elim, zero, suc, refl}
+use Rattle.std.specs.List.{All}
 use Rattle.std.specs.List.{range_with_len, slice_index}
 use Rattle.std.proofs.lemmas.Bool.{cases_Bool, true≢false, cond-true, cond-false, lt-ltb, le-leb, and_from}
 use Rattle.std.proofs.lemmas.List.{get_or-take, get_or-drop, length-take-le, length-drop, ext_get_or}
 use Rattle.std.proofs.lemmas.List.FromFn.{get_or-map-range_with_len, length-map-range_with_len}
 use Rattle.pac_code.specs.Items.{Item, bytes_of}
 use Rattle.pac_program.specs.Programs.{rom_size}
-use Rattle.pac_program.specs.Rom.{covers, byte_at, rom_of, AreApart, ApartItemsLie}
+use Rattle.std.proofs.lemmas.List.Elements.{All-head, All-tail}
+use Rattle.pac_program.specs.Rom.{covers, byte_at, rom_of, AreApart, ApartItemsLie, IsZeroElsewhere}
 
 -- the byte at an address is that of the item that covers it
 byte-is : (items : List Item) → AreApart items → (k : ℕ) (d : Item) → k < length items → (cell : ℕ)
@@ -45,3 +47,15 @@ apart_items_lie items apart fit k d below =
           (and_from _ _ (le-leb item.at (item.at + j) (omega arith)) (lt-ltb (item.at + j) (item.at + length bytes) (omega arith)))
           ∙ ap (λ n. get_or bytes n 0) same);
     }
+
+-- the byte at an address that no item covers
+byte-zero : (items : List Item) (cell : ℕ) → All (λ item. covers item cell ≡ false) items → byte_at items cell ≡ 0
+byte-zero [] cell none = refl
+byte-zero (x ∷ xs) cell none =
+    cond-false _ _ _ (All-head (λ item. covers item cell ≡ false) x xs none)
+    ∙ byte-zero xs cell (All-tail (λ item. covers item cell ≡ false) x xs none)
+
+pub zero-elsewhere : (items : List Item) → IsZeroElsewhere (rom_of items) items
+unfolding rom_of
+zero-elsewhere items cell below none =
+    get_or-map-range_with_len (byte_at items) 0 rom_size cell cell 0 below (omega arith) ∙ byte-zero items cell none

@@ -1,5 +1,6 @@
 -- The program ROM of items: a byte is that of the first item that covers its address, and 0 where none does.
-use Rattle.std.specs.Prelude.{ℕ, ◌+◌, ◌-◌, ◌≤◌, ◌&&◌, Bool, IsTrue, IsFalse, All, nat_lt, nat_le, if◌then◌else◌, List, [], ◌∷◌, length, map, slice_index}
+use Rattle.std.specs.Prelude.{◌≡◌, ℕ, ◌+◌, ◌-◌, ◌<◌, ◌≤◌, ◌&&◌, Bool, IsTrue, IsFalse, All, nat_lt, nat_le, if◌then◌else◌}
+use Rattle.std.specs.Prelude.{List, [], ◌∷◌, length, map, slice_index}
 use Rattle.std.specs.List.{range_with_len}
 use Rattle.pac_code.specs.Items.{Item, bytes_of, IsValid, AllLie}
 use Rattle.pac_program.specs.Programs.{rom_size}
@@ -33,6 +34,10 @@ AreApart (item ∷ more) = All (IsApartFrom item) more × AreApart more
 pub record IsFit (item : Item) : Type 0 where
   pub valid : IsValid item.content
   pub inside : item.at + length (bytes_of item) ≤ rom_size
+
+-- an address of the ROM that no item covers holds 0
+abbrev pub IsZeroElsewhere : List ℕ → List Item → Type 0
+IsZeroElsewhere rom items = (cell : ℕ) → cell < rom_size → All (λ item. IsFalse (covers item cell)) items → slice_index rom cell ≡ 0
 
 -- the law: items that are apart lie in their ROM, each with its bytes
 abbrev pub ApartItemsLie : Type 0

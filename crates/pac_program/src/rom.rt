@@ -3,7 +3,7 @@
 ghost use Rattle.std.specs.Prelude.{◌≡◌, ◌<◌, length, drop, flat_map, map, slice_index, IfOk};
 ghost use Rattle.std.specs.List.{range_with_len};
 ghost use Rattle.pac_program.specs.Programs.{items_in, rom_size};
-ghost use Rattle.pac_program.specs.Rom.{byte_over, rom_of, ApartItemsLie};
+ghost use Rattle.pac_program.specs.Rom.{byte_over, rom_of, ApartItemsLie, IsZeroElsewhere};
 
 use crate::line::{Item, Line};
 use std::alloc::{AllocError, Global};
@@ -13,7 +13,8 @@ const ROM_SIZE: usize = 16384;
 
 /// The 16,384 bytes of the program ROM that lines with these items make.
 pub fn rom_of(alloc: Global, lines: &[Line]) -> Result<Box<[u8; 16384]>, AllocError>
-    ensures { IfOk result (λ rom. rom.value ≡ rom_of (flat_map items_in lines.now)) }
+    ensures value { IfOk result (λ rom. rom.value ≡ rom_of (flat_map items_in lines.now)) }
+    ensures zero { IfOk result (λ rom. IsZeroElsewhere rom.value (flat_map items_in lines.now)) }
 {
     let mut rom = Box::new(alloc, [0; 16384])?;
     let mut count = lines.len();

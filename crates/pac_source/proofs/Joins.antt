@@ -2,7 +2,8 @@
 use Rattle.std.proofs.Common.{◌≡◌, ℕ, List, Ok, Err, refl, ap, append_assoc}
 use Rattle.pac_operation.specs.declared.fault.OperationFault.{OperationFault}
 use Rattle.pac_operation.specs.declared.fault.OperationFault.TheVariants.{Undefined, Arithmetic, Range}
-use Rattle.pac_source.specs.Contents.{Given, first, joined}
+use Rattle.pac_source.specs.Contents.{Given, joined}
+use Rattle.pac_operation.specs.Operations.{first}
 
 first-assoc : (a b c : OperationFault) → first (first a b) c ≡ first a (first b c)
 first-assoc Undefined b c = refl

@@ -8,9 +8,9 @@ use Rattle.pac_code.specs.Items.{Content, Code, Data}
 use Rattle.pac_expr.specs.Trees.{Tree}
 use Rattle.pac_expr.specs.Values.{Answer, value_of}
 use Rattle.pac_operation.specs.declared.fault.OperationFault.{OperationFault}
-use Rattle.pac_operation.specs.declared.fault.OperationFault.TheVariants.{Undefined, Arithmetic, Range}
+use Rattle.pac_operation.specs.declared.fault.OperationFault.TheVariants.{Range}
 use Rattle.pac_operation.specs.Operations as operations
-use Rattle.pac_operation.specs.Operations.{within, complement, fault_of}
+use Rattle.pac_operation.specs.Operations.{within, complement, fault_of, first}
 use Rattle.pac_source.specs.Statements.{Part, text, value, Statement, bytes, words, space, operation}
 
 abbrev pub part_size : Part → ℕ
@@ -56,15 +56,6 @@ byte_value names here tree = fitted byte_of (value_of names here tree)
 
 abbrev pub word_value : (List ℕ → Option ℤ) → ℕ → Tree → Given ℕ
 word_value names here tree = fitted word_of (value_of names here tree)
-
--- The first of two faults of a line. A name that isn't defined comes before arithmetic, and that before a range, wherever
--- they stand in it.
-abbrev pub first : OperationFault → OperationFault → OperationFault
-first Undefined other = Undefined
-first Arithmetic Undefined = Undefined
-first Arithmetic Arithmetic = Arithmetic
-first Arithmetic Range = Arithmetic
-first Range other = other
 
 -- bytes one after another, or the first fault
 abbrev pub joined : Given (List ℕ) → Given (List ℕ) → Given (List ℕ)

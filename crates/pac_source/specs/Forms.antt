@@ -7,7 +7,7 @@ use Rattle.pac_lex.specs.declared.token.Kind.TheVariants as kinds
 use Rattle.pac_lex.specs.Tokens.{Lexeme}
 use Rattle.pac_lex.specs.Texts.{characters_of}
 use Rattle.pac_expr.specs.Trees.{Tree}
-use Rattle.pac_table.specs.Names.{is_operation, name_of}
+use Rattle.pac_names.specs.Names.{is_operation, name_of}
 use Rattle.pac_operation.specs.declared.directive.Directive.{Directive}
 use Rattle.pac_operation.specs.declared.directive.Directive.TheVariants as directives
 use Rattle.pac_operation.specs.Directives.{directive_of, is_directive}

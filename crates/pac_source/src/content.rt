@@ -3,7 +3,6 @@
 ghost use Rattle.std.specs.Prelude.{◌≡◌, IfOk, IfSome, Ok, Some, length, option_map, replicate};
 ghost use Rattle.pac_lex.specs.Tokens.{views};
 ghost use Rattle.pac_code.specs.Items.{Code, Data, IsValid, bytes_in};
-ghost use Rattle.pac_table.specs.Instructions.{IsInstruction};
 ghost use Rattle.pac_source.specs.Contents.{content_of, fill_value, gathered, joined, made, SizeFits, part_bytes, word_bytes};
 ghost use Rattle.pac_source.specs.Gathered.{Gives, so_far};
 ghost use Rattle.pac_source.specs.Views.{part, parts_of, statement, tree, trees_of};
@@ -54,12 +53,10 @@ fn placed(bytes: Vec<u8>) -> Result<Option<Content>, ContentError>
     Ok(Some(Content::data(bytes)))
 }
 
-/// An instruction as what is placed. It is one of the table, as each that can be asked for its row.
+/// An instruction as what is placed.
 fn coded(instr: Instr) -> Result<Option<Content>, ContentError>
-    ensures value { result ≡ Ok (Some (Code instr)) }
-    ensures valid { IsInstruction instr }
+    ensures { result ≡ Ok (Some (Code instr)) }
 {
-    let _row = instr.row();
     Ok(Some(Content::code(instr)))
 }
 

@@ -4,7 +4,7 @@ ghost use Rattle.std.specs.Prelude.{◌≡◌, [], ◌∷◌, IfOk, Ok};
 ghost use Rattle.pac_lex.specs.Texts.{characters_of};
 ghost use Rattle.pac_num.specs.Numbers.{low_byte, high_byte};
 ghost use Rattle.pac_source.specs.declared.gathered.ContentError.TheVariants as errors;
-ghost use Rattle.pac_source.specs.Contents.{first, joined, made};
+ghost use Rattle.pac_source.specs.Contents.{joined, made};
 ghost use Rattle.pac_source.specs.Gathered.{Gives, so_far};
 
 use pac_lex::characters;
@@ -132,21 +132,7 @@ impl Gathered {
     {
         self.fault = Some(match self.fault {
             None => fault,
-            Some(other) => first(other, fault),
+            Some(other) => other.first(fault),
         });
-    }
-}
-
-/// The first of two faults of a line: an undefined name, then arithmetic, then a range.
-fn first(fault: OperationFault, other: OperationFault) -> OperationFault
-    ensures { result ≡ first fault other }
-{
-    match fault {
-        OperationFault::Undefined => OperationFault::Undefined,
-        OperationFault::Range => other,
-        OperationFault::Arithmetic => match other {
-            OperationFault::Undefined => OperationFault::Undefined,
-            _ => OperationFault::Arithmetic,
-        },
     }
 }

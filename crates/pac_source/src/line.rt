@@ -8,8 +8,8 @@ ghost use Rattle.pac_source.specs.Views as view;
 use crate::directed::directed;
 use crate::statement::{Form, Statement};
 use pac_lex::{Kind, Token};
+use pac_names::{is_operation, name_of};
 use pac_operation::{Directive, Operation, directive_of};
-use pac_table::{is_operation, name_of};
 
 /// The form of a line of these tokens, or `None` where they are no line of the source (A2). Its first name
 /// is a label exactly where it names no directive and no operation.

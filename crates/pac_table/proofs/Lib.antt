@@ -2,5 +2,3 @@ pub mod TableRules
 pub mod Uniqueness
 pub mod Lengths
 pub mod Pages
-pub mod Index
-pub mod SameNames

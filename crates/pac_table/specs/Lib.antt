@@ -4,6 +4,3 @@ pub mod Instructions
 pub mod Pages
 pub mod Counts
 pub mod Forms
-pub mod Names
-pub mod ByName
-pub mod Words

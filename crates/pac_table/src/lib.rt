@@ -6,16 +6,13 @@ ghost use Rattle.pac_table.specs.Instructions.{AtMostOne};
 ghost use Rattle.pac_table.specs.Counts.{CountsOpcodes};
 ghost use Rattle.pac_table.specs.Forms.{FillsCodes};
 
-mod by_name;
 mod dispatch;
 mod effects;
 mod instruction;
-mod names;
 mod operands;
 mod patterns;
 mod table;
 
-pub use by_name::{NamedRows, is_operation, is_written, rows_named};
 pub use dispatch::matching_row;
 pub use effects::{
     BitOperation, Block, BlockOperation, ByteArithmetic, ByteLoad, Call, Control, Direction,
@@ -23,7 +20,6 @@ pub use effects::{
     WordArithmetic, WordLoad,
 };
 pub use instruction::Instr;
-pub use names::{Name, NameList, NumberKind, Writing, name_of};
 pub use operands::{Mnemonic, Operands, Shape};
 pub use patterns::{Field, Immediate, Page, Pattern};
 pub use table::{Row, row_numbered, rows};

@@ -1,5 +1,8 @@
 //! What an instruction looks like in source: its mnemonic and the shapes of its operands.
 
+ghost use Rattle.std.specs.Prelude.{◌≡◌};
+ghost use Rattle.pac_table.specs.Forms.{is_family};
+
 /// The name of an operation (UM0080). `Alu` and `Shift` are families: the first field of the code
 /// tells the name.
 #[derive(Clone, Copy, PartialEq, Eq)]
@@ -63,6 +66,16 @@ pub enum Mnemonic {
     Set,
     /// By the first field RLC, RRC, RL, RR, SLA, SRA or SRL.
     Shift,
+}
+
+impl Mnemonic {
+    /// Whether the first field tells the name.
+    #[inline]
+    pub fn is_family(self) -> bool
+        ensures { result ≡ is_family self }
+    {
+        matches!(self, Mnemonic::Alu | Mnemonic::Shift)
+    }
 }
 
 /// The shape of an operand: the text that it takes, and the part of the code that it fills. A field

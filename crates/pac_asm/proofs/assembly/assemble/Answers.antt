@@ -3,7 +3,7 @@ use Rattle.std.specs.List.{flat_map}
 use Rattle.std.specs.Str.Lines.{lines}
 use Rattle.pac_code.specs.Items.{AllLie}
 use Rattle.pac_program.specs.Programs.{Assembled, items_in, items_of}
-use Rattle.pac_program.specs.Rom.{rom_of}
+use Rattle.pac_program.specs.Rom.{rom_of, AreApart, IsZeroElsewhere}
 use Rattle.pac_program.specs.declared.line.Line.{Line}
 use Rattle.pac_asm.specs.Items.{AllFit}
 use Rattle.pac_asm.proofs.Sizes.{all-fit}
@@ -17,7 +17,17 @@ fill_in-requires-clause-fit c =
 pub returns-clause-lie : goal.returns-clause-lie
 returns-clause-lie c =
     let items = flat_map items_in c.in_ok-lines.lines.items in
-    let made = c.in_ok-rom.ensures ∙ ap (λ (filled : List Line). rom_of (flat_map items_in filled)) c.deref.ensures.value in
+    let made = c.in_ok-rom.ensures.value ∙ ap (λ (filled : List Line). rom_of (flat_map items_in filled)) c.deref.ensures.value in
     subst (λ (program : Assembled). AllLie program.rom (items_of program)) (sym c.new.ensures)
     (subst (λ (rom : List ℕ). AllLie rom items) (sym made)
     (c.apart_items_lie.ensures items c.in_ok-lines.ensures.items.0 c.in_ok-lines.ensures.items.1))
+
+pub returns-clause-apart : goal.returns-clause-apart
+returns-clause-apart c =
+    subst (λ (program : Assembled). AreApart (items_of program)) (sym c.new.ensures) c.in_ok-lines.ensures.items.0
+
+pub returns-clause-zero : goal.returns-clause-zero
+returns-clause-zero c =
+    let items = flat_map items_in c.in_ok-lines.lines.items in
+    subst (λ (program : Assembled). IsZeroElsewhere program.rom (items_of program)) (sym c.new.ensures)
+    (subst (λ (filled : List Line). IsZeroElsewhere c.in_ok-rom.rom.value (flat_map items_in filled)) c.deref.ensures.value c.in_ok-rom.ensures.zero)

@@ -1,5 +1,5 @@
 use Rattle.std.proofs.Common.{◌≡◌, sym, subst}
-use Rattle.pac_table.specs.Names.{listed, written}
+use Rattle.pac_names.specs.Names.{listed, written}
 use Rattle.pac_table.specs.Instructions.{operands_of}
 use Rattle.pac_dis.specs.Ranges.{ShowsEach}
 use Rattle.pac_dis.proofs.Writings.{shows-each}

@@ -1,6 +1,6 @@
 use Rattle.std.proofs.Common.{Some, None, if◌then◌else◌, ◌∙◌, ap}
 use Rattle.std.specs.Prelude.{option_map}
-use Rattle.pac_table.specs.declared.names.Writing.{Writing}
+use Rattle.pac_names.specs.declared.writing.Writing.{Writing}
 use Rattle.pac_operation.specs.Operations.{takes, with_operand}
 use Rattle.pac_operation.specs.Kept.{as_instruction}
 use Rattle.pac_operation.proofs.FilledParts.{none-filled, one-filled, two-filled}
@@ -13,7 +13,7 @@ returns-in_err-parts c =
     none-filled c.args.shapes.0 c.args.shapes.1 c.args.next c.args.first.now c.args.second.now c.in-Some.operand i c.in-Some.is c.requires
     (c.in_err-parts.ensures ∙
     ap (λ (w : Writing). if takes w c.args.next c.in-Some.operand then Some (with_operand w c.args.next c.in-Some.operand i) else None)
-    c.writing.ensures)
+    c.of.ensures)
 
 pub returns-in-None : goal.returns-in-None
 returns-in-None c =
@@ -22,7 +22,7 @@ returns-in-None c =
     (as_instruction c.in_ok-parts.parts) c.in-Some.is c.in-None.is c.requires
     (c.in_ok-parts.ensures ∙
     ap (λ (w : Writing). if takes w c.args.next c.in-Some.operand then Some (with_operand w c.args.next c.in-Some.operand i) else None)
-    c.writing.ensures)
+    c.of.ensures)
 
 pub returns-in-Some-second : goal.returns-in-Some-second
 returns-in-Some-second c =
@@ -32,7 +32,7 @@ returns-in-Some-second c =
     c.in-Some-second.operand i j _ c.in-Some.is c.in-Some-second.is c.requires
     (c.in_ok-parts.ensures ∙
     ap (λ (w : Writing). if takes w c.args.next c.in-Some.operand then Some (with_operand w c.args.next c.in-Some.operand i) else None)
-    c.writing.ensures)
+    c.of.ensures)
     (c.with_operand-in-Some-second.ensures ∙
     ap (λ (w : Writing). if takes w c.args.next c.in-Some-second.operand then Some (with_operand w c.args.next c.in-Some-second.operand j) else None)
-    c.writing-in-Some-second.ensures)
+    c.of-in-Some-second.ensures)

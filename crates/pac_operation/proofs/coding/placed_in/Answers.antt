@@ -3,8 +3,8 @@ use Rattle.std.proofs.lemmas.Bool.{eq-eqb}
 use Rattle.pac_table.specs.declared.operands.Shape.{Shape}
 use Rattle.pac_table.specs.declared.table.Row.{Row}
 use Rattle.pac_table.specs.Instructions.{Instruction, row_at}
-use Rattle.pac_table.specs.Names.{written}
-use Rattle.pac_table.specs.ByName.{family_in}
+use Rattle.pac_names.specs.Names.{written}
+use Rattle.pac_names.specs.ByName.{family_in}
 use Rattle.pac_operation.specs.Operations.{row_size, are_forms, fits_as, all_take, with_all, holds, parts_as}
 use Rattle.pac_operation.specs.Views.{pair}
 use Rattle.pac_operation.specs.Kept.{as_instruction, in_place, in_row}

@@ -1,8 +1,9 @@
-use Rattle.std.proofs.Common.{◌≡◌, ℕ, List, ◌∷◌, ◌+◌, ◌-◌, length, drop, flat_map, map, ap, sym, ◌∙◌, arith}
+use Rattle.std.proofs.Common.{◌≡◌, ℕ, List, ◌∷◌, ◌+◌, ◌-◌, length, drop, flat_map, map, ap, sym, ◌∙◌, subst, arith}
 use Rattle.std.specs.List.{range_with_len, slice_index}
 use Rattle.std.proofs.lemmas.List.{drop_all, drop_more}
 use Rattle.pac_program.specs.Programs.{items_in, rom_size}
-use Rattle.pac_program.specs.Rom.{byte_over, rom_of}
+use Rattle.pac_program.specs.Rom.{byte_over, rom_of, IsZeroElsewhere}
+use Rattle.pac_program.proofs.Apart.{zero-elsewhere}
 use Rattle.pac_program.specs.declared.line.Line.{Line}
 use Rattle.pac_program.specs.declared.line.Line.TheVariants.{Placed}
 use Rattle.pac_program.proofs.WrittenOver.{rom-of-none, rom-of-one-more}
@@ -33,3 +34,11 @@ loop-count-preserved-in-Placed c =
           ∙ rom-of-one-more item (flat_map items_in (drop count lines))
           ∙ sym (ap (λ (lines : List Line). rom_of (flat_map items_in lines)) shape);
     }
+
+pub returns-clause-zero : goal.returns-clause-zero
+returns-clause-zero c =
+    let items = flat_map items_in c.args.lines.now in
+    let none : c.loop-count.count ≡ 0 = omega (arith, c.loop-count-test.false) in
+    subst (λ (rom : List ℕ). IsZeroElsewhere rom items)
+    (sym (c.loop-count.invariant.made ∙ ap (λ count. rom_of (flat_map items_in (drop count c.args.lines.now))) none))
+    (zero-elsewhere items)

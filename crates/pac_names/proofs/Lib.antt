@@ -1,0 +1,4 @@
+pub mod Index
+pub mod SameNames
+pub mod Distinct
+pub mod Longer

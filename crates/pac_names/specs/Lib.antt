@@ -1,0 +1,4 @@
+pub mod Names
+pub mod ByName
+pub mod Words
+pub mod Distinct
