@@ -3,4 +3,5 @@ pub mod State
 pub mod Events
 pub mod Calls
 pub mod Laws
+pub mod Fields
 pub mod Kept
