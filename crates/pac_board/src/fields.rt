@@ -1,6 +1,6 @@
 //! A board made from its fields, as a save file has them, and told by them.
 
-ghost use Rattle.std.specs.Prelude.{◌≡◌, ◌≤◌, ◌↔◌, IfOk, IfErr, true};
+ghost use Rattle.std.specs.Prelude.{◌≡◌, ◌≤◌, ◌<◌, ◌↔◌, IfOk, IfErr, true, length};
 ghost use Rattle.pac_wave.specs.Wave.{Fit20Bits, of_list};
 ghost use Rattle.pac_board.specs.State.{most_asked, passed_lines, recomposed, with_view};
 ghost use Rattle.pac_board.specs.Fields.{moment_of, state_of, AreInRange, AreParts};
@@ -112,6 +112,16 @@ impl Machine {
         }
     }
 
+    /// How many lines of the picture have passed since the last blank.
+    fn passed(&self) -> u8
+        ensures passed { result ≡ passed_lines self.now.now.time }
+        ensures lines { result < length self.now.now.board.lines }
+    {
+        // any row tells that all of them are there
+        let _top = self.picture.row(0);
+        (self.clock % 50_688 / 192).saturating_sub(40) as u8
+    }
+
     /// Composes the lines that have passed since the last blank from what the memory keeps now.
     fn recompose(&mut self)
         ensures { self.new ≡ record {
@@ -119,8 +129,8 @@ impl Machine {
           now = record self.old.now { board = recomposed self.old.set self.old.now.board (passed_lines self.old.now.time) };
         } }
     {
-        let passed = (self.clock % 50_688 / 192).saturating_sub(40) as u8;
-        for y in 0..passed {
+        let count = self.passed();
+        for y in 0..count {
             self.compose(y);
         }
     }
