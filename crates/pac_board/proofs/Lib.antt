@@ -1,3 +1,4 @@
 pub mod Sinks
+pub mod Walked
 pub mod Turns
 pub mod Pieces

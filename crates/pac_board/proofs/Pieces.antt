@@ -1,42 +1,20 @@
 -- Time in pieces, refusals, and steps that are done again.
-use Rattle.std.proofs.Common.{◌≡◌, ℕ, zero, suc, ◌+◌, ◌-◌, ◌*◌, ◌/◌, ◌^◌, ◌<◌, ◌≤◌, min, List, [], ◌++◌, Bool, true, false}
-use Rattle.std.proofs.Common.{refl, sym, ap, subst, ◌∙◌, append_assoc, arith}
+use Rattle.std.proofs.Common.{◌≡◌, ℕ, ◌+◌, ◌-◌, ◌≤◌, List, ◌++◌}
+use Rattle.std.proofs.Common.{sym, ap, subst, ◌∙◌, append_assoc, arith}
 use Rattle.pac_step.specs.BoardView.{BoardView}
-use Rattle.pac_step.specs.Laws.{IsTimely}
 use Rattle.pac_step.specs.Output.{Output}
-use Rattle.pac_step.specs.Step.{Moment, Next, Goes, Ends, step}
+use Rattle.pac_step.specs.Step.{Moment, step}
 use Rattle.pac_step.specs.Trace.{by_view}
-use Rattle.pac_step.specs.Walk.{Walk, walk, walk_to, onward, after_step, has_ended}
-use Rattle.pac_step.proofs.Walks.{ended-stays, going-steps, goes-on, walks-joined, joined, step-timely}
+use Rattle.pac_step.specs.Walk.{Walk, walk_to}
+use Rattle.pac_step.proofs.Walks.{goes-on, walks-joined, joined, step-timely}
 use Rattle.pac_roms.specs.Parts.{Parts}
 use Rattle.pac_board.specs.declared.due.Due.{Due}
-use Rattle.pac_board.specs.State.{BoardValue, State, due_outputs, nothing_due, time_of, counted, restored}
-use Rattle.pac_board.specs.Calls.{next_of, next_at, with_due, course_at, course, given, brought, ran, IsRunRefused}
-use Rattle.pac_board.specs.Laws.{IsCut, IsTakenUp, TimeCanBeCut, RefusalsAreTakenUp, StepsAreDoneAgain}
+use Rattle.pac_board.specs.State.{BoardValue, due_outputs, nothing_due, time_of, counted}
+use Rattle.pac_board.specs.Calls.{next_at, with_due, course_at, course, brought, ran}
+use Rattle.pac_board.proofs.Walked.{walked-after}
+use Rattle.pac_board.specs.Laws.{IsTakenUp, TimeCanBeCut, RefusalsAreTakenUp, StepsAreDoneAgain}
 
--- ---- steps are only ever added
-
-after-counted : (w : Walk BoardView) (h : Next BoardView) → IsTimely w.now h → w.now.steps ≤ (after_step w h).now.steps
-after-counted w (Goes now outputs kind) times = let one = times.2 in omega arith
-after-counted w (Ends stop) times = omega arith
-
-module _ (set : Parts) (limit : ℕ) (from : Moment BoardView) where
-  onward-counted : (w : Walk BoardView) (ended : Bool) → has_ended limit w ≡ ended
-      → w.now.steps ≤ (onward (step (by_view set)) limit w).now.steps
-  onward-counted w true over =
-      let stays = ap (λ (walked : Walk BoardView). walked.now.steps) (ended-stays (step (by_view set)) limit w over) in omega arith
-  onward-counted w false open_yet =
-      let goes = ap (λ (walked : Walk BoardView). walked.now.steps) (going-steps (step (by_view set)) limit w open_yet) in
-      let more = after-counted w (next_at set w.now) (step-timely (by_view set) w.now) in
-      omega arith
-
-  walk-counted : (tries : ℕ) → from.steps ≤ (walk (step (by_view set)) limit from tries).now.steps
-  walk-counted zero = omega arith
-  walk-counted (suc tries) =
-      let w = walk (step (by_view set)) limit from tries in
-      let before = walk-counted tries in
-      let more = onward-counted w (has_ended limit w) refl in
-      omega arith
+-- ---- sums
 
 -- a count of steps in two parts
 counted-twice : (made from middle end : ℕ) → from ≤ middle → middle ≤ end
@@ -77,13 +55,14 @@ two-parts board asked middle last whole less more same =
 pub time-cut : TimeCanBeCut
 time-cut board first second =
     let next = step (by_view board.set) in
+    let timely = step-timely (by_view board.set) in
     let from = board.state.now in
     let asked = board.state.asked in
     let c = course board first in
     let d = course (ran board first) second in
     let sum : asked + first + second ≡ asked + (first + second) = omega arith in
     let joins =
-    walks-joined next (time_of (asked + first)) (time_of (asked + first + second)) (step-timely (by_view board.set)) from
+    walks-joined next (time_of (asked + first)) (time_of (asked + first + second)) timely from
     (time-later (asked + first) second) in
     let whole = joins ∙ ap (λ (n : ℕ). walk_to next (time_of n) from) sum in
     record {
@@ -94,8 +73,8 @@ time-cut board first second =
             made = counted (counted board.made (c.now.steps - from.steps)) (d.now.steps - c.now.steps);
           }) sum
           ∙ two-parts board (asked + (first + second)) c.now d.now (course board (first + second)).now
-          (walk-counted board.set (time_of (asked + first)) from (time_of (asked + first)))
-          (walk-counted board.set (time_of (asked + first + second)) c.now (time_of (asked + first + second)))
+          (walked-after next (time_of (asked + first)) timely from (time_of (asked + first))).steps
+          (walked-after next (time_of (asked + first + second)) timely c.now (time_of (asked + first + second))).steps
           (ap (λ (walked : Walk BoardView). walked.now) whole);
       given_is =
           append_assoc (due_outputs board) c.outputs d.outputs ∙ ap (λ (walked : Walk BoardView). due_outputs board ++ walked.outputs) whole;
@@ -109,6 +88,7 @@ taken-up : (old : BoardValue) (microseconds tries : ℕ) (due : Due) (taken : Li
     → IsTakenUp old (with_due (brought old microseconds (course_at old microseconds tries)) due) microseconds taken
 taken-up old microseconds tries due taken parts =
     let next = step (by_view old.set) in
+    let timely = step-timely (by_view old.set) in
     let from = old.state.now in
     let asked = old.state.asked + microseconds in
     let w = course_at old microseconds tries in
@@ -117,7 +97,7 @@ taken-up old microseconds tries due taken parts =
     let none : asked + 0 ≡ asked = omega arith in
     let whole =
     ap (λ (n : ℕ). joined next (time_of asked) w (walk_to next (time_of n) w.now)) none
-    ∙ goes-on next (time_of asked) (step-timely (by_view old.set)) from tries in
+    ∙ goes-on next (time_of asked) timely from tries in
     record {
       board_is =
           ap (λ (n : ℕ). record {
@@ -126,8 +106,8 @@ taken-up old microseconds tries due taken parts =
             made = counted (counted old.made (w.now.steps - from.steps)) (d.now.steps - w.now.steps);
           }) none
           ∙ two-parts old asked w.now d.now (course old microseconds).now
-          (walk-counted old.set (time_of asked) from tries)
-          (walk-counted old.set (time_of (asked + 0)) w.now (time_of (asked + 0)))
+          (walked-after next (time_of asked) timely from tries).steps
+          (walked-after next (time_of (asked + 0)) timely w.now (time_of (asked + 0))).steps
           (ap (λ (walked : Walk BoardView). walked.now) whole);
       given_is =
           sym (append_assoc taken (due_outputs new) d.outputs) ∙ ap (λ xs. xs ++ d.outputs) (sym parts)
