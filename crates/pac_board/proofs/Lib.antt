@@ -1,3 +1,6 @@
+pub mod Moments
+pub mod Events
+pub mod Processor
 pub mod Sinks
 pub mod Walked
 pub mod Turns

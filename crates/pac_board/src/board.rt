@@ -6,18 +6,16 @@ ghost use Rattle.pac_map.specs.Contents.{read_of};
 ghost use Rattle.pac_map.specs.View.{held_with, held_without};
 ghost use Rattle.pac_picture.specs.State.{palette_of};
 ghost use Rattle.pac_board.specs.State as state;
+ghost use Rattle.pac_board.specs.Events.{IsFresh};
 
 use crate::due::Due;
 use crate::fault::InitRefused;
 use crate::machine::Machine;
-use pac_bus::Bus;
-use pac_cpu::Cpu;
 use pac_exec::Regs;
 use pac_inputs::Inputs;
-use pac_map::{Map, Memory};
+use pac_map::Memory;
 use pac_picture::{Graphics, Picture};
 use pac_roms::RomSet;
-use pac_wave::Wave;
 use std::alloc::{AllocError, Global};
 use std::marker::Model;
 
@@ -47,7 +45,9 @@ impl Model for Board {
 }
 
 /// A set's picture before anything is composed, and the memory at power-on.
-fn parts(alloc: Global, set: &RomSet, switches: u8) -> Result<(Picture, Memory), AllocError> {
+fn parts(alloc: Global, set: &RomSet, switches: u8) -> Result<(Picture, Memory), AllocError>
+    ensures { IfOk result (λ parts. IsFresh set.now switches parts.0 parts.1) }
+{
     let graphics = Graphics::new(alloc, set.tiles(), set.sprites(), set.lookup())?;
     let picture = Picture::new(alloc, graphics, set.colours())?;
     let memory = Memory::new(alloc, switches)?;
@@ -65,19 +65,9 @@ impl Board {
             return Err(InitRefused { set });
         };
         Ok(Board {
-            machine: Machine {
-                cpu: Cpu::power_on(),
-                map: Map { set, memory },
-                wave: Wave::new(),
-                picture,
-                clock: 0,
-                steps: 0,
-            },
+            machine: Machine::new(set, memory, picture),
             asked: 0,
-            due: Due {
-                sample: None,
-                picture: false,
-            },
+            due: Due::NOTHING,
             made: 0,
         })
     }
@@ -93,14 +83,14 @@ impl Board {
     pub fn input_set(&mut self, inputs: Inputs)
         ensures { self.new ≡ state.held self.old (held_with self.old.state.now.board.memory.held (mask inputs)) }
     {
-        self.machine.map.memory.input_set(inputs);
+        self.machine.input_set(inputs);
     }
 
     /// Lets these inputs go.
     pub fn input_clear(&mut self, inputs: Inputs)
         ensures { self.new ≡ state.held self.old (held_without self.old.state.now.board.memory.held (mask inputs)) }
     {
-        self.machine.map.memory.input_clear(inputs);
+        self.machine.input_clear(inputs);
     }
 
     /// The picture as it stands.
@@ -108,14 +98,14 @@ impl Board {
         ensures lines { result.now.lines ≡ self.now.state.now.board.lines }
         ensures palette { result.now.palette ≡ palette_of self.now.set.colours }
     {
-        &self.machine.picture
+        self.machine.picture()
     }
 
     /// The registers.
     pub fn regs(&self) -> Regs
         ensures { result ≡ self.now.state.now.regs }
     {
-        self.machine.cpu.regs()
+        self.machine.regs()
     }
 
     /// The time since power-on, in T-states.
@@ -124,7 +114,7 @@ impl Board {
         ensures time { result ≡ self.now.state.now.time }
         ensures bound { self.now.state.now.time ≤ state.latest_end }
     {
-        self.machine.clock
+        self.machine.time()
     }
 
     /// The steps since power-on.
@@ -132,7 +122,7 @@ impl Board {
     pub fn steps(&self) -> u64
         ensures { result ≡ self.now.state.now.steps }
     {
-        self.machine.steps
+        self.machine.steps()
     }
 
     /// The steps that this board did since it was made, staying at 2^64 - 1. No call puts it back.
@@ -148,7 +138,7 @@ impl Board {
     pub fn peek(&self, at: u16) -> u8
         ensures { result ≡ read_of self.now.set.program self.now.state.now.board.memory at }
     {
-        self.machine.map.read(at)
+        self.machine.peek(at)
     }
 
     /// The ROM set.
@@ -156,6 +146,6 @@ impl Board {
     pub fn set(&self) -> &RomSet
         ensures { result.now ≡ self.now.set }
     {
-        &self.machine.map.set
+        self.machine.set()
     }
 }
