@@ -2,6 +2,7 @@ pub mod Sinks
 pub mod State
 pub mod Events
 pub mod Calls
+pub mod Turns
 pub mod Laws
 pub mod Fields
 pub mod Kept
