@@ -1,9 +1,9 @@
 -- What a sink took and refused, output by output.
-use Rattle.std.proofs.Common.{◌≡◌, ℤ, List, [], ◌∷◌, ◌++◌, Option, None, Some, Bool, true, refl, sym, ap, subst, ◌∙◌, if◌then◌else◌}
+use Rattle.std.proofs.Common.{◌≡◌, ℤ, List, [], ◌∷◌, ◌++◌, None, Some, true, refl, sym, ap, subst, ◌∙◌, if◌then◌else◌}
 use Rattle.pac_step.specs.Output.{Output, Sound, Show, Image}
 use Rattle.pac_board.specs.declared.due.Due.{Due}
 use Rattle.pac_board.specs.Sinks.{Then, TookAll, RefusesAt}
-use Rattle.pac_board.specs.State.{due_with, sounds_of, nothing_due}
+use Rattle.pac_board.specs.State.{due_with, sounds_of}
 use Rattle.pac_board.specs.Calls.{IsDueRefused}
 
 -- ---- taking some outputs, and then others

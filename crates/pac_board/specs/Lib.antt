@@ -4,4 +4,5 @@ pub mod Events
 pub mod Calls
 pub mod Turns
 pub mod Laws
+pub mod Fields
 pub mod Kept

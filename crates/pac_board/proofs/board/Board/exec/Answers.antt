@@ -10,7 +10,7 @@ overflow_sub-result g c =
     let same : c.offer.new.self ≡ more_asked c.args.self.now c.args.us = search rules in
     let begun = ap (λ (board : BoardValue). board.state.now.time) same in
     let longer =
-    gone-later g.S.Sink.took c.offer.new.self (time_of (c.self.inside.asked + c.from.result)) c.offer.new.sink c.in-Ok.stop c.run.new.self
+    gone-later g.S.Sink.took c.offer.new.self _ c.offer.new.sink c.in-Ok.stop c.run.new.self
     c.run.new.sink c.in-Ok.ensures in
     let viewed = ap (λ (board : BoardValue). board.state.now.time) c.self.view_is in
     omega arith
@@ -22,5 +22,5 @@ returns-in-Err g c =
     let within : old.state.asked + c.args.us ≤ most_asked = omega arith in
     let same : c.offer.new.self ≡ more_asked old c.args.us = search rules in
     let before : TookAll g.S.Sink.took c.args.sink.now (due_outputs old) c.offer.new.sink = search rules in
-    run-refused g.S.Sink.took g.S.Sink.refused old c.offer.new.self c.run.new.self c.args.us (time_of (c.self.inside.asked + c.from.result))
+    run-refused g.S.Sink.took g.S.Sink.refused old c.offer.new.self c.run.new.self c.args.us _
     c.args.sink.now c.offer.new.sink c.run.new.sink within (ap time_of asked) same before c.in-Err.ensures

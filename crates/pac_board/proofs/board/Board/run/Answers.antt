@@ -1,5 +1,5 @@
 -- Each turn is a step along the walk.
-use Rattle.std.proofs.Common.{◌≡◌, ◌<◌, ◌≤◌, sym, ◌∙◌, arith, rules}
+use Rattle.std.proofs.Common.{◌<◌, ◌≤◌, sym, ◌∙◌, arith, rules}
 use Rattle.std.proofs.lemmas.Result.{err_from_is_err_and}
 use Rattle.pac_step.specs.Trace.{by_view}
 use Rattle.pac_step.proofs.Walks.{step-timely}

@@ -1,0 +1,126 @@
+-- Time in pieces, refusals, and steps that are done again.
+use Rattle.std.proofs.Common.{◌≡◌, ℕ, ◌+◌, ◌-◌, ◌≤◌, List, ◌++◌}
+use Rattle.std.proofs.Common.{sym, ap, subst, ◌∙◌, append_assoc, arith}
+use Rattle.pac_step.specs.BoardView.{BoardView}
+use Rattle.pac_step.specs.Output.{Output}
+use Rattle.pac_step.specs.Step.{Moment, step}
+use Rattle.pac_step.specs.Trace.{by_view}
+use Rattle.pac_step.specs.Walk.{Walk, walk_to}
+use Rattle.pac_step.proofs.Walks.{goes-on, walks-joined, joined, step-timely}
+use Rattle.pac_roms.specs.Parts.{Parts}
+use Rattle.pac_board.specs.declared.due.Due.{Due}
+use Rattle.pac_board.specs.State.{BoardValue, due_outputs, nothing_due, time_of, counted}
+use Rattle.pac_board.specs.Calls.{next_at, with_due, course_at, course, brought, ran}
+use Rattle.pac_board.proofs.Walked.{walked-after}
+use Rattle.pac_board.specs.Laws.{IsTakenUp, TimeCanBeCut, RefusalsAreTakenUp, StepsAreDoneAgain}
+
+-- ---- sums
+
+-- a count of steps in two parts
+counted-twice : (made from middle end : ℕ) → from ≤ middle → middle ≤ end
+    → counted (counted made (middle - from)) (end - middle) ≡ counted made (end - from)
+counted-twice made from middle end less more = omega arith
+
+-- the time of more microseconds is no earlier
+time-later : (asked more : ℕ) → time_of asked ≤ time_of (asked + more)
+time-later asked more = omega arith
+
+-- ---- a call goes on where another ended
+
+-- steps up to a moment and from there to the end of a walk are the steps to its end
+two-parts : (board : BoardValue) (asked : ℕ) (middle last whole : Moment BoardView)
+    → board.state.now.steps ≤ middle.steps → middle.steps ≤ last.steps → last ≡ whole
+    → ◌≡◌ {A = BoardValue}
+    (record {
+      set = board.set;
+      state = record { now = last; asked = asked; due = nothing_due };
+      made = counted (counted board.made (middle.steps - board.state.now.steps)) (last.steps - middle.steps);
+    })
+    (record {
+      set = board.set;
+      state = record { now = whole; asked = asked; due = nothing_due };
+      made = counted board.made (whole.steps - board.state.now.steps);
+    })
+two-parts board asked middle last whole less more same =
+    let made = counted-twice board.made board.state.now.steps middle.steps last.steps less more in
+    ap (λ (n : ℕ). record { set = board.set; state = record { now = last; asked = asked; due = nothing_due }; made = n }) made
+    ∙ ap (λ (now : Moment BoardView). record {
+      set = board.set;
+      state = record { now = now; asked = asked; due = nothing_due };
+      made = counted board.made (now.steps - board.state.now.steps);
+    }) same
+
+-- ---- the laws
+
+pub time-cut : TimeCanBeCut
+time-cut board first second =
+    let next = step (by_view board.set) in
+    let timely = step-timely (by_view board.set) in
+    let from = board.state.now in
+    let asked = board.state.asked in
+    let c = course board first in
+    let d = course (ran board first) second in
+    let sum : asked + first + second ≡ asked + (first + second) = omega arith in
+    let joins =
+    walks-joined next (time_of (asked + first)) (time_of (asked + first + second)) timely from
+    (time-later (asked + first) second) in
+    let whole = joins ∙ ap (λ (n : ℕ). walk_to next (time_of n) from) sum in
+    record {
+      board_is =
+          ap (λ (n : ℕ). record {
+            set = board.set;
+            state = record { now = d.now; asked = n; due = nothing_due };
+            made = counted (counted board.made (c.now.steps - from.steps)) (d.now.steps - c.now.steps);
+          }) sum
+          ∙ two-parts board (asked + (first + second)) c.now d.now (course board (first + second)).now
+          (walked-after next (time_of (asked + first)) timely from (time_of (asked + first))).steps
+          (walked-after next (time_of (asked + first + second)) timely c.now (time_of (asked + first + second))).steps
+          (ap (λ (walked : Walk BoardView). walked.now) whole);
+      given_is =
+          append_assoc (due_outputs board) c.outputs d.outputs ∙ ap (λ (walked : Walk BoardView). due_outputs board ++ walked.outputs) whole;
+      stop_is = ap (λ (walked : Walk BoardView). walked.stop) whole;
+    }
+
+-- from a board that a refusal left
+taken-up : (old : BoardValue) (microseconds tries : ℕ) (due : Due) (taken : List Output)
+    → due_outputs old ++ (course_at old microseconds tries).outputs
+    ≡ taken ++ due_outputs (with_due (brought old microseconds (course_at old microseconds tries)) due)
+    → IsTakenUp old (with_due (brought old microseconds (course_at old microseconds tries)) due) microseconds taken
+taken-up old microseconds tries due taken parts =
+    let next = step (by_view old.set) in
+    let timely = step-timely (by_view old.set) in
+    let from = old.state.now in
+    let asked = old.state.asked + microseconds in
+    let w = course_at old microseconds tries in
+    let new = with_due (brought old microseconds w) due in
+    let d = course new 0 in
+    let none : asked + 0 ≡ asked = omega arith in
+    let whole =
+    ap (λ (n : ℕ). joined next (time_of asked) w (walk_to next (time_of n) w.now)) none
+    ∙ goes-on next (time_of asked) timely from tries in
+    record {
+      board_is =
+          ap (λ (n : ℕ). record {
+            set = old.set;
+            state = record { now = d.now; asked = n; due = nothing_due };
+            made = counted (counted old.made (w.now.steps - from.steps)) (d.now.steps - w.now.steps);
+          }) none
+          ∙ two-parts old asked w.now d.now (course old microseconds).now
+          (walked-after next (time_of asked) timely from tries).steps
+          (walked-after next (time_of (asked + 0)) timely w.now (time_of (asked + 0))).steps
+          (ap (λ (walked : Walk BoardView). walked.now) whole);
+      given_is =
+          sym (append_assoc taken (due_outputs new) d.outputs) ∙ ap (λ xs. xs ++ d.outputs) (sym parts)
+          ∙ append_assoc (due_outputs old) w.outputs d.outputs ∙ ap (λ (walked : Walk BoardView). due_outputs old ++ walked.outputs) whole;
+      stop_is = ap (λ (walked : Walk BoardView). walked.stop) whole;
+    }
+
+pub refusals-taken-up : {S : Type 0} (took refused : S → Output → S → Type 0) → RefusalsAreTakenUp took refused
+refusals-taken-up took refused old new microseconds sink later refusal =
+    let w = course_at old microseconds refusal.steps in
+    subst
+    (λ (board : BoardValue). due_outputs old ++ w.outputs ≡ refusal.taken ++ due_outputs board → IsTakenUp old board microseconds refusal.taken)
+    (sym refusal.board) (taken-up old microseconds refusal.steps new.state.due refusal.taken) refusal.parts
+
+pub steps-done-again : StepsAreDoneAgain
+steps-done-again board other same = ap (λ (set : Parts). next_at set board.state.now) same

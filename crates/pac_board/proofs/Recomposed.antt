@@ -1,0 +1,47 @@
+-- Lines of the picture that are composed again, from the top.
+use Rattle.std.proofs.Common.{◌≡◌, ◌<◌, ℕ, suc, ◌+◌, ◌-◌, List, [], ◌∷◌, ◌++◌, length, set, drop, refl, sym, ap, ◌∙◌, arith, append_assoc}
+use Rattle.std.proofs.lemmas.List.{drop-set, drop-set-add, set-append_right}
+use Rattle.pac_tiles.specs.Tabulate.{tabulate}
+use Rattle.pac_tiles.proofs.Tabulated.{length-tabulate}
+use Rattle.pac_map.specs.Entry.{Line}
+use Rattle.pac_picture.specs.Picture.{line_of}
+use Rattle.pac_step.specs.BoardView.{video_roms, video_memory}
+use Rattle.pac_board.specs.State.{Standing, recomposed}
+use Rattle.pac_board.specs.Events.{noted}
+
+-- none yet, and one more
+pub none-yet : {A : Type 0} (value : ℕ → A) (lines : List A) → lines ≡ tabulate 0 value ++ drop 0 lines
+unfolding tabulate
+none-yet value lines = refl
+
+pub one-more : {A : Type 0} (value : ℕ → A) (lines : List A) (y : ℕ) → y < length lines →
+    set (tabulate y value ++ drop y lines) y (value y) ≡ tabulate (y + 1) value ++ drop (y + 1) lines
+unfolding tabulate
+one-more value lines y inside =
+    let here : y - y ≡ 0 = omega arith in
+    let there : y + 0 ≡ y = omega arith in
+    let next : y + 1 ≡ suc y = omega arith in
+    let long = length-tabulate y value in
+    let second : set (drop y lines) 0 (value y) ≡ value y ∷ drop (y + 1) lines =
+    sym (drop-set-add y lines 0 (value y)) ∙ rw there (drop-set lines y (value y) inside) in
+    set-append_right (tabulate y value) (drop y lines) y y (value y) long (omega arith)
+    ∙ rw here (ap (λ rest. tabulate y value ++ rest) second)
+    ∙ rw next (sym (append_assoc (tabulate y value) (value y ∷ []) (drop (suc y) lines)))
+
+-- what stands where so many lines are composed
+abbrev pub composed_to : Standing → ℕ → Standing
+composed_to old count = record { set = old.set; now = record old.now { board = recomposed old.set old.now.board count } }
+
+abbrev with_lines : Standing → List (List ℕ) → Standing
+with_lines old lines = record { set = old.set; now = record old.now { board = record old.now.board { lines = lines } } }
+
+abbrev line_in : Standing → ℕ → List ℕ
+line_in old = line_of (video_roms old.set) (video_memory old.now.board.memory)
+
+pub begins : (old : Standing) → old ≡ composed_to old 0
+begins old = ap (with_lines old) (none-yet (line_in old) old.now.board.lines)
+
+pub goes-on : (old now new : Standing) (y : ℕ) → y < length old.now.board.lines → now ≡ composed_to old y →
+    new ≡ noted now (Line 0 y) → new ≡ composed_to old (y + 1)
+goes-on old now new y inside so_far composes =
+    composes ∙ rw so_far (ap (with_lines old) (one-more (line_in old) old.now.board.lines y inside))

@@ -1,0 +1,34 @@
+-- A walk only adds time and steps.
+use Rattle.std.proofs.Common.{◌≡◌, ℕ, zero, suc, ◌≤◌, Bool, true, false, refl, subst, sym, arith}
+use Rattle.pac_step.specs.Laws.{IsTimely}
+use Rattle.pac_step.specs.Step.{Moment, Next, Goes, Ends}
+use Rattle.pac_step.specs.Walk.{Walk, walk, onward, after_step, has_ended}
+use Rattle.pac_step.proofs.Walks.{ended-stays, going-steps}
+
+pub record IsAfter {Board : Type 0} (before after : Moment Board) : Type 0 where
+  pub time : before.time ≤ after.time
+  pub steps : before.steps ≤ after.steps
+
+module _ {Board : Type 0} (next : Moment Board → Next Board) (limit : ℕ) (timely : (now : Moment Board) → IsTimely now (next now)) where
+  step-after : (from : Moment Board) (w : Walk Board) (h : Next Board) → IsTimely w.now h → IsAfter from w.now
+      → IsAfter from (after_step w h).now
+  step-after from w (Goes now outputs kind) times so_far =
+      let longer = times.0 in
+      let one = times.2 in
+      let time = so_far.time in
+      let steps = so_far.steps in
+      record { time = omega arith; steps = omega arith }
+  step-after from w (Ends stop) times so_far = so_far
+
+  onward-after : (from : Moment Board) (w : Walk Board) (ended : Bool) → has_ended limit w ≡ ended → IsAfter from w.now
+      → IsAfter from (onward next limit w).now
+  onward-after from w true over so_far =
+      subst (λ (walked : Walk Board). IsAfter from walked.now) (sym (ended-stays next limit w over)) so_far
+  onward-after from w false open_yet so_far =
+      subst (λ (walked : Walk Board). IsAfter from walked.now) (sym (going-steps next limit w open_yet))
+      (step-after from w (next w.now) (timely w.now) so_far)
+
+  pub walked-after : (from : Moment Board) (tries : ℕ) → IsAfter from (walk next limit from tries).now
+  walked-after from zero = record { time = omega arith; steps = omega arith }
+  walked-after from (suc tries) =
+      let w = walk next limit from tries in onward-after from w (has_ended limit w) refl (walked-after from tries)

@@ -1,0 +1,174 @@
+//! A board made from its fields, as a save file has them, and told by them.
+
+ghost use Rattle.std.specs.Prelude.{◌≡◌, ◌≤◌, ◌<◌, ◌↔◌, IfOk, IfErr, true, length};
+ghost use Rattle.pac_wave.specs.Wave.{Fit20Bits, of_list};
+ghost use Rattle.pac_board.specs.State.{most_asked, passed_lines, recomposed, with_view};
+ghost use Rattle.pac_board.specs.Fields.{moment_of, state_of, AreInRange, AreParts};
+
+use crate::board::Board;
+use crate::due::Due;
+use crate::fault::InitRefused;
+use crate::machine::Machine;
+use pac_cpu::Cpu;
+use pac_exec::Regs;
+use pac_map::{Map, Memory};
+use pac_picture::{Graphics, Lines, Picture};
+use pac_roms::RomSet;
+use pac_wave::Wave;
+use std::alloc::{AllocError, Global};
+
+/// The fields of a board's state, as a save file has them.
+#[derive(Clone, Copy)]
+pub struct Fields<'a> {
+    /// The registers.
+    pub regs: Regs,
+    /// The time since power-on, in T-states, at most 2^52 + 22.
+    pub time: u64,
+    /// The steps since power-on, each of which takes 4 T-states at least.
+    pub steps: u64,
+    /// The microseconds asked for so far, at most 2^50.
+    pub asked: u64,
+    /// RAM and registers, latch, switches and inputs; the watchdog's count is below 16.
+    pub memory: pac_map::Fields<'a>,
+    /// The voices' accumulators, each below 2^20.
+    pub accumulators: [u32; 3],
+    /// What is due.
+    pub due: Due,
+    /// The lines of the picture as they were last composed.
+    pub lines: &'a Lines,
+}
+
+/// Whether accumulators hold what they can.
+fn fit(accumulators: &[u32; 3]) -> bool
+    ensures { (result ≡ true) ↔ Fit20Bits (of_list accumulators.now) }
+{
+    accumulators[0] < 0x10_0000 && accumulators[1] < 0x10_0000 && accumulators[2] < 0x10_0000
+}
+
+/// The time, in T-states, at which the latest step has ended (this profile).
+const LATEST_END: u64 = (1 << 52) + 22;
+
+/// The most microseconds that are asked of a board (this profile).
+const MOST_ASKED: u64 = 1 << 50;
+
+impl Fields<'_> {
+    /// Whether a board can have these: each field is in its range.
+    pub fn are_in_range(&self) -> bool
+        ensures { (result ≡ true) ↔ AreInRange self.now }
+    {
+        self.memory.are_in_range()
+            && self.memory.count < 16
+            && fit(&self.accumulators)
+            && self.steps <= self.time / 4
+            && self.time <= LATEST_END
+            && self.asked <= MOST_ASKED
+    }
+}
+
+/// A set's picture with the lines of these fields, and their memory.
+fn parts(alloc: Global, set: &RomSet, fields: &Fields) -> Result<(Picture, Memory), AllocError>
+    requires { AreInRange fields.now }
+    ensures { IfOk result (λ parts. AreParts set.now fields.now parts.0 parts.1) }
+{
+    let graphics = Graphics::new(alloc, set.tiles(), set.sprites(), set.lookup())?;
+    let mut picture = Picture::new(alloc, graphics, set.colours())?;
+    picture.copy_from(fields.lines);
+    let memory = Memory::of(alloc, &fields.memory)?;
+    Ok((picture, memory))
+}
+
+impl Machine {
+    /// What stands by these fields, with this picture and this memory of them.
+    fn of(set: RomSet, picture: Picture, memory: Memory, fields: &Fields) -> Machine
+        requires range { AreInRange fields.now }
+        requires parts { AreParts set fields.now picture memory }
+        ensures { result ≡ record { set = set; now = moment_of fields.now } }
+    {
+        Machine {
+            cpu: Cpu::with_regs(fields.regs),
+            map: Map { set, memory },
+            wave: Wave::of(fields.accumulators),
+            picture,
+            clock: fields.time,
+            steps: fields.steps,
+        }
+    }
+
+    /// The fields, with what was asked and what is due.
+    fn fields(&self, asked: u64, due: Due) -> Fields
+        requires { asked ≤ most_asked }
+        ensures fields { state_of result ≡ record { now = self.now.now; asked = asked; due = due } }
+        ensures in_range { AreInRange result }
+    {
+        Fields {
+            regs: self.cpu.regs(),
+            time: self.clock,
+            steps: self.steps,
+            asked,
+            memory: self.map.memory.fields(),
+            accumulators: self.wave.accumulators(),
+            due,
+            lines: self.picture.lines(),
+        }
+    }
+
+    /// How many lines of the picture have passed since the last blank.
+    fn passed(&self) -> u8
+        ensures passed { result ≡ passed_lines self.now.now.time }
+        ensures lines { result < length self.now.now.board.lines }
+    {
+        // any row tells that all of them are there
+        let _top = self.picture.row(0);
+        (self.clock % 50_688 / 192).saturating_sub(40) as u8
+    }
+
+    /// Composes the lines that have passed since the last blank from what the memory keeps now.
+    fn recompose(&mut self)
+        ensures { self.new ≡ record {
+          set = self.old.set;
+          now = record self.old.now { board = recomposed self.old.set self.old.now.board (passed_lines self.old.now.time) };
+        } }
+    {
+        let count = self.passed();
+        for y in 0..count {
+            self.compose(y);
+        }
+    }
+}
+
+impl Board {
+    /// The board of a ROM set that has these fields, each in its range. Refused for want of memory alone; the set then comes
+    /// back.
+    pub fn of(alloc: Global, set: RomSet, fields: &Fields) -> Result<Board, InitRefused>
+        requires { AreInRange fields.now }
+        ensures board { IfOk result (λ board. board ≡ record { set = set; state = state_of fields.now; made = 0 }) }
+        ensures refused { IfErr result (λ refused. refused.set ≡ set) }
+    {
+        let Ok((picture, memory)) = parts(alloc, &set, fields) else {
+            return Err(InitRefused { set });
+        };
+        Ok(Board {
+            machine: Machine::of(set, picture, memory, fields),
+            asked: fields.asked,
+            due: fields.due,
+            made: 0,
+        })
+    }
+
+    /// Its fields.
+    pub fn fields(&self) -> Fields
+        ensures fields { state_of result ≡ self.now.state }
+        ensures in_range { AreInRange result }
+    {
+        self.machine.fields(self.asked, self.due)
+    }
+
+    /// Composes those lines of the picture that have passed since the last blank from what the memory keeps now, as for a state
+    /// that was saved without them. Takes no memory.
+    pub fn recompose(&mut self)
+        ensures { self.new ≡ with_view self.old
+            (recomposed self.old.set self.old.state.now.board (passed_lines self.old.state.now.time)) }
+    {
+        self.machine.recompose();
+    }
+}

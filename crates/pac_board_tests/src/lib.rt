@@ -1,0 +1,17 @@
+//! Tests of the board: outside rows, sinks that refuse, states kept and put back, and memory that is refused.
+#![tactic(auto)]
+
+#[cfg(test)]
+mod keeping;
+#[cfg(test)]
+mod limits;
+#[cfg(test)]
+mod pictures;
+#[cfg(test)]
+mod rows;
+#[cfg(test)]
+mod set;
+#[cfg(test)]
+mod sinks;
+#[cfg(test)]
+mod sounds;
