@@ -4,7 +4,7 @@ use mathlib.Core.List.{IsPrefix}
 use Rattle.pac_cpu.specs.declared.once.Once.{Once}
 use Rattle.pac_cpu.specs.declared.once.Once.TheVariants.{Stepped, Stopped}
 use Rattle.pac_step.specs.BoardView.{BoardView}
-use Rattle.pac_step.specs.Output.{Output}
+use Rattle.pac_step.specs.Output.{Output, Image}
 use Rattle.pac_step.specs.Step.{Moment, Next, Goes, Ends, step}
 use Rattle.pac_step.specs.Trace.{by_view}
 use Rattle.pac_step.specs.Walk.{Walk, walk, walk_to}
@@ -16,7 +16,7 @@ use Rattle.pac_board.specs.declared.fault.Idle.TheVariants.{OutputsDue, TimeIsOv
 use Rattle.pac_board.specs.declared.exec.Ran.{Ran}
 use Rattle.pac_board.specs.Sinks.{TookAll, RefusesAt}
 use Rattle.pac_roms.specs.Parts.{Parts}
-use Rattle.pac_board.specs.State.{BoardValue, Standing, due_in, due_outputs, nothing_due, latest, most_asked, time_of, counted}
+use Rattle.pac_board.specs.State.{BoardValue, Standing, due_in, due_with, due_outputs, nothing_due, latest, most_asked, time_of, counted}
 
 -- ---- one step
 
@@ -57,6 +57,11 @@ stepped (Goes now outputs kind) board due =
     record { set = board.set; state = record { now = now; asked = board.state.asked; due = due }; made = counted board.made 1 }
 stepped (Ends stop) board due = board
 
+-- a count of steps after what a step came to; a stop is none
+abbrev pub counted_once : ℕ → Once → ℕ
+counted_once made (Stepped ticks kind) = counted made 1
+counted_once made (Stopped stop) = made
+
 -- ---- offering what is due
 
 -- the board with something else due
@@ -64,7 +69,19 @@ abbrev pub with_due : BoardValue → Due → BoardValue
 with_due board due =
     record { set = board.set; state = record { now = board.state.now; asked = board.state.asked; due = due }; made = board.made }
 
--- what was due was offered, and part of it refused
+-- what was due was offered, while this was the picture, and part of it refused: that is due still
+pub record IsDueRefused {S : Type 0} (took refused : S → Output → S → Type 0) (image : Image) (old : Due) (sink : S) (new : Due) (later : S)
+    : Type 0 where
+  pub taken : List Output
+  pub parts : due_with image old ≡ taken ++ due_with image new
+  pub refuses : RefusesAt took refused sink taken (due_with image new) later
+
+abbrev pub OffersDue : {S A E : Type 0} → (S → Output → S → Type 0) → (S → Output → S → Type 0)
+    → Image → Due → S → Result A E → Due → S → Type 0
+OffersDue took refused image old sink (Ok done) new later = (new ≡ nothing_due) × TookAll took sink (due_with image old) later
+OffersDue took refused image old sink (Err refusal) new later = IsDueRefused took refused image old sink new later
+
+-- the same of a board
 pub record IsOfferRefused {S : Type 0} (took refused : S → Output → S → Type 0) (old : BoardValue) (sink : S) (new : BoardValue) (later : S)
     : Type 0 where
   pub board : new ≡ with_due old new.state.due

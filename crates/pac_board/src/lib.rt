@@ -6,12 +6,16 @@ mod board;
 mod due;
 mod exec;
 mod fault;
+mod frozen;
+pub mod kept;
 pub mod laws;
 mod machine;
 mod sink;
+mod snapshot;
 
 pub use board::Board;
 pub use due::Due;
 pub use exec::Ran;
 pub use fault::{Fault, Idle, InitRefused};
 pub use sink::{Refused, Sink};
+pub use snapshot::Snapshot;

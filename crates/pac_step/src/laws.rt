@@ -1,0 +1,69 @@
+//! Laws of the board's definitions.
+
+ghost use Rattle.pac_step.specs.Laws.{ViewAnswers, ViewTells, RunsAgree, OutputsAreOfTheHistory, OutputsAreTimed, LinesHaveTheirMoments};
+ghost use Rattle.pac_step.specs.Laws.{StepsAreTimely, RunsEnd, RunsAreJoined, WalksEnd, WalksJoin, WalksGoOn, RunsGoByFrames};
+
+/// The view that a history leaves answers each read as the history does.
+pub fn view_answers()
+    ensures { ViewAnswers }
+{}
+
+/// It tells RAM, registers, inputs, latch, request, watchdog, voices and picture as the history does.
+pub fn view_tells()
+    ensures { ViewTells }
+{}
+
+/// Running the source's items over the history is running the bytes of the ROM over the view.
+pub fn runs_agree()
+    ensures { RunsAgree }
+{}
+
+/// The outputs of a run are those of its history.
+pub fn outputs_are_of_the_history()
+    ensures { OutputsAreOfTheHistory }
+{}
+
+/// A run has 1,584 samples and one picture a frame.
+pub fn outputs_are_timed()
+    ensures { OutputsAreTimed }
+{}
+
+/// A line of the picture is composed as its line of the scan ends.
+pub fn lines_have_their_moments<Board>()
+    ensures { LinesHaveTheirMoments Board }
+{}
+
+/// A step that goes on takes 4 to 23 T-states.
+pub fn steps_are_timely<Board>()
+    ensures { StepsAreTimely Board }
+{}
+
+/// A run of as many steps as its frames can have has ended, and where it has ended it has one state.
+pub fn runs_end<Board>()
+    ensures { RunsEnd Board }
+{}
+
+/// The outputs of a run up to a step are a prefix of those up to a later one.
+pub fn runs_are_joined<Board>()
+    ensures { RunsAreJoined Board }
+{}
+
+/// A walk to a limit ends there.
+pub fn walks_end<Board>()
+    ensures { WalksEnd Board }
+{}
+
+/// A walk to a limit and on to a later one is the walk to the later one.
+pub fn walks_join<Board>()
+    ensures { WalksJoin Board }
+{}
+
+/// A walk that is taken up again goes on as it would have.
+pub fn walks_go_on<Board>()
+    ensures { WalksGoOn Board }
+{}
+
+/// A run is its frames, one played after another.
+pub fn runs_go_by_frames<Board>()
+    ensures { RunsGoByFrames Board }
+{}
