@@ -1,1 +1,4 @@
-
+pub mod Moments
+pub mod Events
+pub mod Processor
+pub mod Sinks

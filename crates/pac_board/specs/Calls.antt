@@ -4,7 +4,7 @@ use mathlib.Core.List.{IsPrefix}
 use Rattle.pac_cpu.specs.declared.once.Once.{Once}
 use Rattle.pac_cpu.specs.declared.once.Once.TheVariants.{Stepped, Stopped}
 use Rattle.pac_step.specs.BoardView.{BoardView}
-use Rattle.pac_step.specs.Output.{Output}
+use Rattle.pac_step.specs.Output.{Output, Image}
 use Rattle.pac_step.specs.Step.{Moment, Next, Goes, Ends, step}
 use Rattle.pac_step.specs.Trace.{by_view}
 use Rattle.pac_step.specs.Walk.{Walk, walk, walk_to}
@@ -12,40 +12,77 @@ use Rattle.pac_board.specs.declared.due.Due.{Due}
 use Rattle.pac_board.specs.declared.fault.Fault.{Fault}
 use Rattle.pac_board.specs.declared.fault.Fault.TheVariants.{TooFar, Refused}
 use Rattle.pac_board.specs.declared.fault.Idle.{Idle}
-use Rattle.pac_board.specs.declared.fault.Idle.TheVariants as idle
+use Rattle.pac_board.specs.declared.fault.Idle.TheVariants.{OutputsDue, TimeIsOver}
 use Rattle.pac_board.specs.declared.exec.Ran.{Ran}
 use Rattle.pac_board.specs.Sinks.{TookAll, RefusesAt}
-use Rattle.pac_board.specs.State.{Value, due_outputs, nothing_due, latest, most_asked, time_of, counted}
+use Rattle.pac_roms.specs.Parts.{Parts}
+use Rattle.pac_board.specs.State.{BoardValue, Standing, due_in, due_with, due_outputs, nothing_due, latest, most_asked, time_of, counted}
 
 -- ---- one step
 
--- what the next step of a board comes to
-abbrev pub next_of : Value → Next BoardView
-next_of board = step (by_view board.set) board.state.now
+-- what the next step from a moment comes to, and the next one of a board
+abbrev pub next_at : Parts → Moment BoardView → Next BoardView
+next_at set now = step (by_view set) now
+
+abbrev pub next_of : BoardValue → Next BoardView
+next_of board = next_at board.set board.state.now
 
 abbrev pub outputs_in : Next BoardView → List Output
 outputs_in (Goes now outputs kind) = outputs
 outputs_in (Ends stop) = []
 
-abbrev pub once_of : Next BoardView → Value → Once
-once_of (Goes now outputs kind) board = Stepped (now.time - board.state.now.time) kind
-once_of (Ends stop) board = Stopped stop
+-- the answer to whoever asked for the step, at this time
+abbrev pub once_at : Next BoardView → ℕ → Once
+once_at (Goes now outputs kind) time = Stepped (now.time - time) kind
+once_at (Ends stop) time = Stopped stop
+
+abbrev pub once_of : BoardValue → Once
+once_of board = once_at (next_of board) board.state.now.time
+
+-- the moment after it; a stop changes nothing
+abbrev pub now_after : Next BoardView → Moment BoardView → Moment BoardView
+now_after (Goes now outputs kind) before = now
+now_after (Ends stop) before = before
+
+-- what the step makes of registers, bus, voices and picture, and what is due then
+pub record DoesStep (old new : Standing) (once : Once) (due : Due) : Type 0 where
+  pub set : new.set ≡ old.set
+  pub now : new.now ≡ now_after (next_at old.set old.now) old.now
+  pub once_is : once ≡ once_at (next_at old.set old.now) old.now.time
+  pub outputs : due_in new.set new.now.board due ≡ outputs_in (next_at old.set old.now)
 
 -- the board after it, with what is due then; a stop changes nothing
-abbrev pub stepped : Next BoardView → Value → Due → Value
+abbrev pub stepped : Next BoardView → BoardValue → Due → BoardValue
 stepped (Goes now outputs kind) board due =
     record { set = board.set; state = record { now = now; asked = board.state.asked; due = due }; made = counted board.made 1 }
 stepped (Ends stop) board due = board
 
+-- a count of steps after what a step came to; a stop is none
+abbrev pub counted_once : ℕ → Once → ℕ
+counted_once made (Stepped ticks kind) = counted made 1
+counted_once made (Stopped stop) = made
+
 -- ---- offering what is due
 
 -- the board with something else due
-abbrev pub with_due : Value → Due → Value
+abbrev pub with_due : BoardValue → Due → BoardValue
 with_due board due =
     record { set = board.set; state = record { now = board.state.now; asked = board.state.asked; due = due }; made = board.made }
 
--- what was due was offered, and part of it refused
-pub record IsOfferRefused {S : Type 0} (took refused : S → Output → S → Type 0) (old : Value) (sink : S) (new : Value) (later : S)
+-- what was due was offered, while this was the picture, and part of it refused: that is due still
+pub record IsDueRefused {S : Type 0} (took refused : S → Output → S → Type 0) (image : Image) (old : Due) (sink : S) (new : Due) (later : S)
+    : Type 0 where
+  pub taken : List Output
+  pub parts : due_with image old ≡ taken ++ due_with image new
+  pub refuses : RefusesAt took refused sink taken (due_with image new) later
+
+abbrev pub OffersDue : {S A E : Type 0} → (S → Output → S → Type 0) → (S → Output → S → Type 0)
+    → Image → Due → S → Result A E → Due → S → Type 0
+OffersDue took refused image old sink (Ok done) new later = (new ≡ nothing_due) × TookAll took sink (due_with image old) later
+OffersDue took refused image old sink (Err refusal) new later = IsDueRefused took refused image old sink new later
+
+-- the same of a board
+pub record IsOfferRefused {S : Type 0} (took refused : S → Output → S → Type 0) (old : BoardValue) (sink : S) (new : BoardValue) (later : S)
     : Type 0 where
   pub board : new ≡ with_due old new.state.due
   pub taken : List Output
@@ -53,39 +90,39 @@ pub record IsOfferRefused {S : Type 0} (took refused : S → Output → S → Ty
   pub refuses : RefusesAt took refused sink taken (due_outputs new) later
 
 abbrev pub Offers : {S A E : Type 0} → (S → Output → S → Type 0) → (S → Output → S → Type 0)
-    → Value → S → Result A E → Value → S → Type 0
+    → BoardValue → S → Result A E → BoardValue → S → Type 0
 Offers took refused old sink (Ok done) new later = (new ≡ with_due old nothing_due) × TookAll took sink (due_outputs old) later
 Offers took refused old sink (Err refusal) new later = IsOfferRefused took refused old sink new later
 
 -- ---- one step whose outputs become due
 
-pub record Advanced (old : Value) (once : Once) (new : Value) : Type 0 where
+pub record Advanced (old : BoardValue) (once : Once) (new : BoardValue) : Type 0 where
   pub early : old.state.now.time < latest
   pub nothing : due_outputs old ≡ []
   pub board : new ≡ stepped (next_of old) old new.state.due
   pub outputs : due_outputs new ≡ outputs_in (next_of old)
-  pub once_is : once ≡ once_of (next_of old) old
+  pub once_is : once ≡ once_of old
 
-abbrev pub WasIdle : Value → Idle → Type 0
-WasIdle old idle.Due = due_outputs old ≢ []
-WasIdle old idle.TooFar = (due_outputs old ≡ []) × (latest ≤ old.state.now.time)
+abbrev pub WasIdle : BoardValue → Idle → Type 0
+WasIdle old OutputsDue = due_outputs old ≢ []
+WasIdle old TimeIsOver = (due_outputs old ≡ []) × (latest ≤ old.state.now.time)
 
-abbrev pub Advances : Value → Result Once Idle → Value → Type 0
+abbrev pub Advances : BoardValue → Result Once Idle → BoardValue → Type 0
 Advances old (Ok once) new = Advanced old once new
 Advances old (Err why) new = (new ≡ old) × WasIdle old why
 
 -- ---- what is due, and then one step
 
 -- all was taken: what was due, and what the step gave
-pub record IsOneStep {S : Type 0} (took : S → Output → S → Type 0) (old : Value) (sink : S) (once : Once) (new : Value) (later : S)
+pub record IsOneStep {S : Type 0} (took : S → Output → S → Type 0) (old : BoardValue) (sink : S) (once : Once) (new : BoardValue) (later : S)
     : Type 0 where
   pub early : old.state.now.time < latest
   pub board : new ≡ stepped (next_of old) (with_due old nothing_due) nothing_due
-  pub once_is : once ≡ once_of (next_of old) old
+  pub once_is : once ≡ once_of old
   pub sink_is : TookAll took sink (due_outputs old ++ outputs_in (next_of old)) later
 
 -- the step was done, and part of what it gave was refused
-pub record IsStepRefused {S : Type 0} (took refused : S → Output → S → Type 0) (old : Value) (sink : S) (new : Value) (later : S)
+pub record IsStepRefused {S : Type 0} (took refused : S → Output → S → Type 0) (old : BoardValue) (sink : S) (new : BoardValue) (later : S)
     : Type 0 where
   pub board : new ≡ stepped (next_of old) (with_due old nothing_due) new.state.due
   pub taken : List Output
@@ -93,12 +130,12 @@ pub record IsStepRefused {S : Type 0} (took refused : S → Output → S → Typ
   pub refuses : RefusesAt took refused sink (due_outputs old ++ taken) (due_outputs new) later
 
 -- nothing was changed
-pub record IsUnchanged {S : Type 0} (old : Value) (sink : S) (new : Value) (later : S) : Type 0 where
+pub record IsUnchanged {S : Type 0} (old : BoardValue) (sink : S) (new : BoardValue) (later : S) : Type 0 where
   pub board : new ≡ old
   pub sink_is : later ≡ sink
 
 abbrev pub StepsOnce : {S : Type 0} → (S → Output → S → Type 0) → (S → Output → S → Type 0)
-    → Value → S → Result Once Fault → Value → S → Type 0
+    → BoardValue → S → Result Once Fault → BoardValue → S → Type 0
 StepsOnce took refused old sink (Ok once) new later = IsOneStep took old sink once new later
 StepsOnce took refused old sink (Err TooFar) new later = (latest ≤ old.state.now.time) × IsUnchanged old sink new later
 StepsOnce took refused old sink (Err Refused) new later =
@@ -108,19 +145,19 @@ StepsOnce took refused old sink (Err Refused) new later =
 -- ---- steps for so many microseconds
 
 -- the walk that a call for so many microseconds makes: after so many tries, and to its end
-abbrev pub course_at : Value → ℕ → ℕ → Walk BoardView
+abbrev pub course_at : BoardValue → ℕ → ℕ → Walk BoardView
 course_at board microseconds tries =
     walk (step (by_view board.set)) (time_of (board.state.asked + microseconds)) board.state.now tries
 
-abbrev pub course : Value → ℕ → Walk BoardView
+abbrev pub course : BoardValue → ℕ → Walk BoardView
 course board microseconds = walk_to (step (by_view board.set)) (time_of (board.state.asked + microseconds)) board.state.now
 
 -- what it offers in all: what was due, and what its steps give
-abbrev pub given : Value → ℕ → List Output
+abbrev pub given : BoardValue → ℕ → List Output
 given board microseconds = due_outputs board ++ (course board microseconds).outputs
 
 -- the board where a walk has brought it, nothing being due
-abbrev pub brought : Value → ℕ → Walk BoardView → Value
+abbrev pub brought : BoardValue → ℕ → Walk BoardView → BoardValue
 brought board microseconds walked = record {
   set = board.set;
   state = record { now = walked.now; asked = board.state.asked + microseconds; due = nothing_due };
@@ -128,11 +165,11 @@ brought board microseconds walked = record {
 }
 
 -- the board after the call where the sink takes all
-abbrev pub ran : Value → ℕ → Value
+abbrev pub ran : BoardValue → ℕ → BoardValue
 ran board microseconds = brought board microseconds (course board microseconds)
 
 -- the call came to its end: by the time, or by a stop
-pub record HasRun {S : Type 0} (took : S → Output → S → Type 0) (old : Value) (microseconds : ℕ) (sink : S) (answer : Ran) (new : Value)
+pub record HasRun {S : Type 0} (took : S → Output → S → Type 0) (old : BoardValue) (microseconds : ℕ) (sink : S) (answer : Ran) (new : BoardValue)
     (later : S)
     : Type 0 where
   pub within : old.state.asked + microseconds ≤ most_asked
@@ -143,7 +180,7 @@ pub record HasRun {S : Type 0} (took : S → Output → S → Type 0) (old : Val
 
 -- The sink refused an output: the call ended after the step that gave it, and that output and the later one of its step are due.
 -- All that was given before was taken.
-pub record IsRunRefused {S : Type 0} (took refused : S → Output → S → Type 0) (old : Value) (microseconds : ℕ) (sink : S) (new : Value)
+pub record IsRunRefused {S : Type 0} (took refused : S → Output → S → Type 0) (old : BoardValue) (microseconds : ℕ) (sink : S) (new : BoardValue)
     (later : S)
     : Type 0 where
   pub within : old.state.asked + microseconds ≤ most_asked
@@ -157,7 +194,7 @@ pub record IsRunRefused {S : Type 0} (took refused : S → Output → S → Type
       (before : ℕ) → steps ≡ suc before → IsPrefix (due_outputs old ++ (course_at old microseconds before).outputs) taken
 
 abbrev pub Runs : {S : Type 0} → (S → Output → S → Type 0) → (S → Output → S → Type 0)
-    → Value → ℕ → S → Result Ran Fault → Value → S → Type 0
+    → BoardValue → ℕ → S → Result Ran Fault → BoardValue → S → Type 0
 Runs took refused old microseconds sink (Ok answer) new later = HasRun took old microseconds sink answer new later
 Runs took refused old microseconds sink (Err TooFar) new later =
     (most_asked < old.state.asked + microseconds) × IsUnchanged old sink new later

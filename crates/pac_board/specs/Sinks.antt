@@ -1,6 +1,7 @@
 -- What a sink took. A sink says by two relations between its value before and after what taking an output leaves of it, `took`,
 -- and what refusing one leaves, `refused`. It needn't keep what it took, and no law binds it.
 use Rattle.std.specs.Prelude.{◌≡◌, ◌++◌, List, [], ◌∷◌, Result, Ok, Err}
+use Rattle.std.specs.Borrow.{MutBor}
 use Rattle.pac_picture.specs.State as picture
 use Rattle.pac_step.specs.Output.{Output, Image}
 
@@ -33,3 +34,11 @@ pub record RefusesAt {S : Type 0} (took refused : S → Output → S → Type 0)
   pub rest : List Output
   pub left_is : left ≡ first ∷ rest
   pub refusal : refused asked first new
+
+-- The same of a sink that is lent. The reference stays the same one, so what the last offer leaves is what the sink's owner has
+-- when the loan ends.
+abbrev pub lent_took : {S : Type 0} → (S → Output → S → Type 0) → MutBor S → Output → MutBor S → Type 0
+lent_took took old output new = (new.ghost_name ≡ old.ghost_name) × took old.now output new.now
+
+abbrev pub lent_refused : {S : Type 0} → (S → Output → S → Type 0) → MutBor S → Output → MutBor S → Type 0
+lent_refused refused old output new = (new.ghost_name ≡ old.ghost_name) × refused old.now output new.now

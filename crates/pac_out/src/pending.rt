@@ -1,6 +1,6 @@
 //! Bytes that wait for a file, so that small pieces go to its writer in large writes.
 
-ghost use Rattle.std.specs.Prelude.{◌≡◌, [], ◌++◌, OnOk, MatchBool};
+ghost use Rattle.std.specs.Prelude.{◌≡◌, ◌≤◌, [], ◌++◌, length, OnOk, MatchBool};
 ghost use Rattle.std.specs.List.{flat_map};
 ghost use Rattle.pac_out.specs.Counted.{Puts};
 ghost use Rattle.pac_out.specs.Pending.{Gathers};
@@ -33,6 +33,16 @@ impl Pending {
         Pending {
             waiting: ArrayVec::new(),
         }
+    }
+
+    /// These bytes, at most 8,192 of them.
+    pub fn of(bytes: &[u8]) -> Pending
+        requires { length bytes.now ≤ 8192 }
+        ensures { result ≡ bytes.now }
+    {
+        let mut waiting = ArrayVec::new();
+        waiting.try_extend_from_slice(bytes).unwrap();
+        Pending { waiting }
     }
 
     /// Gathers bytes after those that wait where there is room for them, and tells whether there is.

@@ -7,7 +7,7 @@ ghost use Rattle.pac_tiles.specs.Tiles as tile;
 ghost use Rattle.pac_colour.specs.Colours as colour;
 ghost use Rattle.pac_picture.specs.Picture.{line_of, picture_of};
 ghost use Rattle.pac_picture.specs.Layer.{shadow_at, drawn_from};
-ghost use Rattle.pac_picture.specs.State.{black, source_of};
+ghost use Rattle.pac_picture.specs.State.{IsPicture, black, source_of};
 
 use crate::layer::Layer;
 use crate::painting::{WIDTH, paint_sprites};
@@ -73,6 +73,7 @@ impl Lines {
         requires { y < tile.height }
         ensures line { result.now ≡ slice_index_or self.now y [] }
         ensures below { EachIndex result.now (λ x. slice_index result.now x < colour.numbers) }
+        ensures picture { IsPicture self.now }
     {
         &self.lines[y as usize]
     }

@@ -4,7 +4,7 @@ ghost use Rattle.std.specs.Prelude.{◌≡◌, ◌<◌, ◌/◌, ℕ, [], false,
 ghost use Rattle.pac_tiles.specs.Tiles as tile;
 ghost use Rattle.pac_colour.specs.Colours as colour;
 ghost use Rattle.pac_picture.specs.Layer.{made_stale, stale, differs, shadow_at, cells_of};
-ghost use Rattle.pac_picture.specs.State.{black, palette_of, composed, line_composed};
+ghost use Rattle.pac_picture.specs.State.{IsPicture, black, palette_of, composed, line_composed};
 
 use crate::graphics::Graphics;
 use crate::layer::Layer;
@@ -93,8 +93,18 @@ impl Picture {
         ensures line { result.now ≡ slice_index_or self.now.lines y [] }
         ensures size { length result.now ≡ tile.width }
         ensures below { EachIndex result.now (λ x. slice_index result.now x < colour.numbers) }
+        ensures picture { IsPicture self.now.lines }
     {
         self.lines.row(y)
+    }
+
+    /// Red, green and blue of the 16 colour numbers.
+    #[inline]
+    pub fn palette(&self) -> &[[u8; 3]]
+        ensures palette { result.now ≡ self.now.palette }
+        ensures size { length result.now ≡ colour.numbers }
+    {
+        &self.palette
     }
 
     /// Red, green and blue of a colour number, 0 to 15.

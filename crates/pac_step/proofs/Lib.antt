@@ -1,3 +1,14 @@
+pub mod Views
+pub mod Lists
+pub mod Latches
+pub mod Memories
+pub mod Voices
+pub mod Lines
+pub mod Told
+pub mod Carried
+pub mod Items
+pub mod Agreed
+pub mod Composing
 pub mod Walks
 pub mod Runs
 pub mod RunsKeep

@@ -64,6 +64,10 @@ pub record Fit20Bits (all : Accumulators) : Type 0 where
 abbrev pub power_on : Accumulators
 power_on = record { first = 0; second = 0; third = 0 }
 
+-- the accumulators of a list of three
+abbrev pub of_list : List ℕ → Accumulators
+of_list all = record { first = slice_index all 0; second = slice_index all 1; third = slice_index all 2 }
+
 -- the sample that an accumulator points to in its waveform: the wave PROM has eight waveforms of 32 samples, of
 -- four bits each
 abbrev pub pointed : List ℕ → ℕ → ℕ → ℕ

@@ -2,7 +2,7 @@
 #![tactic(auto)]
 
 ghost use Rattle.std.specs.Prelude.{◌≡◌, ◌<◌, ◌∷◌, [], length};
-ghost use Rattle.pac_wave.specs.Wave.{Fit20Bits, power_on};
+ghost use Rattle.pac_wave.specs.Wave.{Fit20Bits, power_on, of_list};
 ghost use Rattle.pac_wave.specs.Wave as spec;
 
 pub mod laws;
@@ -182,6 +182,29 @@ impl Wave {
         }
     }
 
+    /// The accumulators of the first, the second and the third voice, each below 2^20.
+    pub fn of(accumulators: [u32; 3]) -> Wave
+        requires { Fit20Bits (of_list accumulators) }
+        ensures { result ≡ of_list accumulators }
+    {
+        let [first, second, third] = accumulators;
+        Wave {
+            first,
+            second,
+            third,
+        }
+    }
+
+    /// Becomes what another one is.
+    #[inline]
+    pub fn copy_from(&mut self, other: &Wave)
+        ensures { self.new ≡ other.now }
+    {
+        self.first = other.first;
+        self.second = other.second;
+        self.third = other.third;
+    }
+
     /// The next sound sample, -23,040 to 20,160, from the wave PROM's 256 bytes and the 32 registers, of which the
     /// low four bits count; register n is the one at address 5040H + n. While sound is off the sample is 0 and the
     /// accumulators stay; else they grow by their voices' frequencies after the sample.
@@ -208,6 +231,7 @@ impl Wave {
     /// The accumulators of the first, the second and the third voice, each below 2^20.
     pub fn accumulators(&self) -> [u32; 3]
         ensures accumulators { result ≡ self.now.first ∷ self.now.second ∷ self.now.third ∷ [] }
+        ensures of { of_list result ≡ self.now }
         ensures below { Fit20Bits self.now }
     {
         [self.first, self.second, self.third]

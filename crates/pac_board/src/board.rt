@@ -1,0 +1,151 @@
+//! The board and the calls that make no step.
+
+ghost use Rattle.std.specs.Prelude.{◌≡◌, ◌≤◌, IfOk, IfErr};
+ghost use Rattle.pac_inputs.specs.Inputs.{mask};
+ghost use Rattle.pac_map.specs.Contents.{read_of};
+ghost use Rattle.pac_map.specs.View.{held_with, held_without};
+ghost use Rattle.pac_picture.specs.State.{palette_of};
+ghost use Rattle.pac_board.specs.State as state;
+ghost use Rattle.pac_board.specs.Events.{IsFresh};
+
+use crate::due::Due;
+use crate::fault::InitRefused;
+use crate::machine::Machine;
+use pac_exec::Regs;
+use pac_inputs::Inputs;
+use pac_map::Memory;
+use pac_picture::{Graphics, Picture};
+use pac_roms::RomSet;
+use std::alloc::{AllocError, Global};
+use std::marker::Model;
+
+/// The main board (Namco Pac-Man service schematics). Clauses see its ROM set, its state, and the count of the steps that it
+/// did since it was made.
+#[derive(Drop)]
+pub struct Board {
+    pub(crate) machine: Machine,
+    pub(crate) asked: u64,
+    pub(crate) due: Due,
+    pub(crate) made: u64,
+}
+
+impl Model for Board {
+    ghost use Rattle.std.specs.Prelude.{◌≤◌, ◌<◌, ◌^◌};
+    ghost use Rattle.pac_board.specs.State.{BoardValue, most_asked};
+
+    ghost Value = { BoardValue };
+
+    ghost view = { λ board. record {
+      set = board.machine.set;
+      state = record { now = board.machine.now; asked = board.asked; due = board.due };
+      made = board.made;
+    } };
+
+    ghost invariant = { λ board. board.asked ≤ most_asked };
+}
+
+/// A set's picture before anything is composed, and the memory at power-on.
+fn parts(alloc: Global, set: &RomSet, switches: u8) -> Result<(Picture, Memory), AllocError>
+    ensures { IfOk result (λ parts. IsFresh set.now switches parts.0 parts.1) }
+{
+    let graphics = Graphics::new(alloc, set.tiles(), set.sprites(), set.lookup())?;
+    let picture = Picture::new(alloc, graphics, set.colours())?;
+    let memory = Memory::new(alloc, switches)?;
+    Ok((picture, memory))
+}
+
+impl Board {
+    /// The board at power-on, with this ROM set and the byte of the DIP switches. Refused for want of memory alone; the set then
+    /// comes back.
+    pub fn init(alloc: Global, set: RomSet, switches: u8) -> Result<Board, InitRefused>
+        ensures board { IfOk result (λ board. board ≡ state.at_power_on set switches) }
+        ensures refused { IfErr result (λ refused. refused.set ≡ set) }
+    {
+        let Ok((picture, memory)) = parts(alloc, &set, switches) else {
+            return Err(InitRefused { set });
+        };
+        Ok(Board {
+            machine: Machine::new(set, memory, picture),
+            asked: 0,
+            due: Due::NOTHING,
+            made: 0,
+        })
+    }
+
+    /// Resets the board as the watchdog does: latch, request, count and processor. Time, steps, what is due and the picture stay.
+    pub fn reset(&mut self)
+        ensures { self.new ≡ state.reset self.old }
+    {
+        self.machine.reset();
+    }
+
+    /// Holds these inputs too from now on.
+    pub fn input_set(&mut self, inputs: Inputs)
+        ensures { self.new ≡ state.held self.old (held_with self.old.state.now.board.memory.held (mask inputs)) }
+    {
+        self.machine.input_set(inputs);
+    }
+
+    /// Lets these inputs go.
+    pub fn input_clear(&mut self, inputs: Inputs)
+        ensures { self.new ≡ state.held self.old (held_without self.old.state.now.board.memory.held (mask inputs)) }
+    {
+        self.machine.input_clear(inputs);
+    }
+
+    /// The picture as it stands.
+    pub fn picture(&self) -> &Picture
+        ensures lines { result.now.lines ≡ self.now.state.now.board.lines }
+        ensures palette { result.now.palette ≡ palette_of self.now.set.colours }
+    {
+        self.machine.picture()
+    }
+
+    /// The registers.
+    pub fn regs(&self) -> Regs
+        ensures { result ≡ self.now.state.now.regs }
+    {
+        self.machine.regs()
+    }
+
+    /// The time since power-on, in T-states.
+    #[inline]
+    pub fn time(&self) -> u64
+        ensures time { result ≡ self.now.state.now.time }
+        ensures bound { self.now.state.now.time ≤ state.latest_end }
+    {
+        self.machine.time()
+    }
+
+    /// The steps since power-on.
+    #[inline]
+    pub fn steps(&self) -> u64
+        ensures { result ≡ self.now.state.now.steps }
+    {
+        self.machine.steps()
+    }
+
+    /// The steps that this board did since it was made, staying at 2^64 - 1. No call puts it back.
+    #[inline]
+    pub fn made(&self) -> u64
+        ensures { result ≡ self.now.made }
+    {
+        self.made
+    }
+
+    /// The byte that the processor would read at an address.
+    #[inline]
+    pub fn peek(&self, at: u16) -> u8
+        ensures { result ≡ read_of self.now.set.program self.now.state.now.board.memory at }
+    {
+        self.machine.peek(at)
+    }
+
+    /// The ROM set.
+    #[inline]
+    pub fn set(&self) -> &RomSet
+        ensures { result.now ≡ self.now.set }
+    {
+        self.machine.set()
+    }
+}

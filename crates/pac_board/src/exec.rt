@@ -1,0 +1,139 @@
+//! The calls that make steps, and offer what they give to a sink.
+
+ghost use Rattle.std.specs.Prelude.{◌≡◌, ℕ, ◌<◌, ◌≤◌, ◌^◌, []};
+ghost use Rattle.pac_board.specs.State.{latest, due_outputs};
+ghost use Rattle.pac_board.specs.Calls.{counted_once, Offers, Advanced, Advances, StepsOnce, Runs};
+ghost use Rattle.pac_board.specs.Turns.{Turns, GoesTo};
+
+use crate::board::Board;
+use crate::fault::{Fault, Idle};
+use crate::sink::{Refused, Sink};
+use pac_cpu::{Once, Stop};
+
+/// The time, in T-states, from which on no step is begun (this profile).
+const LATEST: u64 = 1 << 52;
+
+/// The most microseconds that are asked of a board (this profile).
+const MOST_ASKED: u64 = 1 << 50;
+
+/// What a call for some microseconds came to.
+#[derive(Clone, Copy)]
+pub struct Ran {
+    /// The T-states that went by.
+    pub ticks: u64,
+    /// Why it ended before its time, if it did.
+    pub stop: Option<Stop>,
+}
+
+/// Counts a step, staying at the most that the count can hold; a stop is none.
+#[inline]
+fn count(made: &mut u64, once: &Once)
+    ensures { made.new ≡ counted_once made.old once.now }
+{
+    if let Once::Stepped { .. } = once {
+        *made = made.saturating_add(1);
+    }
+}
+
+impl Board {
+    /// Offers what is due to a sink, the sample before the picture. What it refuses stays due, with what comes after it.
+    #[inline]
+    pub fn offer<S: Sink>(&mut self, sink: &mut S) -> Result<(), Refused>
+        ensures { Offers S.took S.refused self.old sink.old result self.new sink.new }
+    {
+        self.due.offer(self.machine.picture(), sink)
+    }
+
+    /// Does one step, whose outputs are due then. Where outputs are due already, or the time is over, it does nothing.
+    #[inline]
+    pub fn advance(&mut self) -> Result<Once, Idle>
+        ensures { Advances self.old result self.new }
+    {
+        if self.due.is_some() {
+            return Err(Idle::OutputsDue);
+        }
+        if self.machine.time() >= LATEST {
+            return Err(Idle::TimeIsOver);
+        }
+        Ok(self.go())
+    }
+
+    /// The step of a board that may make one.
+    #[inline]
+    fn go(&mut self) -> Once
+        requires early { self.old.state.now.time < latest }
+        requires nothing { due_outputs self.old ≡ [] }
+        ensures { Advanced self.old result self.new }
+    {
+        let (once, due) = self.machine.step();
+        self.due = due;
+        count(&mut self.made, &once);
+        once
+    }
+
+    /// Its step, and the offer of what that gives.
+    #[inline]
+    fn turn<S: Sink>(&mut self, sink: &mut S) -> Result<Once, Refused>
+        requires early { self.old.state.now.time < latest }
+        requires nothing { due_outputs self.old ≡ [] }
+        ensures { Turns S.took S.refused self.old sink.old result self.new sink.new }
+    {
+        let once = self.go();
+        self.offer(sink)?;
+        Ok(once)
+    }
+
+    /// Offers what is due, does one step, and offers what it gives.
+    pub fn step_once<S: Sink>(&mut self, sink: &mut S) -> Result<Once, Fault>
+        ensures { StepsOnce S.took S.refused self.old sink.old result self.new sink.new }
+    {
+        if self.time() >= LATEST {
+            return Err(Fault::TooFar);
+        }
+        if self.offer(sink).is_err() {
+            return Err(Fault::Refused);
+        }
+        match self.turn(sink) {
+            Ok(once) => Ok(once),
+            Err(_) => Err(Fault::Refused),
+        }
+    }
+
+    /// Steps while the time is before a limit, up to a stop, and the offer of what each gives.
+    fn run<S: Sink>(&mut self, limit: u64, sink: &mut S) -> Result<Option<Stop>, Refused>
+        requires limit { limit ≤ latest }
+        requires nothing { due_outputs self.old ≡ [] }
+        requires made { self.old.made < 2 ^ 64 }
+        ensures { GoesTo S.took S.refused self.old limit sink.old result self.new sink.new }
+    {
+        while self.time() < limit {
+            if let Once::Stopped(stop) = self.turn(sink)? {
+                return Ok(Some(stop));
+            }
+        }
+        Ok(None)
+    }
+
+    /// Lets so many microseconds go by: offers what is due, then does steps, and offers what each gives, while the time is before
+    /// that of all microseconds asked so far, or to a stop.
+    pub fn exec<S: Sink>(&mut self, us: u32, sink: &mut S) -> Result<Ran, Fault>
+        ensures { Runs S.took S.refused self.old us sink.old result self.new sink.new }
+    {
+        let asked = self.asked + u64::from(us);
+        if asked > MOST_ASKED {
+            return Err(Fault::TooFar);
+        }
+        self.asked = asked;
+        let begun = self.time();
+        if self.offer(sink).is_err() {
+            return Err(Fault::Refused);
+        }
+        match self.run(384 * asked / 125, sink) {
+            Ok(stop) => Ok(Ran {
+                ticks: self.time() - begun,
+                stop,
+            }),
+            Err(_) => Err(Fault::Refused),
+        }
+    }
+}

@@ -1,0 +1,90 @@
+//! The moment that a machine stands at, kept beside it.
+
+ghost use Rattle.std.specs.Prelude.{◌≡◌, IfOk};
+ghost use Rattle.pac_step.specs.Trace.{start};
+ghost use Rattle.pac_step.specs.BoardView.{power_on};
+
+use crate::machine::Machine;
+use pac_cpu::Cpu;
+use pac_map::Memory;
+use pac_picture::Lines;
+use pac_wave::Wave;
+use std::alloc::{AllocError, Global};
+use std::marker::Model;
+
+/// A moment that is kept: registers, memory, voices, lines of the picture, and time.
+#[derive(Drop)]
+pub struct Frozen {
+    cpu: Cpu,
+    memory: Memory,
+    wave: Wave,
+    lines: Lines,
+    clock: u64,
+    steps: u64,
+}
+
+impl Model for Frozen {
+    ghost use Rattle.std.specs.Prelude.{◌≤◌, ◌<◌, ◌*◌};
+    ghost use Rattle.pac_latch.specs.Latched.{watchdog_limit};
+    ghost use Rattle.pac_table.specs.Instructions.{least_ticks};
+    ghost use Rattle.pac_step.specs.Step.{Moment};
+    ghost use Rattle.pac_step.specs.BoardView.{BoardView};
+    ghost use Rattle.pac_board.specs.State.{latest_end};
+
+    ghost Value = { Moment BoardView };
+
+    ghost view = { λ frozen. record {
+      regs = frozen.cpu;
+      board = record { memory = frozen.memory; accumulators = frozen.wave; lines = frozen.lines };
+      time = frozen.clock;
+      steps = frozen.steps;
+    } };
+
+    ghost invariant = { λ frozen. record {
+      steps : least_ticks * frozen.steps ≤ frozen.clock;
+      time : frozen.clock ≤ latest_end;
+      count : frozen.memory.latched.count < watchdog_limit;
+    } };
+}
+
+impl Frozen {
+    /// The moment of power-on, all DIP switches 0. Refused for want of memory alone.
+    pub fn new(alloc: Global) -> Result<Frozen, AllocError>
+        ensures { IfOk result (λ frozen. frozen ≡ start (power_on 0)) }
+    {
+        Ok(Frozen {
+            cpu: Cpu::power_on(),
+            memory: Memory::new(alloc, 0)?,
+            wave: Wave::new(),
+            lines: Lines::new(alloc)?,
+            clock: 0,
+            steps: 0,
+        })
+    }
+}
+
+impl Machine {
+    /// Writes the moment over one that was kept.
+    pub fn freeze(&self, frozen: &mut Frozen)
+        ensures { frozen.new ≡ self.now.now }
+    {
+        frozen.cpu = Cpu::with_regs(self.cpu.regs());
+        frozen.memory.copy_from(&self.map.memory);
+        frozen.wave.copy_from(&self.wave);
+        frozen.lines.copy_from(self.picture.lines());
+        frozen.clock = self.clock;
+        frozen.steps = self.steps;
+    }
+
+    /// Goes back to a moment that was kept.
+    pub fn thaw(&mut self, frozen: &Frozen)
+        ensures { self.new ≡ record { set = self.old.set; now = frozen.now } }
+    {
+        self.cpu = Cpu::with_regs(frozen.cpu.regs());
+        self.map.memory.copy_from(&frozen.memory);
+        self.wave.copy_from(&frozen.wave);
+        self.picture.copy_from(&frozen.lines);
+        self.clock = frozen.clock;
+        self.steps = frozen.steps;
+    }
+}

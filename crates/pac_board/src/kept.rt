@@ -1,0 +1,143 @@
+//! A sink for tests: it keeps what it takes, and refuses one offer.
+
+ghost use Rattle.std.specs.Prelude.{◌≡◌, ◌<◌, ◌==◌, [], IfOk, map};
+ghost use Rattle.pac_tiles.specs.Tiles as tile;
+ghost use Rattle.pac_board.specs.Sinks.{shown};
+ghost use Rattle.pac_board.specs.Kept.{Keeps, Declines, offered, output_of, number_in, colour_in};
+
+use crate::sink::{Refused, Sink};
+use pac_picture::{Lines, Picture};
+use std::alloc::{AllocError, Global};
+use std::marker::Model;
+
+/// A picture as it was taken: its lines, and red, green and blue of its colour numbers.
+#[derive(Drop)]
+pub struct Shown {
+    lines: Lines,
+    palette: [[u8; 3]; 16],
+}
+
+impl Model for Shown {
+    ghost use Rattle.pac_step.specs.Output.{Image};
+
+    ghost Value = { Image };
+
+    ghost view = { λ shown. record { lines = shown.lines; palette = shown.palette } };
+}
+
+impl Shown {
+    /// A copy of a picture as it stands. Refused for want of memory alone.
+    fn of(alloc: Global, picture: &Picture) -> Result<Shown, AllocError>
+        ensures { IfOk result (λ copy. copy ≡ shown picture.now) }
+    {
+        let mut lines = Lines::new(alloc)?;
+        lines.copy_from(picture.lines());
+        let mut palette = [[0; 3]; 16];
+        palette.copy_from_slice(picture.palette());
+        Ok(Shown { lines, palette })
+    }
+
+    /// The colour number at (x, y), in 288 columns and 224 lines.
+    pub fn number(&self, x: u16, y: u8) -> u8
+        requires x { x < tile.width }
+        requires y { y < tile.height }
+        ensures number { result ≡ number_in self.now x y }
+        ensures below { result < 16 }
+    {
+        self.lines.row(y)[x as usize]
+    }
+
+    /// Red, green and blue at (x, y).
+    pub fn colour(&self, x: u16, y: u8) -> [u8; 3]
+        requires x { x < tile.width }
+        requires y { y < tile.height }
+        ensures { result ≡ colour_in self.now x y }
+    {
+        self.palette[self.number(x, y) as usize]
+    }
+}
+
+/// An output that was taken.
+#[derive(Drop)]
+pub enum Taken {
+    /// A sound sample.
+    Sample(i16),
+    /// A picture.
+    Picture(Shown),
+}
+
+/// A sink that keeps what it takes, and refuses one offer. Clauses see the outputs that it took and the number of the offer that
+/// it refuses.
+#[derive(Drop)]
+pub struct Kept {
+    alloc: Global,
+    taken: Vec<Taken>,
+    refusal: u64,
+}
+
+impl Model for Kept {
+    ghost use Rattle.std.specs.Prelude.{map};
+    ghost use Rattle.pac_board.specs.Kept.{Keeping, output_of};
+
+    ghost Value = { Keeping };
+
+    ghost view = { λ kept. record { outputs = map output_of kept.taken.items; refusal = kept.refusal } };
+}
+
+impl Kept {
+    /// One that has nothing, and refuses the offer of the number `refusal`, once: 1 is its first, 0 is none.
+    pub fn new(alloc: Global, refusal: u64) -> Kept
+        ensures { result ≡ record { outputs = []; refusal = refusal } }
+    {
+        Kept {
+            alloc,
+            taken: Vec::new(alloc),
+            refusal,
+        }
+    }
+
+    /// What it took, the first first.
+    pub fn taken(&self) -> &[Taken]
+        ensures { map output_of result.now ≡ self.now.outputs }
+    {
+        &self.taken
+    }
+
+    /// Whether the offer has come that it refuses. An offer has come then.
+    fn declines(&mut self) -> bool
+        ensures result_is { result ≡ (self.old.refusal == 1) }
+        ensures offer { self.new ≡ offered self.old }
+    {
+        let declines = self.refusal == 1;
+        self.refusal = self.refusal.saturating_sub(1);
+        declines
+    }
+}
+
+impl Sink for Kept {
+    ghost took = { Keeps };
+
+    ghost refused = { Declines };
+
+    /// Keeps a sample.
+    fn sample(&mut self, sample: i16) -> Result<(), Refused> {
+        if self.declines() || self.taken.push(Taken::Sample(sample)).is_err() {
+            return Err(Refused);
+        }
+        Ok(())
+    }
+
+    /// Keeps a copy of a picture.
+    fn picture(&mut self, picture: &Picture) -> Result<(), Refused> {
+        if self.declines() {
+            return Err(Refused);
+        }
+        let Ok(shown) = Shown::of(self.alloc, picture) else {
+            return Err(Refused);
+        };
+        match self.taken.push(Taken::Picture(shown)) {
+            Ok(()) => Ok(()),
+            Err(_) => Err(Refused),
+        }
+    }
+}

@@ -1,0 +1,20 @@
+//! Laws of the calls.
+
+ghost use Rattle.pac_board.specs.Laws.{TimeCanBeCut, RefusalsAreTakenUp, StepsAreDoneAgain};
+
+use crate::sink::Sink;
+
+/// Time in pieces is time at once.
+pub fn time_can_be_cut()
+    ensures { TimeCanBeCut }
+{}
+
+/// After a refusal, calls for no time leave what a call that isn't refused leaves.
+pub fn refusals_are_taken_up<S: Sink>()
+    ensures { RefusalsAreTakenUp S.took S.refused }
+{}
+
+/// A step that is done again after a board's state was put back gives its outputs again.
+pub fn steps_are_done_again()
+    ensures { StepsAreDoneAgain }
+{}

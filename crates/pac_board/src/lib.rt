@@ -1,0 +1,21 @@
+//! The main board of Namco's Pac-Man cabinet behind the calls of an emulator's host: time goes by in microseconds or in steps,
+//! samples and pictures go to a sink, and the whole state can be kept and put back.
+#![tactic(auto)]
+
+mod board;
+mod due;
+mod exec;
+mod fault;
+mod frozen;
+pub mod kept;
+pub mod laws;
+mod machine;
+mod sink;
+mod snapshot;
+
+pub use board::Board;
+pub use due::Due;
+pub use exec::Ran;
+pub use fault::{Fault, Idle, InitRefused};
+pub use sink::{Refused, Sink};
+pub use snapshot::Snapshot;

@@ -1,0 +1,49 @@
+//! Where samples and pictures go.
+
+ghost use Rattle.pac_step.specs.Output.{Output, Sound, Show};
+ghost use Rattle.pac_board.specs.Sinks.{IsOffer, shown, lent_took, lent_refused};
+
+use pac_picture::Picture;
+use thiserror::Error;
+
+/// A sink refused an output.
+#[derive(Clone, Copy, Debug, Error)]
+#[error("the sink refused an output")]
+pub struct Refused;
+
+/// Takes what a board gives out, or refuses it.
+///
+/// It says by two relations between its value before and after what taking an output leaves of it and what refusing one
+/// leaves. It needn't keep what it took.
+pub trait Sink {
+    /// What is left of a sink that took this output.
+    ghost took: { Self → Output → Self → Type 0 };
+
+    /// What is left of a sink that refused this output.
+    ghost refused: { Self → Output → Self → Type 0 };
+
+    /// Takes a sound sample, one of 96,000 a second, or refuses it.
+    fn sample(&mut self, sample: i16) -> Result<(), Refused>
+        ensures { IsOffer took refused self.old (Sound sample) result self.new };
+
+    /// Takes the picture of a frame as it is lent, or refuses it.
+    fn picture(&mut self, picture: &Picture) -> Result<(), Refused>
+        ensures { IsOffer took refused self.old (Show (shown picture.now)) result self.new };
+}
+
+/// A sink that is lent.
+impl<S: Sink> Sink for &mut S {
+    ghost took = { lent_took S.took };
+
+    ghost refused = { lent_refused S.refused };
+
+    /// Offers the sample to the sink that is lent.
+    fn sample(&mut self, sample: i16) -> Result<(), Refused> {
+        Sink::sample(&mut **self, sample)
+    }
+
+    /// Offers the picture to the sink that is lent.
+    fn picture(&mut self, picture: &Picture) -> Result<(), Refused> {
+        Sink::picture(&mut **self, picture)
+    }
+}

@@ -1,0 +1,4 @@
+pub mod Tables
+pub mod Trees
+pub mod Searches
+pub mod Sizes

@@ -1,0 +1,12 @@
+-- What a manifest's table says of a part, as plain data.
+use Rattle.std.specs.Prelude.{ℕ, List, Option, String, option_map, string_bytes}
+use Rattle.std.specs.declared.alloc.Global.{Global}
+
+-- the name of the part's file, and the 20 bytes of its digest, where they are given
+pub record Said : Type 0 where
+  pub file : Option (List ℕ)
+  pub digest : Option (List ℕ)
+
+-- the bytes of a text, where there is one
+abbrev pub text_of : Option (String Global) → Option (List ℕ)
+text_of = option_map string_bytes

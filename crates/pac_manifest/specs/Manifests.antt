@@ -1,0 +1,123 @@
+-- What a manifest says (this profile): a TOML document with a table for each part.
+use Rattle.std.specs.Prelude.{ℕ, List, [], ◌∷◌, codes, Bool, true, false, if◌then◌else◌, is_none}
+use Rattle.std.specs.Prelude.{Option, Some, None, option_map, option_and_then, Result, Ok, Err, slice_get}
+use Rattle.std.specs.Str.{is_utf8}
+use Rattle.toml.specs.Data.{Data, array, no_items, item, Members, as_str, as_table, get_member}
+use Rattle.toml.specs.Parse.{parse_document}
+use Rattle.hex.specs.Hex.{decode_sized}
+use Rattle.hex.specs.declared.error.FromHexError.{FromHexError}
+use Rattle.pac_manifest.specs.Entries.{Said}
+use Rattle.pac_manifest.specs.Parts.{name_text}
+use Rattle.pac_manifest.specs.declared.fault.Code.TheVariants as code
+use Rattle.pac_manifest.specs.declared.fault.SetFault.{SetFault}
+use Rattle.pac_manifest.specs.declared.manifest.Manifest.{Manifest}
+use Rattle.pac_manifest.specs.declared.part.PartName.{PartName}
+use Rattle.pac_manifest.specs.declared.part.PartName.TheVariants.{Program1, Program2, Program3, Program4, Tiles, Sprites}
+use Rattle.pac_manifest.specs.declared.part.PartName.TheVariants.{Colours, Lookup, Wave, Timing}
+
+infixl 10 ◌>>=◌
+abbrev pub ◌>>=◌ : {A B : Type 0} → Option A → (A → Option B) → Option B
+o >>= f = option_and_then f o
+
+-- ---- forms: what a value says, or nothing where it is of another form
+
+-- what a key's value says, where the key is there
+abbrev pub optional : {A : Type 0} → (Data → Option A) → Option Data → Option (Option A)
+optional form None = Some None
+optional form (Some value) = option_map Some (form value)
+
+abbrev pub right : {A : Type 0} → Result A FromHexError → Option A
+right (Ok value) = Some value
+right (Err fault) = None
+
+-- a digest: a text of 40 hexadecimal digits, in either case
+abbrev pub digest_form : Data → Option (List ℕ)
+digest_form value = as_str value >>= λ digits. right (decode_sized digits 20)
+
+-- the table of a part
+abbrev pub entry_form : Data → Option Said
+entry_form value = do
+  keys ← as_table value
+  file ← optional as_str (get_member (codes "file") keys)
+  digest ← optional digest_form (get_member (codes "sha1") keys)
+  Some (record { file = file; digest = digest })
+
+-- the tables of the program's ROMs
+abbrev pub four_forms : Data → Data → Data → Data → Option (List Said)
+four_forms first second third fourth = do
+  first ← entry_form first
+  second ← entry_form second
+  third ← entry_form third
+  fourth ← entry_form fourth
+  Some (first ∷ second ∷ third ∷ fourth ∷ [])
+
+-- the program: an array of four tables
+abbrev pub program_form : Data → Option (List Said)
+program_form (array (item first (item second (item third (item fourth no_items))))) = four_forms first second third fourth
+program_form value = None
+
+-- the table of a part among those of a manifest
+abbrev pub table_form : Members → PartName → Option (Option Said)
+table_form keys part = optional entry_form (get_member (name_text part) keys)
+
+-- the whole manifest; it may have other keys
+abbrev pub manifest_form : Members → Option Manifest
+manifest_form keys = do
+  program ← optional program_form (get_member (codes "program") keys)
+  tiles ← table_form keys Tiles
+  sprites ← table_form keys Sprites
+  colours ← table_form keys Colours
+  lookup ← table_form keys Lookup
+  wave ← table_form keys Wave
+  timing ← table_form keys Timing
+  Some (record {
+    program = program;
+    tiles = tiles;
+    sprites = sprites;
+    colours = colours;
+    lookup = lookup;
+    wave = wave;
+    timing = timing;
+  })
+
+-- ---- texts
+
+-- the table that a TOML document is, which has to be UTF-8
+abbrev pub tree_of : List ℕ → Option Members
+tree_of text = if is_utf8 text then parse_document text else None
+
+-- M1
+abbrev pub no_manifest : SetFault
+no_manifest = record { code = code.Manifest; part = None }
+
+abbrev pub or_no_manifest : Option Manifest → Result Manifest SetFault
+or_no_manifest None = Err no_manifest
+or_no_manifest (Some manifest) = Ok manifest
+
+-- the manifest that a text is, or M1
+unfoldable pub manifest_of : List ℕ → Result Manifest SetFault
+manifest_of text = or_no_manifest (tree_of text >>= manifest_form)
+
+-- ---- what a manifest says of a part
+
+-- the n-th of the program's ROMs, from 0
+abbrev pub rom : Manifest → ℕ → Option Said
+rom manifest n = manifest.program >>= λ roms. slice_get roms n
+
+abbrev pub entry_of : Manifest → PartName → Option Said
+entry_of manifest Program1 = rom manifest 0
+entry_of manifest Program2 = rom manifest 1
+entry_of manifest Program3 = rom manifest 2
+entry_of manifest Program4 = rom manifest 3
+entry_of manifest Tiles = manifest.tiles
+entry_of manifest Sprites = manifest.sprites
+entry_of manifest Colours = manifest.colours
+entry_of manifest Lookup = manifest.lookup
+entry_of manifest Wave = manifest.wave
+entry_of manifest Timing = manifest.timing
+
+abbrev pub file_of : Manifest → PartName → Option (List ℕ)
+file_of manifest part = entry_of manifest part >>= λ said. said.file
+
+abbrev pub digest_said : Manifest → PartName → Option (List ℕ)
+digest_said manifest part = entry_of manifest part >>= λ said. said.digest

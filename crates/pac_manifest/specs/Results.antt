@@ -1,0 +1,34 @@
+-- What was returned, held against what there is: a value, or the fault that is told.
+use Rattle.std.specs.Prelude.{◌≡◌, Option, Some, None, Result, Ok, Err}
+use Rattle.pac_manifest.specs.Manifests.{no_manifest}
+use Rattle.pac_manifest.specs.declared.fault.SetFault.{SetFault}
+use Rattle.pac_manifest.specs.declared.fault.SetError.{SetError}
+use Rattle.pac_manifest.specs.declared.fault.SetError.TheVariants.{Memory, Fault}
+use Rattle.pac_manifest.specs.declared.reading.Misread.{Misread}
+use Rattle.pac_manifest.specs.declared.reading.Misread.TheVariants as misread
+
+-- What was returned is what there is, unless memory ran out.
+abbrev pub Gives : {A : Type 0} → Result A SetError → Result A SetFault → Type 0
+Gives (Ok value) answer = answer ≡ Ok value
+Gives (Err Memory) answer = Unit {0}
+Gives (Err (Fault fault)) answer = answer ≡ Err fault
+
+-- What was read, as plain data, is what there is, unless memory ran out; where nothing was read, the form is another.
+abbrev pub ReadsAs : {A B : Type 0} → (A → B) → Result A Misread → Option B → Type 0
+ReadsAs plain (Ok value) form = form ≡ Some (plain value)
+ReadsAs plain (Err misread.Memory) form = Unit {0}
+ReadsAs plain (Err misread.Form) form = form ≡ None
+
+-- The same of what is plain data already.
+abbrev pub Reads : {A : Type 0} → Result A Misread → Option A → Type 0
+Reads = ReadsAs (λ value. value)
+
+-- another form is M1
+abbrev pub told_as : Misread → SetError
+told_as misread.Memory = Memory
+told_as misread.Form = Fault no_manifest
+
+-- A fault was told exactly where there is one, and that one.
+abbrev pub Finds : Result Unit SetFault → Option SetFault → Type 0
+Finds (Ok done) fault = fault ≡ None
+Finds (Err told) fault = fault ≡ Some told

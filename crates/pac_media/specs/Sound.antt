@@ -1,0 +1,44 @@
+-- A wave file while samples come, and what each call leaves of it.
+use Rattle.std.specs.Prelude.{◌≡◌, ℕ, List, [], ◌++◌, Result, Ok, Err}
+use Rattle.pac_out.specs.declared.counted.Counted.{Counted}
+use Rattle.pac_out.specs.declared.WriteFault.{WriteFault}
+use Rattle.pac_out.specs.Counted.{HasTaken, HasStopped}
+
+-- the file, the bytes that wait for it, and how many of the samples that its header announces are still to come
+pub record Sound (W : Type 0) : Type 0 where
+  pub file : Counted W
+  pub waiting : List ℕ
+  pub owed : ℕ
+
+-- It was given this text: the file, whose writer was `start` before its first byte, has taken a prefix of it, and the
+-- rest waits.
+pub record HasText {W : Type 0} (took : W → List ℕ → W → Type 0) (start : W) (text : List ℕ) (sound : Sound W) : Type 0 where
+  pub prefix : List ℕ
+  pub parts : text ≡ prefix ++ sound.waiting
+  pub taken : HasTaken took start prefix sound.file
+
+-- Whatever text it was given, these bytes were given after it.
+pub record Gains {W : Type 0} (took : W → List ℕ → W → Type 0) (old : Sound W) (bytes : List ℕ) (new : Sound W) : Type 0 where
+  pub after : (start : W) (text : List ℕ) → HasText took start text old → HasText took start (text ++ bytes) new
+
+-- Whatever text it was given, the file has now taken all of it and then these bytes, and nothing waits.
+pub record Delivers {W : Type 0} (took : W → List ℕ → W → Type 0) (old : Sound W) (bytes : List ℕ) (new : Sound W) : Type 0 where
+  pub after : (start : W) (text : List ℕ) → HasText took start text old → HasTaken took start (text ++ bytes) new.file
+  pub none_waits : new.waiting ≡ []
+
+-- Whatever text it was given, its writer has now refused within that text and these bytes, and the fault tells the
+-- count of the bytes that the file took.
+pub record Fails {W : Type 0} (took : W → List ℕ → W → Type 0) (refused : W → W → Type 0) (old : Sound W) (bytes : List ℕ)
+    (fault : WriteFault) (new : Sound W) : Type 0 where
+  pub told : fault.count ≡ new.file.count
+  pub after : (start : W) (text : List ℕ) → HasText took start text old → HasStopped took refused start (text ++ bytes) new.file
+
+-- what giving it bytes leaves of it, by the answer: some of the text may wait, or it is delivered
+abbrev pub Gives : {W A : Type 0} → (W → List ℕ → W → Type 0) → (W → W → Type 0) → Sound W → List ℕ → Result A WriteFault → Sound W → Type 0
+Gives took refused old bytes (Ok done) new = Gains took old bytes new
+Gives took refused old bytes (Err fault) new = Fails took refused old bytes fault new
+
+abbrev pub Finishes : {W A : Type 0} → (W → List ℕ → W → Type 0) → (W → W → Type 0) → Sound W → List ℕ → Result A WriteFault → Sound W
+    → Type 0
+Finishes took refused old bytes (Ok done) new = Delivers took old bytes new
+Finishes took refused old bytes (Err fault) new = Fails took refused old bytes fault new

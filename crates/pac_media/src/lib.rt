@@ -1,0 +1,10 @@
+//! The media files of a run: the film of its pictures, as PPM images one after another, and its sound, as a wave file.
+#![tactic(auto)]
+
+mod frames;
+mod image;
+mod wave_file;
+
+pub use frames::Frames;
+pub use image::Image;
+pub use wave_file::WaveFile;

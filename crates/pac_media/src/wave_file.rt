@@ -1,0 +1,134 @@
+//! The sound of a run.
+
+ghost use Rattle.std.specs.Prelude.{◌≡◌, ◌<◌, ◌-◌, ◌^◌, [], true, false, pos, replicate, IfErr, IsErr, OnOk, OnErr};
+ghost use Rattle.std.specs.List.{flat_map};
+ghost use Rattle.pac_media.specs.Samples.{riff_size, wav_header, sample_text, samples_text};
+ghost use Rattle.pac_media.specs.Sound.{HasText, Gives, Finishes};
+
+use pac_out::counted::Counted;
+use pac_out::pending::Pending;
+use pac_out::{Out, WriteFault};
+use std::marker::Model;
+
+/// The samples of a second.
+const RATE: u32 = 96_000;
+
+/// The bytes of a sample.
+const SAMPLE_SIZE: u32 = 2;
+
+/// The header of a file of so many samples, four bytes at a time.
+fn header(samples: u32) -> [[u8; 4]; 11]
+    requires { riff_size samples < 2 ^ 32 }
+    ensures { flat_map (λ field. field) result ≡ wav_header samples }
+{
+    let size = SAMPLE_SIZE * samples;
+    [
+        *b"RIFF",
+        (36 + size).to_le_bytes(),
+        *b"WAVE",
+        *b"fmt ",
+        16u32.to_le_bytes(),
+        [1, 0, 1, 0],
+        RATE.to_le_bytes(),
+        (SAMPLE_SIZE * RATE).to_le_bytes(),
+        [2, 0, 16, 0],
+        *b"data",
+        size.to_le_bytes(),
+    ]
+}
+
+/// The fault of a file that has refused, if it has.
+#[inline]
+fn judge<W>(file: &Counted<W>) -> Result<(), WriteFault>
+    ensures open { OnOk result (file.now.failed ≡ false) }
+    ensures failed { OnErr result (file.now.failed ≡ true) }
+    ensures count { IfErr result (λ fault. fault.count ≡ file.now.count) }
+{
+    if file.failed {
+        return Err(WriteFault { count: file.count });
+    }
+    Ok(())
+}
+
+/// A file of samples with its header. Samples are gathered and go to the file in large writes.
+#[derive(Drop)]
+pub struct WaveFile<W> {
+    file: Counted<W>,
+    waiting: Pending,
+    owed: u32,
+}
+
+impl<W> Model for WaveFile<W> {
+    ghost use Rattle.pac_media.specs.Sound.{Sound};
+
+    ghost Value = { Sound W };
+
+    ghost view = { λ wave. record { file = wave.file; waiting = wave.waiting; owed = wave.owed } };
+}
+
+impl<W: Out> WaveFile<W> {
+    /// A file of so many samples, of which none came yet. Its header waits to be written.
+    pub fn begin(writer: W, samples: u32) -> WaveFile<W>
+        requires { riff_size samples < 2 ^ 32 }
+        ensures text { HasText W.took writer (wav_header samples) result }
+        ensures owed { result.owed ≡ samples }
+    {
+        WaveFile {
+            file: Counted::new(writer),
+            waiting: Pending::of(header(samples).as_flattened()),
+            owed: samples,
+        }
+    }
+
+    /// Gathers a sample after those before it, and writes what waits where there is no room for it; it takes no memory.
+    /// The fault has the count of all bytes that the file took. After it each call answers the same fault and writes
+    /// nothing.
+    #[inline]
+    pub fn put(&mut self, sample: i16) -> Result<(), WriteFault>
+        ensures put { Gives W.took W.refused self.old (sample_text sample) result self.new }
+        ensures owed { OnOk result (self.new.owed ≡ self.old.owed - 1) }
+        ensures later_err { self.old.file.failed ≡ true → IsErr result }
+        ensures later_unchanged { self.old.file.failed ≡ true → self.new ≡ self.old }
+    {
+        judge(&self.file)?;
+        self.waiting.put(&mut self.file, &sample.to_le_bytes())?;
+        self.owed = self.owed.saturating_sub(1);
+        Ok(())
+    }
+
+    /// Writes what waits.
+    pub fn flush(&mut self) -> Result<(), WriteFault>
+        ensures written { Finishes W.took W.refused self.old [] result self.new }
+        ensures owed { self.new.owed ≡ self.old.owed }
+        ensures later_err { self.old.file.failed ≡ true → IsErr result }
+        ensures later_unchanged { self.old.file.failed ≡ true → self.new ≡ self.old }
+    {
+        judge(&self.file)?;
+        self.waiting.flush(&mut self.file)
+    }
+
+    /// Gathers zeros for the samples that are still to come, and writes what waits.
+    pub fn finish(&mut self) -> Result<(), WriteFault>
+        ensures written { Finishes W.took W.refused self.old (samples_text (replicate self.old.owed (pos 0))) result self.new }
+        ensures owed { OnOk result (self.new.owed ≡ 0) }
+        ensures later_err { self.old.file.failed ≡ true → IsErr result }
+        ensures later_unchanged { self.old.file.failed ≡ true → self.new ≡ self.old }
+    {
+        for _ in 0..self.owed {
+            self.put(0)?;
+        }
+        self.flush()
+    }
+
+    /// The writer.
+    pub fn into_writer(self) -> W
+        ensures { result ≡ self.file.writer }
+    {
+        let WaveFile {
+            file,
+            waiting: _,
+            owed: _,
+        } = self;
+        file.writer
+    }
+}
