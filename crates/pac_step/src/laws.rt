@@ -1,6 +1,42 @@
 //! Laws of the board's definitions.
 
-ghost use Rattle.pac_step.specs.Laws.{StepsAreTimely, RunsEnd, RunsAreJoined, WalksEnd, WalksJoin, WalksGoOn, RunsGoByFrames};
+ghost use Rattle.pac_step.specs.Laws.{ViewAnswers, ViewTells, RunsAgree, OutputsAreOfTheHistory, OutputsAreTimed, LinesHaveTheirMoments};
+ghost use Rattle.pac_step.specs.Laws.{PicturesAreLineExact, StepsAreTimely, RunsEnd, RunsAreJoined, WalksEnd, WalksJoin, WalksGoOn, RunsGoByFrames};
+
+/// The view that a history leaves answers each read as the history does.
+pub fn view_answers()
+    ensures { ViewAnswers }
+{}
+
+/// It tells RAM, registers, inputs, latch, request, watchdog, voices and picture as the history does.
+pub fn view_tells()
+    ensures { ViewTells }
+{}
+
+/// Running the source's items over the history is running the bytes of the ROM over the view.
+pub fn runs_agree()
+    ensures { RunsAgree }
+{}
+
+/// The outputs of a run are those of its history.
+pub fn outputs_are_of_the_history()
+    ensures { OutputsAreOfTheHistory }
+{}
+
+/// A run has 1,584 samples and one picture a frame.
+pub fn outputs_are_timed()
+    ensures { OutputsAreTimed }
+{}
+
+/// A line of the picture is composed as its line of the scan ends.
+pub fn lines_have_their_moments<Board>()
+    ensures { LinesHaveTheirMoments Board }
+{}
+
+/// Each line of a frame's picture is that of the entries before its own moment.
+pub fn pictures_are_line_exact()
+    ensures { PicturesAreLineExact }
+{}
 
 /// A step that goes on takes 4 to 23 T-states.
 pub fn steps_are_timely<Board>()
