@@ -137,16 +137,16 @@ module _ {Board : Type 0} (ask : Questions Board) (held : ℕ → ℕ) (frames :
 
   -- what a frame adds to a run is that walk
   with-closed : (before w : Walk Board) (stop : Option Stop) → w.stop ≡ stop → has_ended limit w ≡ true
-      → with_frame ask held before w stop ≡ joined before (closed w)
+      → with_frame ask held before w stop ≡ joined play limit before (closed w)
   with-closed before w (Some stop) s ended =
       ap (λ stop. record { now = w.now; outputs = before.outputs ++ w.outputs; stop = stop }) (sym s)
-      ∙ ap (λ stop. joined before (closed_if w stop (nat_le limit w.now.time))) (sym s)
+      ∙ ap (λ stop. joined play limit before (closed_if w stop (nat_le limit w.now.time))) (sym s)
   with-closed before w None s ended =
       let reached = open-is-late limit w ended s in
       let late : nat_le limit w.now.time ≡ true = grind (arith, nat_tests) in
       ap (λ stop. record { now = turned ask held w.now; outputs = before.outputs ++ w.outputs; stop = stop }) (sym s)
-      ∙ ap (λ late. joined before (closed_if w None late)) (sym late)
-      ∙ ap (λ stop. joined before (closed_if w stop (nat_le limit w.now.time))) (sym s)
+      ∙ ap (λ late. joined play limit before (closed_if w None late)) (sym late)
+      ∙ ap (λ stop. joined play limit before (closed_if w stop (nat_le limit w.now.time))) (sym s)
 
 -- ---- frame by frame
 
@@ -184,8 +184,8 @@ module _ {Board : Type 0} (ask : Questions Board) (held : ℕ → ℕ) (board : 
       let early : before.now.time < limit = omega arith in
       let walked = walk_to (step ask) limit before.now in
       with-closed ask held frames before walked walked.stop refl (walk-to-ends (step ask) limit (step-timely ask) before.now)
-      ∙ ap (joined before) (walk-closed ask held frames before.now limit begins early)
-      ∙ ap (λ w. joined w (walk_to play limit w.now)) on.1
+      ∙ ap (joined play limit before) (walk-closed ask held frames before.now limit begins early)
+      ∙ ap (λ w. joined play limit w (walk_to play limit w.now)) on.1
       ∙ goes-on play limit (play-timely ask held) power on.0
       ∙ run-is-whole (suc frames)
 
