@@ -12,9 +12,9 @@ use Rattle.pac_cpu.specs.Step.{CpuStep, Steps, Stops, cpu_step}
 use Rattle.pac_map.specs.Entry.{Entry, Write, Vector, Sample, Line, Blank, Accept, Hold}
 use Rattle.pac_map.specs.Place.{write_place}
 use Rattle.pac_step.specs.Output.{Output, Sound, Show}
-use Rattle.pac_step.specs.Step.{Questions, Moment, Met, Next, Goes, Ends, put_all, put_actions, put_kind, at_moment, through, acted, after_cpu_step}
-use Rattle.pac_step.specs.Step.{surroundings, step, note, give, sampled, lined, reset, watched, blanked, scan_line, scan_frame}
-use Rattle.pac_step.specs.Step.{sample_ticks, line_ticks, frame_ticks, hidden_lines}
+use Rattle.pac_step.specs.Step.{Questions, Moment, Met, Next, Goes, Ends, put_all, put_actions, put_kind, at_moment, through, acted}
+use Rattle.pac_step.specs.Step.{surroundings, after_cpu_step, step, note, give, sampled, lined, reset, watched, blanked}
+use Rattle.pac_step.specs.Step.{scan_line, scan_frame, sample_ticks, line_ticks, frame_ticks, hidden_lines}
 use Rattle.pac_step.specs.Trace.{Play, turned, played, play_step, start, run_at}
 use Rattle.pac_step.specs.Walk.{Walk, walk, onward_if, after_step}
 

@@ -14,7 +14,7 @@ use Rattle.pac_map.specs.Entry.{Entry, Line, Blank, Hold}
 use Rattle.pac_map.specs.Place.{ram_size}
 use Rattle.pac_map.specs.View as view
 use Rattle.pac_picture.specs.Picture.{line_of}
-use Rattle.pac_step.specs.BoardView.{BoardView, IsBoard, power_on, board_after, video_roms}
+use Rattle.pac_step.specs.BoardView.{BoardView, IsBoard, power_on, video_roms}
 use Rattle.pac_step.specs.History.{read, board_of, tile_at, colour_at, work_at, attributes, coordinates, registers, held}
 use Rattle.pac_step.specs.Queries.{bit_at, vector, request, is_due}
 use Rattle.pac_step.specs.Shown.{accumulators_at, memory_at, lines_at, outputs_of, samples, blanks}

@@ -1,6 +1,6 @@
 -- What a history sounds and shows: the voices' accumulators as sums over all samples, and each line of the picture as it was
 -- last composed. No loop and no buffer stands here.
-use Rattle.std.specs.Prelude.{ℕ, ℤ, zero, suc, ◌+◌, ◌%◌, ◌==◌, if◌then◌else◌, List, [], ◌∷◌, ◌++◌, slice_index_or}
+use Rattle.std.specs.Prelude.{ℕ, ℤ, suc, ◌+◌, ◌%◌, ◌==◌, if◌then◌else◌, List, [], ◌∷◌, ◌++◌, slice_index_or}
 use Rattle.pac_roms.specs.Parts.{Parts}
 use Rattle.pac_tiles.specs.Tabulate.{tabulate}
 use Rattle.pac_tiles.specs.Tiles.{height}

@@ -1,7 +1,7 @@
 //! Laws of the board's definitions.
 
 ghost use Rattle.pac_step.specs.Laws.{ViewAnswers, ViewTells, RunsAgree, OutputsAreOfTheHistory, OutputsAreTimed, LinesHaveTheirMoments};
-ghost use Rattle.pac_step.specs.Laws.{StepsAreTimely, RunsEnd, RunsAreJoined, WalksEnd, WalksJoin, WalksGoOn, RunsGoByFrames};
+ghost use Rattle.pac_step.specs.Laws.{PicturesAreLineExact, StepsAreTimely, RunsEnd, RunsAreJoined, WalksEnd, WalksJoin, WalksGoOn, RunsGoByFrames};
 
 /// The view that a history leaves answers each read as the history does.
 pub fn view_answers()
@@ -31,6 +31,11 @@ pub fn outputs_are_timed()
 /// A line of the picture is composed as its line of the scan ends.
 pub fn lines_have_their_moments<Board>()
     ensures { LinesHaveTheirMoments Board }
+{}
+
+/// Each line of a frame's picture is that of the entries before its own moment.
+pub fn pictures_are_line_exact()
+    ensures { PicturesAreLineExact }
 {}
 
 /// A step that goes on takes 4 to 23 T-states.
