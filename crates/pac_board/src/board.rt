@@ -19,8 +19,8 @@ use pac_roms::RomSet;
 use std::alloc::{AllocError, Global};
 use std::marker::Model;
 
-/// The main board (Namco Pac-Man service schematics). Clauses see its ROM set, its state, and the count of the steps that it
-/// did since it was made.
+/// The main board (Namco Pac-Man service schematics). Clauses see its ROM set, its state, and the count of the steps
+/// that it did since it was made.
 #[derive(Drop)]
 pub struct Board {
     pub(crate) machine: Machine,
@@ -55,8 +55,8 @@ fn parts(alloc: Global, set: &RomSet, switches: u8) -> Result<(Picture, Memory),
 }
 
 impl Board {
-    /// The board at power-on, with this ROM set and the byte of the DIP switches. Refused for want of memory alone; the set then
-    /// comes back.
+    /// The board at power-on, with this ROM set and the byte of the DIP switches. Refused for want of memory alone; the
+    /// set then comes back.
     pub fn init(alloc: Global, set: RomSet, switches: u8) -> Result<Board, InitRefused>
         ensures board { IfOk result (λ board. board ≡ state.at_power_on set switches) }
         ensures refused { IfErr result (λ refused. refused.set ≡ set) }
@@ -72,7 +72,8 @@ impl Board {
         })
     }
 
-    /// Resets the board as the watchdog does: latch, request, count and processor. Time, steps, what is due and the picture stay.
+    /// Resets the board as the watchdog does: latch, request, count and processor. Time, steps, what is due and the
+    /// picture stay.
     pub fn reset(&mut self)
         ensures { self.new ≡ state.reset self.old }
     {
