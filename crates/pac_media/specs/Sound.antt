@@ -33,11 +33,12 @@ pub record Fails {W : Type 0} (took : W → List ℕ → W → Type 0) (refused 
   pub told : fault.count ≡ new.file.count
   pub after : (start : W) (text : List ℕ) → HasText took start text old → HasStopped took refused start (text ++ bytes) new.file
 
--- what giving it bytes leaves of it, by the answer: some of the text may wait, or it is delivered
+-- What giving it bytes leaves of it, by the answer; some of them may wait.
 abbrev pub Gives : {W A : Type 0} → (W → List ℕ → W → Type 0) → (W → W → Type 0) → Sound W → List ℕ → Result A WriteFault → Sound W → Type 0
 Gives took refused old bytes (Ok done) new = Gains took old bytes new
 Gives took refused old bytes (Err fault) new = Fails took refused old bytes fault new
 
+-- What giving it bytes and writing all that waits leaves of it, by the answer.
 abbrev pub Finishes : {W A : Type 0} → (W → List ℕ → W → Type 0) → (W → W → Type 0) → Sound W → List ℕ → Result A WriteFault → Sound W
     → Type 0
 Finishes took refused old bytes (Ok done) new = Delivers took old bytes new

@@ -39,7 +39,7 @@ fn header(samples: u32) -> [[u8; 4]; 11]
 
 /// The fault of a file that has refused, if it has.
 #[inline]
-fn judge<W>(file: &Counted<W>) -> Result<(), WriteFault>
+fn check_open<W>(file: &Counted<W>) -> Result<(), WriteFault>
     ensures open { OnOk result (file.now.failed ≡ false) }
     ensures failed { OnErr result (file.now.failed ≡ true) }
     ensures count { IfErr result (λ fault. fault.count ≡ file.now.count) }
@@ -90,7 +90,7 @@ impl<W: Out> WaveFile<W> {
         ensures later_err { self.old.file.failed ≡ true → IsErr result }
         ensures later_unchanged { self.old.file.failed ≡ true → self.new ≡ self.old }
     {
-        judge(&self.file)?;
+        check_open(&self.file)?;
         self.waiting.put(&mut self.file, &sample.to_le_bytes())?;
         self.owed = self.owed.saturating_sub(1);
         Ok(())
@@ -103,7 +103,7 @@ impl<W: Out> WaveFile<W> {
         ensures later_err { self.old.file.failed ≡ true → IsErr result }
         ensures later_unchanged { self.old.file.failed ≡ true → self.new ≡ self.old }
     {
-        judge(&self.file)?;
+        check_open(&self.file)?;
         self.waiting.flush(&mut self.file)
     }
 

@@ -13,7 +13,8 @@ loop-y-preserved c =
     let pixels : length c.colours_of-line.result ≡ 288 =
     ap length c.colours_of-line.ensures ∙ (length-map c.row.result.now (colour_in c.palette.result.now) ∙ c.row.ensures.size) in
     let grown : c.extend_from_slice-in-loop-y.new.self.items ≡ c.loop-y.image.items ++ c.as_flattened.result.now = search rules in
-    let longer : vec_len c.extend_from_slice-in-loop-y.new.self ≡ vec_len c.loop-y.image + length c.as_flattened.result.now = search rules in
+    let longer : vec_len c.extend_from_slice-in-loop-y.new.self ≡ vec_len c.loop-y.image + length c.as_flattened.result.now =
+    search rules in
     record {
       drawn = grown ∙ (ap (λ bytes. bytes ++ c.as_flattened.result.now) c.loop-y.invariant.drawn
           ∙ line-more c.args.picture.now.palette c.args.picture.now.lines c.colours_of-line.result c.palette.result.now c.row.result.now

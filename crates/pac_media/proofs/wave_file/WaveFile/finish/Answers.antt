@@ -19,5 +19,6 @@ pub returns-clause-written : goal.returns-clause-written
 returns-clause-written g c =
     let last : c.loop.counter ≡ c.args.self.now.owed = omega (arith, c.loop-test.false, c.loop.invariant.end_is, c.loop.invariant.owed) in
     finishes-after g.W.Out.refused c.flush.result c.flush.new.self
-    (subst (λ (count : ℕ). Gains g.W.Out.took c.args.self.now (samples_text (replicate count (pos 0))) c.loop.self) last c.loop.invariant.given)
+    (subst (λ (count : ℕ). Gains g.W.Out.took c.args.self.now (samples_text (replicate count (pos 0))) c.loop.self) last
+    c.loop.invariant.given)
     c.flush.ensures.written
