@@ -28,7 +28,8 @@ use Rattle.pac_asm.specs.Results.{◌>>=◌, in_line}
 use Rattle.pac_asm.specs.Conditions.{is_judged, most_open, condition_of, after_else, after_end, after_skipped}
 use Rattle.pac_asm.specs.Unclosed.{word_of, is_never_closed}
 use Rattle.pac_asm.specs.Standings.{Standing, start, known, value_above, within_rom, is_new, with_label, room_for}
-use Rattle.pac_asm.specs.Phase1.{read, sized, after_item, after_statement, after_form, after_judged, after_passed, after_text, closed, after_line, phase1}
+use Rattle.pac_asm.specs.Phase1.{read, sized, after_item, after_statement, after_form, after_judged, after_passed, after_text, closed}
+use Rattle.pac_asm.specs.Phase1.{after_line, phase1}
 use Rattle.pac_asm.specs.Assignments.{Spot, Step, labelled, counted, valued, with_conditions, with_bytes, step_by, step_read, step_if}
 use Rattle.pac_asm.specs.Assignments.{step_of, defined_after, defined_in, first_spot, IsRight, OneIsRight, SymbolsAreRight}
 
@@ -179,7 +180,8 @@ gone : {A B E : Type 0} (answer : Result A E) (go : A → Result B E) (next : B)
 gone (Ok x) go next e = record { found = x; is = refl; goes = e }
 gone (Err fault) go next e = absurd (err-ok fault next e)
 
-if-ok : {A E : Type 0} (b : Bool) (answer : Result A E) (fault : E) (next : A) → (if b then answer else Err fault) ≡ Ok next → answer ≡ Ok next
+if-ok : {A E : Type 0} (b : Bool) (answer : Result A E) (fault : E) (next : A) → (if b then answer else Err fault) ≡ Ok next →
+    answer ≡ Ok next
 if-ok true answer fault next e = e
 if-ok false answer fault next e = absurd (err-ok fault next e)
 
@@ -217,7 +219,8 @@ agree-conditions above answer places next e =
       grown = sym (append-nil above.symbols);
     })
 
-agree-statement : (names : List ℕ → Option ℤ) (above : Standing) → Extends above.symbols names → (label : Option (List ℕ)) (statement : Statement)
+agree-statement : (names : List ℕ → Option ℤ) (above : Standing) → Extends above.symbols names →
+    (label : Option (List ℕ)) (statement : Statement)
     → is_new above.symbols label ≡ true → (next : Standing) → after_statement above label statement ≡ Ok next
     → Agrees above (step_by names (spot_of above) label statement) next
 agree-statement names above extends label nothing is-new next e =
@@ -249,7 +252,8 @@ agree-statement names above extends label (condition test) is-new next e =
     let k = known-ok (value_of (number_of above.symbols) above.at test) _ next inner in
     agrees-at above _ _ next k.goes (record {
       new = [];
-      stepped = ap (λ answer. option_map (λ value. ([], record (spot_of above) { conditions = condition_of value ∷ above.conditions })) (valued answer))
+      stepped = ap (λ answer. option_map (λ value. ([], record (spot_of above) { conditions = condition_of value ∷ above.conditions }))
+          (valued answer))
           (value-extends above.symbols names extends above.at test k.number k.is);
       grown = sym (append-nil above.symbols);
     })
@@ -266,7 +270,8 @@ agree-statement names above extends label (space size fill) is-new next e =
     }
 agree-statement names above extends label (bytes parts) is-new next e = agree-item above label (size_of (bytes parts)) next is-new e
 agree-statement names above extends label (words numbers) is-new next e = agree-item above label (size_of (words numbers)) next is-new e
-agree-statement names above extends label (operation written) is-new next e = agree-item above label (size_of (operation written)) next is-new e
+agree-statement names above extends label (operation written) is-new next e =
+    agree-item above label (size_of (operation written)) next is-new e
 
 agree-new : (names : List ℕ → Option ℤ) (above : Standing) → Extends above.symbols names → (form : Form) (b : Bool)
     → is_new above.symbols form.label ≡ b → (next : Standing)
@@ -281,7 +286,8 @@ agree-read names above extends (Ok form) next e = agree-new names above extends 
 agree-read names above extends (Err code) next e = absurd (err-ok code next e)
 
 agree-if : (names : List ℕ → Option ℤ) (above : Standing) → Extends above.symbols names → (line : List ℕ) (b : Bool) (next : Standing)
-    → (if b then after_judged above line else after_passed above (word_of line)) ≡ Ok next → Agrees above (step_if names (spot_of above) line b) next
+    → (if b then after_judged above line else after_passed above (word_of line)) ≡ Ok next →
+    Agrees above (step_if names (spot_of above) line b) next
 agree-if names above extends line true next e = agree-read names above extends (read line) next e
 agree-if names above extends line false next e = agree-conditions above (after_skipped (word_of line) above.conditions) _ next e
 
@@ -325,7 +331,11 @@ record Grown (before after : List Named) : Type 0 where
 grows : (number : ℕ) (above : Standing) (lines : List (List ℕ)) (end : Standing) → phase1 number above lines ≡ Ok end
     → Grown above.symbols end.symbols
 grows number above [] end e =
-    record { more = []; is = ap (λ (standing : Standing). standing.symbols) (sym (no-line number above end e)) ∙ sym (append-nil above.symbols) }
+    record {
+      more = [];
+      is = ap (λ (standing : Standing). standing.symbols) (sym (no-line number above end e)) ∙
+          sym (append-nil above.symbols);
+    }
 grows number above (line ∷ below) end e =
     let f = first-line number above line below end e in
     let a = agree-text (number_of above.symbols) above (λ some z h. h) line f.next f.after in

@@ -17,7 +17,8 @@ use Rattle.pac_asm.proofs.Cells.{part, any-map, written}
 -- no line takes no cell
 pub none : (n : ℕ) → replicate n false ≡ cells_below n []
 unfolding cells_below
-none n = fill_by_all (is_taken []) (replicate n false) n false (length-replicate n false) (λ k below. get_or-replicate n k false false below)
+none n = fill_by_all (is_taken []) (replicate n false) n false (length-replicate n false)
+    (λ k below. get_or-replicate n k false false below)
 
 pub length-cells : (n : ℕ) (places : List Place) → length (cells_below n places) ≡ n
 unfolding cells_below
@@ -32,7 +33,8 @@ part_taken places span n inside =
     ∙ any-map (is_taken places) (range_with_len span.at span.size)
 
 -- one line more
-more : (places : List Place) (place : Place) (cell : ℕ) → is_taken (places ++ place ∷ []) cell ≡ (is_taken places cell || has_byte cell place)
+more : (places : List Place) (place : Place) (cell : ℕ) → is_taken (places ++ place ∷ []) cell ≡
+    (is_taken places cell || has_byte cell place)
 more places place cell =
     list_any-append (has_byte cell) places (place ∷ []) ∙ ap (λ b. is_taken places cell || b) (or-false (has_byte cell place))
 

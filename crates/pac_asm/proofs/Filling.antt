@@ -1,6 +1,7 @@
 -- The second phase line by line.
 use Rattle.std.proofs.Common.{◌≡◌, ℕ, zero, suc, ◌+◌, ◌<◌, ◌≤◌, Bool, true, false, List, [], ◌∷◌, ◌++◌, ◌||◌, ◌&&◌, Option, Some, None}
-use Rattle.std.proofs.Common.{Result, Ok, Err, length, get_or, append-nil, refl, ap, sym, ◌∙◌, subst, arith, leb, ltb, ℤ, ◌⊎◌, inl, inr, ⊎_elim}
+use Rattle.std.proofs.Common.{Result, Ok, Err, length, get_or, append-nil, refl, ap, sym, ◌∙◌, subst, arith, leb, ltb, ℤ, ◌⊎◌, inl, inr}
+use Rattle.std.proofs.Common.{⊎_elim}
 use Rattle.std.specs.List.{range_with_len, list_any, flat_map, All}
 use Rattle.std.specs.Str.Lines.{lines}
 use Rattle.std.proofs.lemmas.Bool.{or_parts, or_left, or_right, and_parts, leb-true, ltb-true, cases_eq, cases_Bool}
@@ -145,7 +146,8 @@ pub record AreLaid (filled : List Line) : Type 0 where
   pub apart : rom.AreApart (flat_map items_in filled)
   pub fit : All IsFit (flat_map items_in filled)
 
-laid-as : (filled : List Line) (items : List Item) → flat_map items_in filled ≡ items → rom.AreApart items → All IsFit items → AreLaid filled
+laid-as : (filled : List Line) (items : List Item) → flat_map items_in filled ≡ items → rom.AreApart items → All IsFit items →
+    AreLaid filled
 laid-as filled items e apart fit =
     record { apart = subst rom.AreApart (sym e) apart; fit = subst (All IsFit) (sym e) fit }
 
@@ -154,7 +156,8 @@ laid-push filled line.Blank free laid =
     laid-as (filled ++ line.Blank ∷ []) (flat_map items_in filled) (items-more filled line.Blank ∙ append-nil (flat_map items_in filled))
     laid.apart laid.fit
 laid-push filled line.Skipped free laid =
-    laid-as (filled ++ line.Skipped ∷ []) (flat_map items_in filled) (items-more filled line.Skipped ∙ append-nil (flat_map items_in filled))
+    laid-as (filled ++ line.Skipped ∷ []) (flat_map items_in filled)
+    (items-more filled line.Skipped ∙ append-nil (flat_map items_in filled))
     laid.apart laid.fit
 laid-push filled (line.Placed item) free laid =
     laid-as (filled ++ line.Placed item ∷ []) (flat_map items_in filled ++ item ∷ []) (items-more filled (line.Placed item))
@@ -208,7 +211,8 @@ free-line before above (Placed span) line.Skipped cells free is = tt
 free-line before above (Placed span) (line.Placed item) cells free is = free-item before above span item cells free is
 
 -- what a line's items cover is what its place takes
-same-here : (place : Place) (here : Line) (cell : ℕ) → IsLineOf place here → is_covered (items_in here) cell ≡ (has_byte cell place || false)
+same-here : (place : Place) (here : Line) (cell : ℕ) → IsLineOf place here →
+    is_covered (items_in here) cell ≡ (has_byte cell place || false)
 same-here Blank line.Blank cell is = refl
 same-here Blank line.Skipped cell is = absurd is
 same-here Blank (line.Placed item) cell is = absurd is

@@ -45,7 +45,8 @@ ok-same : {A : Type 0} (x y : A) → ◌≡◌ {A = Result A AsmCode} (Ok x) (Ok
 ok-same x y e = cc
 
 -- a line without bytes
-blank : (old : Standing) (line : List ℕ) (new after : Standing) → after.places ≡ old.places ++ Blank ∷ [] → ◌≡◌ {A = Result Standing AsmCode} (Ok after) (Ok new)
+blank : (old : Standing) (line : List ℕ) (new after : Standing) → after.places ≡ old.places ++ Blank ∷ [] →
+    ◌≡◌ {A = Result Standing AsmCode} (Ok after) (Ok new)
     → Adds old new line
 blank old line new after is e =
     record { place = Blank; added = sym (ap (λ (s : Standing). s.places) (ok-same after new e)) ∙ is; fit = tt }

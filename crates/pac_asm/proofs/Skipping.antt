@@ -30,7 +30,8 @@ passed-over : (above after : Standing) (line : List ℕ) → is_judged above.con
 unfolding after_text
 passed-over above after line skipped is =
     passed-with above after (after_skipped (word_of line) above.conditions)
-    (sym (cond-false (is_judged above.conditions (word_of line)) (after_judged above line) (after_passed above (word_of line)) skipped) ∙ is)
+    (sym (cond-false (is_judged above.conditions (word_of line)) (after_judged above line) (after_passed above (word_of line)) skipped) ∙
+    is)
 
 pub skipped-lines-do-nothing : SkippedLinesDoNothing
 skipped-lines-do-nothing = record { defines = passed-over; shown = λ symbols line. refl; places = refl }

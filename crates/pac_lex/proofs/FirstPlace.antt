@@ -17,11 +17,13 @@ not-below n = grind (arith, nat_tests)
 pub first-place : (test : ℕ → Bool) (bytes : List ℕ) (found : Option ℕ) → IsFirstByte test bytes found → found ≡ position test bytes
 first-place test bytes None is =
     let at : position_or_len test bytes ≡ length bytes =
-    position_or_len_is test bytes (length bytes) 0 (omega arith) (λ k below. not-true _ (is k (omega arith) below)) (λ below. absurd (omega arith)) in
+    position_or_len_is test bytes (length bytes) 0 (omega arith) (λ k below. not-true _ (is k (omega arith) below))
+    (λ below. absurd (omega arith)) in
     sym (ap {B = Option ℕ} (λ n. cond (nat_lt n (length bytes)) (Some n) None) at ∙
     cond-false (nat_lt (length bytes) (length bytes)) (Some (length bytes)) None (not-below (length bytes)))
 first-place test bytes (Some k) is =
     let at : position_or_len test bytes ≡ k =
-    position_or_len_is test bytes k 0 (omega (arith, is.0.high)) (λ j below. not-true _ (is.0.before j (omega arith) below)) (λ below. is.1) in
+    position_or_len_is test bytes k 0 (omega (arith, is.0.high)) (λ j below. not-true _ (is.0.before j (omega arith) below)) (λ below. is.1)
+    in
     sym (ap {B = Option ℕ} (λ n. cond (nat_lt n (length bytes)) (Some n) None) at ∙
     cond-true (nat_lt k (length bytes)) (Some k) None (lt-ltb k (length bytes) is.0.high))

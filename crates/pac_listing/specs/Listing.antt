@@ -7,7 +7,8 @@ use Rattle.pac_program.specs.declared.line.Line.{Line}
 use Rattle.pac_program.specs.declared.line.Line.TheVariants.{Blank, Skipped, Placed}
 use Rattle.pac_program.specs.Names.{Named}
 use Rattle.pac_program.specs.Programs.{Assembled}
-use Rattle.pac_listing.specs.Texts.{five_digits, hex_word, byte_columns, row_bytes}
+use Rattle.pac_num.specs.Hexadecimal.{hex_word}
+use Rattle.pac_listing.specs.Texts.{five_digits, byte_columns, row_bytes}
 
 -- a text is the join of its pieces
 abbrev pub joined : List (List ℕ) → List ℕ

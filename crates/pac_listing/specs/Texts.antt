@@ -1,5 +1,6 @@
 -- The pieces of a listing: numbers, addresses and bytes as digits in ASCII.
-use Rattle.std.specs.Prelude.{ℕ, ◌+◌, ◌-◌, ◌/◌, ◌%◌, List, [], ◌∷◌, ◌++◌, length, replicate, take, nat_lt, flat_map, if◌then◌else◌}
+use Rattle.std.specs.Prelude.{ℕ, ◌+◌, ◌-◌, ◌/◌, ◌%◌, List, [], ◌∷◌, ◌++◌, length, replicate, take, flat_map}
+use Rattle.pac_num.specs.Hexadecimal.{hex_byte}
 
 -- the last five decimal digits of a line's number
 abbrev pub decimal_digit : ℕ → ℕ
@@ -8,16 +9,6 @@ decimal_digit n = 48 + n % 10
 unfoldable pub five_digits : ℕ → List ℕ
 five_digits n =
     decimal_digit (n / 10000) ∷ decimal_digit (n / 1000) ∷ decimal_digit (n / 100) ∷ decimal_digit (n / 10) ∷ decimal_digit n ∷ []
-
--- upper-case hexadecimal digits of a byte and of an address
-abbrev pub hex_digit : ℕ → ℕ
-hex_digit n = if nat_lt n 10 then 48 + n else 55 + n
-
-abbrev pub hex_byte : ℕ → List ℕ
-hex_byte byte = hex_digit (byte / 16) ∷ hex_digit (byte % 16) ∷ []
-
-unfoldable pub hex_word : ℕ → List ℕ
-hex_word word = hex_digit (word / 4096) ∷ hex_digit (word / 256 % 16) ∷ hex_digit (word / 16 % 16) ∷ hex_digit (word % 16) ∷ []
 
 -- the most bytes that one row shows
 abbrev pub row_bytes : ℕ

@@ -1,34 +1,10 @@
-//! Numbers, addresses and bytes as digits.
+//! Numbers and bytes as digits.
 
-ghost use Rattle.std.specs.Prelude.{◌≡◌, ◌<◌, ◌/◌, ◌%◌};
+ghost use Rattle.std.specs.Prelude.{◌≡◌, ◌/◌, ◌%◌};
+ghost use Rattle.pac_num.specs.Hexadecimal.{hex_digit};
 ghost use Rattle.pac_listing.specs.Texts as text;
 
-/// An upper-case hexadecimal digit.
-#[inline]
-fn hex_digit(nibble: u8) -> u8
-    requires { nibble < 16 }
-    ensures { result ≡ text.hex_digit nibble }
-{
-    if nibble < 10 {
-        48 + nibble
-    } else {
-        55 + nibble
-    }
-}
-
-/// The digits of an address.
-#[tactic(auto, unfolding(crate::specs::Texts::hex_word))]
-#[inline]
-pub(crate) fn hex_word(word: u16) -> [u8; 4]
-    ensures { result ≡ text.hex_word word }
-{
-    [
-        hex_digit((word / 4096) as u8),
-        hex_digit((word / 256 % 16) as u8),
-        hex_digit((word / 16 % 16) as u8),
-        hex_digit((word % 16) as u8),
-    ]
-}
+use pac_num::hex_byte;
 
 /// The last digit of a number.
 #[inline]
@@ -54,23 +30,25 @@ pub(crate) fn five_digits(number: u64) -> [u8; 5]
 }
 
 /// The first digit of a byte.
+#[tactic(auto, unfolding(pac_num::specs::Hexadecimal::hex_byte))]
 #[inline]
 fn high_digit(byte: u8) -> u8
-    ensures { result ≡ text.hex_digit (byte / 16) }
+    ensures { result ≡ hex_digit (byte / 16) }
 {
-    hex_digit(byte / 16)
+    hex_byte(byte)[0]
 }
 
 /// The second digit of a byte.
+#[tactic(auto, unfolding(pac_num::specs::Hexadecimal::hex_byte))]
 #[inline]
 fn low_digit(byte: u8) -> u8
-    ensures { result ≡ text.hex_digit (byte % 16) }
+    ensures { result ≡ hex_digit (byte % 16) }
 {
-    hex_digit(byte % 16)
+    hex_byte(byte)[1]
 }
 
 /// The digits of the first four bytes, left in eight places.
-#[tactic(auto, unfolding(crate::specs::Texts::byte_columns))]
+#[tactic(auto, unfolding(crate::specs::Texts::byte_columns, pac_num::specs::Hexadecimal::hex_byte))]
 #[inline]
 pub(crate) fn byte_columns(bytes: &[u8]) -> [u8; 8]
     ensures { result ≡ text.byte_columns bytes.now }

@@ -5,7 +5,8 @@ ghost use Rattle.pac_out.specs.Pending.{Gathers};
 ghost use Rattle.pac_listing.specs.Texts.{row_bytes};
 ghost use Rattle.pac_listing.specs.Listing.{first_row, further_row, all_rows, item_rows, line_rows};
 
-use crate::digits::{byte_columns, five_digits, hex_word};
+use crate::digits::{byte_columns, five_digits};
+use pac_num::hex_word;
 use pac_out::counted::Counted;
 use pac_out::pending::Pending;
 use pac_out::{Out, WriteFault};

@@ -1,13 +1,16 @@
 -- The index of names finds the rows that a search of the whole table finds: what is computed over the index and the
 -- table, and that names are found by their first letter.
-use Rattle.std.proofs.Common.{◌≡◌, ℕ, zero, suc, ◌+◌, ◌-◌, ◌<◌, ◌≤◌, Bool, true, false, not, ◌&&◌, ◌==◌, nat_lt, nat_le, ◌||◌, if◌then◌else◌, cond}
-use Rattle.std.proofs.Common.{List, [], ◌∷◌, length, map, take, get_or, slice_index, slice_range, slice_get, refl, sym, ◌∙◌, ap, subst, arith, inl, inr, find}
+use Rattle.std.proofs.Common.{◌≡◌, ℕ, zero, suc, ◌+◌, ◌-◌, ◌<◌, ◌≤◌, Bool, true, false, not, ◌&&◌, ◌==◌, nat_lt, nat_le, ◌||◌}
+use Rattle.std.proofs.Common.{if◌then◌else◌, cond}
+use Rattle.std.proofs.Common.{List, [], ◌∷◌, length, map, take, get_or, slice_index, slice_range, slice_get, refl, sym, ◌∙◌, ap, subst}
+use Rattle.std.proofs.Common.{arith, inl, inr, find}
 use Rattle.std.specs.Prelude.{Option, Some, None, is_some, position}
 use Rattle.std.specs.Option.{unwrap_or, option_or}
 use Rattle.std.specs.List.{list_all, list_any, filter, range_with_len, position_or_len}
 use Rattle.std.specs.Str.{bytes_eq, str_to_ascii_lowercase}
 use Rattle.std.specs.Char.{to_ascii_lowercase, to_ascii_uppercase, is_ascii_uppercase}
-use Rattle.std.proofs.lemmas.Bool.{and_parts, cases_Bool, cond-true, cond-false, eqb-true, eq-eqb, agree_below, agree_below_at, false≢true, leb-true, ltb-true}
+use Rattle.std.proofs.lemmas.Bool.{and_parts, cases_Bool, cond-true, cond-false, eqb-true, eq-eqb, agree_below, agree_below_at, false≢true}
+use Rattle.std.proofs.lemmas.Bool.{leb-true, ltb-true}
 use Rattle.std.proofs.lemmas.Slice.Eq.{bytes_eq-Decides}
 use Rattle.std.proofs.lemmas.Bool.Decides.{nat_tests}
 use Rattle.std.proofs.lemmas.List.FromFn.{get_or-map-range_with_len}
@@ -98,7 +101,8 @@ find-filter p q (x ∷ xs) implied =
           ]
     ]
 
-pub found-by-letter : (b : ℕ) (rest : List ℕ) → find (is_text (b ∷ rest)) (filter (begins_with b) word_list) ≡ find (is_text (b ∷ rest)) word_list
+pub found-by-letter : (b : ℕ) (rest : List ℕ) → find (is_text (b ∷ rest)) (filter (begins_with b) word_list) ≡ find (is_text (b ∷ rest))
+    word_list
 found-by-letter b rest = find-filter (is_text (b ∷ rest)) (begins_with b) word_list (text-begins b rest)
 
 pub none-empty : find (is_text []) word_list ≡ None
@@ -311,7 +315,8 @@ pub at-letter : (b from to : ℕ) → b < 256 → is_ascii_uppercase (to_ascii_u
     slice_range word_list from to ≡ filter (begins_with b) word_list
 at-letter b from to below is from_is to_is =
     rw (from_is, to_is) (
-    sym (cond-true (is_ascii_uppercase (to_ascii_uppercase b)) (slice_range word_list (get_or letter_list (letter_at b) 0) (get_or letter_list (letter_at b + 1) 0)) [] is) ∙
+    sym (cond-true (is_ascii_uppercase (to_ascii_uppercase b))
+    (slice_range word_list (get_or letter_list (letter_at b) 0) (get_or letter_list (letter_at b + 1) 0)) [] is) ∙
     bucket-is b below)
 
 pub letter-bounds : (k from to : ℕ) → k < 26 → from ≡ get_or letter_list k 0 → to ≡ get_or letter_list (k + 1) 0 →

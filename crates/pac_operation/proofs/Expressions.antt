@@ -245,7 +245,8 @@ pub known-tree : (tokens : List Token) → IsTree tokens → tree_in (views toke
 unfolding tree_in
 known-tree tokens known = (expression-parts (views tokens) (tree_within tokens) known).1
 
-pub answer-is : {A : Type 0} (f : Tree → A) (found : Option Tree) (t : Tree) (answer : A) → Some answer ≡ option_map f found → found ≡ Some t →
+pub answer-is : {A : Type 0} (f : Tree → A) (found : Option Tree) (t : Tree) (answer : A) → Some answer ≡ option_map f found →
+    found ≡ Some t →
     answer ≡ f t
 answer-is f None t answer is stands = absurd (cc)
 answer-is f (Some u) t answer is stands = cc

@@ -92,7 +92,8 @@ one-filled a b next (Some y) None x i j is none are some =
     some ∙ ap (λ (z : Operand ℤ). taken a next z i) (sym same) ∙ sym (filled-one a b next y i are)
 one-filled a b next (Some y) (Some z) x i j is none are some = absurd (cc none)
 
-pub two-filled : (a b : Shape) (next : ℕ) (first second : Option (Operand ℤ)) (x z : Operand ℤ) (i j : Instruction) (o : Option Instruction) →
+pub two-filled : (a b : Shape) (next : ℕ) (first second : Option (Operand ℤ)) (x z : Operand ℤ)
+    (i j : Instruction) (o : Option Instruction) →
     first ≡ Some x → second ≡ Some z → are_forms (listed a b) (pair first second) ≡ true → Some j ≡ taken a next x i →
     o ≡ taken b next z j → o ≡ all_taken (listed a b) next (pair first second) i
 two-filled a b next None second x z i j o is also are some last = absurd (cc is)

@@ -27,7 +27,8 @@ use Rattle.pac_operation.specs.declared.fault.OperationFault.TheVariants.{Range}
 use Rattle.pac_operation.specs.declared.operand.Operand.{Operand}
 use Rattle.pac_operation.specs.declared.operand.Operand.TheVariants.{Named, AlternateAf, AtName, Indexed, Memory, Value}
 use Rattle.pac_operation.specs.Operands.{parts, operands_of}
-use Rattle.pac_operation.specs.Operations.{Operation, is_form, are_forms, fits_as, named_value, fits, row_for, with_operands, operation_of, row_size, size_of}
+use Rattle.pac_operation.specs.Operations.{Operation, is_form, are_forms, fits_as, named_value, fits, row_for, with_operands, operation_of}
+use Rattle.pac_operation.specs.Operations.{row_size, size_of}
 use Rattle.pac_operation.specs.Operations.{suits_as, suits, parts_as, instruction_in, all_valued, placed, chosen, instruction_of}
 use Rattle.pac_operation.specs.Views.{seen, pair, pair_seen, fits_row}
 use Rattle.pac_operation.specs.Kept.{with_tree, without_place, kept, operation_seen, IsKept, suits_row, in_row}
@@ -185,7 +186,8 @@ size-kept word rows family n size first second are named found is =
 
 -- ---- the instruction
 
-pub instruction-fault : (names : List ℕ → Option ℤ) (here : ℕ) (word : List ℕ) (first second : Option (Operand Place)) (fault : OperationFault) →
+pub instruction-fault : (names : List ℕ → Option ℤ) (here : ℕ) (word : List ℕ) (first second : Option (Operand Place))
+    (fault : OperationFault) →
     Err fault ≡ all_valued names here (pair_seen first second) →
     Err fault ≡ instruction_of names here (operation_seen (kept word first second))
 unfolding instruction_of
@@ -195,7 +197,8 @@ instruction-fault names here word first second fault is =
     (is ∙ ap (all_valued names here) (sym (kept-operands word first second)))
 
 chosen-is : (word rows : List ℕ) (family size next : ℕ) (operands : List (Operand ℤ)) → rows ≡ rows_named word → AreNamed word family rows →
-    ok_or (option_map (in_row family next operands) (find (suits_row family size next operands) rows)) Range ≡ chosen word size next operands
+    ok_or (option_map (in_row family next operands) (find (suits_row family size next operands) rows)) Range ≡ chosen word size next
+    operands
 chosen-is word rows family size next operands are named =
     sym (
     ap (λ (row : Option ℕ). ok_or (option_map (instruction_in word next operands) row) Range)
@@ -213,8 +216,10 @@ chosen-is word rows family size next operands are named =
     instruction_at : Instruction → ℕ → Instruction
     instruction_at parts n = record parts { row = n }
 
-pub instruction-placed : (names : List ℕ → Option ℤ) (here : ℕ) (word rows : List ℕ) (family size : ℕ) (first second : Option (Operand Place))
-    (operands : List (Operand ℤ)) → IsKept word rows family size first second → Ok operands ≡ all_valued names here (pair_seen first second) →
+pub instruction-placed : (names : List ℕ → Option ℤ) (here : ℕ) (word rows : List ℕ) (family size : ℕ)
+    (first second : Option (Operand Place))
+    (operands : List (Operand ℤ)) → IsKept word rows family size first second →
+    Ok operands ≡ all_valued names here (pair_seen first second) →
     ok_or (option_map (in_row family (here + size) operands) (find (suits_row family size (here + size) operands) rows)) Range ≡
     instruction_of names here (operation_seen (kept word first second))
 unfolding instruction_of
@@ -231,7 +236,8 @@ arranged : (displaced : Bool) (front rest : List ℕ) (byte : ℕ) →
 arranged true front rest byte = grind (arith, length-append)
 arranged false front rest byte = grind (arith, length-append)
 
-same-length : (page : Page) (a b : ℕ) (xs ys : List ℕ) → length xs ≡ length ys → length (code_bytes page a xs) ≡ length (code_bytes page b ys)
+same-length : (page : Page) (a b : ℕ) (xs ys : List ℕ) → length xs ≡ length ys →
+    length (code_bytes page a xs) ≡ length (code_bytes page b ys)
 same-length page a b xs ys are =
     arranged (is_displaced page) (prefix page) xs a ∙ ap (λ n. length (prefix page) + n + 1) are ∙
     sym (arranged (is_displaced page) (prefix page) ys b)
@@ -255,7 +261,8 @@ sized family size next operands rows (Some n) is =
     code-length (in_row family next operands n) ∙ eqb-true (row_size (row_at n)) size fit.0
 
 pub instruction-sized : (family size next : ℕ) (operands : List (Operand ℤ)) (rows : List ℕ) →
-    IfOk (ok_or (option_map (in_row family next operands) (find (suits_row family size next operands) rows)) Range) (λ i. length (code i) ≡ size)
+    IfOk (ok_or (option_map (in_row family next operands) (find (suits_row family size next operands) rows)) Range)
+    (λ i. length (code i) ≡ size)
 instruction-sized family size next operands rows =
     sized family size next operands rows (find (suits_row family size next operands) rows) refl
 

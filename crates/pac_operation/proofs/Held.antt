@@ -46,7 +46,8 @@ is-displacement immediate.DisplacementByte n is = byte-within n is
 lt-true : (a b : ℕ) → a < b → nat_lt a b ≡ true
 lt-true a b is = grind (arith, nat_tests)
 
-pub held-instruction : (n : ℕ) (parts : Instruction) → n < row_count → holds (row_at n).pattern parts ≡ true → IsInstruction (in_place n parts)
+pub held-instruction : (n : ℕ) (parts : Instruction) → n < row_count → holds (row_at n).pattern parts ≡ true →
+    IsInstruction (in_place n parts)
 held-instruction n parts below is =
     let pattern = (row_at n).pattern in
     let disp = and_parts _ (holds_displacement pattern.immediate parts.disp) is in
@@ -69,7 +70,8 @@ instruction-held n parts is =
 
 -- ---- the instruction of a row, where it is one
 
-pub picked : (result : Option Instruction) (test : Bool) (value : Instruction) → (IsSome result → test ≡ true) → (test ≡ true → IsSome result) →
+pub picked : (result : Option Instruction) (test : Bool) (value : Instruction) → (IsSome result → test ≡ true) →
+    (test ≡ true → IsSome result) →
     IfSome result (λ i. i ≡ value) → result ≡ (if test then Some value else None)
 picked None true value given back is = absurd (false≢true (back refl))
 picked None false value given back is = refl

@@ -170,7 +170,8 @@ pub more-placed : {Y : Type 0} (p : ℕ → Bool) (f : ℕ → Y) (xs : List ℕ
 more-placed p f xs k below so_far is =
     elim (cases_Bool (p (get_or xs k 0))) [
       | inl passes ↦
-          let wrong : None ≡ Some (f (get_or xs k 0)) = is ∙ cond-true (p (get_or xs k 0)) (Some (f (get_or xs k 0))) None passes in absurd (cc)
+          let wrong : None ≡ Some (f (get_or xs k 0)) = is ∙ cond-true (p (get_or xs k 0)) (Some (f (get_or xs k 0))) None passes in
+          absurd (cc)
       | inr fails ↦
           sym (at-place p xs k below ∙ cond-false (p (get_or xs k 0)) (Some (get_or xs k 0)) (find p (drop (k + 1) xs)) fails) ∙ so_far
     ]

@@ -80,7 +80,8 @@ in_row family next operands n =
     record (parts_as (family_in (row_at n).operands.mnemonic family) next operands (row_at n)) { row = n }
 
 -- what operands were read, or why the operation has none that fit
-abbrev pub FindsAll : Option (Option (Operand (Bor (List Token))) × Option (Operand (Bor (List Token)))) → Option (List (Operand Tree)) → Type 0
+abbrev pub FindsAll : Option (Option (Operand (Bor (List Token))) × Option (Operand (Bor (List Token)))) → Option (List (Operand Tree)) →
+    Type 0
 FindsAll None operands = IfSome operands (λ all. 2 < length all)
 FindsAll (Some found) operands = IsKnownIf found.0 × IsKnownIf found.1 × (operands ≡ Some (pair_seen found.0 found.1))
 

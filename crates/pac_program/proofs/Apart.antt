@@ -38,7 +38,12 @@ apart_items_lie items apart fit k d below =
       bytes = ext_get_or 0 (take (length bytes) (drop item.at rom)) bytes
           (length-take-le (length bytes) (drop item.at rom) (omega (arith, size, inside, rest)))
           (λ j lt.
-          let within : j < length bytes = omega (arith, lt, length-take-le (length bytes) (drop item.at rom) (omega (arith, size, inside, rest))) in
+          let within : j < length bytes = omega (
+            arith,
+            lt,
+            length-take-le (length bytes) (drop item.at rom)
+                (omega (arith, size, inside, rest)),
+          ) in
           let same : item.at + j - item.at ≡ j = omega arith in
           get_or-take (length bytes) (drop item.at rom) j 0 within
           ∙ get_or-drop item.at rom j 0

@@ -18,7 +18,8 @@ before-part a k xs ys n h fits =
     ∙ ap (λ (l : List ℕ). get_or l n 0) (take-put_mid_below a k xs ys (n + 1) (omega arith) fits)
     ∙ get_or-take (n + 1) xs n 0 (omega arith)
 
-pub after-part : (a k : ℕ) (xs ys : List ℕ) (n : ℕ) → a + k ≤ n → a ≤ length xs → length ys ≡ k → get_or (put_mid a k xs ys) n 0 ≡ get_or xs n 0
+pub after-part : (a k : ℕ) (xs ys : List ℕ) (n : ℕ) → a + k ≤ n → a ≤ length xs → length ys ≡ k →
+    get_or (put_mid a k xs ys) n 0 ≡ get_or xs n 0
 after-part a k xs ys n h fits whole =
     let same : n ≡ n + 0 = omega arith in
     ap (λ m. get_or (put_mid a k xs ys) m 0) same
@@ -27,7 +28,8 @@ after-part a k xs ys n h fits whole =
     ∙ get_or-drop n xs 0 0
     ∙ ap (λ m. get_or xs m 0) (sym same)
 
-pub in-part : (a k : ℕ) (xs ys : List ℕ) (j : ℕ) → j < k → a ≤ length xs → length ys ≡ k → get_or (put_mid a k xs ys) (a + j) 0 ≡ get_or ys j 0
+pub in-part : (a k : ℕ) (xs ys : List ℕ) (j : ℕ) → j < k → a ≤ length xs → length ys ≡ k →
+    get_or (put_mid a k xs ys) (a + j) 0 ≡ get_or ys j 0
 in-part a k xs ys j h fits whole =
     sym (get_or-drop a (put_mid a k xs ys) j 0)
     ∙ sym (get_or-take (a + k - a) (drop a (put_mid a k xs ys)) j 0 (omega arith))
@@ -46,8 +48,10 @@ whole-length a k xs ys fits whole =
     )
 
 -- an item's byte, where it covers the address and where it doesn't
-over-yes : (item : Item) (n other : ℕ) → item.at ≤ n → n < item.at + length (bytes_of item) → byte_over item n other ≡ get_or (bytes_of item) (n - item.at) 0
-over-yes item n other from below = cond-true _ _ _ (and_from _ _ (le-leb item.at n from) (lt-ltb n (item.at + length (bytes_of item)) below))
+over-yes : (item : Item) (n other : ℕ) → item.at ≤ n → n < item.at + length (bytes_of item) →
+    byte_over item n other ≡ get_or (bytes_of item) (n - item.at) 0
+over-yes item n other from below = cond-true _ _ _ (and_from _ _ (le-leb item.at n from)
+    (lt-ltb n (item.at + length (bytes_of item)) below))
 
 over-before : (item : Item) (n other : ℕ) → n < item.at → byte_over item n other ≡ other
 over-before item n other h = cond-false _ _ _ (and_left (leb item.at n) _ (lt-leb item.at n h))
@@ -100,9 +104,11 @@ pub rom-of-one-more : (item : Item) (items : List Item)
     → map (λ n. byte_over item n (slice_index (rom_of items) n)) (range_with_len 0 rom_size) ≡ rom_of (item ∷ items)
 unfolding rom_of
 rom-of-one-more item items =
-    fill_by_all (byte_at (item ∷ items)) (map (λ n. byte_over item n (slice_index (map (byte_at items) (range_with_len 0 rom_size)) n)) (range_with_len 0 rom_size))
+    fill_by_all (byte_at (item ∷ items)) (map (λ n. byte_over item n (slice_index (map (byte_at items) (range_with_len 0 rom_size)) n))
+    (range_with_len 0 rom_size))
     rom_size 0
     (length-map-range_with_len (λ n. byte_over item n (slice_index (map (byte_at items) (range_with_len 0 rom_size)) n)) 0 rom_size)
     (λ n below.
-    get_or-map-range_with_len (λ m. byte_over item m (slice_index (map (byte_at items) (range_with_len 0 rom_size)) m)) 0 rom_size n n 0 below (omega arith)
+    get_or-map-range_with_len (λ m. byte_over item m (slice_index (map (byte_at items) (range_with_len 0 rom_size)) m)) 0 rom_size n n 0
+    below (omega arith)
     ∙ ap (byte_over item n) (get_or-map-range_with_len (byte_at items) 0 rom_size n n 0 below (omega arith)))

@@ -30,4 +30,5 @@ pub returns-clause-zero : goal.returns-clause-zero
 returns-clause-zero c =
     let items = flat_map items_in c.in_ok-lines.lines.items in
     subst (λ (program : Assembled). IsZeroElsewhere program.rom (items_of program)) (sym c.new.ensures)
-    (subst (λ (filled : List Line). IsZeroElsewhere c.in_ok-rom.rom.value (flat_map items_in filled)) c.deref.ensures.value c.in_ok-rom.ensures.zero)
+    (subst (λ (filled : List Line). IsZeroElsewhere c.in_ok-rom.rom.value (flat_map items_in filled)) c.deref.ensures.value
+    c.in_ok-rom.ensures.zero)

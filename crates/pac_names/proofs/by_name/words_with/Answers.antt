@@ -40,6 +40,7 @@ returns c =
     c.part.ensures ∙ ap (λ (xs : List Word). slice_range xs c.from-from.result c.from-to.result) c.words.ensures ∙
     at-letter c.args.first c.from-from.result c.from-to.result c.ranges.first.fits
     (ap is_ascii_uppercase (sym c.to_ascii_uppercase-letter.ensures.value) ∙ sym c.if-not-is_ascii_uppercase.ensures.value)
-    (c.from-from.ensures ∙ ap (λ (xs : List ℕ). get_or xs c.from-letter.result 0) c.letter_list-places.ensures ∙ ap (λ k. get_or letter_list k 0) at)
+    (c.from-from.ensures ∙ ap (λ (xs : List ℕ). get_or xs c.from-letter.result 0) c.letter_list-places.ensures ∙
+    ap (λ k. get_or letter_list k 0) at)
     (c.from-to.ensures ∙ ap (λ (xs : List ℕ). get_or xs (c.from-letter.result + 1) 0) c.letter_list-places.ensures ∙
     ap (λ k. get_or letter_list (k + 1) 0) at)

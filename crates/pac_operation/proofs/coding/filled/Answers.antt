@@ -34,5 +34,6 @@ returns-in-Some-second c =
     ap (λ (w : Writing). if takes w c.args.next c.in-Some.operand then Some (with_operand w c.args.next c.in-Some.operand i) else None)
     c.of.ensures)
     (c.with_operand-in-Some-second.ensures ∙
-    ap (λ (w : Writing). if takes w c.args.next c.in-Some-second.operand then Some (with_operand w c.args.next c.in-Some-second.operand j) else None)
+    ap (λ (w : Writing). if takes w c.args.next c.in-Some-second.operand then Some (with_operand w c.args.next c.in-Some-second.operand j)
+    else None)
     c.of-in-Some-second.ensures)

@@ -22,5 +22,6 @@ returns c =
     ap (λ (d : ℤ). in_place n (record (as_instruction parts) { disp = d })) disp in
     picked c.new.result (holds (row_at n).pattern (as_instruction parts)) made
     (λ some. instruction-held n (as_instruction parts) (subst (λ (i : Instruction). IsInstruction i) same (c.new.ensures.valid.0 some)))
-    (λ is. c.new.ensures.valid.1 (subst (λ (i : Instruction). IsInstruction i) (sym same) (held-instruction n (as_instruction parts) c.requires is)))
+    (λ is. c.new.ensures.valid.1 (subst (λ (i : Instruction). IsInstruction i) (sym same)
+    (held-instruction n (as_instruction parts) c.requires is)))
     (subst (λ (i : Instruction). IfSome c.new.result (λ j. j ≡ i)) same c.new.ensures.value)

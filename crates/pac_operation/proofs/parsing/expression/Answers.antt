@@ -15,7 +15,8 @@ returns-then-is_source_expression-2 c =
       known,
       value-found (views c.args.tokens.now) _ known
           (elim c.match-between.branch [
-            | in-Some+else-is_source_expression w ↦ none-inside (views c.args.tokens.now) (views w.in-Some.inner.now) w.in-Some.ensures w.if-is_source_expression.ensures
+            | in-Some+else-is_source_expression w ↦ none-inside (views c.args.tokens.now) (views w.in-Some.inner.now) w.in-Some.ensures
+                w.if-is_source_expression.ensures
             | in_default w ↦ none-between (views c.args.tokens.now) w.in_default.ensures
           ]),
     )

@@ -13,7 +13,8 @@ pub loop-count-init : goal.loop-count-init
 loop-count-init c = record {
   within = omega arith;
   made = rom-of-none c.in_ok-rom.rom.value c.in_ok-rom.ensures.ok
-      ∙ ap (λ (lines : List Line). rom_of (flat_map items_in lines)) (sym (drop_all (length c.args.lines.now) c.args.lines.now (omega arith)));
+      ∙ ap (λ (lines : List Line). rom_of (flat_map items_in lines))
+      (sym (drop_all (length c.args.lines.now) c.args.lines.now (omega arith)));
 }
 
 pub loop-count-preserved-in-Placed : goal.loop-count-preserved-in-Placed
@@ -26,7 +27,8 @@ loop-count-preserved-in-Placed c =
     let shape : drop (count - 1) lines ≡ Placed item ∷ drop count lines =
     drop_more lines (count - 1) c.index-lines-count.result (omega (arith, c.loop-count-test.true, c.loop-count.invariant.within))
     ∙ (λ i. here i ∷ drop (next i) lines) in
-    let before : c.deref_mut.result.now ≡ rom_of (flat_map items_in (drop count lines)) = c.deref_mut.ensures.value ∙ c.loop-count.invariant.made in
+    let before : c.deref_mut.result.now ≡ rom_of (flat_map items_in (drop count lines)) = c.deref_mut.ensures.value ∙
+    c.loop-count.invariant.made in
     record {
       within = omega (arith, c.loop-count.invariant.within);
       made = c.put.ensures

@@ -16,6 +16,7 @@ pub returns : goal.returns
 returns c =
     let same : c.as_slice.result.now ≡ c.self.inside.taken.value = cc in
     c.is_any_taken.ensures
-    ∙ ap (λ (cells : List Bool). list_any (λ taken. taken) (take c.args.span.size (drop c.args.span.at cells))) (same ∙ c.self.invariant.cells)
+    ∙ ap (λ (cells : List Bool). list_any (λ taken. taken) (take c.args.span.size (drop c.args.span.at cells)))
+    (same ∙ c.self.invariant.cells)
     ∙ part_taken c.self.inside.places.items c.args.span rom_size c.requires
     ∙ ap (λ (places : List Place). overlaps places c.args.span) c.self.view_is
