@@ -18,15 +18,20 @@ pub one-more : {A : Type 0} (value : ℕ → A) (lines : List A) (y : ℕ) → y
     set (tabulate y value ++ drop y lines) y (value y) ≡ tabulate (y + 1) value ++ drop (y + 1) lines
 unfolding tabulate
 one-more value lines y inside =
+    let before = tabulate y value in
+    let after = drop (y + 1) lines in
     let here : y - y ≡ 0 = omega arith in
     let there : y + 0 ≡ y = omega arith in
     let next : y + 1 ≡ suc y = omega arith in
-    let long = length-tabulate y value in
-    let second : set (drop y lines) 0 (value y) ≡ value y ∷ drop (y + 1) lines =
-    sym (drop-set-add y lines 0 (value y)) ∙ rw there (drop-set lines y (value y) inside) in
-    set-append_right (tabulate y value) (drop y lines) y y (value y) long (omega arith)
-    ∙ rw here (ap (λ rest. tabulate y value ++ rest) second)
-    ∙ rw next (sym (append_assoc (tabulate y value) (value y ∷ []) (drop (suc y) lines)))
+    let moved : drop y (set lines (y + 0) (value y)) ≡ value y ∷ after = rw there (drop-set lines y (value y) inside) in
+    let one : set (drop y lines) 0 (value y) ≡ value y ∷ after = sym (drop-set-add y lines 0 (value y)) ∙ moved in
+    let split : set (before ++ drop y lines) y (value y) ≡ before ++ set (drop y lines) (y - y) (value y) =
+    set-append_right before (drop y lines) y y (value y) (length-tabulate y value) (omega arith) in
+    let put : before ++ set (drop y lines) (y - y) (value y) ≡ before ++ (value y ∷ after) =
+    rw here (ap (λ rest. before ++ rest) one) in
+    let joined : before ++ (value y ∷ after) ≡ tabulate (y + 1) value ++ after =
+    rw next (sym (append_assoc before (value y ∷ []) (drop (suc y) lines))) in
+    split ∙ put ∙ joined
 
 -- what stands where so many lines are composed
 abbrev pub composed_to : Standing → ℕ → Standing

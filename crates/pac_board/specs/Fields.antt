@@ -1,5 +1,5 @@
 -- A board by its fields, as a save file has them.
-use Rattle.std.specs.Prelude.{◌≡◌, ℕ, ◌*◌, ◌≤◌, ◌<◌}
+use Rattle.std.specs.Prelude.{◌≡◌, ◌*◌, ◌≤◌, ◌<◌}
 use Rattle.pac_latch.specs.Latched.{watchdog_limit}
 use Rattle.pac_map.specs.Fields.{view_of}
 use Rattle.pac_map.specs.View.{View, HoldWhatTheyCan}
