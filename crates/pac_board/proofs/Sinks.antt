@@ -32,7 +32,8 @@ module _ {S : Type 0} (took : S → Output → S → Type 0) where
       }
 
   pub refuses-after : (refused : S → Output → S → Type 0) (first taken left : List Output) (old between new : S)
-      → TookAll took old first between → RefusesAt took refused between taken left new → RefusesAt took refused old (first ++ taken) left new
+      → TookAll took old first between → RefusesAt took refused between taken left new
+      → RefusesAt took refused old (first ++ taken) left new
   refuses-after refused first taken left old between new before refuses =
       record {
         asked = refuses.asked;
@@ -56,7 +57,9 @@ module _ {S : Type 0} (took refused : S → Output → S → Type 0) (image : Im
   refused-second sample sink between asked later sounds rest before same refusal =
       record {
         taken = Sound sample ∷ [];
-        parts = ap (λ o. sounds_of o ++ (if old.picture then Show image ∷ [] else [])) sounds ∙ ap (λ d. Sound sample ∷ due_with image d) (sym rest);
+        parts =
+            ap (λ o. sounds_of o ++ (if old.picture then Show image ∷ [] else [])) sounds
+            ∙ ap (λ d. Sound sample ∷ due_with image d) (sym rest);
         refuses = record {
           asked = asked;
           before = record { between = between; before = before; after = same };
