@@ -81,6 +81,12 @@ abbrev pub OffersDue : {S A E : Type 0} → (S → Output → S → Type 0) → 
 OffersDue took refused image old sink (Ok done) new later = (new ≡ nothing_due) × TookAll took sink (due_with image old) later
 OffersDue took refused image old sink (Err refusal) new later = IsDueRefused took refused image old sink new later
 
+-- part of what is due is offered alone, at most one output: this is due without it
+abbrev pub OffersPart : {S A E : Type 0} → (S → Output → S → Type 0) → (S → Output → S → Type 0)
+    → List Output → Due → Due → S → Result A E → Due → S → Type 0
+OffersPart took refused part old without sink (Ok done) new later = (new ≡ without) × TookAll took sink part later
+OffersPart took refused part old without sink (Err refusal) new later = (new ≡ old) × RefusesAt took refused sink [] part later
+
 -- the same of a board
 pub record IsOfferRefused {S : Type 0} (took refused : S → Output → S → Type 0) (old : BoardValue) (sink : S) (new : BoardValue) (later : S)
     : Type 0 where
