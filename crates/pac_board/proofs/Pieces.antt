@@ -77,7 +77,8 @@ time-cut board first second =
           (walked-after next (time_of (asked + first + second)) timely c.now (time_of (asked + first + second))).steps
           (ap (λ (walked : Walk BoardView). walked.now) whole);
       given_is =
-          append_assoc (due_outputs board) c.outputs d.outputs ∙ ap (λ (walked : Walk BoardView). due_outputs board ++ walked.outputs) whole;
+          append_assoc (due_outputs board) c.outputs d.outputs
+          ∙ ap (λ (walked : Walk BoardView). due_outputs board ++ walked.outputs) whole;
       stop_is = ap (λ (walked : Walk BoardView). walked.stop) whole;
     }
 
@@ -119,7 +120,8 @@ pub refusals-taken-up : {S : Type 0} (took refused : S → Output → S → Type
 refusals-taken-up took refused old new microseconds sink later refusal =
     let w = course_at old microseconds refusal.steps in
     subst
-    (λ (board : BoardValue). due_outputs old ++ w.outputs ≡ refusal.taken ++ due_outputs board → IsTakenUp old board microseconds refusal.taken)
+    (λ (board : BoardValue). due_outputs old ++ w.outputs ≡ refusal.taken ++ due_outputs board
+    → IsTakenUp old board microseconds refusal.taken)
     (sym refusal.board) (taken-up old microseconds refusal.steps new.state.due refusal.taken) refusal.parts
 
 pub steps-done-again : StepsAreDoneAgain

@@ -1,10 +1,7 @@
 -- What a sink took and refused, output by output.
-use Rattle.std.proofs.Common.{◌≡◌, ℤ, List, [], ◌∷◌, ◌++◌, None, Some, true, refl, sym, ap, subst, ◌∙◌, if◌then◌else◌}
-use Rattle.pac_step.specs.Output.{Output, Sound, Show, Image}
-use Rattle.pac_board.specs.declared.due.Due.{Due}
+use Rattle.std.proofs.Common.{List, [], ◌∷◌, ◌++◌, refl, subst}
+use Rattle.pac_step.specs.Output.{Output}
 use Rattle.pac_board.specs.Sinks.{Then, TookAll, RefusesAt}
-use Rattle.pac_board.specs.State.{due_with, sounds_of}
-use Rattle.pac_board.specs.Calls.{IsDueRefused}
 
 -- ---- taking some outputs, and then others
 
@@ -32,7 +29,8 @@ module _ {S : Type 0} (took : S → Output → S → Type 0) where
       }
 
   pub refuses-after : (refused : S → Output → S → Type 0) (first taken left : List Output) (old between new : S)
-      → TookAll took old first between → RefusesAt took refused between taken left new → RefusesAt took refused old (first ++ taken) left new
+      → TookAll took old first between → RefusesAt took refused between taken left new
+      → RefusesAt took refused old (first ++ taken) left new
   refuses-after refused first taken left old between new before refuses =
       record {
         asked = refuses.asked;
@@ -41,45 +39,4 @@ module _ {S : Type 0} (took : S → Output → S → Type 0) where
         rest = refuses.rest;
         left_is = refuses.left_is;
         refusal = refuses.refusal;
-      }
-
--- ---- a picture that is refused
-
-module _ {S : Type 0} (took refused : S → Output → S → Type 0) (image : Image) (old mid : Due) (shows : mid.picture ≡ true) where
-  only-picture : mid.sample ≡ None → due_with image mid ≡ Show image ∷ []
-  only-picture none = λ i. sounds_of (none i) ++ (if shows i then Show image ∷ [] else [])
-
-  -- after the sample
-  pub refused-second : (sample : ℤ) (sink between asked later : S) → old.sample ≡ Some sample
-      → mid ≡ record { sample = None; picture = old.picture } → took sink (Sound sample) between → asked ≡ between
-      → refused asked (Show image) later → IsDueRefused took refused image old sink mid later
-  refused-second sample sink between asked later sounds rest before same refusal =
-      record {
-        taken = Sound sample ∷ [];
-        parts = ap (λ o. sounds_of o ++ (if old.picture then Show image ∷ [] else [])) sounds ∙ ap (λ d. Sound sample ∷ due_with image d) (sym rest);
-        refuses = record {
-          asked = asked;
-          before = record { between = between; before = before; after = same };
-          first = Show image;
-          rest = [];
-          left_is = only-picture (ap (λ d. d.sample) rest);
-          refusal = refusal;
-        };
-      }
-
-  -- where no sample is due
-  pub refused-first : (sink asked later : S) → old.sample ≡ None → mid ≡ old → asked ≡ sink → refused asked (Show image) later
-      → IsDueRefused took refused image old sink mid later
-  refused-first sink asked later none rest same refusal =
-      record {
-        taken = [];
-        parts = ap (due_with image) (sym rest);
-        refuses = record {
-          asked = asked;
-          before = same;
-          first = Show image;
-          rest = [];
-          left_is = only-picture (ap (λ d. d.sample) rest ∙ none);
-          refusal = refusal;
-        };
       }

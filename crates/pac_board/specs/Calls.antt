@@ -81,6 +81,12 @@ abbrev pub OffersDue : {S A E : Type 0} → (S → Output → S → Type 0) → 
 OffersDue took refused image old sink (Ok done) new later = (new ≡ nothing_due) × TookAll took sink (due_with image old) later
 OffersDue took refused image old sink (Err refusal) new later = IsDueRefused took refused image old sink new later
 
+-- part of what is due is offered alone, at most one output: this is due without it
+abbrev pub OffersPart : {S A E : Type 0} → (S → Output → S → Type 0) → (S → Output → S → Type 0)
+    → List Output → Due → Due → S → Result A E → Due → S → Type 0
+OffersPart took refused part old without sink (Ok done) new later = (new ≡ without) × TookAll took sink part later
+OffersPart took refused part old without sink (Err refusal) new later = (new ≡ old) × RefusesAt took refused sink [] part later
+
 -- the same of a board
 pub record IsOfferRefused {S : Type 0} (took refused : S → Output → S → Type 0) (old : BoardValue) (sink : S) (new : BoardValue) (later : S)
     : Type 0 where
@@ -114,7 +120,8 @@ Advances old (Err why) new = (new ≡ old) × WasIdle old why
 -- ---- what is due, and then one step
 
 -- all was taken: what was due, and what the step gave
-pub record IsOneStep {S : Type 0} (took : S → Output → S → Type 0) (old : BoardValue) (sink : S) (once : Once) (new : BoardValue) (later : S)
+pub record IsOneStep {S : Type 0} (took : S → Output → S → Type 0) (old : BoardValue) (sink : S) (once : Once) (new : BoardValue)
+    (later : S)
     : Type 0 where
   pub early : old.state.now.time < latest
   pub board : new ≡ stepped (next_of old) (with_due old nothing_due) nothing_due
@@ -169,8 +176,8 @@ abbrev pub ran : BoardValue → ℕ → BoardValue
 ran board microseconds = brought board microseconds (course board microseconds)
 
 -- the call came to its end: by the time, or by a stop
-pub record HasRun {S : Type 0} (took : S → Output → S → Type 0) (old : BoardValue) (microseconds : ℕ) (sink : S) (answer : Ran) (new : BoardValue)
-    (later : S)
+pub record HasRun {S : Type 0} (took : S → Output → S → Type 0) (old : BoardValue) (microseconds : ℕ) (sink : S) (answer : Ran)
+    (new : BoardValue) (later : S)
     : Type 0 where
   pub within : old.state.asked + microseconds ≤ most_asked
   pub board : new ≡ ran old microseconds
@@ -180,8 +187,8 @@ pub record HasRun {S : Type 0} (took : S → Output → S → Type 0) (old : Boa
 
 -- The sink refused an output: the call ended after the step that gave it, and that output and the later one of its step are due.
 -- All that was given before was taken.
-pub record IsRunRefused {S : Type 0} (took refused : S → Output → S → Type 0) (old : BoardValue) (microseconds : ℕ) (sink : S) (new : BoardValue)
-    (later : S)
+pub record IsRunRefused {S : Type 0} (took refused : S → Output → S → Type 0) (old : BoardValue) (microseconds : ℕ) (sink : S)
+    (new : BoardValue) (later : S)
     : Type 0 where
   pub within : old.state.asked + microseconds ≤ most_asked
   pub steps : ℕ

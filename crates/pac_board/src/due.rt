@@ -1,8 +1,9 @@
 //! The outputs that no sink has taken yet.
 
-ghost use Rattle.std.specs.Prelude.{◌≡◌, ◌||◌, is_some};
-ghost use Rattle.pac_board.specs.Calls.{OffersDue};
+ghost use Rattle.std.specs.Prelude.{◌≡◌, ◌||◌, is_some, None, false};
+ghost use Rattle.pac_board.specs.Calls.{OffersDue, OffersPart};
 ghost use Rattle.pac_board.specs.Sinks.{shown};
+ghost use Rattle.pac_board.specs.State.{sounds_of, shows_of};
 
 use crate::sink::{Refused, Sink};
 use pac_picture::Picture;
@@ -36,10 +37,29 @@ impl Due {
     pub fn offer<S: Sink>(&mut self, picture: &Picture, sink: &mut S) -> Result<(), Refused>
         ensures { OffersDue S.took S.refused (shown picture.now) self.old sink.old result self.new sink.new }
     {
+        self.offer_sample(sink)?;
+        self.offer_picture(picture, sink)
+    }
+
+    /// Offers the sample, where one is due.
+    #[inline]
+    fn offer_sample<S: Sink>(&mut self, sink: &mut S) -> Result<(), Refused>
+        ensures { OffersPart S.took S.refused (sounds_of self.old.sample) self.old (record self.old { sample = None }) sink.old result
+            self.new sink.new }
+    {
         if let Some(sample) = self.sample {
             sink.sample(sample)?;
             self.sample = None;
         }
+        Ok(())
+    }
+
+    /// Offers this picture, where it is due.
+    #[inline]
+    fn offer_picture<S: Sink>(&mut self, picture: &Picture, sink: &mut S) -> Result<(), Refused>
+        ensures { OffersPart S.took S.refused (shows_of (shown picture.now) self.old.picture) self.old (record self.old { picture = false })
+            sink.old result self.new sink.new }
+    {
         if self.picture {
             sink.picture(picture)?;
             self.picture = false;

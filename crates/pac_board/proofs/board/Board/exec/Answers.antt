@@ -2,16 +2,14 @@
 use Rattle.std.proofs.Common.{◌≡◌, ◌+◌, ◌≤◌, ap, arith, rules}
 use Rattle.pac_board.specs.Sinks.{TookAll}
 use Rattle.pac_board.specs.State.{BoardValue, due_outputs, most_asked, time_of}
-use Rattle.pac_board.proofs.Turns.{gone-later, more_asked, run-refused}
+use Rattle.pac_board.proofs.Turns.{more_asked, run-later, run-refused}
 use Rattle.pac_board.proofs.board.Board.exec.Goals as goal
 
 pub overflow_sub-result : goal.overflow_sub-result
 overflow_sub-result g c =
     let same : c.offer.new.self ≡ more_asked c.args.self.now c.args.us = search rules in
     let begun = ap (λ (board : BoardValue). board.state.now.time) same in
-    let longer =
-    gone-later g.S.Sink.took c.offer.new.self _ c.offer.new.sink c.in-Ok.stop c.run.new.self
-    c.run.new.sink c.in-Ok.ensures in
+    let longer = run-later c.in-Ok.ensures in
     let viewed = ap (λ (board : BoardValue). board.state.now.time) c.self.view_is in
     omega arith
 

@@ -11,6 +11,4 @@ returns-in-Err g c =
     let old = c.args.self.now in
     let same : c.offer.new.self ≡ with_due old nothing_due = search rules in
     let before : TookAll g.S.Sink.took c.args.sink.now (due_outputs old) c.offer.new.sink = search rules in
-    let refusal = step-refused g.S.Sink.took g.S.Sink.refused old c.offer.new.self c.turn.new.self c.args.sink.now c.offer.new.sink c.turn.new.sink
-    same before c.in-Err.ensures in
-    (search rules, inr refusal)
+    (search rules, inr (step-refused same before c.in-Err.ensures))
