@@ -28,8 +28,9 @@ pub fn load_set(
     requires { IfSome assembled (λ rom. length rom.now ≡ program_size) }
     ensures { Gives result (set_of manifest.now files.now (option_copied assembled.entry)) }
 {
-    check_names(manifest, assembled.is_some())?;
-    check_programs(manifest, assembled.is_some())?;
+    let has_source = assembled.is_some();
+    check_names(manifest, has_source)?;
+    check_programs(manifest, has_source)?;
     check_files(manifest, files)?;
     let program = program(alloc, manifest, files, assembled)?;
     let raw = Raw {
