@@ -126,7 +126,9 @@ impl Machine {
     fn recompose(&mut self)
         ensures { self.new ≡ record {
           set = self.old.set;
-          now = record self.old.now { board = recomposed self.old.set self.old.now.board (passed_lines self.old.now.time) };
+          now = record self.old.now {
+            board = recomposed self.old.set self.old.now.board (passed_lines self.old.now.time);
+          };
         } }
     {
         let count = self.passed();
@@ -137,8 +139,8 @@ impl Machine {
 }
 
 impl Board {
-    /// The board of a ROM set that has these fields, each in its range. Refused for want of memory alone; the set then comes
-    /// back.
+    /// The board of a ROM set that has these fields, each in its range. Refused for want of memory alone; the set then
+    /// comes back.
     pub fn of(alloc: Global, set: RomSet, fields: &Fields) -> Result<Board, InitRefused>
         requires { AreInRange fields.now }
         ensures board { IfOk result (λ board. board ≡ record { set = set; state = state_of fields.now; made = 0 }) }
@@ -163,8 +165,8 @@ impl Board {
         self.machine.fields(self.asked, self.due)
     }
 
-    /// Composes those lines of the picture that have passed since the last blank from what the memory keeps now, as for a state
-    /// that was saved without them. Takes no memory.
+    /// Composes those lines of the picture that have passed since the last blank from what the memory keeps now, as for
+    /// a state that was saved without them. Takes no memory.
     pub fn recompose(&mut self)
         ensures { self.new ≡ with_view self.old
             (recomposed self.old.set self.old.state.now.board (passed_lines self.old.state.now.time)) }

@@ -66,8 +66,8 @@ pub enum Taken {
     Picture(Shown),
 }
 
-/// A sink that keeps what it takes, and refuses one offer. Clauses see the outputs that it took and the number of the offer that
-/// it refuses.
+/// A sink that keeps what it takes, and refuses one offer. Clauses see the outputs that it took and the number of the
+/// offer that it refuses.
 #[derive(Drop)]
 pub struct Kept {
     alloc: Global,

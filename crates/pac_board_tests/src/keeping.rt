@@ -5,8 +5,8 @@ use pac_board::Fault;
 use pac_board::kept::Kept;
 use std::test::Fail;
 
-/// A tile, and a voice that walks through waveform 2: LD A,42H / LD (4040H),A / LD A,2 / LD (5045H),A / LD A,8 / LD (5053H),A /
-/// LD A,1 / LD (5055H),A / LD (5001H),A / HALT.
+/// A tile, and a voice that walks through waveform 2: LD A,42H / LD (4040H),A / LD A,2 / LD (5045H),A / LD A,8 /
+/// LD (5053H),A / LD A,1 / LD (5055H),A / LD (5001H),A / HALT.
 const SOUNDING: [u8; 24] = [
     0x3E, 0x42, 0x32, 0x40, 0x40, 0x3E, 2, 0x32, 0x45, 0x50, 0x3E, 8, 0x32, 0x53, 0x50, 0x3E, 1,
     0x32, 0x55, 0x50, 0x32, 0x01, 0x50, 0x76,

@@ -58,8 +58,8 @@ fn a_tile_shows_in_its_cell(rt: HostRuntime) -> Result<(), Fail> {
     Ok(())
 }
 
-// LD HL,0020H / LD DE,4FF0H / LD BC,6 / LDIR / LD DE,5060H / LD BC,6 / LDIR / LD A,flip / LD (5003H),A / HALT, and the bytes of
-// three sprites: the first is transparent, the third is hidden.
+// LD HL,0020H / LD DE,4FF0H / LD BC,6 / LDIR / LD DE,5060H / LD BC,6 / LDIR / LD A,flip / LD (5003H),A / HALT, and the
+// bytes of three sprites: the first is transparent, the third is hidden.
 #[test]
 fn sprites_by_their_looked_up_numbers(rt: HostRuntime) -> Result<(), Fail> {
     let sprites = [4, 5, 0, 1, 8, 0, 0x1F, 0x0B, 0x1F, 0x0B, 0x1F, 0x0B];
@@ -125,8 +125,8 @@ fn a_line_is_composed_as_it_ends(rt: HostRuntime) -> Result<(), Fail> {
     Ok(())
 }
 
-// LD A,42H / LD (4040H),A / HALT: after 2,625 microseconds two lines of the picture are composed, the first of which drew
-// the cells of its row.
+// LD A,42H / LD (4040H),A / HALT: after 2,625 microseconds two lines of the picture are composed, the first of which
+// drew the cells of its row.
 #[test]
 fn the_picture_as_it_stands(rt: HostRuntime) -> Result<(), Fail> {
     let mut kept = Kept::new(rt.alloc(), 0);

@@ -1,7 +1,7 @@
 //! The ROM set of the rows, and boards whose program is given as bytes.
 
 use pac_board::kept::{Kept, Taken};
-use pac_board::{Board, Fault, Sink};
+use pac_board::{Board, Fault, Fields, Sink};
 use pac_cpu::Stop;
 use pac_picture::Picture;
 use pac_roms::{Raw, RomSet};
@@ -109,6 +109,17 @@ pub fn board_of(
 /// A board at power-on whose program begins with these bytes.
 pub fn board(alloc: Global, bytes: &[u8]) -> Result<Board, AllocError> {
     board_of(alloc, &[(0, bytes)], SWITCHES)
+}
+
+/// A board of these fields, whose program begins with these bytes.
+pub fn board_with(alloc: Global, bytes: &[u8], fields: &Fields) -> Result<Board, AllocError> {
+    if !fields.are_in_range() {
+        return Err(AllocError);
+    }
+    match Board::of(alloc, set(alloc, &[(0, bytes)])?, fields) {
+        Ok(board) => Ok(board),
+        Err(_) => Err(AllocError),
+    }
 }
 
 /// Lets so many microseconds go by: the T-states that went by, and the stop.

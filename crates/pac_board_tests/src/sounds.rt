@@ -23,8 +23,8 @@ fn voices_come_one_by_one(rt: HostRuntime) -> Result<(), Fail> {
     Ok(())
 }
 
-// LD A,2 / LD (5045H),A / LD A,8 / LD (5053H),A / LD A,1 / LD (5055H),A / LD (5001H),A / HALT: the step that turns sound on
-// meets the second sample.
+// LD A,2 / LD (5045H),A / LD A,8 / LD (5053H),A / LD A,1 / LD (5055H),A / LD (5001H),A / HALT: the step that turns
+// sound on meets the second sample.
 #[test]
 fn a_voice_walks_through_its_waveform(rt: HostRuntime) -> Result<(), Fail> {
     let bytes = [
