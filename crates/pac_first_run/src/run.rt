@@ -11,8 +11,8 @@ ghost use Rattle.pac_first_run.specs.declared.run.RunFault.TheVariants.{NoMemory
 use crate::image::put_image;
 use crate::report::put_report;
 use pac_asm::{AsmError, AsmFault, assemble};
-use pac_first_board::{Board, TICKS_A_FRAME};
 use pac_cpu::{Once, Stop};
+use pac_first_board::{Board, TICKS_A_FRAME};
 use pac_out::counted::Counted;
 use pac_out::{Out, WriteFault};
 use std::alloc::{AllocError, Global};

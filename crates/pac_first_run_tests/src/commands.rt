@@ -4,9 +4,9 @@ ghost use Rattle.std.specs.Prelude.{◌≤◌, length, IfOk};
 
 use crate::tiles::flat_tiles;
 use arrayvec::ArrayString;
+use pac_first_run::program::run_words;
 use pac_out::Out;
 use pac_out::memory::Memory;
-use pac_first_run::program::run_words;
 use pac_scarce::Hoard;
 use std::alloc::{AllocError, Global};
 use std::cell::RefCell;

@@ -3,10 +3,10 @@
 
 use crate::tiles::flat_tiles;
 use pac_asm::{AsmCode, AsmFault};
+use pac_first_run::run::{Outcome, Output, RunFault, run_first};
 use pac_out::Out;
 use pac_out::faulty::Faulty;
 use pac_out::memory::Memory;
-use pac_first_run::run::{Outcome, Output, RunFault, run_first};
 use pac_scarce::Hoard;
 use std::alloc::Global;
 use std::process::Abort;
