@@ -50,7 +50,7 @@ module _ {Board : Type 0} (next : Moment Board → Next Board) (limit : ℕ) (ti
   onward-near w None false e near =
       let early : w.now.time < limit = grind (arith, nat_tests) in step-near w (next w.now) (timely w.now) early
 
-  walk-near : (from : Moment Board) (n : ℕ) → from.time < limit + most_ticks → (walk next limit from n).now.time < limit + most_ticks
+  pub walk-near : (from : Moment Board) (n : ℕ) → from.time < limit + most_ticks → (walk next limit from n).now.time < limit + most_ticks
   walk-near from zero near = near
   walk-near from (suc n) near =
       let w = walk next limit from n in onward-near w w.stop (nat_le limit w.now.time) refl (walk-near from n near)

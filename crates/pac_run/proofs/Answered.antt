@@ -1,0 +1,169 @@
+-- The answers of a run, one by one.
+use Rattle.std.proofs.Common.{◌≡◌, ℕ, List, Option, None, Some, Result, Ok, Err, refl, sym, ap, subst, ◌∙◌}
+use Rattle.pac_asm.specs.declared.fault.AsmFault.{AsmFault}
+use Rattle.pac_asm.specs.Programs.{program_of}
+use Rattle.pac_cpu.specs.declared.once.Stop.{Stop}
+use Rattle.pac_inputs.specs.Script.{script_of}
+use Rattle.pac_inputs.specs.Stretches.{total}
+use Rattle.pac_inputs.specs.declared.line.Stretch.{Stretch}
+use Rattle.pac_inputs.specs.declared.fault.ScriptFault.{ScriptFault}
+use Rattle.pac_manifest.specs.Manifests.{manifest_of}
+use Rattle.pac_manifest.specs.Sets.{set_of}
+use Rattle.pac_manifest.specs.declared.fault.SetFault.{SetFault}
+use Rattle.pac_out.specs.declared.WriteFault.{WriteFault}
+use Rattle.pac_program.specs.Programs.{Assembled}
+use Rattle.pac_step.specs.Output.{Output}
+use Rattle.pac_board.specs.State.{BoardValue}
+use Rattle.pac_run.specs.declared.fault.Output.{Output as Which}
+use Rattle.pac_run.specs.declared.fault.Output.TheVariants as which
+use Rattle.pac_run.specs.declared.fault.RunFault.{RunFault}
+use Rattle.pac_run.specs.declared.fault.RunFault.TheVariants as fault
+use Rattle.pac_run.specs.declared.inputs.RunInputs.{RunInputs}
+use Rattle.pac_run.specs.declared.outcome.Outcome.{Outcome}
+use Rattle.pac_run.specs.declared.plan.Prepared.{Prepared}
+use Rattle.pac_run.specs.Plan.{◌>>=◌, plan_of, planned, program_in, source_in, assembled, set_in, set_told, script_told, IsPrepared, Prepares}
+use Rattle.pac_run.specs.Plays.{run_of}
+use Rattle.pac_run.specs.Recorded.{Written, Records, RecordsBroken, HasPlayed, outcome_at}
+use Rattle.pac_run.specs.Run.{Writing, Writers, Untouched, Took, TookSome, TookPrefix, Stopped, NothingWritten, Runs, IsWhole, IsCutAt, WithPlan}
+use Rattle.pac_run.specs.Run.{trace_of, outcome_of, frames_text, wave_text, report_text}
+use Rattle.pac_run.specs.Texts as text
+use Rattle.pac_run.proofs.Traced.{same-outputs, same-outcome}
+
+-- ---- judging tells of no refused write
+
+abbrev NoWrite : {A : Type 0} → Result A RunFault → Type 0
+NoWrite (Err (fault.Write output count)) = ⊥
+NoWrite _ = Unit {0}
+
+one-then : {A B : Type 0} (first : Result A RunFault) (next : A → Result B RunFault) → NoWrite first
+    → ((value : A) → NoWrite (next value)) → NoWrite (first >>= next)
+one-then (Ok value) next one other = other value
+one-then (Err (fault.Source refused)) next one other = tt
+one-then (Err (fault.Set refused)) next one other = tt
+one-then (Err (fault.Script refused)) next one other = tt
+one-then (Err (fault.Write output count)) next one other = one
+one-then (Err fault.NoMemory) next one other = tt
+
+assembled-writes : (result : Result Assembled AsmFault) → NoWrite (assembled result)
+assembled-writes (Ok program) = tt
+assembled-writes (Err refused) = tt
+
+program-writes : (source : Option (List ℕ)) → NoWrite (program_in source)
+program-writes None = tt
+program-writes (Some source) = assembled-writes (program_of source)
+
+set-writes : {A : Type 0} (result : Result A SetFault) → NoWrite (set_told result)
+set-writes (Ok value) = tt
+set-writes (Err refused) = tt
+
+script-writes : (result : Result (List Stretch) ScriptFault) → NoWrite (script_told result)
+script-writes (Ok value) = tt
+script-writes (Err refused) = tt
+
+plan-writes : (inputs : RunInputs) → NoWrite (plan_of inputs)
+unfolding plan_of
+plan-writes inputs =
+    one-then (program_in (source_in inputs)) _ (program-writes (source_in inputs))
+    (λ program. one-then (set_in inputs.manifest.now inputs.parts.now program) _
+    (one-then (set_told (manifest_of inputs.manifest.now)) _ (set-writes (manifest_of inputs.manifest.now))
+    (λ read. set-writes (set_of read inputs.parts.now _)))
+    (λ set. one-then (script_told (script_of inputs.script.now)) _ (script-writes (script_of inputs.script.now)) (λ script. tt)))
+
+-- ---- nothing was written
+
+module _ {F W L R : Type 0} (to : Writers F W L R) (inputs : RunInputs) where
+  pub refused : (why : RunFault) → Prepares inputs (Err why) → NothingWritten to → Runs inputs to (Err why)
+  refused (fault.Source told) is none = (is, none)
+  refused (fault.Set told) is none = (is, none)
+  refused (fault.Script told) is none = (is, none)
+  refused (fault.Write output count) is none = absurd (subst NoWrite is (plan-writes inputs))
+  refused fault.NoMemory is none = none
+
+  -- ---- a plan is played
+
+  module _ (prepared : Prepared) (ready : IsPrepared inputs prepared) where
+    pub listing-broke : (count : ℕ) → Stopped to.listing (planned inputs prepared.program prepared.board.set prepared.script).listing count
+        → Untouched to.frames → Untouched to.wave → Untouched to.report
+        → Runs inputs to (Err (fault.Write which.Listing count))
+    listing-broke count stopped frames wave report =
+        record {
+          plan = planned inputs prepared.program prepared.board.set prepared.script;
+          plan_is = ready.plan_is;
+          holds = record { listing = stopped; frames = frames; wave = wave; report = report };
+        }
+
+    abbrev outputs : List Output
+    outputs = (run_of prepared.board prepared.script).outputs
+
+    same : outputs ≡ (trace_of (planned inputs prepared.program prepared.board.set prepared.script) inputs.dip).outputs
+    same = same-outputs inputs prepared ready
+
+    broken-at : (output : Which) (count : ℕ) (told : List Output)
+        → told ≡ (trace_of (planned inputs prepared.program prepared.board.set prepared.script) inputs.dip).outputs
+        → RecordsBroken to.frames to.wave (total prepared.script) told output count
+        → Took to.listing (planned inputs prepared.program prepared.board.set prepared.script).listing → Untouched to.report
+        → IsCutAt (planned inputs prepared.program prepared.board.set prepared.script) inputs.dip to output count
+    broken-at which.Frames count told e broken listing report =
+        record {
+          listing = listing;
+          frames = subst (λ outputs. Stopped to.frames (text.frames_text outputs) count) e broken.0;
+          wave = subst (λ outputs. TookSome to.wave (text.wave_text (total prepared.script) outputs)) e broken.1;
+          report = report;
+        }
+    broken-at which.Wave count told e broken listing report =
+        record {
+          listing = listing;
+          frames = subst (λ outputs. TookPrefix to.frames (text.frames_text outputs)) e broken.0;
+          wave = subst (λ outputs. Stopped to.wave (text.wave_text (total prepared.script) outputs) count) e broken.1;
+          report = report;
+        }
+    broken-at which.Listing count told e broken listing report = absurd broken
+    broken-at which.Report count told e broken listing report = absurd broken
+
+    pub media-broke : (output : Which) (count : ℕ) → RecordsBroken to.frames to.wave (total prepared.script) outputs output count
+        → Took to.listing (planned inputs prepared.program prepared.board.set prepared.script).listing → Untouched to.report
+        → Runs inputs to (Err (fault.Write output count))
+    media-broke output count broken listing report =
+        record {
+          plan = planned inputs prepared.program prepared.board.set prepared.script;
+          plan_is = ready.plan_is;
+          holds = broken-at output count outputs same broken listing report;
+        }
+
+    module _ (new : BoardValue) (stop : Option Stop) (played : HasPlayed prepared.board prepared.script stop new)
+        (frames : Took to.frames (text.frames_text outputs)) (wave : Took to.wave (text.wave_text (total prepared.script) outputs))
+        (listing : Took to.listing (planned inputs prepared.program prepared.board.set prepared.script).listing)
+        (frame_count : ℕ) (count_is : frame_count ≡ total prepared.script) (outcome : Outcome)
+        (outcome_is : outcome ≡ outcome_at new.state.now stop) where
+      outcome-same : outcome ≡ outcome_of (trace_of (planned inputs prepared.program prepared.board.set prepared.script) inputs.dip)
+      outcome-same = outcome_is ∙ same-outcome inputs prepared ready new stop played
+
+      pub all-written : Took to.report (text.report outcome frame_count) → Runs inputs to (Ok outcome)
+      all-written report =
+          record {
+            plan = planned inputs prepared.program prepared.board.set prepared.script;
+            plan_is = ready.plan_is;
+            holds = record {
+              outcome_is = outcome-same;
+              frames = subst (λ outputs. Took to.frames (text.frames_text outputs)) same frames;
+              wave = subst (λ outputs. Took to.wave (text.wave_text (total prepared.script) outputs)) same wave;
+              listing = listing;
+              report = subst (λ outcome. Took to.report (text.report outcome (total prepared.script))) outcome-same
+                  (subst (λ frames. Took to.report (text.report outcome frames)) count_is report);
+            };
+          }
+
+      pub report-broke : (count : ℕ) → Stopped to.report (text.report outcome frame_count) count
+          → Runs inputs to (Err (fault.Write which.Report count))
+      report-broke count report =
+          record {
+            plan = planned inputs prepared.program prepared.board.set prepared.script;
+            plan_is = ready.plan_is;
+            holds = record {
+              listing = listing;
+              frames = subst (λ outputs. Took to.frames (text.frames_text outputs)) same frames;
+              wave = subst (λ outputs. Took to.wave (text.wave_text (total prepared.script) outputs)) same wave;
+              report = subst (λ outcome. Stopped to.report (text.report outcome (total prepared.script)) count) outcome-same
+                  (subst (λ frames. Stopped to.report (text.report outcome frames) count) count_is report);
+            };
+          }

@@ -1,0 +1,224 @@
+-- What a film and a wave file have after all outputs of a list, and after a refusal among them.
+use Rattle.std.proofs.Common.{◌≡◌, ℕ, ℤ, pos, suc, ◌+◌, ◌-◌, List, [], ◌∷◌, ◌++◌, length, replicate, Option, Some, None, IsSome, Result, Ok, Err}
+use Rattle.std.proofs.Common.{refl, sym, ap, subst, ◌∙◌, append_assoc, append-nil, arith}
+use Rattle.std.proofs.lemmas.Grind.{flat_map-append}
+use Rattle.std.specs.List.{flat_map}
+use Rattle.std.specs.Prelude.{IfSome}
+use mathlib.Core.List.{IsPrefix}
+use Rattle.pac_out.specs.Counted.{HasTaken, Takes, Refuses}
+use Rattle.pac_out.specs.declared.WriteFault.{WriteFault}
+use Rattle.pac_out.proofs.Files.{takes-nothing, takes-joined, refuses-after, refuses-within}
+use Rattle.pac_media.specs.Images.{ppm_of}
+use Rattle.pac_media.specs.Samples.{sample_text, samples_text}
+use Rattle.pac_media.specs.Sound.{HasText, Gains, Delivers, Fails, Finishes}
+use Rattle.pac_media.specs.Sound as media
+use Rattle.pac_media.proofs.Gathered.{fails-within, finishes-after}
+use Rattle.pac_step.specs.Output.{Output, Image, Sound, Show}
+use Rattle.pac_board.specs.Sinks.{TookAll, RefusesAt}
+use Rattle.pac_run.specs.declared.fault.Output.{Output as Which}
+use Rattle.pac_run.specs.declared.fault.Output.TheVariants as which
+use Rattle.pac_run.specs.declared.film.Film.{Film}
+use Rattle.pac_run.specs.Films.{film_took, film_refused, RefusedSample, RefusedImage}
+use Rattle.pac_run.specs.Recorded.{sound_text, IsRecorded, SoundBreaks, FilmBreaks, Breaks, IsFlushed, GivesUp}
+use Rattle.pac_run.specs.Texts.{pictures_in, samples_in, frames_text, filled}
+
+-- ---- texts of lists that are put together
+
+pictures-append : (one other : List Output) → pictures_in (one ++ other) ≡ pictures_in one ++ pictures_in other
+pictures-append [] other = refl
+pictures-append (Sound sample ∷ one) other = pictures-append one other
+pictures-append (Show image ∷ one) other = ap (λ images. image ∷ images) (pictures-append one other)
+
+samples-append : (one other : List Output) → samples_in (one ++ other) ≡ samples_in one ++ samples_in other
+samples-append [] other = refl
+samples-append (Sound sample ∷ one) other = ap (λ samples. sample ∷ samples) (samples-append one other)
+samples-append (Show image ∷ one) other = samples-append one other
+
+abbrev image_text : Image → List ℕ
+image_text image = ppm_of image.lines image.palette
+
+frames-append : (one other : List Output) → frames_text (one ++ other) ≡ frames_text one ++ frames_text other
+frames-append one other =
+    ap (λ images. flat_map image_text images) (pictures-append one other)
+    ∙ flat_map-append image_text (pictures_in one) (pictures_in other)
+
+-- the sound of a list begins with that of its beginning
+sound-append : (owed : ℕ) (one other : List Output)
+    → samples_text (samples_in one)
+    ++ samples_text (samples_in other ++ replicate (owed - length (samples_in (one ++ other))) (pos 0))
+    ≡ sound_text owed (one ++ other)
+sound-append owed one other =
+    let zeros = replicate (owed - length (samples_in (one ++ other))) (pos 0) in
+    sym (flat_map-append sample_text (samples_in one) (samples_in other ++ zeros))
+    ∙ ap samples_text
+    (sym (append_assoc (samples_in one) (samples_in other) zeros) ∙ ap (λ samples. samples ++ zeros) (sym (samples-append one other)))
+
+-- ---- all was taken
+
+module _ {F W : Type 0} (took_f : F → List ℕ → F → Type 0) (refused_f : F → F → Type 0) (took_w : W → List ℕ → W → Type 0)
+    (refused_w : W → W → Type 0) where
+  gains-nothing : (wave : media.Sound W) → Gains took_w wave [] wave
+  gains-nothing wave = record { after = λ start text has. subst (λ all. HasText took_w start all wave) (sym (append-nil text)) has }
+
+  gains-joined : (old mid new : media.Sound W) (one other : List ℕ) → Gains took_w old one mid → Gains took_w mid other new
+      → Gains took_w old (one ++ other) new
+  gains-joined old mid new one other first second =
+      record {
+        after = λ start text has. subst (λ all. HasText took_w start all new) (append_assoc text one other)
+            (second.after start (text ++ one) (first.after start text has));
+      }
+
+  pub record Filmed (outputs : List Output) (old new : Film F W) : Type 0 where
+    pub frames : Takes took_f old.frames (frames_text outputs) new.frames
+    pub wave : Gains took_w old.wave (samples_text (samples_in outputs)) new.wave
+    pub owed : new.wave.owed ≡ old.wave.owed - length (samples_in outputs)
+
+  nothing-filmed : (film : Film F W) → Filmed [] film film
+  nothing-filmed film = record { frames = takes-nothing film.frames; wave = gains-nothing film.wave; owed = omega arith }
+
+  pub filmed : (outputs : List Output) (old new : Film F W) → TookAll (film_took took_f took_w) old outputs new → Filmed outputs old new
+  filmed [] old new same = subst (λ film. Filmed [] old film) (sym same) (nothing-filmed old)
+  filmed (Sound sample ∷ more) old new took =
+      let one = took.before in
+      let rest = filmed more took.between new took.after in
+      record {
+        frames = subst (λ file. Takes took_f file (frames_text more) new.frames) one.frames rest.frames;
+        wave = gains-joined old.wave took.between.wave new.wave (sample_text sample) (samples_text (samples_in more)) one.wave rest.wave;
+        owed = let e = rest.owed in let f = one.owed in omega (arith, e, f);
+      }
+  filmed (Show image ∷ more) old new took =
+      let one = took.before in
+      let rest = filmed more took.between new took.after in
+      record {
+        frames = takes-joined one.frames rest.frames;
+        wave = subst (λ wave. Gains took_w wave (samples_text (samples_in more)) new.wave) one.wave rest.wave;
+        owed = rest.owed ∙ ap (λ (wave : media.Sound W). wave.owed - length (samples_in more)) one.wave;
+      }
+
+  -- the end of all: zeros for the samples that are still owed
+  zeros-last : (outputs : List Output) (old mid : Film F W) → Filmed outputs old mid
+      → samples_text (samples_in outputs) ++ samples_text (replicate mid.wave.owed (pos 0)) ≡ sound_text old.wave.owed outputs
+  zeros-last outputs old mid film =
+      ap (λ owed. samples_text (samples_in outputs) ++ samples_text (replicate owed (pos 0))) film.owed
+      ∙ sym (flat_map-append sample_text (samples_in outputs) (replicate (old.wave.owed - length (samples_in outputs)) (pos 0)))
+
+  pub recorded : {A : Type 0} (outputs : List Output) (old mid new : Film F W) (done : A)
+      → TookAll (film_took took_f took_w) old outputs mid
+      → Finishes {A = A} took_w refused_w mid.wave (samples_text (replicate mid.wave.owed (pos 0))) (Ok done) new.wave
+      → new.frames ≡ mid.frames → IsRecorded took_f took_w outputs old new
+  recorded outputs old mid new done took finished same =
+      let film = filmed outputs old mid took in
+      record {
+        frames = subst (λ file. Takes took_f old.frames (frames_text outputs) file) (sym same) film.frames;
+        wave = subst (λ bytes. Delivers took_w old.wave bytes new.wave) (zeros-last outputs old mid film)
+            (record {
+              after = λ start text has.
+                  subst (λ all. HasTaken took_w start all new.wave.file)
+                  (append_assoc text (samples_text (samples_in outputs)) (samples_text (replicate mid.wave.owed (pos 0))))
+                  (finished.after start (text ++ samples_text (samples_in outputs)) (film.wave.after start text has));
+              none_waits = finished.none_waits;
+            });
+      }
+
+  pub unfinished : (outputs : List Output) (old mid new : Film F W) (told : WriteFault)
+      → TookAll (film_took took_f took_w) old outputs mid
+      → Fails took_w refused_w mid.wave (samples_text (replicate mid.wave.owed (pos 0))) told new.wave
+      → new.frames ≡ mid.frames → SoundBreaks took_f took_w refused_w outputs old told.count new
+  unfinished outputs old mid new told took fails same =
+      let film = filmed outputs old mid took in
+      let zeros = samples_text (replicate mid.wave.owed (pos 0)) in
+      record {
+        told = told;
+        count_is = refl;
+        wave = subst (λ bytes. Fails took_w refused_w old.wave bytes told new.wave)
+            (append-nil (samples_text (samples_in outputs) ++ zeros) ∙ zeros-last outputs old mid film)
+            (fails-within film.wave fails []);
+        images = frames_text outputs;
+        is_prefix = ([], append-nil (frames_text outputs));
+        frames = subst (λ file. Takes took_f old.frames (frames_text outputs) file) (sym same) film.frames;
+      }
+
+  -- ---- one was refused
+
+  told-of : (output : Output) (asked new : Film F W) → film_refused took_f refused_f took_w refused_w asked output new → IsSome new.fault
+  told-of (Sound sample) asked new refused = subst IsSome (sym refused.fault) refl
+  told-of (Show image) asked new refused = subst IsSome (sym refused.fault) refl
+
+  pub is-told : (taken left : List Output) (old new : Film F W)
+      → RefusesAt (film_took took_f took_w) (film_refused took_f refused_f took_w refused_w) old taken left new → IsSome new.fault
+  is-told taken left old new refuses = told-of refuses.first refuses.asked new refuses.refusal
+
+  -- a sample was refused
+  sample-broke : (taken rest : List Output) (sample : ℤ) (old asked mid new : Film F W) (count : ℕ) → Filmed taken old asked
+      → (refused : RefusedSample took_w refused_w asked sample mid) → count ≡ refused.told.count → new ≡ mid
+      → SoundBreaks took_f took_w refused_w (taken ++ (Sound sample ∷ rest)) old count new
+  sample-broke taken rest sample old asked mid new count film refused same ends =
+      let all = taken ++ (Sound sample ∷ rest) in
+      let zeros = replicate (old.wave.owed - length (samples_in all)) (pos 0) in
+      let more = samples_text (samples_in rest ++ zeros) in
+      let whole : (samples_text (samples_in taken) ++ sample_text sample) ++ more ≡ sound_text old.wave.owed all =
+      append_assoc (samples_text (samples_in taken)) (sample_text sample) more ∙ sound-append old.wave.owed taken (Sound sample ∷ rest) in
+      subst (λ film. SoundBreaks took_f took_w refused_w all old count film) (sym ends)
+      (record {
+        told = refused.told;
+        count_is = same;
+        wave = subst (λ bytes. Fails took_w refused_w old.wave bytes refused.told mid.wave) whole (fails-within film.wave refused.wave more);
+        images = frames_text taken;
+        is_prefix = (frames_text (Sound sample ∷ rest), sym (frames-append taken (Sound sample ∷ rest)));
+        frames = subst (λ file. Takes took_f old.frames (frames_text taken) file) (sym refused.frames) film.frames;
+      })
+
+  -- an image was refused
+  image-broke : (taken rest : List Output) (image : Image) (old asked mid new : Film F W) (count : ℕ) → Filmed taken old asked
+      → (refused : RefusedImage took_f refused_f asked image mid) → count ≡ refused.told.count → new.frames ≡ mid.frames
+      → IsFlushed took_w refused_w mid.wave [] new.wave
+      → FilmBreaks took_f refused_f took_w refused_w (taken ++ (Show image ∷ rest)) old count new
+  image-broke taken rest image old asked mid new count film refused same frames flushed =
+      let all = taken ++ (Show image ∷ rest) in
+      let zeros = replicate (old.wave.owed - length (samples_in all)) (pos 0) in
+      let whole : (frames_text taken ++ image_text image) ++ frames_text rest ≡ frames_text all =
+      append_assoc (frames_text taken) (image_text image) (frames_text rest) ∙ sym (frames-append taken (Show image ∷ rest)) in
+      record {
+        told = refused.told;
+        count_is = same;
+        frames = subst (λ file. Refuses took_f refused_f old.frames (frames_text all) refused.told file) (sym frames)
+            (subst (λ bytes. Refuses took_f refused_f old.frames bytes refused.told mid.frames) whole
+            (refuses-within (refuses-after film.frames refused.frames) (frames_text rest)));
+        sound = samples_text (samples_in taken);
+        is_prefix = (samples_text (samples_in rest ++ zeros), sound-append old.wave.owed taken (Show image ∷ rest));
+        wave = record {
+          answer = flushed.answer;
+          written = finishes-after refused_w flushed.answer new.wave
+              (subst (λ wave. Gains took_w old.wave (samples_text (samples_in taken)) wave) (sym refused.wave) film.wave) flushed.written;
+        };
+      }
+
+  -- the fault that is kept is that of the output that refused
+  some-same : (one other : Which × ℕ) → Some one ≡ Some other → one ≡ other
+  some-same one other e = subst (λ it. IfSome it (λ value. one ≡ value)) e refl
+
+  broke : (output : Output) (taken rest : List Output) (old asked mid new : Film F W) (fault : Which × ℕ) → Filmed taken old asked
+      → film_refused took_f refused_f took_w refused_w asked output mid → Some fault ≡ mid.fault → GivesUp took_w refused_w mid fault.0 new
+      → Breaks took_f refused_f took_w refused_w (taken ++ (output ∷ rest)) old fault.0 fault.1 new
+  broke (Sound sample) taken rest old asked mid new fault film refused told gives =
+      let same = some-same fault (which.Wave, refused.told.count) (told ∙ refused.fault) in
+      let ends = subst (λ (it : Which × ℕ). GivesUp took_w refused_w mid it.0 new) same gives in
+      subst (λ (it : Which × ℕ). Breaks took_f refused_f took_w refused_w (taken ++ (Sound sample ∷ rest)) old it.0 it.1 new) (sym same)
+      (sample-broke taken rest sample old asked mid new refused.told.count film refused refl ends)
+  broke (Show image) taken rest old asked mid new fault film refused told gives =
+      let same = some-same fault (which.Frames, refused.told.count) (told ∙ refused.fault) in
+      let ends = subst (λ (it : Which × ℕ). GivesUp took_w refused_w mid it.0 new) same gives in
+      subst (λ (it : Which × ℕ). Breaks took_f refused_f took_w refused_w (taken ++ (Show image ∷ rest)) old it.0 it.1 new) (sym same)
+      (image-broke taken rest image old asked mid new refused.told.count film refused refl ends.0 ends.1)
+
+  pub gave-up : (outputs taken left : List Output) (old mid new : Film F W) (fault : Which × ℕ) → IsPrefix (taken ++ left) outputs
+      → RefusesAt (film_took took_f took_w) (film_refused took_f refused_f took_w refused_w) old taken left mid
+      → Some fault ≡ mid.fault → GivesUp took_w refused_w mid fault.0 new
+      → Breaks took_f refused_f took_w refused_w outputs old fault.0 fault.1 new
+  gave-up outputs taken left old mid new fault among refuses told gives =
+      let rest = refuses.rest ++ among.0 in
+      let all : taken ++ (refuses.first ∷ rest) ≡ outputs =
+      sym (append_assoc taken (refuses.first ∷ refuses.rest) among.0)
+      ∙ (ap (λ left. (taken ++ left) ++ among.0) (sym refuses.left_is) ∙ among.1) in
+      subst (λ outputs. Breaks took_f refused_f took_w refused_w outputs old fault.0 fault.1 new) all
+      (broke refuses.first taken rest old refuses.asked mid new fault (filmed taken old refuses.asked refuses.before) refuses.refusal told gives)

@@ -1,0 +1,140 @@
+-- Writers that are lent to a film and a wave file, and what they have when the loans end.
+use Rattle.std.proofs.Common.{◌≡◌, ℕ, ◌*◌, List, [], ◌++◌, Result, Ok, Err, inl, inr, sym, ap, subst, ◌∙◌, append_assoc}
+use Rattle.std.specs.Borrow.{MutBor}
+use mathlib.Core.List.{IsPrefix}
+use Rattle.pac_out.specs.declared.counted.Counted.{Counted}
+use Rattle.pac_out.specs.declared.WriteFault.{WriteFault}
+use Rattle.pac_out.specs.Counted.{HasTaken, HasStopped, Puts}
+use Rattle.pac_out.specs.Writes.{lent_took, lent_refused}
+use Rattle.pac_out.proofs.Files.{stops-within}
+use Rattle.pac_media.specs.Samples.{wav_header}
+use Rattle.pac_media.specs.Sound.{HasText, Finishes}
+use Rattle.pac_media.specs.Sound as media
+use Rattle.pac_step.specs.Output.{Output}
+use Rattle.pac_run.specs.declared.fault.Output.{Output as Which}
+use Rattle.pac_run.specs.declared.fault.Output.TheVariants as which
+use Rattle.pac_run.specs.declared.film.Film.{Film}
+use Rattle.pac_run.specs.Recorded.{sound_text, Performs, Breaks, Records, RecordsBroken, Written}
+use Rattle.pac_run.specs.Run.{Writing, Took, TookPrefix, TookSome, Stopped}
+use Rattle.pac_run.specs.Texts.{frames_text, wave_text, frame_samples}
+
+-- a writer before a run and after it
+abbrev pub writing : {W : Type 0} → (W → List ℕ → W → Type 0) → (W → W → Type 0) → W → W → Writing W
+writing took refused old new = record { took = took; refused = refused; old = old; new = new }
+
+-- when the loan ends, the owner has what the writer was then
+abbrev pub Ends : {W : Type 0} → MutBor W → MutBor W → W → Type 0
+Ends owner writer left = owner.ghost_name ≡ writer.ghost_name → left ≡ writer.now
+
+module _ {W : Type 0} (took : W → List ℕ → W → Type 0) (refused : W → W → Type 0) (owner : MutBor W) (left : W) where
+  has-taken : (file : Counted (MutBor W)) (text : List ℕ) → HasTaken (lent_took took) owner text file → Ends owner file.writer left
+      → took owner.now text left
+  has-taken file text has ends =
+      let written = has.written in subst (λ new. took owner.now text new) (sym (ends (sym written.0))) written.1
+
+  has-stopped : (file : Counted (MutBor W)) (text : List ℕ) (count : ℕ) → HasStopped (lent_took took) (lent_refused refused) owner text file
+      → count ≡ file.count → Ends owner file.writer left → Stopped (writing took refused owner.now left) text count
+  has-stopped file text count has same ends =
+      let stop = has.stopped in
+      record {
+        taken = has.taken;
+        stopped = record {
+          some_left = stop.some_left;
+          asked = stop.asked.now;
+          before = stop.before.1;
+          refusal = subst (λ new. refused stop.asked.now new) (sym (ends (sym (stop.refusal.0 ∙ stop.before.0)))) stop.refusal.1;
+        };
+        count_is = same ∙ has.count_is;
+      }
+
+  -- a text that was put into a new file
+  pub written : {A : Type 0} (result : Result A WriteFault) (text : List ℕ) (file new : Counted (MutBor W))
+      → HasTaken (lent_took took) owner [] file → Puts (lent_took took) (lent_refused refused) file text result new
+      → Ends owner new.writer left → Written (writing took refused owner.now left) text result
+  written (Ok done) text file new fresh puts ends = has-taken new text (puts.after owner [] fresh) ends
+  written (Err fault) text file new fresh puts ends = has-stopped new text fault.count (puts.after owner [] fresh) puts.told ends
+
+  -- the sound so far, written where its writer doesn't refuse
+  flushed : {A : Type 0} (answer : Result A WriteFault) (head bytes all : List ℕ) (old new : media.Sound (MutBor W))
+      → HasText (lent_took took) owner head old → Finishes (lent_took took) (lent_refused refused) old bytes answer new → IsPrefix bytes all
+      → Ends owner new.file.writer left → TookSome (writing took refused owner.now left) (head ++ all)
+  flushed (Ok done) head bytes all old new has finishes among ends =
+      inl (record {
+        taken = head ++ bytes;
+        is_prefix = (among.0, append_assoc head bytes among.0 ∙ ap (λ rest. head ++ rest) among.1);
+        took = has-taken new.file (head ++ bytes) (finishes.after owner head has) ends;
+      })
+  flushed (Err fault) head bytes all old new has finishes among ends =
+      let stop = finishes.after owner head has in
+      let whole : (head ++ bytes) ++ among.0 ≡ head ++ all = append_assoc head bytes among.0 ∙ ap (λ rest. head ++ rest) among.1 in
+      inr (record {
+        count = fault.count;
+        stopped = has-stopped new.file (head ++ all) fault.count
+            (subst (λ text. HasStopped (lent_took took) (lent_refused refused) owner text new.file) whole
+            (record {
+              taken = stop.taken;
+              stopped = stops-within stop.stopped among.0;
+              count_is = stop.count_is;
+              closed = stop.closed;
+            }))
+            finishes.told ends;
+      })
+
+-- film and wave file together
+module _ {F W : Type 0} (took_f : F → List ℕ → F → Type 0) (refused_f : F → F → Type 0) (took_w : W → List ℕ → W → Type 0)
+    (refused_w : W → W → Type 0) (frames : MutBor F) (wave : MutBor W) (left_f : F) (left_w : W) (count total : ℕ) (outputs : List Output)
+    (old new : Film (MutBor F) (MutBor W))
+    (fresh : HasTaken (lent_took took_f) frames [] old.frames)
+    (text : HasText (lent_took took_w) wave (wav_header (frame_samples * count)) old.wave)
+    (owes : old.wave.owed ≡ frame_samples * count)
+    (count_is : count ≡ total)
+    (writer_f : MutBor F) (writer_w : MutBor W) (same_f : writer_f ≡ new.frames.writer) (same_w : writer_w ≡ new.wave.file.writer)
+    (loan_f : Ends frames writer_f left_f) (loan_w : Ends wave writer_w left_w) where
+  ends_f : Ends frames new.frames.writer left_f
+  ends_f = subst (λ (writer : MutBor F). Ends frames writer left_f) same_f loan_f
+
+  ends_w : Ends wave new.wave.file.writer left_w
+  ends_w = subst (λ (writer : MutBor W). Ends wave writer left_w) same_w loan_w
+
+  abbrev header : List ℕ
+  header = wav_header (frame_samples * total)
+
+  begun : HasText (lent_took took_w) wave header old.wave
+  begun = subst (λ (n : ℕ). HasText (lent_took took_w) wave (wav_header (frame_samples * n)) old.wave) count_is text
+
+  owed : old.wave.owed ≡ frame_samples * total
+  owed = owes ∙ ap (λ (n : ℕ). frame_samples * n) count_is
+
+  broken : (output : Which) (count : ℕ)
+      → Breaks (lent_took took_f) (lent_refused refused_f) (lent_took took_w) (lent_refused refused_w) outputs old output count new
+      → RecordsBroken (writing took_f refused_f frames.now left_f) (writing took_w refused_w wave.now left_w) total outputs output count
+  broken which.Frames count breaks = (
+    has-stopped took_f refused_f frames left_f new.frames (frames_text outputs) count (breaks.frames.after frames [] fresh)
+        (breaks.count_is ∙ breaks.frames.told) ends_f,
+    flushed took_w refused_w wave left_w breaks.wave.answer header breaks.sound (sound_text (frame_samples * total) outputs) old.wave new.wave
+        begun breaks.wave.written (subst (λ n. IsPrefix breaks.sound (sound_text n outputs)) owed breaks.is_prefix) ends_w,
+  )
+  broken which.Wave count breaks = (
+    record {
+      taken = breaks.images;
+      is_prefix = breaks.is_prefix;
+      took = has-taken took_f refused_f frames left_f new.frames breaks.images (breaks.frames.after frames [] fresh) ends_f;
+    },
+    has-stopped took_w refused_w wave left_w new.wave.file (wave_text total outputs) count
+        (subst (λ n. HasStopped (lent_took took_w) (lent_refused refused_w) wave (header ++ sound_text n outputs) new.wave.file) owed
+        (breaks.wave.after wave header begun))
+        (breaks.count_is ∙ breaks.wave.told) ends_w,
+  )
+  broken which.Listing count breaks = absurd breaks
+  broken which.Report count breaks = absurd breaks
+
+  pub records : {A : Type 0} (result : Result A (Which × ℕ))
+      → Performs (lent_took took_f) (lent_refused refused_f) (lent_took took_w) (lent_refused refused_w) outputs old result new
+      → Records (writing took_f refused_f frames.now left_f) (writing took_w refused_w wave.now left_w) total outputs result
+  records (Ok done) performs = (
+    has-taken took_f refused_f frames left_f new.frames (frames_text outputs) (performs.frames.after frames [] fresh) ends_f,
+    has-taken took_w refused_w wave left_w new.wave.file (wave_text total outputs)
+        (subst (λ n. HasTaken (lent_took took_w) wave (header ++ sound_text n outputs) new.wave.file) owed
+        (performs.wave.after wave header begun)) ends_w,
+  )
+  records (Err fault) performs = broken fault.0 fault.1 performs

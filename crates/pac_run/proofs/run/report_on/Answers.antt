@@ -1,0 +1,8 @@
+use Rattle.pac_run.specs.Texts as text
+use Rattle.pac_run.proofs.Lent.{written}
+use Rattle.pac_run.proofs.run.report_on.Goals as goal
+
+pub returns : goal.returns
+returns g c =
+    written g.R.Out.took g.R.Out.refused _ _ c.put_report.result
+    (text.report c.args.outcome c.args.total) c.new-file.result c.put_report.new.output c.new-file.ensures c.put_report.ensures assumption

@@ -1,0 +1,123 @@
+-- What a run plays: the program of the source, the ROM set and the script; or the first of their faults.
+use Rattle.std.specs.Prelude.{◌≡◌, ℕ, List, [], Option, None, Some, option_map, Result, Ok, Err}
+use Rattle.pac_code.specs.Items.{Item, AllLie}
+use Rattle.pac_asm.specs.Programs.{program_of}
+use Rattle.pac_asm.specs.declared.fault.AsmFault.{AsmFault}
+use Rattle.pac_inputs.specs.Script.{script_of}
+use Rattle.pac_inputs.specs.Stretches.{total, held}
+use Rattle.pac_inputs.specs.declared.line.Stretch.{Stretch}
+use Rattle.pac_inputs.specs.declared.fault.ScriptFault.{ScriptFault}
+use Rattle.pac_listing.specs.Listing.{listing, symbol_rows}
+use Rattle.pac_manifest.specs.Manifests.{manifest_of}
+use Rattle.pac_manifest.specs.Sets.{set_of}
+use Rattle.pac_manifest.specs.declared.fault.SetFault.{SetFault}
+use Rattle.pac_manifest.specs.declared.fault.SetError.{SetError}
+use Rattle.pac_manifest.specs.declared.fault.SetError.TheVariants as reading
+use Rattle.pac_manifest.specs.declared.part.Part.{Part}
+use Rattle.pac_program.specs.Programs.{Assembled, items_of}
+use Rattle.pac_roms.specs.Parts.{Parts, IsWhole}
+use Rattle.pac_board.specs.State.{at_power_on}
+use Rattle.pac_step.specs.Trace.{Play}
+use Rattle.pac_run.specs.declared.inputs.RunInputs.{RunInputs}
+use Rattle.pac_run.specs.declared.plan.Prepared.{Prepared}
+use Rattle.pac_run.specs.declared.fault.RunFault.{RunFault}
+use Rattle.pac_run.specs.declared.fault.RunFault.TheVariants as fault
+
+-- what is played on which set, and the listing
+pub record Plan : Type 0 where
+  pub items : List Item
+  pub set : Parts
+  pub play : Play
+  pub listing : List ℕ
+
+-- the first of two questions that is refused, or the answer to both
+infixl 10 ◌>>=◌
+abbrev pub ◌>>=◌ : {A B : Type 0} → Result A RunFault → (A → Result B RunFault) → Result B RunFault
+(Ok value) >>= next = next value
+(Err fault) >>= next = Err fault
+
+-- the program of a source, where there is one
+abbrev pub assembled : Result Assembled AsmFault → Result (Option Assembled) RunFault
+assembled (Ok program) = Ok (Some program)
+assembled (Err refused) = Err (fault.Source refused)
+
+abbrev pub program_in : Option (List ℕ) → Result (Option Assembled) RunFault
+program_in None = Ok None
+program_in (Some source) = assembled (program_of source)
+
+-- the set of a manifest and its files, with the program's ROM where there is a program
+abbrev pub set_told : {A : Type 0} → Result A SetFault → Result A RunFault
+set_told (Ok value) = Ok value
+set_told (Err refused) = Err (fault.Set refused)
+
+abbrev pub set_in : List ℕ → List Part → Option Assembled → Result Parts RunFault
+set_in manifest files program =
+    set_told (manifest_of manifest) >>= λ read. set_told (set_of read files (option_map (λ (it : Assembled). it.rom) program))
+
+-- a fault of the set, or want of memory
+abbrev pub fault_told : SetError → RunFault
+fault_told (reading.Fault refused) = fault.Set refused
+fault_told reading.Memory = fault.NoMemory
+
+-- the script of a text
+abbrev pub script_told : Result (List Stretch) ScriptFault → Result (List Stretch) RunFault
+script_told (Ok script) = Ok script
+script_told (Err refused) = Err (fault.Script refused)
+
+-- the items of a program, and its listing: without a source there are no items and no symbols
+abbrev pub items_in : Option Assembled → List Item
+items_in None = []
+items_in (Some program) = items_of program
+
+abbrev pub listing_in : Option (List ℕ) → Option Assembled → List ℕ
+listing_in (Some source) (Some program) = listing program source
+listing_in source program = symbol_rows []
+
+-- The plan: first the source is judged, then the set, then the script.
+abbrev pub source_in : RunInputs → Option (List ℕ)
+source_in inputs = option_map (λ bytes. bytes.now) inputs.source
+
+-- what is played of a program, a set and a script
+abbrev pub planned : RunInputs → Option Assembled → Parts → List Stretch → Plan
+planned inputs program set script = record {
+  items = items_in program;
+  set = set;
+  play = record { frames = total script; held = held script };
+  listing = listing_in (source_in inputs) program;
+}
+
+unfoldable pub plan_of : RunInputs → Result Plan RunFault
+plan_of inputs = do
+  program ← program_in (source_in inputs)
+  set ← set_in inputs.manifest.now inputs.parts.now program
+  script ← script_told (script_of inputs.script.now)
+  Ok (planned inputs program set script)
+
+-- ---- what is made of them
+
+-- What was returned is what the definition says, unless memory ran out.
+abbrev pub Judges : {A : Type 0} → Result A RunFault → Result A RunFault → Type 0
+Judges (Ok value) defined = defined ≡ Ok value
+Judges (Err fault.NoMemory) defined = Unit {0}
+Judges (Err refusal) defined = defined ≡ Err refusal
+
+-- a program's items lie in its ROM
+abbrev pub LieIn : Option Assembled → Type 0
+LieIn None = Unit {0}
+LieIn (Some program) = AllLie program.rom (items_of program)
+
+-- the set that a run has plays the items of its program
+abbrev pub Plays : Parts → Option Assembled → Type 0
+Plays set program = AllLie set.program (items_in program)
+
+-- the plan, with the board at power-on
+pub record IsPrepared (inputs : RunInputs) (prepared : Prepared) : Type 0 where
+  pub plan_is : plan_of inputs ≡ Ok (planned inputs prepared.program prepared.board.set prepared.script)
+  pub board : prepared.board ≡ at_power_on prepared.board.set inputs.dip
+  pub whole : IsWhole prepared.board.set
+  pub lie : Plays prepared.board.set prepared.program
+
+abbrev pub Prepares : RunInputs → Result Prepared RunFault → Type 0
+Prepares inputs (Ok prepared) = IsPrepared inputs prepared
+Prepares inputs (Err fault.NoMemory) = Unit {0}
+Prepares inputs (Err refusal) = plan_of inputs ≡ Err refusal

@@ -1,0 +1,71 @@
+-- What playing a script on a board comes to: its trace, each output of which is offered to a sink.
+use Rattle.std.specs.Prelude.{◌≡◌, ℕ, List, ◌++◌, Option, None, Some, Result, Ok, Err}
+use mathlib.Core.List.{IsPrefix}
+use Rattle.pac_cpu.specs.declared.once.Stop.{Stop}
+use Rattle.pac_inputs.specs.Stretches.{total, held}
+use Rattle.pac_inputs.specs.declared.line.Stretch.{Stretch}
+use Rattle.pac_step.specs.BoardView.{BoardView}
+use Rattle.pac_step.specs.Output.{Output}
+use Rattle.pac_step.specs.Trace.{Play, by_view, start, trace}
+use Rattle.pac_step.specs.Walk.{Walk}
+use Rattle.pac_board.specs.Sinks.{TookAll, RefusesAt}
+use Rattle.pac_board.specs.State.{BoardValue, State, nothing_due, held as holding}
+use Rattle.pac_board.specs.Calls.{course, given, ran}
+
+-- a board on which nothing happened yet: no time went by, nothing was asked of it, and nothing is due
+abbrev pub untouched : BoardView → State
+untouched view = record { now = start view; asked = 0; due = nothing_due }
+
+abbrev pub IsUntouched : BoardValue → Type 0
+IsUntouched board = board.state ≡ untouched board.state.now.board
+
+-- what a script has a board play, and the run of that on a board
+abbrev pub play_of : List Stretch → Play
+play_of script = record { frames = total script; held = held script }
+
+abbrev pub run_of : BoardValue → List Stretch → Walk BoardView
+run_of board script = trace (by_view board.set) (play_of script) board.state.now.board
+
+-- played to its end, or to a stop: the sink took all outputs
+pub record IsPlayed {S : Type 0} (took : S → Output → S → Type 0) (old : BoardValue) (script : List Stretch) (sink : S) (stop : Option Stop)
+    (new : BoardValue) (later : S)
+    : Type 0 where
+  pub stop_is : stop ≡ (run_of old script).stop
+  pub set : new.set ≡ old.set
+  pub now : new.state.now ≡ (run_of old script).now
+  pub sink_is : TookAll took sink (run_of old script).outputs later
+
+-- the sink took these outputs up to one that it refused
+pub record IsRefusedAmong {S : Type 0} (took refused : S → Output → S → Type 0) (outputs : List Output) (sink later : S) : Type 0 where
+  pub taken : List Output
+  pub left : List Output
+  pub among : IsPrefix (taken ++ left) outputs
+  pub refuses : RefusesAt took refused sink taken left later
+
+abbrev pub Plays : {S E : Type 0} → (S → Output → S → Type 0) → (S → Output → S → Type 0)
+    → BoardValue → List Stretch → S → Result (Option Stop) E → BoardValue → S → Type 0
+Plays took refused old script sink (Ok stop) new later = IsPlayed took old script sink stop new later
+Plays took refused old script sink (Err fault) new later = IsRefusedAmong took refused (run_of old script).outputs sink later
+
+-- ---- a frame
+
+-- its microseconds, which are its 50,688 T-states
+abbrev pub frame_microseconds : ℕ
+frame_microseconds = 16500
+
+-- at its end the inputs of a mask are held from then on; a stop changes none
+abbrev pub after_frame : BoardValue → ℕ → Option Stop → BoardValue
+after_frame board mask None = holding (ran board frame_microseconds) mask
+after_frame board mask (Some stop) = ran board frame_microseconds
+
+pub record IsFrame {S : Type 0} (took : S → Output → S → Type 0) (old : BoardValue) (mask : ℕ) (sink : S) (stop : Option Stop)
+    (new : BoardValue) (later : S)
+    : Type 0 where
+  pub stop_is : stop ≡ (course old frame_microseconds).stop
+  pub board : new ≡ after_frame old mask stop
+  pub sink_is : TookAll took sink (given old frame_microseconds) later
+
+abbrev pub PlaysFrame : {S E : Type 0} → (S → Output → S → Type 0) → (S → Output → S → Type 0)
+    → BoardValue → ℕ → S → Result (Option Stop) E → BoardValue → S → Type 0
+PlaysFrame took refused old mask sink (Ok stop) new later = IsFrame took old mask sink stop new later
+PlaysFrame took refused old mask sink (Err fault) new later = IsRefusedAmong took refused (given old frame_microseconds) sink later

@@ -1,0 +1,63 @@
+//! Why a run has no outcome.
+
+ghost use Rattle.std.specs.Prelude.{◌≡◌, Some};
+ghost use Rattle.pac_run.specs.declared.fault.RunFault.TheVariants.{NoMemory};
+
+use pac_asm::AsmFault;
+use pac_inputs::ScriptFault;
+use pac_manifest::SetFault;
+use std::alloc::AllocError;
+use std::fmt;
+
+/// The outputs of a run.
+#[derive(Clone, Copy, Debug, PartialEq, Eq)]
+pub enum Output {
+    /// The images of the frames.
+    Frames,
+    /// The sound.
+    Wave,
+    /// The listing of the source.
+    Listing,
+    /// The report.
+    Report,
+}
+
+impl fmt::Display for Output {
+    ghost use Rattle.pac_run.specs.Names.{name_of};
+
+    ghost output = { λ output. Some (name_of output) };
+
+    /// Its name.
+    fn fmt<W: fmt::Write>(&self, f: &mut fmt::Formatter<W>) -> fmt::Result {
+        match self {
+            Output::Frames => f.write_str("frames"),
+            Output::Wave => f.write_str("wave"),
+            Output::Listing => f.write_str("listing"),
+            Output::Report => f.write_str("report"),
+        }
+    }
+}
+
+/// Why a run has no outcome. Refusals come in this order, and after one of the first three nothing is written.
+#[derive(Clone, Copy, Debug, PartialEq, Eq)]
+pub enum RunFault {
+    /// The source has a fault.
+    Source(AsmFault),
+    /// The manifest, or the set that it names, has a fault.
+    Set(SetFault),
+    /// The script has a fault.
+    Script(ScriptFault),
+    /// The writer of an output refused after this count of its bytes.
+    Write(Output, u64),
+    /// Memory ran out; nothing was written.
+    NoMemory,
+}
+
+impl From<AllocError> for RunFault {
+    ghost from_gives = { λ _ fault. fault ≡ NoMemory };
+
+    /// A refused allocation is want of memory.
+    fn from(_error: AllocError) -> RunFault {
+        RunFault::NoMemory
+    }
+}

@@ -1,0 +1,120 @@
+//! Where a run's pictures and samples go: the film and the wave file, side by side.
+
+ghost use Rattle.std.specs.Prelude.{◌≡◌, Some, IsSome, IfOk};
+ghost use Rattle.pac_inputs.specs.Stretches.{total};
+ghost use Rattle.pac_run.specs.Films.{film_took, film_refused};
+ghost use Rattle.pac_run.specs.Plays.{IsUntouched, run_of};
+ghost use Rattle.pac_run.specs.Recorded.{GivesUp, HasPlayed, Performs, Records};
+
+use crate::fault::Output;
+use crate::play::play;
+use pac_board::{Board, Refused, Sink};
+use pac_cpu::Stop;
+use pac_inputs::Script;
+use pac_media::{Frames, Image, WaveFile};
+use pac_out::Out;
+use pac_picture::Picture;
+
+/// The film and the wave file of a run, and which of them refused, after how many bytes, if one did.
+#[derive(Drop)]
+pub struct Film<F, W> {
+    /// The images.
+    pub frames: Frames<F>,
+    /// The sound.
+    pub wave: WaveFile<W>,
+    /// The output that refused, and the count of the bytes that it took.
+    pub fault: Option<(Output, u64)>,
+}
+
+impl<F: Out, W: Out> Sink for Film<F, W> {
+    ghost took = { film_took F.took W.took };
+
+    ghost refused = { film_refused F.took F.refused W.took W.refused };
+
+    /// Puts the sample into the wave file.
+    fn sample(&mut self, sample: i16) -> Result<(), Refused> {
+        match self.wave.put(sample) {
+            Ok(()) => Ok(()),
+            Err(fault) => {
+                self.fault = Some((Output::Wave, fault.count));
+                Err(Refused)
+            }
+        }
+    }
+
+    /// Puts the picture's image into the film.
+    fn picture(&mut self, picture: &Picture) -> Result<(), Refused> {
+        match self.frames.put(picture) {
+            Ok(()) => Ok(()),
+            Err(fault) => {
+                self.fault = Some((Output::Frames, fault.count));
+                Err(Refused)
+            }
+        }
+    }
+}
+
+/// The samples of a frame.
+const FRAME_SAMPLES: u32 = 1584;
+
+impl<F: Out, W: Out> Film<F, W> {
+    /// The output that refused. Where that is the film, the samples that came before are still written.
+    fn give_up(&mut self) -> (Output, u64)
+        requires { IsSome self.old.fault }
+        ensures told { Some result ≡ self.old.fault }
+        ensures left { GivesUp W.took W.refused self.old result.0 self.new }
+    {
+        let fault = self.fault.unwrap();
+        if let Output::Frames = fault.0 {
+            let _ = self.wave.flush();
+        }
+        fault
+    }
+
+    /// Plays the script: all that the board gives out is written, and zeros for the samples that never came. Answers the stop, if
+    /// there was one, or the output that refused, after how many bytes.
+    fn perform(&mut self, board: &mut Board, script: &Script) -> Result<Option<Stop>, (Output, u64)>
+        requires { IsUntouched board.old }
+        ensures played { IfOk result (λ stop. HasPlayed board.old script.now stop board.new) }
+        ensures film { Performs F.took F.refused W.took W.refused (run_of board.old script.now).outputs self.old result self.new }
+    {
+        match play(board, script, self) {
+            Ok(stop) => match self.wave.finish() {
+                Ok(()) => Ok(stop),
+                Err(fault) => Err((Output::Wave, fault.count)),
+            },
+            Err(_) => Err(self.give_up()),
+        }
+    }
+}
+
+/// Plays the script on a board at power-on, and writes frames and wave.
+pub fn record_run<F: Out, W: Out>(
+    board: &mut Board,
+    script: &Script,
+    image: Image,
+    frames: &mut F,
+    wave: &mut W,
+) -> Result<Option<Stop>, (Output, u64)>
+    requires { IsUntouched board.old }
+    ensures played { IfOk result (λ stop. HasPlayed board.old script.now stop board.new) }
+    ensures texts { Records
+        (record { took = F.took; refused = F.refused; old = frames.old; new = frames.new })
+        (record { took = W.took; refused = W.refused; old = wave.old; new = wave.new })
+        (total script.now) (run_of board.old script.now).outputs result }
+{
+    let mut film = Film {
+        frames: Frames::new(frames, image),
+        wave: WaveFile::begin(wave, FRAME_SAMPLES * script.frames()),
+        fault: None,
+    };
+    let recorded = film.perform(board, script);
+    let Film {
+        frames,
+        wave,
+        fault: _,
+    } = film;
+    let _ = frames.into_writer();
+    let _ = wave.into_writer();
+    recorded
+}

@@ -1,0 +1,17 @@
+//! A run: a source, a ROM set and a script become frames, sound, a listing and a report.
+#![tactic(auto)]
+
+mod fault;
+mod film;
+mod inputs;
+mod outcome;
+mod pieces;
+mod plan;
+mod play;
+mod report;
+pub mod run;
+
+pub use fault::{Output, RunFault};
+pub use inputs::RunInputs;
+pub use outcome::Outcome;
+pub use run::run_all;

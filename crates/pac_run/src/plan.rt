@@ -1,0 +1,144 @@
+//! What a run plays, made from what it is given. All of its memory is found here.
+
+ghost use Rattle.std.specs.Prelude.{◌≡◌, length, option_map, option_copied, IfOk, IfErr, IfSome};
+ghost use Rattle.pac_board.specs.State.{at_power_on};
+ghost use Rattle.pac_inputs.specs.Script.{script_of};
+ghost use Rattle.pac_program.specs.Programs.{Assembled};
+ghost use Rattle.pac_roms.specs.Parts.{IsWhole, program_size};
+ghost use Rattle.pac_run.specs.declared.fault.RunFault.TheVariants.{NoMemory};
+ghost use Rattle.pac_run.specs.Plan.{program_in, set_in, script_told, fault_told, Judges, LieIn, Prepares};
+
+use crate::fault::RunFault;
+use crate::inputs::RunInputs;
+use pac_asm::{AsmError, assemble};
+use pac_board::Board;
+use pac_inputs::{Script, ScriptError, read_script};
+use pac_manifest::{Part, SetError, load_set, read_manifest};
+use pac_media::Image;
+use pac_program::Program;
+use pac_roms::RomSet;
+use std::alloc::Global;
+
+/// What a run plays, and room for its images.
+#[derive(Drop)]
+pub struct Prepared {
+    /// The program of the source, if there is one.
+    pub program: Option<Program>,
+    /// The board at power-on.
+    pub board: Board,
+    /// The script.
+    pub script: Script,
+    /// Room for an image.
+    pub image: Image,
+}
+
+/// The program of a source, where there is one.
+fn program(alloc: Global, source: Option<&[u8]>) -> Result<Option<Program>, RunFault>
+    ensures exact { Judges result (program_in (option_copied source.entry)) }
+    ensures lie { IfOk result LieIn }
+{
+    let Some(source) = source else {
+        return Ok(None);
+    };
+    match assemble(alloc, source) {
+        Ok(program) => Ok(Some(program)),
+        Err(AsmError::Fault(fault)) => Err(RunFault::Source(fault)),
+        Err(AsmError::Memory) => Err(RunFault::NoMemory),
+    }
+}
+
+/// A fault of the set, or want of memory.
+fn set_fault(error: SetError) -> RunFault
+    ensures { result ≡ fault_told error }
+{
+    match error {
+        SetError::Fault(fault) => RunFault::Set(fault),
+        SetError::Memory => RunFault::NoMemory,
+    }
+}
+
+/// The ROM of a program, where there is one.
+fn rom_in(program: &Option<Program>) -> Option<&[u8]>
+    ensures rom { option_copied result ≡ option_map (λ (it : Assembled). it.rom) program.now }
+    ensures size { IfSome result (λ rom. length rom.now ≡ program_size) }
+{
+    match program {
+        Some(program) => Some(program.rom()),
+        None => None,
+    }
+}
+
+/// Each part of a set has its size: a law, with nothing to run.
+fn is_whole(set: &RomSet)
+    ensures { IsWhole set.now }
+{
+    let _ = set.program();
+    let _ = set.tiles();
+    let _ = set.sprites();
+    let _ = set.colours();
+    let _ = set.lookup();
+    let _ = set.wave();
+}
+
+/// The ROM set of a manifest and its files, with the program's ROM where there is a program.
+fn set(
+    alloc: Global,
+    manifest: &[u8],
+    files: &[Part<'_>],
+    program: &Option<Program>,
+) -> Result<RomSet, RunFault>
+    ensures exact { Judges result (set_in manifest.now files.now program.now) }
+    ensures whole { IfOk result IsWhole }
+{
+    let manifest = match read_manifest(alloc, manifest) {
+        Ok(manifest) => manifest,
+        Err(error) => return Err(set_fault(error)),
+    };
+    match load_set(alloc, &manifest, files, rom_in(program)) {
+        Ok(set) => {
+            is_whole(&set);
+            Ok(set)
+        }
+        Err(error) => Err(set_fault(error)),
+    }
+}
+
+/// The script of a text.
+fn script(alloc: Global, text: &[u8]) -> Result<Script, RunFault>
+    ensures { Judges result (script_told (script_of text.now)) }
+{
+    match read_script(alloc, text) {
+        Ok(script) => Ok(script),
+        Err(ScriptError::Fault(fault)) => Err(RunFault::Script(fault)),
+        Err(ScriptError::Memory) => Err(RunFault::NoMemory),
+    }
+}
+
+/// The board of a set at power-on, and room for an image.
+fn board(alloc: Global, set: RomSet, switches: u8) -> Result<(Board, Image), RunFault>
+    ensures err { IfErr result (λ fault. fault ≡ NoMemory) }
+    ensures ok { IfOk result (λ made. made.0 ≡ at_power_on set switches) }
+{
+    let image = Image::new(alloc)?;
+    match Board::init(alloc, set, switches) {
+        Ok(board) => Ok((board, image)),
+        Err(_) => Err(RunFault::NoMemory),
+    }
+}
+
+/// What is played: the source is judged first, then the set, then the script.
+#[tactic(auto, unfolding(crate::specs::Plan::plan_of))]
+pub fn prepare(alloc: Global, inputs: &RunInputs) -> Result<Prepared, RunFault>
+    ensures { Prepares inputs.now result }
+{
+    let program = program(alloc, inputs.source)?;
+    let set = set(alloc, inputs.manifest, inputs.parts, &program)?;
+    let script = script(alloc, inputs.script)?;
+    let (board, image) = board(alloc, set, inputs.dip)?;
+    Ok(Prepared {
+        program,
+        board,
+        script,
+        image,
+    })
+}

@@ -1,0 +1,141 @@
+//! The run as one call.
+
+ghost use Rattle.std.specs.Prelude.{◌≡◌, ◌/◌, ◌^◌, ◌<◌, option_copied};
+ghost use Rattle.pac_out.specs.Counted.{Puts};
+ghost use Rattle.pac_step.specs.Step.{frame_ticks};
+ghost use Rattle.pac_run.specs.Plan.{listing_in, IsPrepared};
+ghost use Rattle.pac_run.specs.Recorded.{Written, outcome_at};
+ghost use Rattle.pac_run.specs.Run.{Runs};
+ghost use Rattle.pac_run.specs.Texts as text;
+
+use crate::fault::{Output, RunFault};
+use crate::film::record_run;
+use crate::inputs::RunInputs;
+use crate::outcome::Outcome;
+use crate::plan::{Prepared, prepare};
+use crate::report::put_report;
+use pac_board::Board;
+use pac_cpu::Stop;
+use pac_inputs::Script;
+use pac_listing::write_listing;
+use pac_media::Image;
+use pac_out::counted::Counted;
+use pac_out::{Out, WriteFault};
+use pac_program::Program;
+use std::alloc::Global;
+
+/// The T-states of a frame.
+const FRAME_TICKS: u64 = 50_688;
+
+/// Puts the listing into its file: without a source it has no lines and no symbols.
+fn put_listing<L: Out>(
+    file: &mut Counted<L>,
+    source: Option<&[u8]>,
+    program: &Option<Program>,
+) -> Result<(), WriteFault>
+    ensures { Puts L.took L.refused file.old (listing_in (option_copied source.entry) program.now) result file.new }
+{
+    match (source, program) {
+        (Some(source), Some(program)) => write_listing(file, program, source),
+        _ => file.put(b"SYMBOLS\n"),
+    }
+}
+
+/// Writes the listing.
+fn list<L: Out>(
+    listing: &mut L,
+    source: Option<&[u8]>,
+    program: &Option<Program>,
+) -> Result<(), WriteFault>
+    ensures { Written (record { took = L.took; refused = L.refused; old = listing.old; new = listing.new })
+        (listing_in (option_copied source.entry) program.now) result }
+{
+    let mut file = Counted::new(listing);
+    put_listing(&mut file, source, program)
+}
+
+/// Writes the report of what a run of so many frames came to.
+fn report_on<R: Out>(report: &mut R, outcome: Outcome, total: u32) -> Result<(), WriteFault>
+    ensures { Written (record { took = R.took; refused = R.refused; old = report.old; new = report.new })
+        (text.report outcome total) result }
+{
+    let mut file = Counted::new(report);
+    put_report(&mut file, outcome, total)
+}
+
+/// What a run came to that ended on this board.
+fn outcome_of(board: &Board, stop: Option<Stop>) -> Outcome
+    requires { board.now.state.now.time / frame_ticks < 2 ^ 32 }
+    ensures { result ≡ outcome_at board.now.state.now stop }
+{
+    Outcome {
+        frames: (board.time() / FRAME_TICKS) as u32,
+        steps: board.steps(),
+        ticks: board.time(),
+        stop,
+    }
+}
+
+/// Writes all that a run gives out, in order: the listing, then wave and frames, then the report.
+fn write_all<F: Out, W: Out, L: Out, R: Out>(
+    inputs: &RunInputs,
+    program: &Option<Program>,
+    script: &Script,
+    image: Image,
+    board: &mut Board,
+    frames: &mut F,
+    wave: &mut W,
+    listing: &mut L,
+    report: &mut R,
+) -> Result<Outcome, RunFault>
+    requires { IsPrepared inputs.now (record { program = program.now; board = board.old; script = script.now; image = image }) }
+    ensures { Runs inputs.now (record {
+      frames = record { took = F.took; refused = F.refused; old = frames.old; new = frames.new };
+      wave = record { took = W.took; refused = W.refused; old = wave.old; new = wave.new };
+      listing = record { took = L.took; refused = L.refused; old = listing.old; new = listing.new };
+      report = record { took = R.took; refused = R.refused; old = report.old; new = report.new };
+    }) result }
+{
+    let total = script.frames();
+    if let Err(fault) = list(listing, inputs.source, program) {
+        return Err(RunFault::Write(Output::Listing, fault.count));
+    }
+    let stop = match record_run(board, script, image, frames, wave) {
+        Ok(stop) => stop,
+        Err((output, count)) => return Err(RunFault::Write(output, count)),
+    };
+    let outcome = outcome_of(board, stop);
+    match report_on(report, outcome, total) {
+        Ok(()) => Ok(outcome),
+        Err(fault) => Err(RunFault::Write(Output::Report, fault.count)),
+    }
+}
+
+/// Runs a source, or the program of a ROM set, on the board while a script holds its inputs. To four outputs go the images of the
+/// frames whose vertical blank came, as binary PPM one after another; the sound, as a wave file; the listing; and the report.
+/// Source, set and script are judged, in this order, and all memory is found before anything is written.
+pub fn run_all<F: Out, W: Out, L: Out, R: Out>(
+    alloc: Global,
+    inputs: &RunInputs,
+    frames: &mut F,
+    wave: &mut W,
+    listing: &mut L,
+    report: &mut R,
+) -> Result<Outcome, RunFault>
+    ensures { Runs inputs.now (record {
+      frames = record { took = F.took; refused = F.refused; old = frames.old; new = frames.new };
+      wave = record { took = W.took; refused = W.refused; old = wave.old; new = wave.new };
+      listing = record { took = L.took; refused = L.refused; old = listing.old; new = listing.new };
+      report = record { took = R.took; refused = R.refused; old = report.old; new = report.new };
+    }) result }
+{
+    let Prepared {
+        program,
+        mut board,
+        script,
+        image,
+    } = prepare(alloc, inputs)?;
+    write_all(
+        inputs, &program, &script, image, &mut board, frames, wave, listing, report,
+    )
+}
