@@ -1,5 +1,5 @@
 -- The answers of a run, one by one.
-use Rattle.std.proofs.Common.{◌≡◌, ℕ, List, Option, None, Some, Result, Ok, Err, refl, sym, ap, subst, ◌∙◌}
+use Rattle.std.proofs.Common.{◌≡◌, ℕ, List, Option, None, Some, Result, Ok, Err, subst, ◌∙◌}
 use Rattle.pac_asm.specs.declared.fault.AsmFault.{AsmFault}
 use Rattle.pac_asm.specs.Programs.{program_of}
 use Rattle.pac_cpu.specs.declared.once.Stop.{Stop}
@@ -10,7 +10,6 @@ use Rattle.pac_inputs.specs.declared.fault.ScriptFault.{ScriptFault}
 use Rattle.pac_manifest.specs.Manifests.{manifest_of}
 use Rattle.pac_manifest.specs.Sets.{set_of}
 use Rattle.pac_manifest.specs.declared.fault.SetFault.{SetFault}
-use Rattle.pac_out.specs.declared.WriteFault.{WriteFault}
 use Rattle.pac_program.specs.Programs.{Assembled}
 use Rattle.pac_step.specs.Output.{Output}
 use Rattle.pac_board.specs.State.{BoardValue}
@@ -21,11 +20,12 @@ use Rattle.pac_run.specs.declared.fault.RunFault.TheVariants as fault
 use Rattle.pac_run.specs.declared.inputs.RunInputs.{RunInputs}
 use Rattle.pac_run.specs.declared.outcome.Outcome.{Outcome}
 use Rattle.pac_run.specs.declared.plan.Prepared.{Prepared}
-use Rattle.pac_run.specs.Plan.{◌>>=◌, plan_of, planned, program_in, source_in, assembled, set_in, set_told, script_told, IsPrepared, Prepares}
+use Rattle.pac_run.specs.Plan.{◌>>=◌, plan_of, planned, program_in, source_in, assembled}
+use Rattle.pac_run.specs.Plan.{set_in, set_told, script_told, IsPrepared, Prepares}
 use Rattle.pac_run.specs.Plays.{run_of}
-use Rattle.pac_run.specs.Recorded.{Written, Records, RecordsBroken, HasPlayed, outcome_at}
-use Rattle.pac_run.specs.Run.{Writing, Writers, Untouched, Took, TookSome, TookPrefix, Stopped, NothingWritten, Runs, IsWhole, IsCutAt, WithPlan}
-use Rattle.pac_run.specs.Run.{trace_of, outcome_of, frames_text, wave_text, report_text}
+use Rattle.pac_run.specs.Recorded.{RecordsBroken, HasPlayed, outcome_at}
+use Rattle.pac_run.specs.Run.{Writers, Untouched, Took, TookSome, TookPrefix, Stopped, NothingWritten, Runs, IsCutAt}
+use Rattle.pac_run.specs.Run.{trace_of, outcome_of}
 use Rattle.pac_run.specs.Texts as text
 use Rattle.pac_run.proofs.Traced.{same-outputs, same-outcome}
 

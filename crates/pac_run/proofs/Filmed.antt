@@ -1,5 +1,5 @@
 -- What a film and a wave file have after all outputs of a list, and after a refusal among them.
-use Rattle.std.proofs.Common.{◌≡◌, ℕ, ℤ, pos, suc, ◌+◌, ◌-◌, List, [], ◌∷◌, ◌++◌, length, replicate, Option, Some, None, IsSome, Result, Ok, Err}
+use Rattle.std.proofs.Common.{◌≡◌, ℕ, ℤ, pos, ◌-◌, List, [], ◌∷◌, ◌++◌, length, replicate, Some, IsSome, Ok}
 use Rattle.std.proofs.Common.{refl, sym, ap, subst, ◌∙◌, append_assoc, append-nil, arith}
 use Rattle.std.proofs.lemmas.Grind.{flat_map-append}
 use Rattle.std.specs.List.{flat_map}
@@ -20,7 +20,7 @@ use Rattle.pac_run.specs.declared.fault.Output.TheVariants as which
 use Rattle.pac_run.specs.declared.film.Film.{Film}
 use Rattle.pac_run.specs.Films.{film_took, film_refused, RefusedSample, RefusedImage}
 use Rattle.pac_run.specs.Recorded.{sound_text, IsRecorded, SoundBreaks, FilmBreaks, Breaks, IsFlushed, GivesUp}
-use Rattle.pac_run.specs.Texts.{pictures_in, samples_in, frames_text, filled}
+use Rattle.pac_run.specs.Texts.{pictures_in, samples_in, frames_text}
 
 -- ---- texts of lists that are put together
 
@@ -162,7 +162,8 @@ module _ {F W : Type 0} (took_f : F → List ℕ → F → Type 0) (refused_f : 
       (record {
         told = refused.told;
         count_is = same;
-        wave = subst (λ bytes. Fails took_w refused_w old.wave bytes refused.told mid.wave) whole (fails-within film.wave refused.wave more);
+        wave = subst (λ bytes. Fails took_w refused_w old.wave bytes refused.told mid.wave) whole
+            (fails-within film.wave refused.wave more);
         images = frames_text taken;
         is_prefix = (frames_text (Sound sample ∷ rest), sym (frames-append taken (Sound sample ∷ rest)));
         frames = subst (λ file. Takes took_f old.frames (frames_text taken) file) (sym refused.frames) film.frames;
@@ -221,4 +222,5 @@ module _ {F W : Type 0} (took_f : F → List ℕ → F → Type 0) (refused_f : 
       sym (append_assoc taken (refuses.first ∷ refuses.rest) among.0)
       ∙ (ap (λ left. (taken ++ left) ++ among.0) (sym refuses.left_is) ∙ among.1) in
       subst (λ outputs. Breaks took_f refused_f took_w refused_w outputs old fault.0 fault.1 new) all
-      (broke refuses.first taken rest old refuses.asked mid new fault (filmed taken old refuses.asked refuses.before) refuses.refusal told gives)
+      (broke refuses.first taken rest old refuses.asked mid new fault (filmed taken old refuses.asked refuses.before) refuses.refusal
+      told gives)

@@ -15,7 +15,7 @@ use Rattle.pac_run.specs.declared.fault.Output.{Output as Which}
 use Rattle.pac_run.specs.declared.fault.Output.TheVariants as which
 use Rattle.pac_run.specs.declared.film.Film.{Film}
 use Rattle.pac_run.specs.Recorded.{sound_text, Performs, Breaks, Records, RecordsBroken, Written}
-use Rattle.pac_run.specs.Run.{Writing, Took, TookPrefix, TookSome, Stopped}
+use Rattle.pac_run.specs.Run.{Writing, TookSome, Stopped}
 use Rattle.pac_run.specs.Texts.{frames_text, wave_text, frame_samples}
 
 -- a writer before a run and after it
@@ -111,7 +111,8 @@ module _ {F W : Type 0} (took_f : F → List ℕ → F → Type 0) (refused_f : 
   broken which.Frames count breaks = (
     has-stopped took_f refused_f frames left_f new.frames (frames_text outputs) count (breaks.frames.after frames [] fresh)
         (breaks.count_is ∙ breaks.frames.told) ends_f,
-    flushed took_w refused_w wave left_w breaks.wave.answer header breaks.sound (sound_text (frame_samples * total) outputs) old.wave new.wave
+    flushed took_w refused_w wave left_w breaks.wave.answer header breaks.sound (sound_text (frame_samples * total) outputs) old.wave
+        new.wave
         begun breaks.wave.written (subst (λ n. IsPrefix breaks.sound (sound_text n outputs)) owed breaks.is_prefix) ends_w,
   )
   broken which.Wave count breaks = (

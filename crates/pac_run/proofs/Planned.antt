@@ -1,7 +1,7 @@
 -- A set that plays a program has the program's ROM, in which the program's items lie.
 use Rattle.std.proofs.Common.{◌≡◌, ℕ, List, Option, None, Some, option_map, Result, Ok, Err, refl, sym, subst, ap, ◌∙◌, true}
 use Rattle.std.proofs.lemmas.Bool.{false≢true}
-use Rattle.std.specs.Prelude.{is_some, is_ok}
+use Rattle.std.specs.Prelude.{is_ok}
 use Rattle.std.proofs.lemmas.Result.{IfOk-at_ok}
 use Rattle.std.proofs.lemmas.List.Elements.{All-nil}
 use Rattle.pac_code.specs.Items.{AllLie, Lies}
@@ -23,7 +23,7 @@ use Rattle.pac_roms.specs.Parts.{IsWhole}
 use Rattle.pac_board.specs.State.{BoardValue, at_power_on}
 use Rattle.pac_run.specs.declared.inputs.RunInputs.{RunInputs}
 use Rattle.pac_run.specs.Plan.{◌>>=◌, set_told, set_in, fault_told, script_told, items_in, LieIn, Judges, IsPrepared}
-use Rattle.pac_run.specs.Plan.{Plan, program_in, source_in, plan_of, planned}
+use Rattle.pac_run.specs.Plan.{program_in, source_in, plan_of, planned}
 
 pub err-ok : {A : Type 0} (refused : RunFault) (value : A) → ◌≡◌ {A = Result A RunFault} (Err refused) (Ok value) → ⊥
 err-ok refused value e = false≢true (ap is_ok e)
@@ -47,17 +47,20 @@ items-lie manifest files (Some program) set e lie =
     subst (λ rom. AllLie rom (items_of program)) (read-program (manifest_of manifest) files program set e) lie
 
 -- a fault of the set, or want of memory
-pub refused-set : (manifest : List ℕ) (files : List Part) (program : Option Assembled) (read : Manifest) (rom : Option (List ℕ)) (error : SetError)
+pub refused-set : (manifest : List ℕ) (files : List Part) (program : Option Assembled) (read : Manifest) (rom : Option (List ℕ))
+    (error : SetError)
     → manifest_of manifest ≡ Ok read → rom ≡ option_map (λ (it : Assembled). it.rom) program
     → Gives {A = Parts} (Err error) (set_of read files rom) → Judges {A = Parts} (Err (fault_told error)) (set_in manifest files program)
 refused-set manifest files program read rom reading.Memory m r gives = tt
 refused-set manifest files program read rom (reading.Fault refused) m r gives =
-    ap (λ (it : Result Manifest SetFault). set_told it >>= λ one. set_told (set_of one files (option_map (λ (it : Assembled). it.rom) program))) m
+    ap (λ (it : Result Manifest SetFault). set_told it >>= λ one.
+    set_told (set_of one files (option_map (λ (it : Assembled). it.rom) program))) m
     ∙ (ap (λ it. set_told (set_of read files it)) (sym r)
     ∙ ap set_told gives)
 
 -- the plan of inputs, of which each part is told
-plan-is : (inputs : RunInputs) (program : Option Assembled) (set : Parts) (script : List Stretch) → program_in (source_in inputs) ≡ Ok program
+plan-is : (inputs : RunInputs) (program : Option Assembled) (set : Parts) (script : List Stretch)
+    → program_in (source_in inputs) ≡ Ok program
     → set_in inputs.manifest.now inputs.parts.now program ≡ Ok set → script_told (script_of inputs.script.now) ≡ Ok script
     → plan_of inputs ≡ Ok (planned inputs program set script)
 unfolding plan_of

@@ -2,7 +2,6 @@
 use Rattle.std.proofs.Common.{◌≡◌, ℕ, zero, suc, ◌+◌, ◌-◌, ◌*◌, ◌/◌, ◌<◌, ◌≤◌, List, [], ◌++◌, Option, None, Some, Err}
 use Rattle.std.proofs.Common.{true, false, is_some, refl, sym, ap, subst, ◌∙◌, append_assoc, arith}
 use Rattle.std.proofs.lemmas.List.{append-nil}
-use mathlib.Core.List.{IsPrefix}
 use Rattle.pac_cpu.specs.declared.once.Stop.{Stop}
 use Rattle.pac_inputs.specs.Stretches.{total, held}
 use Rattle.pac_inputs.specs.declared.line.Stretch.{Stretch}
@@ -10,8 +9,8 @@ use Rattle.pac_map.specs.Entry.{Hold}
 use Rattle.pac_step.specs.BoardView.{BoardView, board_after}
 use Rattle.pac_step.specs.Laws.{by_frames, next_frame, with_frame}
 use Rattle.pac_step.specs.Output.{Output}
-use Rattle.pac_step.specs.Step.{Questions, Moment, Next, step, frame_ticks}
-use Rattle.pac_step.specs.Trace.{by_view, turned}
+use Rattle.pac_step.specs.Step.{Questions, step, frame_ticks}
+use Rattle.pac_step.specs.Trace.{by_view}
 use Rattle.pac_step.specs.Walk.{Walk, walk_to}
 use Rattle.pac_step.proofs.Runs.{runs-go-by-frames, walk-near}
 use Rattle.pac_step.proofs.Walks.{goes-on, open-is-late, step-timely, walk-to-ends}
@@ -48,7 +47,8 @@ frame-refused took refused old new microseconds sink later told =
 pub frame-failed : {S : Type 0} (took refused : S → Output → S → Type 0) (old new : BoardValue) (microseconds : ℕ) (sink later : S)
     (fault : Fault) → old.state.asked + microseconds ≤ most_asked → Runs took refused old microseconds sink (Err fault) new later
     → IsRefusedAmong took refused (given old microseconds) sink later
-frame-failed took refused old new microseconds sink later Refused within told = frame-refused took refused old new microseconds sink later told
+frame-failed took refused old new microseconds sink later Refused within told =
+    frame-refused took refused old new microseconds sink later told
 frame-failed took refused old new microseconds sink later TooFar within told = let far = told.0 in absurd (omega arith)
 
 -- ---- a frame's microseconds are its T-states
@@ -96,7 +96,8 @@ module _ (ask : Questions BoardView) (script : ℕ → ℕ) (view : BoardView) w
       let before = stays frames more stop met in
       let same : suc more + frames ≡ suc (more + frames) = omega arith in
       ap so_far same
-      ∙ ap (next_frame ask script (suc (more + frames)) (so_far (more + frames))) (ap (λ (w : Walk BoardView). w.stop) before ∙ met) ∙ before
+      ∙ ap (next_frame ask script (suc (more + frames)) (so_far (more + frames))) (ap (λ (w : Walk BoardView). w.stop) before ∙ met)
+      ∙ before
 
   -- its outputs only grow
   next-outputs : (frames : ℕ) (before : Walk BoardView) (stop : Option Stop)

@@ -1,22 +1,20 @@
 -- A board that plays a plan, and the plan's trace.
-use Rattle.std.proofs.Common.{◌≡◌, ℕ, ◌+◌, ◌*◌, ◌/◌, ◌^◌, ◌<◌, ◌≤◌, List, Option, Result, Ok, Err, refl, sym, ap, subst, ◌∙◌, arith}
+use Rattle.std.proofs.Common.{◌≡◌, ◌*◌, ◌/◌, ◌^◌, ◌<◌, ◌≤◌, Option, refl, sym, ap, subst, ◌∙◌, arith}
 use Rattle.pac_cpu.specs.declared.once.Stop.{Stop}
 use Rattle.pac_inputs.specs.Stretches.{total, held, most_frames}
-use Rattle.pac_map.specs.Entry.{Entry, Hold}
+use Rattle.pac_map.specs.Entry.{Hold}
 use Rattle.pac_step.specs.BoardView.{BoardView, power_on}
 use Rattle.pac_step.specs.Carried.{walk_view}
 use Rattle.pac_step.specs.History.{board_of}
-use Rattle.pac_step.specs.Output.{Output}
 use Rattle.pac_step.specs.Step.{Moment, frame_ticks}
-use Rattle.pac_step.specs.Trace.{Play, by_view, play_step, start, trace, frame_steps}
+use Rattle.pac_step.specs.Trace.{by_view, play_step, start, trace, frame_steps}
 use Rattle.pac_step.specs.Walk.{Walk}
 use Rattle.pac_step.proofs.Agreed.{runs-agree}
 use Rattle.pac_step.proofs.Outputs.{outputs-timed}
 use Rattle.pac_step.proofs.Runs.{walk-near}
 use Rattle.pac_step.proofs.Walks.{play-timely}
-use Rattle.pac_board.specs.State.{BoardValue, at_power_on}
+use Rattle.pac_board.specs.State.{BoardValue}
 use Rattle.pac_run.specs.declared.inputs.RunInputs.{RunInputs}
-use Rattle.pac_run.specs.declared.outcome.Outcome.{Outcome}
 use Rattle.pac_run.specs.declared.plan.Prepared.{Prepared}
 use Rattle.pac_run.specs.Plan.{Plan, planned, items_in, IsPrepared}
 use Rattle.pac_run.specs.Plays.{IsUntouched, play_of, run_of}
@@ -41,7 +39,8 @@ module _ (inputs : RunInputs) (prepared : Prepared) (ready : IsPrepared inputs p
   untouched-board = subst IsUntouched (sym ready.board) refl
 
   -- its run is that of the plan's history
-  same-run : run_of prepared.board prepared.script ≡ walk_view (board_of prepared.board.set (power_on inputs.dip)) (trace_of plan inputs.dip)
+  same-run : run_of prepared.board prepared.script
+      ≡ walk_view (board_of prepared.board.set (power_on inputs.dip)) (trace_of plan inputs.dip)
   same-run =
       ap (λ (board : BoardValue). trace (by_view prepared.board.set) (play_of prepared.script) board.state.now.board) ready.board
       ∙ sym (runs-agree prepared.board.set (items_in prepared.program) inputs.dip (frame_steps * total prepared.script)

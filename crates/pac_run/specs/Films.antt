@@ -1,5 +1,5 @@
 -- What the film and the wave file of a run, side by side, make of an output of the board.
-use Rattle.std.specs.Prelude.{◌≡◌, ℕ, ℤ, ◌-◌, List, Option, Some}
+use Rattle.std.specs.Prelude.{◌≡◌, ℕ, ℤ, ◌-◌, List, Some}
 use Rattle.pac_out.specs.Counted.{Takes, Refuses}
 use Rattle.pac_out.specs.declared.WriteFault.{WriteFault}
 use Rattle.pac_media.specs.Images.{ppm_of}

@@ -61,7 +61,8 @@ pub record FilmBreaks {F W : Type 0} (took_f : F → List ℕ → F → Type 0) 
 
 abbrev pub Breaks : {F W : Type 0} → (F → List ℕ → F → Type 0) → (F → F → Type 0) → (W → List ℕ → W → Type 0) → (W → W → Type 0)
     → List Output → Film F W → Which → ℕ → Film F W → Type 0
-Breaks took_f refused_f took_w refused_w outputs old which.Frames count new = FilmBreaks took_f refused_f took_w refused_w outputs old count new
+Breaks took_f refused_f took_w refused_w outputs old which.Frames count new =
+    FilmBreaks took_f refused_f took_w refused_w outputs old count new
 Breaks took_f refused_f took_w refused_w outputs old which.Wave count new = SoundBreaks took_f took_w refused_w outputs old count new
 Breaks took_f refused_f took_w refused_w outputs old which.Listing count new = ⊥
 Breaks took_f refused_f took_w refused_w outputs old which.Report count new = ⊥

@@ -1,11 +1,11 @@
 -- What a run writes and answers.
-use Rattle.std.specs.Prelude.{◌≡◌, ℕ, ◌/◌, List, [], Option, Result, Ok, Err, ◌⊎◌}
+use Rattle.std.specs.Prelude.{◌≡◌, ℕ, List, [], Result, Ok, Err, ◌⊎◌}
 use mathlib.Core.List.{IsPrefix}
 use Rattle.pac_out.specs.Counted.{counted}
 use Rattle.pac_out.specs.Writes.{StopsAfter}
 use Rattle.pac_map.specs.Entry.{Entry}
 use Rattle.pac_step.specs.BoardView.{power_on}
-use Rattle.pac_step.specs.Shown.{outputs_of, blanks}
+use Rattle.pac_step.specs.Shown.{blanks}
 use Rattle.pac_step.specs.Trace.{by_history, trace}
 use Rattle.pac_step.specs.Walk.{Walk}
 use Rattle.pac_run.specs.declared.fault.Output.{Output}

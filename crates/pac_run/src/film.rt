@@ -71,8 +71,8 @@ impl<F: Out, W: Out> Film<F, W> {
         fault
     }
 
-    /// Plays the script: all that the board gives out is written, and zeros for the samples that never came. Answers the stop, if
-    /// there was one, or the output that refused, after how many bytes.
+    /// Plays the script: all that the board gives out is written, and zeros for the samples that never came.
+    /// Answers the stop, if there was one, or the output that refused, after how many bytes.
     fn perform(&mut self, board: &mut Board, script: &Script) -> Result<Option<Stop>, (Output, u64)>
         requires { IsUntouched board.old }
         ensures played { IfOk result (λ stop. HasPlayed board.old script.now stop board.new) }

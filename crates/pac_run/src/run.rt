@@ -111,9 +111,10 @@ fn write_all<F: Out, W: Out, L: Out, R: Out>(
     }
 }
 
-/// Runs a source, or the program of a ROM set, on the board while a script holds its inputs. To four outputs go the images of the
-/// frames whose vertical blank came, as binary PPM one after another; the sound, as a wave file; the listing; and the report.
-/// Source, set and script are judged, in this order, and all memory is found before anything is written.
+/// Runs a source, or the program of a ROM set, on the board while a script holds its inputs. To four outputs go the
+/// images of the frames whose vertical blank came, as binary PPM one after another; the sound, as a wave file; the
+/// listing; and the report. Source, set and script are judged, in this order, and all memory is found before anything
+/// is written.
 pub fn run_all<F: Out, W: Out, L: Out, R: Out>(
     alloc: Global,
     inputs: &RunInputs,

@@ -6,4 +6,5 @@ use Rattle.pac_run.proofs.run.list.Goals as goal
 pub returns : goal.returns
 returns g c =
     written g.L.Out.took g.L.Out.refused _ _ c.put_listing.result
-    (listing_in (option_copied c.args.source) c.args.program.now) c.new-file.result c.put_listing.new.file c.new-file.ensures c.put_listing.ensures assumption
+    (listing_in (option_copied c.args.source) c.args.program.now) c.new-file.result c.put_listing.new.file c.new-file.ensures
+    c.put_listing.ensures assumption

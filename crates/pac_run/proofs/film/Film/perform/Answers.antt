@@ -16,6 +16,7 @@ returns-in-Err-finish-clause-film g c =
 pub returns-in-Err-clause-film : goal.returns-in-Err-clause-film
 returns-in-Err-clause-film g c =
     let played = c.in-Err.ensures in
-    gave-up g.F.Out.took g.F.Out.refused g.W.Out.took g.W.Out.refused (run_of c.args.board.now c.args.script.now).outputs played.taken played.left
+    gave-up g.F.Out.took g.F.Out.refused g.W.Out.took g.W.Out.refused (run_of c.args.board.now c.args.script.now).outputs played.taken
+    played.left
     c.args.self.now c.play.new.sink c.give_up.new.self c.give_up.result played.among played.refuses c.give_up.ensures.told
     c.give_up.ensures.left
