@@ -64,39 +64,6 @@ fn fields_tell_what_is_due(rt: HostRuntime) -> Result<(), Fail> {
 }
 
 #[test]
-fn ranges_of_fields(rt: HostRuntime) -> Result<(), Fail> {
-    let board = board(rt.alloc(), &[])?;
-    let fields = board.fields();
-    for (time, is_in_range) in [((1 << 52) + 22, true), ((1 << 52) + 23, false)] {
-        let mut fields = fields;
-        fields.time = time;
-        assert_eq!(rt; fields.are_in_range(), is_in_range);
-    }
-    for (time, steps, is_in_range) in [(0, 1, false), (4, 1, true), (7, 2, false)] {
-        let mut fields = fields;
-        fields.time = time;
-        fields.steps = steps;
-        assert_eq!(rt; fields.are_in_range(), is_in_range);
-    }
-    for (asked, is_in_range) in [(1 << 50, true), ((1 << 50) + 1, false)] {
-        let mut fields = fields;
-        fields.asked = asked;
-        assert_eq!(rt; fields.are_in_range(), is_in_range);
-    }
-    for (count, is_in_range) in [(15, true), (16, false)] {
-        let mut fields = fields;
-        fields.memory.count = count;
-        assert_eq!(rt; fields.are_in_range(), is_in_range);
-    }
-    for (accumulator, is_in_range) in [(0xF_FFFF, true), (0x10_0000, false)] {
-        let mut fields = fields;
-        fields.accumulators[1] = accumulator;
-        assert_eq!(rt; fields.are_in_range(), is_in_range);
-    }
-    Ok(())
-}
-
-#[test]
 fn time_ends(rt: HostRuntime) -> Result<(), Fail> {
     let mut kept = Kept::new(rt.alloc(), 0);
     let new = board(rt.alloc(), &[])?;
