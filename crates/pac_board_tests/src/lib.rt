@@ -2,8 +2,6 @@
 #![tactic(auto)]
 
 #[cfg(test)]
-mod fields;
-#[cfg(test)]
 mod keeping;
 #[cfg(test)]
 mod limits;

@@ -41,33 +41,6 @@ fn boards_in_scarce_memory(rt: HostRuntime) -> Result<(), Fail> {
 }
 
 #[test]
-fn boards_of_fields_in_scarce_memory(rt: HostRuntime) -> Result<(), Fail> {
-    let mut kept = Kept::new(rt.alloc(), 0);
-    let mut old = board(rt.alloc(), &[])?;
-    assert!(rt; run(&mut old, FRAME, &mut kept).is_ok());
-    let fields = old.fields();
-    assert!(rt; fields.are_in_range());
-    let mut set = set(rt.alloc(), &[(0, &[0x76])])?;
-    let mut hoard = Hoard::take(rt.alloc(), 2000)?;
-    let mut refused = 0;
-    for turn in 0..TURNS {
-        refused = turn;
-        match Board::of(rt.alloc(), set, &fields) {
-            Ok(board) => {
-                assert_eq!(rt; (place(&board), board.peek(0)), (place(&old), 0x76));
-                break;
-            }
-            Err(back) => set = back.set,
-        }
-        assert!(rt; set.program().first() == Some(&0x76));
-        release(&rt, &mut hoard);
-    }
-    drop(hoard);
-    assert!(rt; 3 < refused && refused < 48, "{refused}");
-    Ok(())
-}
-
-#[test]
 fn snapshots_in_scarce_memory(rt: HostRuntime) -> Result<(), Fail> {
     let mut kept = Kept::new(rt.alloc(), 0);
     let mut board = board(rt.alloc(), &[])?;

@@ -53,9 +53,9 @@ fn is_same(kept: &Kept, other: &Kept) -> bool {
     is_same
 }
 
-// A tile and three voices; each offer of a frame is refused in turn.
+// A tile and three voices; offers of a frame are refused, one each turn, up to its picture, the 1,585th, and past it.
 #[test]
-fn each_offer_refused_in_turn(rt: HostRuntime) -> Result<(), Fail> {
+fn offers_refused_in_turn(rt: HostRuntime) -> Result<(), Fail> {
     let mut board = board(
         rt.alloc(),
         &[
@@ -66,7 +66,7 @@ fn each_offer_refused_in_turn(rt: HostRuntime) -> Result<(), Fail> {
     let mut whole = Kept::new(rt.alloc(), 0);
     assert!(rt; run(&mut board, FRAME, &mut whole).is_ok());
     let end = place(&board);
-    for refusal in 1..=1600u64 {
+    for refusal in [1u64, 2, 3, 40, 792, 1583, 1584, 1585, 1586, 1600] {
         board.restore(&start);
         let mut kept = Kept::new(rt.alloc(), refusal);
         let answer = run(&mut board, FRAME, &mut kept);
