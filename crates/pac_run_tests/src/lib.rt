@@ -1,0 +1,9 @@
+//! Nothing but tests of runs: whole runs over a set's files, held against what `pac_run` writes and answers.
+#![tactic(auto)]
+
+#[cfg(test)]
+mod runs;
+#[cfg(test)]
+mod set;
+#[cfg(test)]
+mod writers;

@@ -1,0 +1,224 @@
+//! Runs whose numbers follow from UM0080's T-states and from a frame's 50,688; pictures by the schematics' places of
+//! tiles and the weights of the colour PROM; sound by waveform, volume and the 1,584 samples of a frame.
+
+use crate::set::{Files, Outputs, PROGRAM_TABLES, SWITCHES, TABLES, WAVE_TABLE, run_source};
+use pac_asm::{AsmCode, AsmFault};
+use pac_inputs::ScriptFault;
+use pac_manifest::{Code, PartName, SetFault};
+use pac_run::{RunFault, RunInputs};
+use std::test::Fail;
+
+/// Shows tile 42H, of which all pixels are 2, at x 16 to 23, y 0 to 7.
+const CELL: &str = "LD A,42H\nLD (4040H),A\nHALT";
+
+/// Shows what the joystick and the DIP switches read as, as two tiles from x 16 on.
+const INPUTS: &str = "LD A,(5000H)\nLD (4040H),A\nLD A,(5080H)\nLD (4041H),A\nHALT";
+
+/// The same tile as in `CELL`, but written at T-state 8,020, when line 0 has passed and line 1 hasn't.
+const LATE_CELL: &str = "DEFS 2000\nLD A,42H\nLD (4040H),A\nHALT";
+
+/// Three voices at full volume, each of samples of 15: 64 * 7 * 15 a voice.
+const VOICES: &str =
+    "LD A,1\nLD (5001H),A\nLD A,15\nLD (5055H),A\nLD (505AH),A\nLD (505FH),A\nHALT";
+
+/// The bytes of an image: its header's 15, and 3 for each of 288 by 224 pixels.
+const IMAGE: usize = 193_551;
+
+const BLACK: [u8; 3] = [0, 0, 0];
+
+const RED: [u8; 3] = [255, 0, 0];
+
+const GREEN: [u8; 3] = [0, 255, 0];
+
+const BLUE: [u8; 3] = [0, 0, 255];
+
+/// Whether an image has these colours at x 16 to 23 and at x 24 to 31, from line `top` to line 7, and is black elsewhere.
+fn shows(image: &[u8], top: usize, left: [u8; 3], right: [u8; 3]) -> bool {
+    if image.len() != IMAGE || !image.starts_with(b"P6\n288 224\n255\n") {
+        return false;
+    }
+    for (place, level) in image.iter().skip(15).enumerate() {
+        let (x, y) = (place / 3 % 288, place / 864);
+        let colour = if y < top || 8 <= y {
+            BLACK
+        } else if 16 <= x && x < 24 {
+            left
+        } else if 24 <= x && x < 32 {
+            right
+        } else {
+            BLACK
+        };
+        if *level != colour[place % 3] {
+            return false;
+        }
+    }
+    true
+}
+
+#[test]
+fn reports_and_sizes(rt: HostRuntime) -> Result<(), Fail> {
+    for (source, script, report, images, sound) in [
+        (
+            "",
+            "1 -",
+            "frames 1 of 1\nsteps 12672 ticks 50688\nend done\n",
+            1,
+            3_212,
+        ),
+        (
+            "DEFB 0CBH,30H",
+            "2 -",
+            "frames 0 of 2\nsteps 0 ticks 0\nstop S1 at 0000 bytes CB 30 00 00\n",
+            0,
+            6_380,
+        ),
+        (
+            "ORG 3180H\nDEFB 0DDH,24H",
+            "2 -",
+            "frames 1 of 2\nsteps 12672 ticks 50688\nstop S1 at 3180 bytes DD 24 00 00\n",
+            1,
+            6_380,
+        ),
+        (
+            "LD A,1\nLD (5000H),A\nEI\nHALT",
+            "2 -",
+            "frames 1 of 2\nsteps 12669 ticks 50688\nstop S2 at 0007 byte 00\n",
+            1,
+            6_380,
+        ),
+        (
+            CELL,
+            "",
+            "frames 0 of 0\nsteps 0 ticks 0\nend done\n",
+            0,
+            44,
+        ),
+    ] {
+        let Ok(outputs) = run_source(rt.alloc(), source, SWITCHES, script) else {
+            panic!(rt; "refused {source:?}");
+        };
+        assert!(rt; outputs.report.bytes() == report.as_bytes(), "{source:?}");
+        assert_eq!(rt; outputs.frames.bytes().len(), images * IMAGE, "{source:?}");
+        assert!(rt;
+            images == 0 || shows(outputs.frames.bytes(), 0, BLACK, BLACK),
+            "{source:?}"
+        );
+        let wave = outputs.wave.bytes();
+        assert_eq!(rt; wave.len(), sound, "{source:?}");
+        assert!(rt; wave.starts_with(b"RIFF") && wave.iter().skip(44).all(|byte| *byte == 0));
+    }
+    Ok(())
+}
+
+// Each voice is heard from the sample on that follows its volume: one at sample 1, all three from sample 2 on.
+#[test]
+fn samples_of_three_voices(rt: HostRuntime) -> Result<(), Fail> {
+    let Ok(outputs) = run_source(rt.alloc(), VOICES, SWITCHES, "1 -") else {
+        panic!(rt; "refused");
+    };
+    let report = b"frames 1 of 1\nsteps 12662 ticks 50690\nend done\n";
+    assert!(rt; outputs.report.bytes() == report.as_slice());
+    let header = [
+        0x52, 0x49, 0x46, 0x46, 0x84, 0x0C, 0x00, 0x00, 0x57, 0x41, 0x56, 0x45, 0x66, 0x6D, 0x74,
+        0x20, 0x10, 0x00, 0x00, 0x00, 0x01, 0x00, 0x01, 0x00, 0x00, 0x77, 0x01, 0x00, 0x00, 0xEE,
+        0x02, 0x00, 0x02, 0x00, 0x10, 0x00, 0x64, 0x61, 0x74, 0x61, 0x60, 0x0C, 0x00, 0x00,
+    ];
+    let wave = outputs.wave.bytes();
+    assert_eq!(rt; wave.len(), 3_212);
+    assert!(rt; wave.starts_with(&header));
+    for (place, byte) in wave.iter().skip(44).enumerate() {
+        let sample = if place < 2 { 6_720u16 } else { 20_160 };
+        let half = if place % 2 == 0 {
+            sample % 256
+        } else {
+            sample / 256
+        };
+        assert_eq!(rt; *byte as u16, half, "{place}");
+    }
+    Ok(())
+}
+
+// The same bytes as a source and as the program of a set: all is equal but the listing.
+#[test]
+fn a_source_and_a_program_of_a_set(rt: HostRuntime) -> Result<(), Fail> {
+    let Ok(assembled) = run_source(rt.alloc(), CELL, SWITCHES, "1 -") else {
+        panic!(rt; "refused");
+    };
+    let listing = "00001 0000 3E42     LD A,42H
+00002 0002 324040   LD (4040H),A
+00003 0005 76       HALT
+SYMBOLS
+";
+    assert!(rt; assembled.listing.bytes() == listing.as_bytes());
+    let files = Files::new(rt.alloc())?;
+    let manifest = format!(in rt.alloc(); "{TABLES}{WAVE_TABLE}{PROGRAM_TABLES}")?;
+    let mut given = Outputs::new(rt.alloc())?;
+    let inputs = RunInputs {
+        source: None,
+        manifest: manifest.as_bytes(),
+        parts: &files.parts(),
+        dip: SWITCHES,
+        script: b"1 -",
+    };
+    assert!(rt; given.run(rt.alloc(), &inputs).is_ok());
+    assert!(rt; given.listing.bytes() == b"SYMBOLS\n".as_slice());
+    assert!(rt; given.frames.bytes() == assembled.frames.bytes());
+    assert!(rt; given.wave.bytes() == assembled.wave.bytes());
+    assert!(rt; given.report.bytes() == assembled.report.bytes());
+    Ok(())
+}
+
+// Source, set and script are judged in this order.
+#[test]
+fn refused_inputs_write_nothing(rt: HostRuntime) -> Result<(), Fail> {
+    let files = Files::new(rt.alloc())?;
+    let far = RunFault::Source(AsmFault {
+        code: AsmCode::OutOfRange,
+        line: 1,
+    });
+    let mut outputs = Outputs::new(rt.alloc())?;
+    for (source, [first, second, third], fault) in [
+        (b"LD A,256".as_slice(), [TABLES, "", ""], far),
+        (
+            b"",
+            [TABLES, "", ""],
+            refused_set(Code::Unnamed, Some(PartName::Wave)),
+        ),
+        (
+            b"",
+            ["tiles = 3", "", ""],
+            refused_set(Code::Manifest, None),
+        ),
+        (
+            b"",
+            [TABLES, WAVE_TABLE, PROGRAM_TABLES],
+            refused_set(Code::TwoPrograms, None),
+        ),
+        (b"", [TABLES, WAVE_TABLE, ""], script_fault()),
+    ] {
+        let text = format!(in rt.alloc(); "{first}{second}{third}")?;
+        let inputs = RunInputs {
+            source: Some(source),
+            manifest: text.as_bytes(),
+            parts: &files.parts(),
+            dip: SWITCHES,
+            script: b"0 -",
+        };
+        assert_eq!(rt; outputs.run(rt.alloc(), &inputs), Err(fault));
+        assert!(rt; outputs.are_empty());
+    }
+    Ok(())
+}
+
+/// A set that is refused.
+fn refused_set(code: Code, part: Option<PartName>) -> RunFault {
+    RunFault::Set(SetFault { code, part })
+}
+
+/// A script whose first line's count is none.
+fn script_fault() -> RunFault {
+    RunFault::Script(ScriptFault {
+        code: pac_inputs::Code::Count,
+        line: 1,
+    })
+}
