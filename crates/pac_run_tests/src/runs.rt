@@ -110,6 +110,38 @@ fn reports_and_sizes(rt: HostRuntime) -> Result<(), Fail> {
     Ok(())
 }
 
+#[test]
+fn pictures(rt: HostRuntime) -> Result<(), Fail> {
+    for (source, dip, script, steps, left, right) in [
+        (CELL, SWITCHES, "1 -", "12669", GREEN, BLACK),
+        (INPUTS, SWITCHES, "1 -", "12663", BLUE, RED),
+        (INPUTS, 0, "1 P1_UP", "12663", GREEN, BLACK),
+    ] {
+        let Ok(outputs) = run_source(rt.alloc(), source, dip, script) else {
+            panic!(rt; "refused {source:?}");
+        };
+        let report = format!(in rt.alloc();
+            "frames 1 of 1\nsteps {steps} ticks 50688\nend done\n"
+        )?;
+        assert!(rt; outputs.report.bytes() == report.as_bytes(), "{source:?}");
+        assert!(rt; shows(outputs.frames.bytes(), 0, left, right), "{source:?}");
+    }
+    Ok(())
+}
+
+// The frame in which the tile was written has it from line 1 on, the next one whole.
+#[test]
+fn a_tile_written_between_lines(rt: HostRuntime) -> Result<(), Fail> {
+    let Ok(outputs) = run_source(rt.alloc(), LATE_CELL, SWITCHES, "2 -") else {
+        panic!(rt; "refused");
+    };
+    let images = outputs.frames.bytes();
+    assert_eq!(rt; images.len(), 387_102);
+    let (first, second) = images.split_at(IMAGE);
+    assert!(rt; shows(first, 1, GREEN, BLACK) && shows(second, 0, GREEN, BLACK));
+    Ok(())
+}
+
 // Each voice is heard from the sample on that follows its volume: one at sample 1, all three from sample 2 on.
 #[test]
 fn samples_of_three_voices(rt: HostRuntime) -> Result<(), Fail> {
