@@ -9,6 +9,3 @@ mod step;
 
 pub use cpu::Cpu;
 pub use once::{Cause, Kind, Once, Stop};
-
-#[cfg(test)]
-mod tests;

@@ -2,7 +2,11 @@
 #![tactic(auto)]
 
 #[cfg(test)]
+mod calls;
+#[cfg(test)]
 mod fields;
+#[cfg(test)]
+mod flat;
 #[cfg(test)]
 mod machine;
 #[cfg(test)]

@@ -6,8 +6,6 @@ ghost use Rattle.pac_latch.specs.Latched.{power_on, latched_of, after_bit, after
 ghost use Rattle.pac_latch.specs.Latched as spec;
 
 mod reading;
-#[cfg(test)]
-mod tests;
 
 use std::marker::Model;
 

@@ -4,7 +4,11 @@
 #[cfg(test)]
 mod keeping;
 #[cfg(test)]
+mod latch;
+#[cfg(test)]
 mod places;
+#[cfg(test)]
+mod set;
 
 #[cfg(test)]
 use pac_map::{Map, Memory};

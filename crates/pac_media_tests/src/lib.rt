@@ -1,4 +1,5 @@
-//! Tests of the media files: outside rows, writers that take little or refuse, and memory that is refused.
+//! Tests of the media files, of the samples and of the writers: outside rows, writers that take little or refuse, and
+//! memory that is refused.
 #![tactic(auto)]
 
 #[cfg(test)]
@@ -9,3 +10,7 @@ mod memory;
 mod set;
 #[cfg(test)]
 mod sound;
+#[cfg(test)]
+mod wave;
+#[cfg(test)]
+mod writers;

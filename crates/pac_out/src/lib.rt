@@ -9,8 +9,6 @@ pub mod counted;
 pub mod faulty;
 pub mod memory;
 pub mod pending;
-#[cfg(test)]
-mod tests;
 pub mod through;
 
 use thiserror::Error;

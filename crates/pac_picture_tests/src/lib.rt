@@ -1,6 +1,8 @@
-//! Tests of the picture: outside rows, the counts of cells drawn, and memory that is refused.
+//! Tests of the picture, its tiles, sprites and colours: outside rows, the counts of cells drawn, and memory that is refused.
 #![tactic(auto)]
 
+#[cfg(test)]
+mod colours;
 #[cfg(test)]
 mod differences;
 #[cfg(test)]
@@ -11,3 +13,7 @@ mod memory;
 mod rows;
 #[cfg(test)]
 mod set;
+#[cfg(test)]
+mod sprites;
+#[cfg(test)]
+mod tiles;

@@ -2,7 +2,5 @@
 #![tactic(auto)]
 
 mod set;
-#[cfg(test)]
-mod tests;
 
 pub use set::{Raw, RomSet};

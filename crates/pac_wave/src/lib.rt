@@ -6,8 +6,6 @@ ghost use Rattle.pac_wave.specs.Wave.{Fit20Bits, power_on, of_list};
 ghost use Rattle.pac_wave.specs.Wave as spec;
 
 pub mod laws;
-#[cfg(test)]
-mod tests;
 
 use std::marker::Model;
 

@@ -1,10 +1,10 @@
 //! Writers that take few bytes a call, refuse, or are interrupted; and that each writer takes what it is given.
 
-use crate::counted::Counted;
-use crate::faulty::Faulty;
-use crate::memory::Memory;
-use crate::through::Through;
-use crate::{Out, WriteFault};
+use pac_out::counted::Counted;
+use pac_out::faulty::Faulty;
+use pac_out::memory::Memory;
+use pac_out::through::Through;
+use pac_out::{Out, WriteFault};
 use std::io;
 use std::io::Write;
 

@@ -1,7 +1,7 @@
-//! Each public call once, by UM0080's pages; vectors of every family stand in a crate of tests above this one.
+//! Each public call once, by UM0080's pages; vectors of every family stand beside.
 
-use crate::{Cpu, Kind, Once};
 use pac_bus::{Bus, Flat};
+use pac_cpu::{Cpu, Kind, Once};
 use pac_exec::{Alternate, Regs};
 use pac_table::InterruptMode;
 use std::test::Fail;

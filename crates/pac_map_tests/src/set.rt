@@ -1,6 +1,6 @@
 //! A set of parts that differ, lent again one by one.
 
-use crate::{Raw, RomSet};
+use pac_roms::{Raw, RomSet};
 use std::test::Fail;
 
 #[test]

@@ -1,6 +1,6 @@
 //! The latch's bits, the interrupt request and the watchdog, as the schematics tell them.
 
-use crate::Latch;
+use pac_latch::Latch;
 
 #[test]
 fn a_0_in_interrupt_enable_takes_the_request_back(rt: HostRuntime) {

@@ -1,6 +1,6 @@
 //! Samples of single voices and of three, as worked out by hand from the schematics.
 
-use crate::Wave;
+use pac_wave::Wave;
 
 // The wave PROM of eight waveforms: 0 is all 15, 1 all 0, and in each other sample i is i/2 rounded down.
 fn prom() -> [u8; 256] {
