@@ -1,0 +1,6 @@
+use Rattle.std.proofs.Common.{refl}
+use Rattle.pac_options.proofs.Levels.{level_good}
+use Rattle.pac_options.proofs.reading.options.Goals as goal
+
+pub returns : goal.returns
+returns c = ?

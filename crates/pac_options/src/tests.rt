@@ -1,0 +1,1 @@
+//! Command lines, and what they ask for.
