@@ -34,34 +34,37 @@ is_good r = is_some (slice_get r.values 0)
 abbrev pub AreGood : List Row → Type 0
 AreGood rows = list_all is_good rows ≡ true
 
-abbrev new_row : ValueSource → Rule → List Text → Row
+abbrev pub new_row : ValueSource → Rule → List Text → Row
 new_row source a values = record { id = a.id; values = values; count = None; source = Some source; reading = reading_by a }
 
 -- the rows stay good where a good one joins those that have none of its id
 joined : (id : Text) (change : Row → List Row) (missing rows : List Row) → has_row id rows ≡ false → AreGood missing → AreGood rows
     → AreGood (at_row id change missing rows)
 joined id change missing [] none new old = new
-joined id change missing (r ∷ rs) none new old = go (bytes_eq r.id id) none
+joined id change missing (r ∷ rs) none new old =
+    let parts = both (is_good r) _ old in
+    go (bytes_eq r.id id) parts.0 (λ e. joined id change missing rs e new parts.1) none
   where
-    go : (b : Bool) → (b || has_row id rs) ≡ false → AreGood (cond b (change r ++ rs) (r ∷ at_row id change missing rs))
-    go true e = absurd (true≢false e)
-    go false e = let parts = both _ _ old in rw (parts.0, joined id change missing rs e new parts.1) refl
+    go : (b : Bool) → is_good r ≡ true → (has_row id rs ≡ false → AreGood (at_row id change missing rs)) → (b || has_row id rs) ≡ false
+        → AreGood (cond b (change r ++ rs) (r ∷ at_row id change missing rs))
+    go true good more e = absurd (true≢false e)
+    go false good more e = rw (good, more e) refl
 
 kept : (id : Text) (rows : List Row) → has_row id rows ≡ false → without id rows ≡ rows
 kept id [] none = refl
-kept id (r ∷ rs) none = go (bytes_eq r.id id) none
+kept id (r ∷ rs) none = go (bytes_eq r.id id) (kept id rs) none
   where
-    go : (b : Bool) → (b || has_row id rs) ≡ false → cond b rs (r ∷ without id rs) ≡ r ∷ rs
-    go true e = absurd (true≢false e)
-    go false e = ap (λ t. r ∷ t) (kept id rs e)
+    go : (b : Bool) → (has_row id rs ≡ false → without id rs ≡ rs) → (b || has_row id rs) ≡ false → cond b rs (r ∷ without id rs) ≡ r ∷ rs
+    go true more e = absurd (true≢false e)
+    go false more e = ap (λ t. r ∷ t) (more e)
 
 -- ---- kinds
 
-some_kind : Kinds → Bool
+abbrev pub some_kind : Kinds → Bool
 some_kind [] = false
 some_kind (k ∷ ks) = true
 
-or_both : (a b : Kinds) → or_else a b ≡ [] → (a ≡ []) × (b ≡ [])
+pub or_both : (a b : Kinds) → or_else a b ≡ [] → (a ≡ []) × (b ≡ [])
 or_both [] b e = (refl, e)
 or_both (k ∷ ks) b e = absurd (true≢false (ap some_kind e))
 
@@ -98,11 +101,11 @@ IsFoundFine (Some a) = IsFine a
 
 found_fine : (p : Rule → Bool) (c : List Rule) → AreFine c → IsFoundFine (find p c)
 found_fine p [] fine = tt
-found_fine p (a ∷ rest) fine = go (p a)
+found_fine p (a ∷ rest) fine = go (p a) (found_fine p rest fine.1)
   where
-    go : (b : Bool) → IsFoundFine (cond b (Some a) (find p rest))
-    go true = fine.0
-    go false = found_fine p rest fine.1
+    go : (b : Bool) → IsFoundFine (find p rest) → IsFoundFine (cond b (Some a) (find p rest))
+    go true more = fine.0
+    go false more = more
 
 -- ---- one use
 
@@ -129,7 +132,7 @@ set_good a (v ∷ vs) rows fine range none good =
     let passes = or_both _ _ parts.1 in
     let absent = fresh (has_row a.id rows) parts.0 in
     rw (kept a.id rows absent)
-    (joined a.id _ (new_row CommandLine a (v ∷ vs) ∷ []) rows absent
+    (joined a.id (more_values CommandLine (v ∷ vs)) (new_row CommandLine a (v ∷ vs) ∷ []) rows absent
     (rw (new_good a v vs fine.1 (accepted _ _ v passes.0)) refl) good)
   where
     fresh : (b : Bool) → cond (b && true) (ArgumentConflict ∷ []) [] ≡ [] → b ≡ false
@@ -206,15 +209,19 @@ module _ (c : List Rule) (fine : AreFine c) where
       → AreGood (bundle_met c k flags skip so_far h).0.rows
   unfolding flags_fault bundle_met
   bundle_good zero flags skip so_far h none good = good
-  bundle_good (suc k) flags skip so_far h none good = go (slice_get (chars flags) 0) skip none
+  bundle_good (suc k) flags skip so_far h none good =
+      go (slice_get (chars flags) 0) skip (λ rest n far held f g. bundle_good k rest n far held f g) none
     where
-      go : (o : Option ℕ) (n : ℕ) → bundle_step_fault c false o flags n h (flags_fault c false k) ≡ [] → AreGood (bundle_step c o flags n so_far h (bundle_met c k)).0.rows
-      go None n e = good
-      go (Some x) zero e =
+      go : (o : Option ℕ) (n : ℕ)
+          → ((rest : Text) (less : ℕ) (far : Outcome) (held : Held) → flags_fault c false k rest less held ≡ [] → AreGood held.rows
+          → AreGood (bundle_met c k rest less far held).0.rows)
+          → bundle_step_fault c false o flags n h (flags_fault c false k) ≡ [] → AreGood (bundle_step c o flags n so_far h (bundle_met c k)).0.rows
+      go None n more e = good
+      go (Some x) zero more e =
           let rest = drop (length (encode_utf8 x)) flags in
           short_good (arg_by_short c x) rest h (flags_fault c false k rest 0) (bundle_met c k rest 0 done) (found_fine _ c fine)
-              (λ held f g. bundle_good k rest 0 done held f g) e good
-      go (Some x) (suc n) e = bundle_good k (drop (length (encode_utf8 x)) flags) n so_far h e good
+              (λ held f g. more rest 0 done held f g) e good
+      go (Some x) (suc n) more e = more (drop (length (encode_utf8 x)) flags) n so_far h e good
 
   plain_good : (waiting : Waiting) (word : Text) (h : Held) → AreGood h.rows → AreGood (plain_word c waiting word h).0.rows
   plain_good idle word h good = good
@@ -313,7 +320,7 @@ default_good rows a fine good = go (has_row a.id rows) refl
   where
     given : (values : List Text) → has_row a.id rows ≡ false → has_good_default values a ≡ true → AreGood (default_rows a.id (reading_by a) values rows)
     given [] absent f = good
-    given (v ∷ vs) absent f = joined a.id _ (new_row DefaultValue a (v ∷ vs) ∷ []) rows absent (rw f refl) good
+    given (v ∷ vs) absent f = joined a.id (more_values DefaultValue (v ∷ vs)) (new_row DefaultValue a (v ∷ vs) ∷ []) rows absent (rw f refl) good
 
     go : (b : Bool) → has_row a.id rows ≡ b → AreGood (cond b rows (default_rows a.id (reading_by a) a.defaults rows))
     go true e = good

@@ -2,3 +2,4 @@ pub mod Commands
 pub mod Bytes
 pub mod Rows
 pub mod Levels
+pub mod Answered

@@ -1,5 +1,5 @@
 use Rattle.std.proofs.Common.{refl}
-use Rattle.pac_options.proofs.Levels.{level_good}
+use Rattle.pac_options.proofs.Answered.{answered}
 use Rattle.pac_options.proofs.reading.options.Goals as goal
 
 pub returns : goal.returns
