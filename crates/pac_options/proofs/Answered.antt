@@ -1,5 +1,5 @@
 -- Words that clap finds no fault with say all that a request needs.
-use Rattle.std.proofs.Common.{◌≡◌, ◌∙◌, ◌&&◌, ◌||◌, Bool, cond, codes, true, false, not, refl, sym, ap, List, [], ◌∷◌, ◌++◌, drop, Option, Some, None, is_some, true≢false}
+use Rattle.std.proofs.Common.{◌≡◌, ◌∙◌, ◌&&◌, ◌||◌, Bool, cond, codes, true, false, not, refl, sym, ap, subst, List, [], ◌∷◌, ◌++◌, drop, Option, Some, None, is_some, true≢false}
 use Rattle.std.specs.Prelude.{find, fold, slice_get, take, option_and_then, option_map}
 use Rattle.std.specs.List.{list_any}
 use Rattle.std.specs.Option.{option_map_or}
@@ -7,6 +7,9 @@ use Rattle.std.specs.Str.{bytes_eq}
 use Rattle.clap.specs.Facts.{explicit_source}
 use Rattle.clap.specs.Kinds.{Kinds, check_kinds}
 use Rattle.clap.specs.Walk.{Row, Rule, Text, answers_to, at_row, default_rows, finished, first_of, has_row, more_values, nothing_held, one_of, reading_by, row_text, rows_after, settled, walk, walk_from, with_default}
+use Rattle.clap.specs.Words.{HasKind, HasMatchesOf, is_simple, is_simple_and_free, subcommand_of, subcommand_rows_of}
+use Rattle.clap.specs.declared.error.Error.{Error}
+use Rattle.clap.specs.declared.parser.matches.ArgMatches.{ArgMatches}
 use Rattle.clap.specs.Simple.{App, Shape, argument_words, built, entered, filled, filled_from, help_rule, label_of, names_of, new_shape, rows_at, version_rule}
 use Rattle.clap.specs.Takes.{is_given}
 use Rattle.clap.specs.Faults.{built_fault, check_fault, defaults_fault, entered_fault, fault_of, level_fault, settle_fault, walk_fault}
@@ -227,3 +230,29 @@ said words none =
 pub answered : (words : List Text) → fault_of pacboard words ≡ [] → is_some (request_of words) ≡ true
 unfolding pacboard
 answered words none = said (drop 1 words) none
+
+-- ---- from the command as it was made
+
+simple : is_simple pacboard ≡ true
+unfolding pacboard
+simple = refl
+
+free : is_simple_and_free pacboard ≡ true
+unfolding pacboard
+free = refl
+
+pub no_fault : (app : App) (words : List Text) → app ≡ pacboard → (is_simple_and_free app ≡ true → fault_of app words ≡ []) → fault_of pacboard words ≡ []
+no_fault app words is h = ap (λ (a : App). fault_of a words) (sym is) ∙ h (ap is_simple_and_free is ∙ free)
+
+pub its_fault : (app : App) (words : List Text) (e : Error) → app ≡ pacboard → (is_simple_and_free app ≡ true → HasKind (fault_of app words) e)
+    → HasKind (fault_of pacboard words) e
+its_fault app words e is h = subst (λ (a : App). HasKind (fault_of a words) e) is (h (ap is_simple_and_free is ∙ free))
+
+pub its_request : (app : App) (words : List Text) (m : ArgMatches) → app ≡ pacboard → HasMatchesOf app words m
+    → option_and_then asked (subcommand_rows_of m) ≡ request_of words
+its_request app words m is h =
+    ap (option_and_then asked) ((h (ap is_simple is ∙ simple)).1 ∙ ap (λ (a : App). subcommand_of a words) is)
+
+-- with no fault there is a request
+pub never_none : (words : List Text) → fault_of pacboard words ≡ [] → request_of words ≡ None → ⊥
+never_none words none is = true≢false (sym (answered words none) ∙ ap (λ (o : Option Asked). is_some o) is)
