@@ -5,19 +5,18 @@ use Rattle.std.specs.List.{list_any}
 use Rattle.std.specs.Option.{option_map_or}
 use Rattle.std.specs.Str.{bytes_eq}
 use Rattle.clap.specs.Facts.{explicit_source}
-use Rattle.clap.specs.Kinds.{Kinds, check_kinds}
+use Rattle.clap.specs.Kinds.{check_kinds}
 use Rattle.clap.specs.Walk.{Row, Rule, Text, answers_to, at_row, default_rows, finished, first_of, has_row, more_values, nothing_held, one_of, reading_by, row_text, rows_after, settled, walk, walk_from, with_default}
 use Rattle.clap.specs.Words.{HasKind, HasMatchesOf, is_simple, is_simple_and_free, subcommand_of, subcommand_rows_of}
 use Rattle.clap.specs.declared.error.Error.{Error}
 use Rattle.clap.specs.declared.parser.matches.ArgMatches.{ArgMatches}
-use Rattle.clap.specs.Simple.{App, Shape, argument_words, built, entered, filled, filled_from, help_rule, label_of, names_of, new_shape, rows_at, version_rule}
+use Rattle.clap.specs.Simple.{App, Shape, entered, filled, filled_from, help_rule, label_of, names_of, new_shape, rows_at, version_rule}
 use Rattle.clap.specs.Takes.{is_given}
 use Rattle.clap.specs.Faults.{built_fault, check_fault, defaults_fault, entered_fault, fault_of, level_fault, settle_fault, walk_fault}
-use Rattle.clap.specs.declared.parser.matches.ValueSource.{ValueSource}
 use Rattle.clap.specs.declared.parser.matches.ValueSource.TheVariants.{DefaultValue}
 use Rattle.clap.proofs.WalkLemmas.{both}
-use Rattle.pac_options.specs.CommandLine.{Asked, asked, asked_asm, asked_dis, asked_run, asm, asm_command, asm_rules, byte_of, dis, dis_command, dis_rules, dip_option, pacboard, request_of, run, run_command, run_rules}
-use Rattle.pac_options.proofs.Levels.{AreFine, AreGood, is_good, level_good, new_row, once, or_both, some_kind}
+use Rattle.pac_options.specs.CommandLine.{Asked, asked, asked_asm, asked_dis, asked_run, asm, asm_command, byte_of, dis, dis_command, dip_option, pacboard, request_of, run, run_command}
+use Rattle.pac_options.proofs.Levels.{AreFine, AreGood, is_good, level_good, new_row, or_both, some_kind}
 
 -- ---- what is given
 
@@ -132,9 +131,19 @@ dis_fine = (((refl, λ e. absurd (true≢false (sym e))), refl), ((tt, refl), tt
 run_fine : AreFine run_built.rules
 run_fine = (
   ((refl, λ e. absurd (true≢false (sym e))), refl),
-  (((refl, λ e. absurd (true≢false (sym e))), refl), (((refl, λ e. absurd (true≢false (sym e))), refl),
-  (((refl, λ e. absurd (true≢false (sym e))), refl), (((refl, λ e. absurd (true≢false (sym e))), refl),
-  (((refl, λ e. absurd (true≢false (sym e))), refl), (((refl, λ e. refl), refl), ((tt, refl), tt))))))),
+  (
+    ((refl, λ e. absurd (true≢false (sym e))), refl),
+    (
+      ((refl, λ e. absurd (true≢false (sym e))), refl),
+      (
+        ((refl, λ e. absurd (true≢false (sym e))), refl),
+        (
+          ((refl, λ e. absurd (true≢false (sym e))), refl),
+          (((refl, λ e. absurd (true≢false (sym e))), refl), (((refl, λ e. refl), refl), ((tt, refl), tt))),
+        ),
+      ),
+    ),
+  ),
 )
 
 -- what the last checks of a subcommand ask

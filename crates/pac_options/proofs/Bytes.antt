@@ -1,5 +1,5 @@
 -- What the text of the DIP switches reads as.
-use Rattle.std.proofs.Common.{◌≡◌, ◌∙◌, ◌<◌, ◌≤◌, ◌^◌, ℕ, Bool, cond, true, false, refl, sym, ap, List, Option, Some, None, Result, Ok, Err, is_some, true≢false, arith}
+use Rattle.std.proofs.Common.{◌≡◌, ◌∙◌, ◌<◌, ◌^◌, ℕ, Bool, cond, true, false, refl, sym, ap, List, Option, Some, None, Result, Ok, Err, is_some, true≢false, arith}
 use Rattle.std.specs.Prelude.{option_and_then, pos}
 use Rattle.std.specs.Str.Parse.{IsNumeral, ParsesUnsigned, digits_value, without_leading_plus}
 use Rattle.clap.specs.Lexer.{without_minus}
@@ -45,7 +45,7 @@ reads text = go (is_unsigned_in 0 255 text) refl
 pub byte_in : (ignore_case : Bool) (text : List ℕ) → accepts ignore_case (parser.Signed (pos 0) (pos 255)) text ≡ true → is_some (byte_of (without_minus text)) ≡ true
 byte_in ignore_case text passes =
     let got = signed_reads (Unit {0}) (λ u x. ParsesUnsigned 8 10 u x) 8 0 255 text (byte_of (without_minus text)) (reads (without_minus text)) (λ u x h. h) (omega arith)
-        (accepts-Accepts ignore_case (parser.Signed (pos 0) (pos 255)) text passes) in
+    (accepts-Accepts ignore_case (parser.Signed (pos 0) (pos 255)) text passes) in
     ap (λ (o : Option ℕ). is_some o) got.1
 
 -- what the rows say where u8 was read from the first value

@@ -39,8 +39,9 @@ fn run_command<'a>(alloc: Global) -> Result<Command<'a>, AllocError>
     ensures shape { IfOk result (λ command. app_of command ≡ line.alone line.run_command) }
     ensures local { IfOk result (λ command. (fields_of command).has_globals ≡ false) }
 {
-    let command = Command::new(alloc, "run")
-        .about("Runs a ROM set by a script, and writes its pictures and its sound");
+    let command = Command::new(alloc, "run").about(
+        "Runs a ROM set by a script, and writes its pictures and its sound",
+    );
     with_run_options(alloc, command)
 }
 
@@ -56,7 +57,12 @@ fn with_run_options<'a>(alloc: Global, command: Command<'a>) -> Result<Command<'
         .arg(required_option(alloc, "frames", "Gets the pictures, as PPM"))?
         .arg(required_option(alloc, "wave", "Gets the sound, as WAV"))?
         .arg(required_option(alloc, "listing", "Gets the listing"))?
-        .arg(option(alloc, "source", "FILE", "The source that stands for the set's program"))?
+        .arg(option(
+            alloc,
+            "source",
+            "FILE",
+            "The source that stands for the set's program",
+        ))?
         .arg(dip_option(alloc))
 }
 
@@ -65,9 +71,12 @@ fn dis_command<'a>(alloc: Global) -> Result<Command<'a>, AllocError>
     ensures shape { IfOk result (λ command. app_of command ≡ line.alone line.dis_command) }
     ensures local { IfOk result (λ command. (fields_of command).has_globals ≡ false) }
 {
-    Command::new(alloc, "dis")
-        .about("Disassembles a file")
-        .arg(required_place(alloc, "file", "FILE", "The file, of 1 to 65,536 bytes"))
+    Command::new(alloc, "dis").about("Disassembles a file").arg(required_place(
+        alloc,
+        "file",
+        "FILE",
+        "The file, of 1 to 65,536 bytes",
+    ))
 }
 
 /// A word that stands by itself, which has to be given.

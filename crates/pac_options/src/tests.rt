@@ -16,7 +16,17 @@ fn kind_of<'a>(rt: &HostRuntime, words: &'a [&'a str]) -> Option<ErrorKind> {
 fn each_subcommand_in_any_order(rt: HostRuntime) -> Result<(), Fail> {
     let alloc = rt.alloc();
     assert_eq!(rt;
-        options(alloc, &["pacboard", "asm", "--listing", "a.lst", "a.asm", "--rom=a.rom"])?,
+        options(
+            alloc,
+            &[
+                "pacboard",
+                "asm",
+                "--listing",
+                "a.lst",
+                "a.asm",
+                "--rom=a.rom"
+            ]
+        )?,
         Request::Asm(AsmFiles {
             source: "a.asm",
             rom: "a.rom",
@@ -24,10 +34,26 @@ fn each_subcommand_in_any_order(rt: HostRuntime) -> Result<(), Fail> {
         })
     );
     assert_eq!(rt;
-        options(alloc, &[
-            "pacboard", "run", "--dip=7", "--wave", "w", "--frames", "f", "--source", "a.asm", "--listing", "l",
-            "--script", "t", "--set", "s",
-        ])?,
+        options(
+            alloc,
+            &[
+                "pacboard",
+                "run",
+                "--dip=7",
+                "--wave",
+                "w",
+                "--frames",
+                "f",
+                "--source",
+                "a.asm",
+                "--listing",
+                "l",
+                "--script",
+                "t",
+                "--set",
+                "s",
+            ]
+        )?,
         Request::Run(RunFiles {
             set: "s",
             script: "t",
@@ -38,16 +64,33 @@ fn each_subcommand_in_any_order(rt: HostRuntime) -> Result<(), Fail> {
             dip: 7,
         })
     );
-    assert_eq!(rt; options(alloc, &["pacboard", "dis", "code"])?, Request::Dis("code"));
+    assert_eq!(rt;
+        options(alloc, &["pacboard", "dis", "code"])?,
+        Request::Dis("code")
+    );
     Ok(())
 }
 
 #[test]
 fn switches_of_201_and_no_source(rt: HostRuntime) -> Result<(), Fail> {
     assert_eq!(rt;
-        options(rt.alloc(), &[
-            "pacboard", "run", "--set", "s", "--script", "t", "--frames", "f", "--wave", "w", "--listing", "l",
-        ])?,
+        options(
+            rt.alloc(),
+            &[
+                "pacboard",
+                "run",
+                "--set",
+                "s",
+                "--script",
+                "t",
+                "--frames",
+                "f",
+                "--wave",
+                "w",
+                "--listing",
+                "l",
+            ]
+        )?,
         Request::Run(RunFiles {
             set: "s",
             script: "t",
@@ -73,13 +116,31 @@ fn refusals_and_help(rt: HostRuntime) {
         (&["pacboard", "run", "--help"], ErrorKind::DisplayHelp),
         (&["pacboard", "dis"], ErrorKind::MissingRequiredArgument),
         (&["pacboard", "dis", "a", "b"], ErrorKind::UnknownArgument),
-        (&["pacboard", "asm", "a", "--rom", "b"], ErrorKind::MissingRequiredArgument),
-        (&["pacboard", "asm", "--rom", "b", "--rom", "c"], ErrorKind::ArgumentConflict),
-        (&["pacboard", "asm", "--wave", "b"], ErrorKind::UnknownArgument),
-        (&["pacboard", "run", "--dip", "256"], ErrorKind::ValueValidation),
-        (&["pacboard", "run", "--dip", "x"], ErrorKind::ValueValidation),
+        (
+            &["pacboard", "asm", "a", "--rom", "b"],
+            ErrorKind::MissingRequiredArgument,
+        ),
+        (
+            &["pacboard", "asm", "--rom", "b", "--rom", "c"],
+            ErrorKind::ArgumentConflict,
+        ),
+        (
+            &["pacboard", "asm", "--wave", "b"],
+            ErrorKind::UnknownArgument,
+        ),
+        (
+            &["pacboard", "run", "--dip", "256"],
+            ErrorKind::ValueValidation,
+        ),
+        (
+            &["pacboard", "run", "--dip", "x"],
+            ErrorKind::ValueValidation,
+        ),
         (&["pacboard", "run", "--dip=-1"], ErrorKind::ValueValidation),
-        (&["pacboard", "run", "--dip", "-1"], ErrorKind::UnknownArgument),
+        (
+            &["pacboard", "run", "--dip", "-1"],
+            ErrorKind::UnknownArgument,
+        ),
     ] {
         assert_eq!(rt; kind_of(&rt, words), Some(kind));
     }

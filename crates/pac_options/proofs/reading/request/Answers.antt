@@ -1,6 +1,6 @@
 use Rattle.std.proofs.Common.{◌∙◌, codes, refl, ap}
-use Rattle.std.specs.Prelude.{List, Option, Some, ℕ}
-use Rattle.clap.specs.Words.{Row, Text, found_of, rows_of}
+use Rattle.std.specs.Prelude.{Some}
+use Rattle.clap.specs.Words.{Text, found_of, rows_of}
 use Rattle.clap.specs.declared.parser.matches.ArgMatches.TheViews.{out-ArgMatches}
 use Rattle.pac_options.proofs.Rows.{entered_rows, none_first, some_first}
 use Rattle.pac_options.proofs.reading.request.Goals as goal
