@@ -1,12 +1,14 @@
 -- Words that clap finds no fault with say all that a request needs.
-use Rattle.std.proofs.Common.{◌≡◌, ◌∙◌, ◌&&◌, ◌||◌, Bool, cond, codes, true, false, not, refl, sym, ap, subst, List, [], ◌∷◌, ◌++◌, drop, Option, Some, None, is_some, true≢false}
+use Rattle.std.proofs.Common.{◌≡◌, ◌∙◌, ◌&&◌, ◌||◌, Bool, cond, codes, true, false, not, refl, sym, ap, subst, List, [], ◌∷◌, ◌++◌}
+use Rattle.std.proofs.Common.{drop, Option, Some, None, is_some, true≢false}
 use Rattle.std.specs.Prelude.{find, fold, slice_get, take, option_and_then, option_map}
 use Rattle.std.specs.List.{list_any}
 use Rattle.std.specs.Option.{option_map_or}
 use Rattle.std.specs.Str.{bytes_eq}
 use Rattle.clap.specs.Facts.{explicit_source}
 use Rattle.clap.specs.Kinds.{check_kinds}
-use Rattle.clap.specs.Walk.{Row, Rule, Text, answers_to, at_row, default_rows, finished, first_of, has_row, more_values, nothing_held, one_of, reading_by, row_text, rows_after, settled, walk, walk_from, with_default}
+use Rattle.clap.specs.Walk.{Row, Rule, Text, answers_to, at_row, default_rows, finished, first_of, has_row, more_values, nothing_held}
+use Rattle.clap.specs.Walk.{one_of, reading_by, row_text, rows_after, settled, walk, walk_from, with_default}
 use Rattle.clap.specs.Words.{HasKind, HasMatchesOf, is_simple, is_simple_and_free, subcommand_of, subcommand_rows_of}
 use Rattle.clap.specs.declared.error.Error.{Error}
 use Rattle.clap.specs.declared.parser.matches.ArgMatches.{ArgMatches}
@@ -15,7 +17,8 @@ use Rattle.clap.specs.Takes.{is_given}
 use Rattle.clap.specs.Faults.{built_fault, check_fault, defaults_fault, entered_fault, fault_of, level_fault, settle_fault, walk_fault}
 use Rattle.clap.specs.declared.parser.matches.ValueSource.TheVariants.{DefaultValue}
 use Rattle.clap.proofs.WalkLemmas.{both}
-use Rattle.pac_options.specs.CommandLine.{Asked, asked, asked_asm, asked_dis, asked_run, asm, asm_command, byte_of, dis, dis_command, dip_option, pacboard, request_of, run, run_command}
+use Rattle.pac_options.specs.CommandLine.{Asked, asked, asked_asm, asked_dis, asked_run, asm, asm_command, byte_of, dis, dis_command}
+use Rattle.pac_options.specs.CommandLine.{dip_option, pacboard, request_of, run, run_command}
 use Rattle.pac_options.proofs.Levels.{AreFine, AreGood, is_good, level_good, new_row, or_both, some_kind}
 
 -- ---- what is given
@@ -60,14 +63,16 @@ required_first id rows good e = given_first id rows good (go (is_given id rows) 
     go false h = absurd (true≢false h)
 
 -- where the DIP switches have a row, it reads as a byte
-dip_reads : (rows : List Row) → AreGood rows → has_row (codes "dip") rows ≡ true → is_some (option_and_then byte_of (one_of (codes "dip") rows)) ≡ true
+dip_reads : (rows : List Row) → AreGood rows → has_row (codes "dip") rows ≡ true
+    → is_some (option_and_then byte_of (one_of (codes "dip") rows)) ≡ true
 dip_reads [] good there = absurd (true≢false (sym there))
 dip_reads (r ∷ rs) good there =
     let parts = both (is_good r) _ good in
     let here = both (is_some (slice_get r.values 0)) _ parts.0 in
     go (bytes_eq r.id (codes "dip")) refl here.1 (dip_reads rs parts.1) there
   where
-    first : (b : Bool) → b ≡ true → (not b || is_some (option_and_then byte_of (row_text r))) ≡ true → is_some (option_and_then byte_of (row_text r)) ≡ true
+    first : (b : Bool) → b ≡ true → (not b || is_some (option_and_then byte_of (row_text r))) ≡ true
+        → is_some (option_and_then byte_of (row_text r)) ≡ true
     first true e h = h
     first false e h = absurd (true≢false (sym e))
 
@@ -75,7 +80,8 @@ dip_reads (r ∷ rs) good there =
         → (not (bytes_eq r.id (codes "dip")) || is_some (option_and_then byte_of (row_text r))) ≡ true
         → (has_row (codes "dip") rs ≡ true → is_some (option_and_then byte_of (one_of (codes "dip") rs)) ≡ true)
         → (b || has_row (codes "dip") rs) ≡ true
-        → is_some (option_and_then byte_of (option_and_then row_text (cond b (Some r) (find (λ (x : Row). bytes_eq x.id (codes "dip")) rs)))) ≡ true
+        → is_some (option_and_then byte_of (option_and_then row_text
+        (cond b (Some r) (find (λ (x : Row). bytes_eq x.id (codes "dip")) rs)))) ≡ true
     go true e here more h = first (bytes_eq r.id (codes "dip")) e here
     go false e here more h = more h
 
@@ -86,19 +92,22 @@ landed : (id : Text) (change : Row → List Row) (r : Row) (rows : List Row) →
 landed id change r [] is none = rw is refl
 landed id change r (x ∷ xs) is none = go (bytes_eq x.id id) refl (landed id change r xs is) none
   where
-    go : (b : Bool) → bytes_eq x.id id ≡ b → (has_row id xs ≡ false → has_row id (at_row id change (r ∷ []) xs) ≡ true) → (b || has_row id xs) ≡ false → has_row id (cond b (change x ++ xs) (x ∷ at_row id change (r ∷ []) xs)) ≡ true
+    go : (b : Bool) → bytes_eq x.id id ≡ b → (has_row id xs ≡ false → has_row id (at_row id change (r ∷ []) xs) ≡ true)
+        → (b || has_row id xs) ≡ false → has_row id (cond b (change x ++ xs) (x ∷ at_row id change (r ∷ []) xs)) ≡ true
     go true e more h = absurd (true≢false h)
     go false e more h = rw (e, more h) refl
 
 -- an argument with a default has a row once the default was given
-default_lands : (a : Rule) (v : Text) (rows : List Row) → bytes_eq a.id a.id ≡ true → has_row a.id (with_default rows (record a { defaults = v ∷ [] })) ≡ true
+default_lands : (a : Rule) (v : Text) (rows : List Row) → bytes_eq a.id a.id ≡ true
+    → has_row a.id (with_default rows (record a { defaults = v ∷ [] })) ≡ true
 default_lands a v rows same = go (has_row a.id rows) refl
   where
     go : (b : Bool) → has_row a.id rows ≡ b → has_row a.id (cond b rows (default_rows a.id (reading_by a) (v ∷ []) rows)) ≡ true
     go true e = e
     go false e = landed a.id (more_values DefaultValue (v ∷ [])) (new_row DefaultValue a (v ∷ [])) rows same e
 
-no_default : (id : Text) (a : Rule) (rows : List Row) → has_row id rows ≡ true → has_row id (with_default rows (record a { defaults = [] })) ≡ true
+no_default : (id : Text) (a : Rule) (rows : List Row) → has_row id rows ≡ true
+    → has_row id (with_default rows (record a { defaults = [] })) ≡ true
 no_default id a rows there = go (has_row a.id rows)
   where
     go : (b : Bool) → has_row id (cond b rows rows) ≡ true
@@ -192,7 +201,8 @@ run_there : (words : List Text) → has_row (codes "dip") (rows_after run_built.
 run_there words =
     let end = (walk run_built.rules [] nothing_held words).held in
     let before = fold with_default (settled run_built.rules end).rows (take 6 run_built.rules) in
-    no_default (codes "dip") (filled help_rule) (with_default before (filled dip_option)) (default_lands (filled dip_option) (codes "201") before refl)
+    no_default (codes "dip") (filled help_rule) (with_default before (filled dip_option))
+    (default_lands (filled dip_option) (codes "201") before refl)
 
 abbrev top_built : Shape
 top_built = record (new_shape (codes "pacboard")) {
@@ -212,18 +222,31 @@ one_there : (b : Bool) (rows : List Row) → check_fault top_built rows b ≡ []
 one_there true rows e = refl
 one_there false rows e = absurd (true≢false (ap some_kind e))
 
+-- the first subcommand whose test passed
+abbrev first_of_three : Bool → Bool → Bool → Option Shape
+first_of_three a b d = cond a (Some asm_built) (cond b (Some run_built) (cond d (Some dis_built) None))
+
+-- where no fault is found a subcommand was met, and it asks for something
 stops : (stop : Option (Text × List Text)) → entered_fault app_built stop ≡ [] → is_some (entered app_built stop) ≡ true
     → is_some (option_and_then asked (entered app_built stop)) ≡ true
 stops None f e = absurd (true≢false (sym e))
-stops (Some p) f e = go (answers_to p.0 (label_of asm_built)) (answers_to p.0 (label_of run_built)) (answers_to p.0 (label_of dis_built)) f e
+stops (Some p) f e =
+    let answers : Shape → Bool = λ s. answers_to p.0 (label_of s) in
+    go (answers asm_built) (answers run_built) (answers dis_built) f e
   where
     go : (a b d : Bool)
-        → option_map_or (λ (s : Shape). level_fault s [] nothing_held p.1 false []) (cond a (Some asm_built) (cond b (Some run_built) (cond d (Some dis_built) None))) [] ≡ []
-        → is_some (option_map (λ (s : Shape). rows_at s p.1) (cond a (Some asm_built) (cond b (Some run_built) (cond d (Some dis_built) None)))) ≡ true
-        → is_some (option_and_then asked (option_map (λ (s : Shape). rows_at s p.1) (cond a (Some asm_built) (cond b (Some run_built) (cond d (Some dis_built) None))))) ≡ true
-    go true b d g h = let level = level_good asm_built p.1 asm_fine g in asm_said (rows_after asm_built.rules [] p.1) level.0 level.1
-    go false true d g h = let level = level_good run_built p.1 run_fine g in run_said (rows_after run_built.rules [] p.1) level.0 (run_there p.1) level.1
-    go false false true g h = let level = level_good dis_built p.1 dis_fine g in dis_said (rows_after dis_built.rules [] p.1) level.0 level.1
+        → option_map_or (λ (s : Shape). level_fault s [] nothing_held p.1 false []) (first_of_three a b d) [] ≡ []
+        → is_some (option_map (λ (s : Shape). rows_at s p.1) (first_of_three a b d)) ≡ true
+        → is_some (option_and_then asked (option_map (λ (s : Shape). rows_at s p.1) (first_of_three a b d))) ≡ true
+    go true b d g h =
+        let level = level_good asm_built p.1 asm_fine g in
+        asm_said (rows_after asm_built.rules [] p.1) level.0 level.1
+    go false true d g h =
+        let level = level_good run_built p.1 run_fine g in
+        run_said (rows_after run_built.rules [] p.1) level.0 (run_there p.1) level.1
+    go false false true g h =
+        let level = level_good dis_built p.1 dis_fine g in
+        dis_said (rows_after dis_built.rules [] p.1) level.0 level.1
     go false false false g h = absurd (true≢false (sym h))
 
 said : (words : List Text) → built_fault app_built nothing_held words ≡ []
@@ -250,10 +273,12 @@ free : is_simple_and_free pacboard ≡ true
 unfolding pacboard
 free = refl
 
-pub no_fault : (app : App) (words : List Text) → app ≡ pacboard → (is_simple_and_free app ≡ true → fault_of app words ≡ []) → fault_of pacboard words ≡ []
+pub no_fault : (app : App) (words : List Text) → app ≡ pacboard → (is_simple_and_free app ≡ true → fault_of app words ≡ [])
+    → fault_of pacboard words ≡ []
 no_fault app words is h = ap (λ (a : App). fault_of a words) (sym is) ∙ h (ap is_simple_and_free is ∙ free)
 
-pub its_fault : (app : App) (words : List Text) (e : Error) → app ≡ pacboard → (is_simple_and_free app ≡ true → HasKind (fault_of app words) e)
+pub its_fault : (app : App) (words : List Text) (e : Error) → app ≡ pacboard
+    → (is_simple_and_free app ≡ true → HasKind (fault_of app words) e)
     → HasKind (fault_of pacboard words) e
 its_fault app words e is h = subst (λ (a : App). HasKind (fault_of a words) e) is (h (ap is_simple_and_free is ∙ free))
 

@@ -10,11 +10,13 @@ or_false true b e = refl
 or_false false b e = e
 
 -- one more argument
-pub with_one : (old : Command) (a : Arg) (new : Command) (app : App) (r : Rule) → AddsArg old a new → a.global ≡ false → rule_of a ≡ r → app_of old ≡ app
+pub with_one : (old : Command) (a : Arg) (new : Command) (app : App) (r : Rule) → AddsArg old a new → a.global ≡ false → rule_of a ≡ r
+    → app_of old ≡ app
     → app_of new ≡ with_rule app r
 with_one old a new app r h local rule before = h.shape local ∙ ap₂ with_rule before rule
 
-pub still_local : (old : Command) (a : Arg) (new : Command) (b : Bool) → AddsArg old a new → a.global ≡ false → (out-Command old).has_globals ≡ b
+pub still_local : (old : Command) (a : Arg) (new : Command) (b : Bool) → AddsArg old a new → a.global ≡ false
+    → (out-Command old).has_globals ≡ b
     → (out-Command new).has_globals ≡ b
 still_local old a new b h local before = h.globals ∙ or_false _ _ local ∙ before
 

@@ -1,18 +1,29 @@
 -- What a level of a parse with no fault leaves: rows with a value each, and a byte in that of the DIP switches.
-use Rattle.std.proofs.Common.{◌≡◌, ◌∙◌, ◌&&◌, ◌||◌, ℕ, Bool, cond, codes, true, false, not, zero, suc, refl, sym, ap, List, [], ◌∷◌, ◌++◌, length, drop, Option, Some, None, is_some, true≢false, nat_lt}
+use Rattle.std.proofs.Common.{◌≡◌, ◌∙◌, ◌&&◌, ◌||◌, ℕ, Bool, cond, codes, true, false, not, zero, suc, refl, sym, ap, List, [], ◌∷◌}
+use Rattle.std.proofs.Common.{◌++◌, length, drop, Option, Some, None, is_some, true≢false, nat_lt}
 use Rattle.std.specs.Prelude.{⊤, encode_utf8, slice_get, find, fold, pos, option_and_then}
 use Rattle.std.specs.List.{list_all}
 use Rattle.std.specs.Str.{bytes_eq, chars}
 use Rattle.clap.specs.Facts.{parser_of_value, unwrap_or_range}
 use Rattle.clap.specs.Lexer.{long_of, short_of}
 use Rattle.clap.specs.ValueTests.{accepts}
-use Rattle.clap.specs.Walk.{Held, Outcome, Row, Rule, Step, Text, Waiting, Walk, action_of, after_flag, after_step, arg_by_id, arg_by_index, arg_by_long, arg_by_short, at_row, attached_value, bundle, bundle_met, bundle_step, default_rows, done, flag_met, has_row, idle, is_pending, long_met, long_or_other, more_values, most_values, next, nothing_held, option, option_met, option_word, plain, plain_word, positional, pushed, reacted, reading_by, refused, row_text, rows_after, settled, settled_rows, short_met, short_or_plain, subcommand, subcommand_met, subcommand_or_other, takes_several, takes_values, to_positional, trailing, used, used_as, used_by_id, value, values_or_missing, waits, walk, walk_from, walked, walked_from, with_default, without, word_met}
+use Rattle.clap.specs.Walk.{Held, Outcome, Row, Rule, Step, Text, Waiting, Walk, action_of, after_flag, after_step, arg_by_id}
+use Rattle.clap.specs.Walk.{arg_by_index, arg_by_long, arg_by_short, at_row, attached_value, bundle, bundle_met, bundle_step}
+use Rattle.clap.specs.Walk.{default_rows, done, flag_met, has_row, idle, is_pending, long_met, long_or_other, more_values, most_values}
+use Rattle.clap.specs.Walk.{next, nothing_held, option, option_met, option_word, plain, plain_word, positional, pushed, reacted}
+use Rattle.clap.specs.Walk.{reading_by, refused, row_text, rows_after, settled, settled_rows, short_met, short_or_plain, subcommand}
+use Rattle.clap.specs.Walk.{subcommand_met, subcommand_or_other, takes_several, takes_values, to_positional, trailing, used, used_as}
+use Rattle.clap.specs.Walk.{used_by_id, value, values_or_missing, waits, walk, walk_from, walked, walked_from, with_default, without}
+use Rattle.clap.specs.Walk.{word_met}
 use Rattle.clap.specs.Simple.{Shape}
 use Rattle.clap.specs.Kinds.{Kinds, or_else, range_kinds, value_kinds}
 use Rattle.clap.specs.Values.{read_as, refused_kind}
 use Rattle.clap.specs.declared.error.kind.ErrorKind.TheVariants.{ArgumentConflict, InvalidValue, TooManyValues}
 use Rattle.std.specs.Option.{option_map_or}
-use Rattle.clap.specs.Faults.{action_fault, bundle_fault, bundle_step_fault, check_fault, defaults_fault, flag_word_fault, flags_fault, level_fault, long_fault, option_fault, other_fault, positional_fault, react_fault, repeat_fault, set_fault, settle_fault, short_fault, step_fault, stray_fault, turn_fault, use_fault, walk_fault, word_fault}
+use Rattle.clap.specs.Faults.{action_fault, bundle_fault, bundle_step_fault, check_fault, defaults_fault, flag_word_fault, flags_fault}
+use Rattle.clap.specs.Faults.{level_fault, long_fault, option_fault, other_fault, positional_fault, react_fault, repeat_fault}
+use Rattle.clap.specs.Faults.{set_fault, settle_fault, short_fault, step_fault, stray_fault, turn_fault, use_fault, walk_fault}
+use Rattle.clap.specs.Faults.{word_fault}
 use Rattle.clap.specs.declared.builder.action.ArgAction.{ArgAction}
 use Rattle.clap.specs.declared.builder.action.ArgAction.TheVariants as action
 use Rattle.clap.specs.declared.builder.value_parser.ValueParser.{ValueParser}
@@ -108,7 +119,8 @@ found_fine p (a ∷ rest) fine = go (p a) (found_fine p rest fine.1)
 
 -- ---- one use
 
-new_good : (a : Rule) (v : Text) (vs : List Text) → (bytes_eq a.id (codes "dip") ≡ true → parser_of_value a.parser ≡ parser.Signed (pos 0) (pos 255))
+new_good : (a : Rule) (v : Text) (vs : List Text)
+    → (bytes_eq a.id (codes "dip") ≡ true → parser_of_value a.parser ≡ parser.Signed (pos 0) (pos 255))
     → accepts a.ignore_case (parser_of_value a.parser) v ≡ true → is_good (new_row CommandLine a (v ∷ vs)) ≡ true
 new_good a v vs byte passes = go (bytes_eq a.id (codes "dip")) byte
   where
@@ -121,7 +133,8 @@ new_good a v vs byte passes = go (bytes_eq a.id (codes "dip")) byte
 
 set_good : (a : Rule) (values : List Text) (rows : List Row) → IsFineAs action.Set a
     → range_kinds (unwrap_or_range a.range).start_inclusive (most_values a) (length values) ≡ []
-    → set_fault false a (values_or_missing a values) rows ≡ [] → AreGood rows → AreGood (used_as action.Set a.id (reading_by a) (values_or_missing a values) rows)
+    → set_fault false a (values_or_missing a values) rows ≡ [] → AreGood rows
+    → AreGood (used_as action.Set a.id (reading_by a) (values_or_missing a values) rows)
 set_good a [] rows fine range none good = absurd (true≢false (ap some_kind bad))
   where
     bad : InvalidValue ∷ [] ≡ []
@@ -140,7 +153,8 @@ set_good a (v ∷ vs) rows fine range none good =
 
 use_by : (x : ArgAction) (a : Rule) (values : List Text) (rows : List Row) → IsFineAs x a
     → range_kinds (unwrap_or_range a.range).start_inclusive (most_values a) (length values) ≡ []
-    → action_fault x false a (values_or_missing a values) rows ≡ [] → AreGood rows → AreGood (used_as x a.id (reading_by a) (values_or_missing a values) rows)
+    → action_fault x false a (values_or_missing a values) rows ≡ [] → AreGood rows
+    → AreGood (used_as x a.id (reading_by a) (values_or_missing a values) rows)
 use_by action.Set a values rows fine range none good = set_good a values rows fine range none good
 use_by action.Help a values rows fine range none good = good
 use_by action.Append a values rows fine range none good = absurd fine
@@ -151,7 +165,8 @@ use_by action.HelpShort a values rows fine range none good = absurd fine
 use_by action.HelpLong a values rows fine range none good = absurd fine
 use_by action.Version a values rows fine range none good = absurd fine
 
-use_good : (a : Rule) (values : List Text) (rows : List Row) → IsFine a → use_fault false a values rows ≡ [] → AreGood rows → AreGood (used a values rows)
+use_good : (a : Rule) (values : List Text) (rows : List Row) → IsFine a → use_fault false a values rows ≡ [] → AreGood rows
+    → AreGood (used a values rows)
 use_good a values rows fine none good =
     let parts = or_both _ _ none in
     use_by (action_of a) a values rows fine.0 parts.0 parts.1 good
@@ -162,30 +177,37 @@ module _ (c : List Rule) (fine : AreFine c) where
   settled_good : (h : Held) → settle_fault c false h ≡ [] → AreGood h.rows → AreGood (settled c h).rows
   settled_good h none good = go h.pending none
     where
-      by_rule : (o : Option Rule) (values : List Text) → IsFoundFine o → option_map_or (λ (a : Rule). use_fault false a values h.rows) o [] ≡ []
+      by_rule : (o : Option Rule) (values : List Text) → IsFoundFine o
+          → option_map_or (λ (a : Rule). use_fault false a values h.rows) o [] ≡ []
           → AreGood (used_by_id o values h.rows)
       by_rule None values f e = good
       by_rule (Some a) values f e = use_good a values h.rows f e good
 
-      go : (o : Option (Text × List Text)) → option_map_or (λ (p : Text × List Text). option_map_or (λ (a : Rule). use_fault false a p.1 h.rows) (arg_by_id c p.0) []) o [] ≡ []
+      go : (o : Option (Text × List Text))
+          → option_map_or (λ (p : Text × List Text).
+          option_map_or (λ (a : Rule). use_fault false a p.1 h.rows) (arg_by_id c p.0) []) o [] ≡ []
           → AreGood (settled_rows c o h.rows)
       go None e = good
       go (Some p) e = by_rule (arg_by_id c p.0) p.1 (found_fine _ c fine) e
 
-  react_good : (a : Rule) (values : List Text) (h : Held) → IsFine a → react_fault c false a values h ≡ [] → AreGood h.rows → AreGood (reacted c a values h).rows
+  react_good : (a : Rule) (values : List Text) (h : Held) → IsFine a → react_fault c false a values h ≡ [] → AreGood h.rows
+      → AreGood (reacted c a values h).rows
   react_good a values h f none good =
       let parts = or_both (settle_fault c false h) _ none in
       use_good a values (settled c h).rows f parts.1 (settled_good h parts.0 good)
 
-  option_good : (a : Rule) (v : Option Text) (h : Held) → IsFine a → option_fault c false a v h ≡ [] → AreGood h.rows → AreGood (option_met c a v h).0.rows
+  option_good : (a : Rule) (v : Option Text) (h : Held) → IsFine a → option_fault c false a v h ≡ [] → AreGood h.rows
+      → AreGood (option_met c a v h).0.rows
   option_good a (Some v) h f none good = react_good a (v ∷ []) h f none good
   option_good a None h f none good = settled_good h none good
 
-  long_good : (o : Option Rule) (v : Option Text) (h : Held) → IsFoundFine o → long_fault c false o v h ≡ [] → AreGood h.rows → AreGood (long_met c o v h).0.rows
+  long_good : (o : Option Rule) (v : Option Text) (h : Held) → IsFoundFine o → long_fault c false o v h ≡ [] → AreGood h.rows
+      → AreGood (long_met c o v h).0.rows
   long_good None v h f none good = good
   long_good (Some a) v h f none good = go (takes_values a) v none
     where
-      go : (b : Bool) (o : Option Text) → cond b (option_fault c false a o h) (cond (is_some o) (TooManyValues ∷ []) (react_fault c false a [] h)) ≡ []
+      go : (b : Bool) (o : Option Text)
+          → cond b (option_fault c false a o h) (cond (is_some o) (TooManyValues ∷ []) (react_fault c false a [] h)) ≡ []
           → AreGood (cond b (option_met c a o h) (flag_met c a o h)).0.rows
       go true o e = option_good a o h f e good
       go false (Some x) e = good
@@ -197,7 +219,8 @@ module _ (c : List Rule) (fine : AreFine c) where
   short_good None rest h fault met f more none good = good
   short_good (Some a) rest h fault met f more none good = go (takes_values a) none
     where
-      go : (b : Bool) → cond b (option_fault c false a (attached_value rest) h) (or_else (react_fault c false a [] h) (fault (reacted c a [] h))) ≡ []
+      go : (b : Bool)
+          → cond b (option_fault c false a (attached_value rest) h) (or_else (react_fault c false a [] h) (fault (reacted c a [] h))) ≡ []
           → AreGood (cond b (option_met c a (attached_value rest) h) (met (reacted c a [] h))).0.rows
       go true e = option_good a (attached_value rest) h f e good
       go false e =
@@ -214,7 +237,8 @@ module _ (c : List Rule) (fine : AreFine c) where
       go : (o : Option ℕ) (n : ℕ)
           → ((rest : Text) (less : ℕ) (far : Outcome) (held : Held) → flags_fault c false k rest less held ≡ [] → AreGood held.rows
           → AreGood (bundle_met c k rest less far held).0.rows)
-          → bundle_step_fault c false o flags n h (flags_fault c false k) ≡ [] → AreGood (bundle_step c o flags n so_far h (bundle_met c k)).0.rows
+          → bundle_step_fault c false o flags n h (flags_fault c false k) ≡ []
+          → AreGood (bundle_step c o flags n so_far h (bundle_met c k)).0.rows
       go None n more e = good
       go (Some x) zero more e =
           let rest = drop (length (encode_utf8 x)) flags in
@@ -231,20 +255,23 @@ module _ (c : List Rule) (fine : AreFine c) where
       go None = good
       go (Some a) = good
 
-  after_good : (waiting : Waiting) (word : Text) (h : Held) (o : Outcome) → AreGood h.rows → AreGood (after_flag c waiting word h o).0.rows
+  after_good : (waiting : Waiting) (word : Text) (h : Held) (o : Outcome) → AreGood h.rows
+      → AreGood (after_flag c waiting word h o).0.rows
   after_good waiting word h done good = good
   after_good waiting word h (waits id) good = good
   after_good waiting word h plain good = plain_good waiting word h good
   after_good waiting word h refused good = plain_good waiting word h good
 
-  flag_good : (waiting : Waiting) (word : Text) (o : Option (Text × Option Text)) (h : Held) → flag_word_fault c false o word h ≡ [] → AreGood h.rows
+  flag_good : (waiting : Waiting) (word : Text) (o : Option (Text × Option Text)) (h : Held) → flag_word_fault c false o word h ≡ []
+      → AreGood h.rows
       → AreGood (long_or_other c waiting word o h).0.rows
   flag_good waiting word (Some p) h none good =
       after_good waiting word (long_met c (arg_by_long c p.0) p.1 h).0 (long_met c (arg_by_long c p.0) p.1 h).1
       (long_good (arg_by_long c p.0) p.1 h (found_fine _ c fine) none good)
   flag_good waiting word None h none good = go (short_of word) none
     where
-      go : (o : Option Text) → option_map_or (λ (flags : Text). bundle_fault c false flags h) o [] ≡ [] → AreGood (short_or_plain c waiting word o h).0.rows
+      go : (o : Option Text) → option_map_or (λ (flags : Text). bundle_fault c false flags h) o [] ≡ []
+          → AreGood (short_or_plain c waiting word o h).0.rows
       go None e = plain_good waiting word h good
       go (Some flags) e =
           after_good waiting word (bundle c flags h).0 (bundle c flags h).1
@@ -271,43 +298,51 @@ module _ (s : Shape) (fine : AreFine s.rules) where
       go true e = good
       go false e = flag_good s.rules fine waiting word (long_of word) h e good
 
-  word_good : (is_trailing : Bool) (waiting : Waiting) (position : ℕ) (word : Text) (h : Held) → word_fault (once s) [] is_trailing waiting word h ≡ [] → AreGood h.rows
+  word_good : (is_trailing : Bool) (waiting : Waiting) (position : ℕ) (word : Text) (h : Held)
+      → word_fault (once s) [] is_trailing waiting word h ≡ [] → AreGood h.rows
       → AreGood (word_met s.rules [] is_trailing waiting position word h).0.rows
   word_good true waiting position word h none good = good
   word_good false waiting position word h none good =
       let same = none_met waiting word in
       rw same (other_good waiting position word h (rw same at none) good)
 
-  step_good : (position : ℕ) (w : Walk) (word : Text) (h : Held) (step : Step) → step_fault (once s) w.position h step ≡ [] → AreGood h.rows
+  step_good : (position : ℕ) (w : Walk) (word : Text) (h : Held) (step : Step) → step_fault (once s) w.position h step ≡ []
+      → AreGood h.rows
       → AreGood (after_step s.rules word w h step).held.rows
   step_good position w word h (next waiting) none good = good
   step_good position w word h (trailing p) none good = good
   step_good position w word h (subcommand name) none good = good
   step_good position w word h value none good = go (arg_by_index s.rules w.position) none
     where
-      settles : (b : Bool) (a : Rule) → cond b [] (settle_fault s.rules false h) ≡ [] → AreGood (pushed a.id word (cond b h (settled s.rules h))).rows
+      settles : (b : Bool) (a : Rule) → cond b [] (settle_fault s.rules false h) ≡ []
+          → AreGood (pushed a.id word (cond b h (settled s.rules h))).rows
       settles true a e = good
       settles false a e = settled_good s.rules fine h e good
 
-      go : (o : Option Rule) → option_map_or (λ (a : Rule). positional_fault s.rules false a h) o (stray_fault s) ≡ [] → AreGood (to_positional s.rules o word w h).held.rows
+      go : (o : Option Rule) → option_map_or (λ (a : Rule). positional_fault s.rules false a h) o (stray_fault s) ≡ []
+          → AreGood (to_positional s.rules o word w h).held.rows
       go None e = good
       go (Some a) e = settles (is_pending a h.pending && takes_several a) a e
 
-  turn_good : (w : Walk) (word : Text) → turn_fault (once s) [] w word ≡ [] → AreGood w.held.rows → AreGood (walked s.rules [] w word).held.rows
+  turn_good : (w : Walk) (word : Text) → turn_fault (once s) [] w word ≡ [] → AreGood w.held.rows
+      → AreGood (walked s.rules [] w word).held.rows
   unfolding walked
   turn_good w word none good = go w.stopped none
     where
       met : Held × Step
       met = word_met s.rules [] w.is_trailing w.waiting w.position word w.held
 
-      go : (o : Option (Text × List Text)) → cond (is_some o) [] (or_else (word_fault (once s) [] w.is_trailing w.waiting word w.held) (step_fault (once s) w.position met.0 met.1)) ≡ []
+      go : (o : Option (Text × List Text))
+          → cond (is_some o) [] (or_else (word_fault (once s) [] w.is_trailing w.waiting word w.held)
+          (step_fault (once s) w.position met.0 met.1)) ≡ []
           → AreGood (walked_from s.rules [] o w word).held.rows
       go (Some p) e = good
       go None e =
           let parts = or_both (word_fault (once s) [] w.is_trailing w.waiting word w.held) _ e in
           step_good w.position w word met.0 met.1 parts.1 (word_good w.is_trailing w.waiting w.position word w.held parts.0 good)
 
-  walk_good : (w : Walk) (words : List Text) → walk_fault (once s) [] w words ≡ [] → AreGood w.held.rows → AreGood (fold (walked s.rules []) w words).held.rows
+  walk_good : (w : Walk) (words : List Text) → walk_fault (once s) [] w words ≡ [] → AreGood w.held.rows
+      → AreGood (fold (walked s.rules []) w words).held.rows
   unfolding walk_fault
   walk_good w [] none good = good
   walk_good w (word ∷ rest) none good =
@@ -317,9 +352,11 @@ module _ (s : Shape) (fine : AreFine s.rules) where
 default_good : (rows : List Row) (a : Rule) → has_good_default a.defaults a ≡ true → AreGood rows → AreGood (with_default rows a)
 default_good rows a fine good = go (has_row a.id rows) refl
   where
-    given : (values : List Text) → has_row a.id rows ≡ false → has_good_default values a ≡ true → AreGood (default_rows a.id (reading_by a) values rows)
+    given : (values : List Text) → has_row a.id rows ≡ false → has_good_default values a ≡ true
+        → AreGood (default_rows a.id (reading_by a) values rows)
     given [] absent f = good
-    given (v ∷ vs) absent f = joined a.id (more_values DefaultValue (v ∷ vs)) (new_row DefaultValue a (v ∷ vs) ∷ []) rows absent (rw f refl) good
+    given (v ∷ vs) absent f =
+        joined a.id (more_values DefaultValue (v ∷ vs)) (new_row DefaultValue a (v ∷ vs) ∷ []) rows absent (rw f refl) good
 
     go : (b : Bool) → has_row a.id rows ≡ b → AreGood (cond b rows (default_rows a.id (reading_by a) a.defaults rows))
     go true e = good

@@ -12,7 +12,8 @@ use Rattle.clap.specs.declared.parser.matches.Found.{Found}
 use Rattle.clap.specs.declared.parser.matches.SubCommand.{SubCommand}
 use Rattle.clap.proofs.WalkLemmas.{first_value-rows}
 
-pub some_first : (f : Found) (id : Text) (r : Option (Bor Text)) (x : Bor Text) → r ≡ Some x → option_map (λ s. s.now) r ≡ first_value f id
+pub some_first : (f : Found) (id : Text) (r : Option (Bor Text)) (x : Bor Text) → r ≡ Some x
+    → option_map (λ s. s.now) r ≡ first_value f id
     → first_of id (rows_of f) ≡ Some x.now
 some_first f id r x is h = sym (first_value-rows f id) ∙ (sym h ∙ ap (option_map (λ (s : Bor Text). s.now)) is)
 
@@ -37,6 +38,7 @@ module _ {Z : Type 0} where
       pair (Some n) (Some r) = Some (n, r)
       pair _ _ = None
 
-  pub none_entered : (sub : Option (Box SubCommand Z)) → None ≡ option_map (λ b. (out-SubCommand (box_value b)).name.now) sub → subcommand_rows sub ≡ None
+  pub none_entered : (sub : Option (Box SubCommand Z)) → None ≡ option_map (λ b. (out-SubCommand (box_value b)).name.now) sub
+      → subcommand_rows sub ≡ None
   none_entered None named = refl
   none_entered (Some b) named = absurd (true≢false (sym (ap (λ (o : Option Text). is_some o) named)))

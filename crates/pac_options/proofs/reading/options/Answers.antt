@@ -23,7 +23,8 @@ pub returns : goal.returns
 returns g c =
     let words = map g.S.AsStr.text c.args.words.now in
     let app = app_of c.in_ok-pacboard.field-0 in
+    let matches = c.in_ok-matches.matches in
     record {
-      asked = sym (its_request app words c.in_ok-matches.matches c.in_ok-pacboard.ensures c.in_ok-matches.ensures.matches) ∙ sym c.in-Some.ensures;
+      asked = sym (its_request app words matches c.in_ok-pacboard.ensures c.in_ok-matches.ensures.matches) ∙ sym c.in-Some.ensures;
       refused = no_fault app words c.in_ok-pacboard.ensures c.in_ok-matches.ensures.kinds;
     }
