@@ -59,9 +59,9 @@ pub fn create<R: Files>(rt: &R, name: &str, output: Target) -> Result<R::File, F
     }
 }
 
-/// Opens the root folder three times, which takes those of the descriptors 0 to 2 that were closed when the program
-/// began. As long as the three files live, no file that is created has such a descriptor, so no text for standard output
-/// or standard error goes into it; a text for a closed one is refused.
-pub fn standard_files<R: Files>(rt: &R) -> [io::Result<R::File>; 3] {
-    [fs::open(rt, "/"), fs::open(rt, "/"), fs::open(rt, "/")]
+/// Opens the root folder for reading, which takes the least descriptor that is free: three calls take those of 0 to 2
+/// that were closed when the program began. As long as the three files live, no file that is created has such a
+/// descriptor, so no text for standard output or standard error goes into it; a text for a closed one is refused.
+pub fn standard_file<R: Files>(rt: &R) -> io::Result<R::File> {
+    fs::open(rt, "/")
 }

@@ -8,7 +8,7 @@ ghost use Rattle.pac_command.specs.Failures as told;
 use crate::asm::asm;
 use crate::dis::dis;
 use crate::failure::{Failure, end_status};
-use crate::files::standard_files;
+use crate::files::standard_file;
 use crate::play::play;
 use clap::error::ErrorKind;
 use pac_options::{Request, options};
@@ -21,12 +21,16 @@ use std::{env, io};
 pub fn run<R: Env + Files + Print + Eprint + AllocGlobal>(rt: &R) -> u8
     ensures { result ≤ told.most_status }
 {
-    let standard = standard_files(rt);
+    let input = standard_file(rt);
+    let output = standard_file(rt);
+    let error = standard_file(rt);
     let status = match words_of(rt) {
         Ok(words) => run_words(rt, rt, &words),
         Err(error) => tell_words(rt, error.kind()),
     };
-    drop(standard);
+    drop(input);
+    drop(output);
+    drop(error);
     status
 }
 
