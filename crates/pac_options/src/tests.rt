@@ -12,94 +12,69 @@ fn kind_of<'a>(rt: &HostRuntime, words: &'a [&'a str]) -> Option<ErrorKind> {
     }
 }
 
+/// A line of `asm`, in another order than its help shows.
+static ASM: [&str; 6] = ["pacboard", "asm", "--listing", "l", "a", "--rom=r"];
+
+/// A line of `run` with all its options, in another order than its help shows.
+static RUN_ALL: [&str; 15] = [
+    "pacboard",
+    "run",
+    "--dip=7",
+    "--wave",
+    "w",
+    "--frames",
+    "f",
+    "--source",
+    "a",
+    "--listing",
+    "l",
+    "--script",
+    "t",
+    "--set",
+    "s",
+];
+
+/// A line of `run` with what is required.
+static RUN: [&str; 12] = [
+    "pacboard",
+    "run",
+    "--set",
+    "s",
+    "--script",
+    "t",
+    "--frames",
+    "f",
+    "--wave",
+    "w",
+    "--listing",
+    "l",
+];
+
 #[test]
-fn each_subcommand_in_any_order(rt: HostRuntime) -> Result<(), Fail> {
+fn each_subcommand(rt: HostRuntime) -> Result<(), Fail> {
     let alloc = rt.alloc();
-    assert_eq!(rt;
-        options(
-            alloc,
-            &[
-                "pacboard",
-                "asm",
-                "--listing",
-                "a.lst",
-                "a.asm",
-                "--rom=a.rom"
-            ]
-        )?,
-        Request::Asm(AsmFiles {
-            source: "a.asm",
-            rom: "a.rom",
-            listing: "a.lst",
-        })
-    );
-    assert_eq!(rt;
-        options(
-            alloc,
-            &[
-                "pacboard",
-                "run",
-                "--dip=7",
-                "--wave",
-                "w",
-                "--frames",
-                "f",
-                "--source",
-                "a.asm",
-                "--listing",
-                "l",
-                "--script",
-                "t",
-                "--set",
-                "s",
-            ]
-        )?,
-        Request::Run(RunFiles {
-            set: "s",
-            script: "t",
-            frames: "f",
-            wave: "w",
-            listing: "l",
-            source: Some("a.asm"),
-            dip: 7,
-        })
-    );
+    let asm = AsmFiles {
+        source: "a",
+        rom: "r",
+        listing: "l",
+    };
+    let mut run = RunFiles {
+        set: "s",
+        script: "t",
+        frames: "f",
+        wave: "w",
+        listing: "l",
+        source: None,
+        dip: 201,
+    };
+    assert_eq!(rt; options(alloc, ASM.as_slice())?, Request::Asm(asm));
+    assert_eq!(rt; options(alloc, RUN.as_slice())?, Request::Run(run));
+    run.source = Some("a");
+    run.dip = 7;
+    assert_eq!(rt; options(alloc, RUN_ALL.as_slice())?, Request::Run(run));
     assert_eq!(rt;
         options(alloc, &["pacboard", "dis", "code"])?,
         Request::Dis("code")
-    );
-    Ok(())
-}
-
-#[test]
-fn switches_of_201_and_no_source(rt: HostRuntime) -> Result<(), Fail> {
-    assert_eq!(rt;
-        options(
-            rt.alloc(),
-            &[
-                "pacboard",
-                "run",
-                "--set",
-                "s",
-                "--script",
-                "t",
-                "--frames",
-                "f",
-                "--wave",
-                "w",
-                "--listing",
-                "l",
-            ]
-        )?,
-        Request::Run(RunFiles {
-            set: "s",
-            script: "t",
-            frames: "f",
-            wave: "w",
-            listing: "l",
-            source: None,
-            dip: 201,
-        })
     );
     Ok(())
 }
