@@ -4,7 +4,7 @@ ghost use Rattle.std.specs.Prelude.{◌≡◌, ◌≤◌, IfErr};
 ghost use Rattle.pac_command.specs.Failures as told;
 ghost use Rattle.pac_command.specs.Programs.{Performs};
 
-use crate::failure::{Failure, Target, failure_of, end_status};
+use crate::failure::{Failure, Target, end_status, failure_of};
 use crate::files::{create, read_beside, read_file};
 use crate::program::tell;
 use pac_manifest::{Manifest, Part, PartName, SetError, read_manifest};

@@ -3,10 +3,9 @@
 use crate::console::Console;
 use crate::folder::{bytes_of, expect, is_there, lay, lay_set, words_of};
 use pac_command::run_words;
-use std::io;
 use std::process::Abort;
 use std::rt::Files;
-use std::fs;
+use std::{fs, io};
 
 /// The outputs of a run.
 const OUTPUTS: &str = "--frames @/f.ppm --wave @/w.wav --listing @/l.txt";
@@ -34,9 +33,11 @@ fn expect_run(
 
 /// Whether the folder's outputs are there, and empty.
 fn are_empty(rt: &(impl Files + AllocGlobal), folder: &str) -> io::Result<bool> {
-    Ok(bytes_of(rt, folder, "f.ppm")?.is_empty()
-        && bytes_of(rt, folder, "w.wav")?.is_empty()
-        && bytes_of(rt, folder, "l.txt")?.is_empty())
+    Ok(
+        bytes_of(rt, folder, "f.ppm")?.is_empty()
+            && bytes_of(rt, folder, "w.wav")?.is_empty()
+            && bytes_of(rt, folder, "l.txt")?.is_empty(),
+    )
 }
 
 /// Whether none of the folder's outputs is there.
@@ -65,7 +66,11 @@ fn a_run_writes_four_outputs(rt: HostRuntime) -> io::Result<()> {
     for (place, level) in levels.iter().enumerate() {
         let is_in_tile = (16..24).contains(&(place / 3 % 288)) && place / 864 < 8;
         let is_green = place % 3 == 1;
-        assert_eq!(rt; *level, if is_in_tile && is_green { 255 } else { 0 }, "{place}");
+        assert_eq!(rt;
+            *level,
+            if is_in_tile && is_green { 255 } else { 0 },
+            "{place}"
+        );
     }
     assert_eq!(rt; bytes_of(&rt, "whole", "w.wav")?.len(), 3_212);
     assert!(rt; bytes_of(&rt, "whole", "l.txt")?.as_slice() == CELL_LISTING.as_bytes());
@@ -99,8 +104,7 @@ fn inputs_and_switches(rt: HostRuntime) -> io::Result<()> {
         ("--script @/up.script --dip 0", [0, 255, 0, 0, 0, 0]),
         ("--dip=201 --script @/up.script", [0, 255, 0, 255, 0, 0]),
     ] {
-        let line =
-            format!(in rt.alloc(); "--set @/set.toml {words} --source @/inputs.asm")?;
+        let line = format!(in rt.alloc(); "--set @/set.toml {words} --source @/inputs.asm")?;
         expect_run(&rt, "held", &line, 0, report, "")?;
         let image = bytes_of(&rt, "held", "f.ppm")?;
         let Some(found) = image.get(84..90) else {
@@ -166,7 +170,12 @@ fn files_that_cannot_be_read(rt: HostRuntime) -> io::Result<()> {
         "none.toml",
         b"tiles.file = 'none.rom'\nwave.file = '/none.prom'\nsprites.file = 'no/tiles.rom'\n",
     )?;
-    lay(&rt, "unread", "wave.toml", b"tiles.file = 'tiles.rom'\nwave.file = '/none.prom'\n")?;
+    lay(
+        &rt,
+        "unread",
+        "wave.toml",
+        b"tiles.file = 'tiles.rom'\nwave.file = '/none.prom'\n",
+    )?;
     for (words, error) in [
         (
             "--source @/none.asm --set @/no.toml --script @/no.script",
@@ -297,9 +306,18 @@ fn writes_that_are_refused(rt: HostRuntime) -> io::Result<()> {
     lay_set(&rt, "cut")?;
     let inputs = "run --source @/cell.asm --set @/set.toml --script @/one.script";
     for (outputs, output) in [
-        ("--frames /dev/full --wave @/w.wav --listing @/l.txt", "frames"),
-        ("--frames @/f.ppm --wave /dev/full --listing @/l.txt", "wave"),
-        ("--frames @/f.ppm --wave @/w.wav --listing /dev/full", "listing"),
+        (
+            "--frames /dev/full --wave @/w.wav --listing @/l.txt",
+            "frames",
+        ),
+        (
+            "--frames @/f.ppm --wave /dev/full --listing @/l.txt",
+            "wave",
+        ),
+        (
+            "--frames @/f.ppm --wave @/w.wav --listing /dev/full",
+            "listing",
+        ),
     ] {
         let line = format!(in rt.alloc(); "{inputs} {outputs}")?;
         let error = format!(in rt.alloc(); "write fault {output} after 0 bytes\n")?;
@@ -341,12 +359,36 @@ fn an_assembled_file(rt: HostRuntime) -> io::Result<()> {
     assert!(rt; rom.iter().skip(6).all(|byte| *byte == 0));
     assert!(rt; bytes_of(&rt, "made", "l.txt")?.as_slice() == CELL_LISTING.as_bytes());
     for (line, status, error) in [
-        ("asm @/fault.asm --rom @/r.rom --listing @/l.txt", 1, "refused A8 line 2\n"),
-        ("asm @/none.asm --rom @/r.rom --listing @/l.txt", 3, "read fault made/none.asm\n"),
-        ("asm @/fault.asm --rom @/no/r --listing @/no/l", 3, "write fault rom after 0 bytes\n"),
-        ("asm @/fault.asm --rom @/r.rom --listing @/no/l", 3, "write fault listing after 0 bytes\n"),
-        ("asm @/cell.asm --rom /dev/full --listing @/l.txt", 3, "write fault rom after 0 bytes\n"),
-        ("asm @/cell.asm --rom @/r.rom --listing /dev/full", 3, "write fault listing after 0 bytes\n"),
+        (
+            "asm @/fault.asm --rom @/r.rom --listing @/l.txt",
+            1,
+            "refused A8 line 2\n",
+        ),
+        (
+            "asm @/none.asm --rom @/r.rom --listing @/l.txt",
+            3,
+            "read fault made/none.asm\n",
+        ),
+        (
+            "asm @/fault.asm --rom @/no/r --listing @/no/l",
+            3,
+            "write fault rom after 0 bytes\n",
+        ),
+        (
+            "asm @/fault.asm --rom @/r.rom --listing @/no/l",
+            3,
+            "write fault listing after 0 bytes\n",
+        ),
+        (
+            "asm @/cell.asm --rom /dev/full --listing @/l.txt",
+            3,
+            "write fault rom after 0 bytes\n",
+        ),
+        (
+            "asm @/cell.asm --rom @/r.rom --listing /dev/full",
+            3,
+            "write fault listing after 0 bytes\n",
+        ),
     ] {
         expect(&rt, "made", line, status, "", error)?;
     }
@@ -362,10 +404,16 @@ fn a_disassembled_file(rt: HostRuntime) -> io::Result<()> {
             [0x3E, 0x42, 0x32, 0x40, 0x40, 0x76].as_slice(),
             "0000 3E42     LD A,42H\n0002 324040   LD (4040H),A\n0005 76       HALT\n",
         ),
-        (&[0xDD, 0x24], "0000 DD       DEFB 0DDH\n0001 24       INC H\n"),
+        (
+            &[0xDD, 0x24],
+            "0000 DD       DEFB 0DDH\n0001 24       INC H\n",
+        ),
         (&[0xED, 0x6B, 0x34, 0x12], "0000 ED6B3412 LD HL,(1234H)\n"),
         (&[0xFD, 0xCB, 0xFD, 0x46], "0000 FDCBFD46 BIT 0,(IY-03H)\n"),
-        (&[0x76, 0x3E], "0000 76       HALT\n0001 3E       DEFB 3EH\n"),
+        (
+            &[0x76, 0x3E],
+            "0000 76       HALT\n0001 3E       DEFB 3EH\n",
+        ),
     ] {
         lay(&rt, "told", "code", bytes)?;
         expect(&rt, "told", "dis @/code", 0, text, "")?;

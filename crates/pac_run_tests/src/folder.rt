@@ -5,8 +5,7 @@ use crate::set::{Files, PROGRAM_TABLES, TABLES, WAVE_TABLE};
 use pac_command::run_words;
 use std::alloc::{AllocError, Global};
 use std::process::Abort;
-use std::rt;
-use std::{fs, io};
+use std::{fs, io, rt};
 
 /// Lays a file into a folder.
 pub fn lay(
