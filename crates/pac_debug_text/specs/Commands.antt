@@ -1,5 +1,5 @@
 -- The commands of the debugger, and how a line tells one (this profile).
-use Rattle.std.specs.Prelude.{ℕ, ◌==◌, List, [], ◌∷◌, codes, Option, Some, None, Result, Ok, Err, option_map, option_and_then, if◌then◌else◌}
+use Rattle.std.specs.Prelude.{ℕ, ◌≤◌, ⊤, ◌==◌, List, [], ◌∷◌, codes, Option, Some, None, Result, Ok, Err, option_map, option_and_then, if◌then◌else◌}
 use Rattle.std.specs.Map.{lookup}
 use Rattle.std.specs.Str.{bytes_eq}
 use Rattle.pac_lex.specs.Words.{words}
@@ -67,6 +67,19 @@ command_named verbs.Regs operands = none commands.Regs operands
 command_named verbs.Mem operands = option_map (λ found. commands.Mem found.0 found.1) (stretch operands)
 command_named verbs.Dis operands = option_map (λ found. commands.Dis found.0 found.1) (stretch operands)
 command_named verbs.History operands = option_map commands.History (only (number_within most_shown) operands)
+
+-- the ranges of a command's numbers
+abbrev pub IsWithin : ℕ → ℕ → Type 0
+IsWithin most n = (1 ≤ n) × (n ≤ most)
+
+abbrev pub IsInRange : Command → Type 0
+IsInRange (commands.Step n) = IsWithin most_steps n
+IsInRange (commands.Frames n) = IsWithin most_frames n
+IsInRange (commands.Back n) = IsWithin most_steps n
+IsInRange (commands.Mem at count) = IsWithin most_shown count
+IsInRange (commands.Dis at count) = IsWithin most_shown count
+IsInRange (commands.History n) = IsWithin most_shown n
+IsInRange others = ⊤
 
 -- the command of a line's words; a line without words tells none and is no fault
 abbrev pub told : Option Command → Result Command NoCommand

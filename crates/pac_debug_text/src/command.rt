@@ -1,6 +1,6 @@
 //! The commands of the debugger, and how a line tells one.
 
-ghost use Rattle.std.specs.Prelude.{◌≡◌, option_map, option_and_then};
+ghost use Rattle.std.specs.Prelude.{◌≡◌, option_map, option_and_then, IfSome, IfOk};
 ghost use Rattle.pac_lex.specs.Words.{words};
 ghost use Rattle.pac_debug_text.specs.Numbers as number;
 ghost use Rattle.pac_debug_text.specs.Commands as spec;
@@ -85,14 +85,16 @@ fn alone(line: &[u8], command: Command) -> Option<Command>
 
 /// A number from 1 to the most, as the only word of a line.
 fn only_number(line: &[u8], most: u32) -> Option<u32>
-    ensures { result ≡ spec.only (number.number_within most) (words line.now) }
+    ensures exact { result ≡ spec.only (number.number_within most) (words line.now) }
+    ensures within { IfSome result (spec.IsWithin most) }
 {
     number_within(only_word(line)?, most)
 }
 
 /// A number from 1 to 256, as the only word of a line.
 fn only_count(line: &[u8]) -> Option<u16>
-    ensures { result ≡ spec.only (number.number_within spec.most_shown) (words line.now) }
+    ensures exact { result ≡ spec.only (number.number_within spec.most_shown) (words line.now) }
+    ensures within { IfSome result (spec.IsWithin spec.most_shown) }
 {
     Some(only_number(line, MOST_SHOWN)? as u16)
 }
@@ -118,7 +120,8 @@ fn only_slot(line: &[u8]) -> Option<Slot>
 
 /// An address and a count from 1 to 256, as the only words of a line.
 fn stretch(line: &[u8]) -> Option<(u16, u16)>
-    ensures { result ≡ spec.stretch (words line.now) }
+    ensures exact { result ≡ spec.stretch (words line.now) }
+    ensures within { IfSome result (λ found. spec.IsWithin spec.most_shown found.1) }
 {
     let (first, rest) = next_word(line)?;
     let at = address_of(first)?;
@@ -128,7 +131,8 @@ fn stretch(line: &[u8]) -> Option<(u16, u16)>
 
 /// The command of a verb and what follows its name.
 fn command_named(verb: Verb, line: &[u8]) -> Option<Command>
-    ensures { result ≡ spec.command_named verb (words line.now) }
+    ensures exact { result ≡ spec.command_named verb (words line.now) }
+    ensures ranges { IfSome result spec.IsInRange }
 {
     Some(match verb {
         Verb::Step => Command::Step(only_number(line, MOST_STEPS)?),
@@ -158,7 +162,8 @@ fn command_named(verb: Verb, line: &[u8]) -> Option<Command>
 /// without. Any bytes may stand there. It takes no memory.
 #[tactic(auto, unfolding(crate::specs::Commands::command_of))]
 pub fn read_command(line: &[u8]) -> Option<Result<Command, NoCommand>>
-    ensures { result ≡ spec.command_of line.now }
+    ensures exact { result ≡ spec.command_of line.now }
+    ensures ranges { IfSome result (λ answer. IfOk answer spec.IsInRange) }
 {
     let (name, operands) = next_word(line)?;
     let Some(verb) = verb_of(name) else {

@@ -1,4 +1,4 @@
-use Rattle.std.proofs.Common.{◌≡◌, List, ℕ, suc, ◌+◌, ◌-◌, subst, arith, ap, ◌∙◌}
+use Rattle.std.proofs.Common.{◌≡◌, List, ℕ, suc, ◌+◌, ◌-◌, subst, arith}
 use Rattle.std.proofs.lemmas.Result.{err_from_is_err_and}
 use Rattle.pac_num.specs.Numbers.{address}
 use Rattle.pac_out.proofs.Gathering.{Leaves, leaves-less, leaves-refused, leaves-nothing}
@@ -32,9 +32,8 @@ loop-preserved g c =
     let left = subst (λ (rest : List ℕ). Leaves g.W.Out.took c.args.pending.now c.args.output.now
     (instructions_text byte c.args.count c.args.at) rest c.loop.pending c.loop.output)
     (instructions-more byte at later _ code one c.four_from-code.ensures) c.loop.invariant in
-    let next : c.offset-next.result ≡ address (at + size_at code) =
-    c.offset-next.ensures ∙ ap (λ n. address (at + n)) (c.from.ensures ∙ c.in_ok-size.ensures.size) in
-    rw next (leaves-less (line_text at code) (instructions_text byte later (address (at + size_at code))) left c.in_ok-size.ensures.line)
+    rw (c.offset-next.ensures, c.from.ensures, c.in_ok-size.ensures.size)
+    (leaves-less (line_text at code) (instructions_text byte later (address (at + size_at code))) left c.in_ok-size.ensures.line)
 
 pub returns : goal.returns
 returns g c =
