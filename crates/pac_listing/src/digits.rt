@@ -50,7 +50,7 @@ fn low_digit(byte: u8) -> u8
 /// The digits of the first four bytes, left in eight places.
 #[tactic(auto, unfolding(crate::specs::Texts::byte_columns, pac_num::specs::Hexadecimal::hex_byte))]
 #[inline]
-pub(crate) fn byte_columns(bytes: &[u8]) -> [u8; 8]
+pub fn byte_columns(bytes: &[u8]) -> [u8; 8]
     ensures { result ≡ text.byte_columns bytes.now }
 {
     match bytes {

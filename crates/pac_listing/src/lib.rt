@@ -5,4 +5,5 @@ mod digits;
 mod listing;
 mod rows;
 
+pub use digits::byte_columns;
 pub use listing::write_listing;

@@ -1,0 +1,84 @@
+-- What is told where the program can't do its work: the line that goes to standard error, and the exit status.
+use Rattle.std.specs.Prelude.{◌≡◌, ◌⊎◌, ℕ, List, ◌++◌, Option, Some, None, Result, Ok, Err, codes}
+use Rattle.std.specs.Fmt.{decimal}
+use Rattle.clap.specs.Words.{IsAmong, Kinds}
+use Rattle.clap.specs.declared.error.kind.ErrorKind.{ErrorKind}
+use Rattle.clap.specs.declared.error.kind.ErrorKind.TheVariants as kind
+use Rattle.pac_asm.specs.Codes as asm
+use Rattle.pac_cpu.specs.declared.once.Stop.{Stop}
+use Rattle.pac_inputs.specs.Codes as inputs
+use Rattle.pac_manifest.specs.Codes as manifest
+use Rattle.pac_run.specs.Names.{name_of}
+use Rattle.pac_run.specs.declared.fault.RunFault.{RunFault}
+use Rattle.pac_run.specs.declared.outcome.Outcome.{Outcome}
+use Rattle.pac_run.specs.declared.fault.RunFault.TheVariants as run
+use Rattle.pac_command.specs.declared.failure.Failure.{Failure}
+use Rattle.pac_command.specs.declared.failure.Failure.TheVariants.{Read, Source, Set, Script, Extent, Write, Memory}
+use Rattle.pac_command.specs.declared.failure.Target.{Target}
+use Rattle.pac_command.specs.declared.failure.Target.TheVariants.{Of, Rom, Text}
+
+-- the name of an output
+abbrev pub target : Target → List ℕ
+target (Of output) = name_of output
+target Rom = codes "rom"
+target Text = codes "text"
+
+-- the line of a failure, without its line feed
+abbrev pub message : Failure → List ℕ
+message (Read name) = codes "read fault " ++ name.now
+message (Source fault) = codes "refused " ++ asm.fault_text fault
+message (Set fault) = codes "refused " ++ manifest.fault_text fault
+message (Script fault) = codes "refused " ++ inputs.fault_text fault
+message Extent = codes "refused X1"
+message (Write output count) = codes "write fault " ++ target output ++ codes " after " ++ decimal count ++ codes " bytes"
+message Memory = codes "out of memory"
+
+-- the exit status of a failure: 1 refused input, 3 read or write fault, 4 memory; 2 is that of a command line that is none
+abbrev pub status : Failure → ℕ
+status (Read name) = 3
+status (Source fault) = 1
+status (Set fault) = 1
+status (Script fault) = 1
+status Extent = 1
+status (Write output count) = 3
+status Memory = 4
+
+-- the exit status of a run that was done: 5 where a stop ended it
+abbrev pub end_status : Option Stop → ℕ
+end_status None = 0
+end_status (Some stop) = 5
+
+-- the exit status of a run that ended or failed
+abbrev pub run_status : Result Outcome Failure → ℕ
+run_status (Ok outcome) = end_status outcome.stop
+run_status (Err failure) = status failure
+
+-- the greatest exit status
+abbrev pub most_status : ℕ
+most_status = 5
+
+-- the failure that a fault of a run is
+abbrev pub failure_of : RunFault → Failure
+failure_of (run.Source fault) = Source fault
+failure_of (run.Set fault) = Set fault
+failure_of (run.Script fault) = Script fault
+failure_of (run.Write output count) = Write (Of output) count
+failure_of run.NoMemory = Memory
+
+-- the exit status of work that was done or failed
+abbrev pub work_status : Result Unit Failure → ℕ
+work_status (Ok done) = 0
+work_status (Err failure) = status failure
+
+-- the exit status of words that are no command line: 0 where they ask for help, else 2, but want of memory is 4
+abbrev pub line_status : ErrorKind → ℕ
+line_status kind.DisplayHelp = 0
+line_status kind.DisplayVersion = 0
+line_status kind.OutOfMemory = 4
+line_status other = 2
+
+-- the status is that of one of these kinds of words, or memory ran out
+pub record Answers (kinds : Kinds) (answer : ℕ) : Type 0 where
+  pub kind_told : ErrorKind
+  pub is_one : (kind_told ≡ kind.OutOfMemory) ⊎ IsAmong kind_told kinds
+  pub answer_is : answer ≡ line_status kind_told

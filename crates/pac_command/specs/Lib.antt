@@ -1,0 +1,3 @@
+pub mod Failures
+pub mod Programs
+pub mod Texts

@@ -1,0 +1,53 @@
+//! `dis`: a file's bytes become the text of their instructions.
+
+ghost use Rattle.std.specs.Prelude.{◌≡◌};
+ghost use Rattle.pac_dis_text.specs.Lines.{disassembly};
+ghost use Rattle.pac_run.specs.Recorded.{Written};
+ghost use Rattle.pac_command.specs.Texts.{Disassembles};
+
+use crate::failure::{Failure, Target};
+use crate::files::read_file;
+use pac_dis_text::put_disassembly;
+use pac_out::counted::Counted;
+use pac_out::through::Through;
+use pac_out::{Out, WriteFault};
+use std::io;
+use std::rt::Files;
+
+/// The most bytes that have addresses.
+const MOST_BYTES: usize = 65_536;
+
+/// Writes the instructions of bytes, from address 0000H on, a line each.
+fn put_text<W: Out>(text: &mut W, bytes: &[u8]) -> Result<(), WriteFault>
+    ensures { Written (record { took = W.took; refused = W.refused; old = text.old; new = text.new })
+        (disassembly bytes.now) result }
+{
+    let mut file = Counted::new(text);
+    put_disassembly(&mut file, bytes)
+}
+
+/// Writes the instructions of 1 to 65,536 bytes, from address 0000H on, a line each.
+pub fn write_text<W: Out>(bytes: &[u8], text: &mut W) -> Result<(), Failure<'static>>
+    ensures { Disassembles bytes.now (record { took = W.took; refused = W.refused; old = text.old; new = text.new }) result }
+{
+    if bytes.is_empty() || bytes.len() > MOST_BYTES {
+        return Err(Failure::Extent);
+    }
+    match put_text(text, bytes) {
+        Ok(()) => Ok(()),
+        Err(fault) => Err(Failure::Write(Target::Text, fault.count)),
+    }
+}
+
+/// Disassembles a file; the text goes to the console.
+pub(crate) fn dis<'a, R: Files + AllocGlobal, C: Print>(
+    rt: &R,
+    console: &C,
+    name: &'a str,
+) -> Result<(), Failure<'a>> {
+    let bytes = read_file(rt, name)?;
+    let mut text = Through {
+        inner: io::writer(console),
+    };
+    write_text(&bytes, &mut text)
+}

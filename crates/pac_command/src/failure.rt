@@ -1,0 +1,114 @@
+//! What keeps the program from its work: the line that tells it, and the exit status.
+
+ghost use Rattle.std.specs.Prelude.{◌≡◌, ◌≤◌, Some};
+ghost use Rattle.pac_command.specs.Failures as told;
+
+use pac_asm::AsmFault;
+use pac_cpu::Stop;
+use pac_inputs::ScriptFault;
+use pac_manifest::SetFault;
+use pac_run::{Output, RunFault};
+use std::fmt;
+
+/// The outputs of the program.
+#[derive(Clone, Copy)]
+pub enum Target {
+    /// An output of a run.
+    Of(Output),
+    /// The ROM of an assembled program.
+    Rom,
+    /// The text of a disassembly.
+    Text,
+}
+
+/// What keeps the program from its work. It prints as the one line that goes to standard error.
+#[derive(Clone, Copy)]
+pub enum Failure<'a> {
+    /// The file of this name can't be read, or has more than 16 MiB.
+    Read(&'a str),
+    /// The source has a fault.
+    Source(AsmFault),
+    /// The ROM set has a fault.
+    Set(SetFault),
+    /// The script has a fault.
+    Script(ScriptFault),
+    /// X1: what is to be disassembled has no byte, or more than 65,536.
+    Extent,
+    /// An output refused after this count of its bytes.
+    Write(Target, u64),
+    /// Memory ran out.
+    Memory,
+}
+
+impl fmt::Display for Target {
+    ghost use Rattle.pac_command.specs.Failures.{target};
+
+    ghost output = { λ output. Some (target output) };
+
+    /// Its name.
+    fn fmt<W: fmt::Write>(&self, f: &mut fmt::Formatter<W>) -> fmt::Result {
+        match self {
+            Target::Of(output) => write!(f, "{output}"),
+            Target::Rom => f.write_str("rom"),
+            Target::Text => f.write_str("text"),
+        }
+    }
+}
+
+impl fmt::Display for Failure<'_> {
+    ghost use Rattle.pac_command.specs.Failures.{message};
+
+    ghost output = { λ failure. Some (message failure) };
+
+    /// Its line, without a line feed.
+    fn fmt<W: fmt::Write>(&self, f: &mut fmt::Formatter<W>) -> fmt::Result {
+        match self {
+            Failure::Read(name) => write!(f, "read fault {name}"),
+            Failure::Source(fault) => write!(f, "refused {fault}"),
+            Failure::Set(fault) => write!(f, "refused {fault}"),
+            Failure::Script(fault) => write!(f, "refused {fault}"),
+            Failure::Extent => f.write_str("refused X1"),
+            Failure::Write(output, count) => {
+                write!(f, "write fault {output} after {count} bytes")
+            }
+            Failure::Memory => f.write_str("out of memory"),
+        }
+    }
+}
+
+impl Failure<'_> {
+    /// The exit status: 1 refused input, 3 read or write fault, 4 memory.
+    pub fn status(&self) -> u8
+        ensures status { result ≡ told.status self.now }
+        ensures most { result ≤ told.most_status }
+    {
+        match self {
+            Failure::Source(_) | Failure::Set(_) | Failure::Script(_) | Failure::Extent => 1,
+            Failure::Read(_) | Failure::Write(_, _) => 3,
+            Failure::Memory => 4,
+        }
+    }
+}
+
+/// The failure that a fault of a run is.
+pub(crate) fn failure_of(fault: RunFault) -> Failure<'static>
+    ensures { result ≡ told.failure_of fault }
+{
+    match fault {
+        RunFault::Source(fault) => Failure::Source(fault),
+        RunFault::Set(fault) => Failure::Set(fault),
+        RunFault::Script(fault) => Failure::Script(fault),
+        RunFault::Write(output, count) => Failure::Write(Target::Of(output), count),
+        RunFault::NoMemory => Failure::Memory,
+    }
+}
+
+/// The exit status of a run that was done: 5 where a stop ended it.
+pub(crate) fn end_status(stop: Option<Stop>) -> u8
+    ensures { result ≡ told.end_status stop }
+{
+    match stop {
+        None => 0,
+        Some(_) => 5,
+    }
+}

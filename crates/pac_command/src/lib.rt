@@ -1,0 +1,15 @@
+//! The program's whole work: the words of a command line and files in; files, texts and an exit status out.
+#![tactic(auto)]
+
+mod asm;
+mod dis;
+mod failure;
+mod files;
+mod play;
+mod program;
+
+pub use asm::write_program;
+pub use dis::write_text;
+pub use failure::{Failure, Target};
+pub use play::run_inputs;
+pub use program::{run, run_words};

@@ -1,0 +1,103 @@
+//! The program: its words are read, its work is done, and a failure is told.
+
+ghost use Rattle.std.specs.Prelude.{◌≡◌, ◌≢◌, ◌≤◌, [], map, string_bytes};
+ghost use Rattle.clap.specs.Words.{fault_of, kind_of};
+ghost use Rattle.pac_options.specs.CommandLine.{pacboard};
+ghost use Rattle.pac_command.specs.Failures as told;
+
+use crate::asm::asm;
+use crate::dis::dis;
+use crate::failure::{Failure, end_status};
+use crate::files::standard_file;
+use crate::play::play;
+use clap::error::ErrorKind;
+use pac_options::{Request, options};
+use std::rt::{Env, Files};
+use std::{env, io};
+
+/// Does what the words of the program's command line ask, and answers the exit status: 0 done, 1 refused input,
+/// 2 command line, 3 read or write fault, 4 memory, 5 board stopped. A failure is told in one line on standard error,
+/// and words that are no command line are told in the words of the library that reads them.
+pub fn run<R: Env + Files + Print + Eprint + AllocGlobal>(rt: &R) -> u8
+    ensures { result ≤ told.most_status }
+{
+    let input = standard_file(rt);
+    let output = standard_file(rt);
+    let error = standard_file(rt);
+    let status = match words_of(rt) {
+        Ok(words) => run_words(rt, rt, &words),
+        Err(error) => tell_words(rt, error.kind()),
+    };
+    drop(input);
+    drop(output);
+    drop(error);
+    status
+}
+
+/// The words of the command line, the program's name first.
+fn words_of<R: Env + AllocGlobal>(rt: &R) -> io::Result<Vec<String>> {
+    let mut words = Vec::new(rt.alloc());
+    for word in env::args(rt)? {
+        words.push(word)?;
+    }
+    Ok(words)
+}
+
+/// Tells that the words can't be had, and answers the status.
+fn tell_words<C: Eprint>(console: &C, kind: io::ErrorKind) -> u8
+    ensures { result ≤ told.most_status }
+{
+    if kind == io::ErrorKind::OutOfMemory {
+        return tell(console, Failure::Memory);
+    }
+    let _ = eprintln!(console; "error: a word of the command line isn't UTF-8");
+    2
+}
+
+/// The same with these words, over the files of `rt`; texts for standard output and standard error go to `console`.
+pub fn run_words<R: Files + AllocGlobal, C: Print + Eprint>(
+    rt: &R,
+    console: &C,
+    words: &[String],
+) -> u8
+    ensures status { result ≤ told.most_status }
+    ensures words { fault_of pacboard (map string_bytes words.now) ≢ []
+        → told.Answers (fault_of pacboard (map string_bytes words.now)) result }
+{
+    match options(rt.alloc(), words) {
+        Ok(Request::Asm(files)) => end(console, asm(rt, &files)),
+        Ok(Request::Run(files)) => play(rt, console, &files),
+        Ok(Request::Dis(name)) => end(console, dis(rt, console, name)),
+        Err(error) => explain(console, &error),
+    }
+}
+
+/// Tells a failure, and answers its status.
+pub(crate) fn tell<C: Eprint>(console: &C, failure: Failure) -> u8
+    ensures status { result ≡ told.status failure.entry }
+    ensures most { result ≤ told.most_status }
+{
+    let _ = eprintln!(console; "{failure}");
+    failure.status()
+}
+
+/// The status of work that is done or that failed; a failure is told.
+fn end<C: Eprint>(console: &C, done: Result<(), Failure>) -> u8
+    ensures { result ≡ told.work_status done.entry }
+{
+    match done {
+        Ok(()) => 0,
+        Err(failure) => tell(console, failure),
+    }
+}
+
+/// Tells why the words are no command line, or what they ask to be told of it.
+fn explain<C: Print + Eprint>(console: &C, error: &clap::Error) -> u8
+    ensures { result ≡ told.line_status (kind_of error.now) }
+{
+    if error.kind() == ErrorKind::OutOfMemory {
+        return tell(console, Failure::Memory);
+    }
+    let _ = error.print(console);
+    if error.use_stderr() { 2 } else { 0 }
+}

@@ -1,0 +1,26 @@
+use Rattle.std.proofs.Common.{List, ℕ, ◌+◌, drop, subst, ap}
+use Rattle.std.proofs.lemmas.List.{drop_more}
+use Rattle.std.proofs.lemmas.Result.{err_from_is_err_and}
+use Rattle.std.specs.List.{flat_map}
+use Rattle.pac_out.proofs.Gathering.{Leaves, leaves-less, leaves-refused}
+use Rattle.pac_debug_text.specs.Texts.{past_step_text}
+use Rattle.pac_debug_text.proofs.history.gather_history.Goals as goal
+
+pub returns-in_err-gather_past_step : goal.returns-in_err-gather_past_step
+returns-in_err-gather_past_step g c =
+    let steps = c.args.steps.now in
+    let i = c.loop-step.step-index in
+    let first = ap (flat_map past_step_text) (drop_more steps i _ c.loop-step-test.true) in
+    let leaves = subst (λ (rest : List ℕ). Leaves g.W.Out.took c.args.pending.now c.args.output.now (flat_map past_step_text steps) rest
+    c.loop-step.pending c.loop-step.output) first c.loop-step.invariant in
+    let p = err_from_is_err_and c.from_residual.result c.from_residual.ensures.1 in
+    rw (p.1, p.2) (leaves-refused _ (flat_map past_step_text (drop (i + 1) steps)) leaves c.in_err-gather_past_step.ensures)
+
+pub loop-step-preserved : goal.loop-step-preserved
+loop-step-preserved g c =
+    let steps = c.args.steps.now in
+    let i = c.loop-step.step-index in
+    let first = ap (flat_map past_step_text) (drop_more steps i _ c.loop-step-test.true) in
+    let leaves = subst (λ (rest : List ℕ). Leaves g.W.Out.took c.args.pending.now c.args.output.now (flat_map past_step_text steps) rest
+    c.loop-step.pending c.loop-step.output) first c.loop-step.invariant in
+    leaves-less _ (flat_map past_step_text (drop (i + 1) steps)) leaves c.in_ok-gather_past_step.ensures

@@ -1,5 +1,0 @@
-pub mod Parts
-pub mod Images
-pub mod Loops
-pub mod Ends
-pub mod Sizes

@@ -1,4 +1,0 @@
-pub mod Source
-pub mod Texts
-pub mod Run
-pub mod Messages

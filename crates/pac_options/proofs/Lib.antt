@@ -1,0 +1,5 @@
+pub mod Commands
+pub mod Bytes
+pub mod Rows
+pub mod Levels
+pub mod Answered

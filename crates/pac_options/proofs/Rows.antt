@@ -1,0 +1,44 @@
+-- From what clap's getters answer to the rows.
+use Rattle.std.proofs.Common.{◌≡◌, ◌∙◌, List, Option, Some, None, option_map, refl, sym, ap, ap₂, true≢false, is_some}
+use Rattle.std.specs.Prelude.{Box}
+use Rattle.std.specs.Borrow.{Bor}
+use Rattle.std.specs.Box.{box_value}
+use Rattle.clap.specs.Matches.{first_value, found_of}
+use Rattle.clap.specs.Walk.{Row, Text, first_of, rows_of}
+use Rattle.clap.specs.Simple.{subcommand_rows}
+use Rattle.clap.specs.declared.parser.matches.ArgMatches.{ArgMatches}
+use Rattle.clap.specs.declared.parser.matches.ArgMatches.TheViews.{out-SubCommand}
+use Rattle.clap.specs.declared.parser.matches.Found.{Found}
+use Rattle.clap.specs.declared.parser.matches.SubCommand.{SubCommand}
+use Rattle.clap.proofs.WalkLemmas.{first_value-rows}
+
+pub some_first : (f : Found) (id : Text) (r : Option (Bor Text)) (x : Bor Text) → r ≡ Some x
+    → option_map (λ s. s.now) r ≡ first_value f id
+    → first_of id (rows_of f) ≡ Some x.now
+some_first f id r x is h = sym (first_value-rows f id) ∙ (sym h ∙ ap (option_map (λ (s : Bor Text). s.now)) is)
+
+pub none_first : (f : Found) (id : Text) (r : Option (Bor Text)) → r ≡ None → option_map (λ s. s.now) r ≡ first_value f id
+    → first_of id (rows_of f) ≡ None
+none_first f id r is h = sym (first_value-rows f id) ∙ (sym h ∙ ap (option_map (λ (s : Bor Text). s.now)) is)
+
+pub same_first : (f : Found) (id : Text) (r : Option (Bor Text)) → option_map (λ s. s.now) r ≡ first_value f id
+    → first_of id (rows_of f) ≡ option_map (λ s. s.now) r
+same_first f id r h = sym (first_value-rows f id) ∙ sym h
+
+module _ {Z : Type 0} where
+  pub entered_rows : (sub : Option (Box SubCommand Z)) (name : Bor Text) (values : Bor ArgMatches)
+      → Some name.now ≡ option_map (λ b. (out-SubCommand (box_value b)).name.now) sub
+      → Some (rows_of (found_of values.now)) ≡ option_map (λ (p : Text × List Row). p.1) (subcommand_rows sub)
+      → subcommand_rows sub ≡ Some (name.now, rows_of (found_of values.now))
+  entered_rows None name values named rows = absurd (true≢false (ap (λ (o : Option Text). is_some o) named))
+  entered_rows (Some b) name values named rows =
+      ap₂ (λ (n : Option Text) (r : Option (List Row)). pair n r) (sym named) (sym rows)
+    where
+      pair : Option Text → Option (List Row) → Option (Text × List Row)
+      pair (Some n) (Some r) = Some (n, r)
+      pair _ _ = None
+
+  pub none_entered : (sub : Option (Box SubCommand Z)) → None ≡ option_map (λ b. (out-SubCommand (box_value b)).name.now) sub
+      → subcommand_rows sub ≡ None
+  none_entered None named = refl
+  none_entered (Some b) named = absurd (true≢false (sym (ap (λ (o : Option Text). is_some o) named)))

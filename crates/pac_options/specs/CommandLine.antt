@@ -1,0 +1,170 @@
+-- The command line of the program as `clap` knows it, and what its words ask for.
+use Rattle.std.specs.Prelude.{ℕ, true, false, pos, List, [], ◌∷◌, Option, Some, None}
+use Rattle.std.specs.Prelude.{if◌then◌else◌, codes, fold, option_map, option_and_then}
+use Rattle.std.specs.Str.{bytes_eq}
+use Rattle.std.specs.Str.Parse.{digits_value, without_leading_plus}
+use Rattle.clap.specs.Words.{App, Row, Rule, Shape, Text, first_of, new_rule, one_of, subcommand_of, with_rule}
+use Rattle.clap.specs.Simple.{new_shape}
+use Rattle.clap.specs.ValueTests.{is_unsigned_in}
+use Rattle.clap.specs.declared.builder.value_parser.ValueParser.TheVariants as parser
+use Rattle.pac_options.specs.declared.request.AsmFiles.{AsmFiles}
+use Rattle.pac_options.specs.declared.request.RunFiles.{RunFiles}
+use Rattle.pac_options.specs.declared.request.Request.{Request}
+use Rattle.pac_options.specs.declared.request.Request.TheVariants as request
+
+-- ---- what may be said
+
+-- an argument with one value, whose name in the help is one word
+abbrev pub argument : Text → Rule
+argument name = record (new_rule name) { value_names = 1 }
+
+-- `--name VALUE`, which may be left out
+abbrev pub option : Text → Rule
+option name = record (argument name) { long = Some name }
+
+abbrev pub required_option : Text → Rule
+required_option name = record (option name) { required = true }
+
+-- a word that stands by itself, and has to be there
+abbrev pub required_place : Text → Rule
+required_place name = record (argument name) { required = true }
+
+-- the byte of the DIP switches, C9H where it is not given
+abbrev pub dip_option : Rule
+dip_option = record (option (codes "dip")) {
+  parser = Some (parser.Signed (pos 0) (pos 255));
+  defaults = codes "201" ∷ [];
+}
+
+abbrev pub run_rules : List Rule
+run_rules = required_option (codes "set") ∷ required_option (codes "script") ∷ required_option (codes "frames")
+    ∷ required_option (codes "wave") ∷ required_option (codes "listing") ∷ option (codes "source") ∷ dip_option ∷ []
+
+abbrev pub asm_rules : List Rule
+asm_rules = required_place (codes "source") ∷ required_option (codes "rom") ∷ required_option (codes "listing") ∷ []
+
+abbrev pub dis_rules : List Rule
+dis_rules = required_place (codes "file") ∷ []
+
+abbrev pub command : Text → List Rule → Shape
+command name rules = record (new_shape name) { rules = rules }
+
+abbrev pub asm_command : Shape
+asm_command = command (codes "asm") asm_rules
+
+abbrev pub run_command : Shape
+run_command = command (codes "run") run_rules
+
+abbrev pub dis_command : Shape
+dis_command = command (codes "dis") dis_rules
+
+-- a command with no subcommand
+abbrev pub alone : Shape → App
+alone shape = record { top = shape; subs = [] }
+
+abbrev pub with_rules : List Rule → App → App
+with_rules rules app = fold with_rule app rules
+
+-- the program: one of three subcommands has to be there
+unfoldable pub pacboard : App
+pacboard = record {
+  top = record (new_shape (codes "pacboard")) {
+    is_leaf = false;
+    has_version = true;
+    subcommand_required = true;
+    disable_help_subcommand = true;
+  };
+  subs = asm_command ∷ run_command ∷ dis_command ∷ [];
+}
+
+-- ---- what was said
+
+pub record AskedAsm : Type 0 where
+  pub source : Text
+  pub rom : Text
+  pub listing : Text
+
+pub record AskedRun : Type 0 where
+  pub set : Text
+  pub script : Text
+  pub frames : Text
+  pub wave : Text
+  pub listing : Text
+  pub source : Option Text
+  pub dip : ℕ
+
+pub data Asked : Type 0 where
+  asm : AskedAsm → Asked
+  run : AskedRun → Asked
+  dis : Text → Asked
+
+-- the number from 0 to 255 that a text spells in decimal, where it spells one
+abbrev pub byte_of : Text → Option ℕ
+byte_of text = if is_unsigned_in 0 255 text then Some (digits_value 10 (without_leading_plus text)) else None
+
+abbrev pub asked_asm : List Row → Option AskedAsm
+asked_asm rows =
+    option_and_then (λ source.
+    option_and_then (λ rom.
+    option_map (λ listing. record { source = source; rom = rom; listing = listing })
+    (first_of (codes "listing") rows))
+    (first_of (codes "rom") rows))
+    (first_of (codes "source") rows)
+
+abbrev pub asked_run : List Row → Option AskedRun
+asked_run rows =
+    option_and_then (λ set.
+    option_and_then (λ script.
+    option_and_then (λ frames.
+    option_and_then (λ wave.
+    option_and_then (λ listing.
+    option_map (λ dip. record {
+      set = set;
+      script = script;
+      frames = frames;
+      wave = wave;
+      listing = listing;
+      source = first_of (codes "source") rows;
+      dip = dip;
+    })
+    (option_and_then byte_of (one_of (codes "dip") rows)))
+    (first_of (codes "listing") rows))
+    (first_of (codes "wave") rows))
+    (first_of (codes "frames") rows))
+    (first_of (codes "script") rows))
+    (first_of (codes "set") rows)
+
+abbrev pub asked_dis : List Row → Option Text
+asked_dis rows = first_of (codes "file") rows
+
+-- what a subcommand asks for with the values of its words
+abbrev pub asked : Text × List Row → Option Asked
+asked p =
+    if bytes_eq p.0 (codes "asm") then option_map asm (asked_asm p.1)
+    else (if bytes_eq p.0 (codes "run") then option_map run (asked_run p.1)
+    else (if bytes_eq p.0 (codes "dis") then option_map dis (asked_dis p.1) else None))
+
+-- what the words of a command line ask for, the program's name first
+abbrev pub request_of : List Text → Option Asked
+request_of words = option_and_then asked (subcommand_of pacboard words)
+
+-- ---- what the code tells
+
+abbrev pub told_asm : AsmFiles → AskedAsm
+told_asm files = record { source = files.source.now; rom = files.rom.now; listing = files.listing.now }
+
+abbrev pub told_run : RunFiles → AskedRun
+told_run files = record {
+  set = files.set.now;
+  script = files.script.now;
+  frames = files.frames.now;
+  wave = files.wave.now;
+  listing = files.listing.now;
+  source = option_map (λ s. s.now) files.source;
+  dip = files.dip;
+}
+
+abbrev pub told : Request → Asked
+told (request.Asm files) = asm (told_asm files)
+told (request.Run files) = run (told_run files)
+told (request.Dis file) = dis file.now

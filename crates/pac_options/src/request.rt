@@ -1,0 +1,42 @@
+//! What a command line asks for.
+
+/// What the words ask for; names of files are as they were given.
+#[derive(Clone, Copy, Debug, PartialEq, Eq)]
+pub enum Request<'a> {
+    /// `asm`: a source is assembled.
+    Asm(AsmFiles<'a>),
+    /// `run`: a ROM set is run by a script.
+    Run(RunFiles<'a>),
+    /// `dis`: the file of this name is disassembled.
+    Dis(&'a str),
+}
+
+/// The files of `asm`.
+#[derive(Clone, Copy, Debug, PartialEq, Eq)]
+pub struct AsmFiles<'a> {
+    /// The source that is read.
+    pub source: &'a str,
+    /// The file that gets the ROM's bytes.
+    pub rom: &'a str,
+    /// The file that gets the listing.
+    pub listing: &'a str,
+}
+
+/// The files of `run`, and the switches of the board.
+#[derive(Clone, Copy, Debug, PartialEq, Eq)]
+pub struct RunFiles<'a> {
+    /// The manifest of the ROM set.
+    pub set: &'a str,
+    /// The script of inputs.
+    pub script: &'a str,
+    /// The file that gets the pictures, in PPM.
+    pub frames: &'a str,
+    /// The file that gets the sound, in WAV.
+    pub wave: &'a str,
+    /// The file that gets the listing.
+    pub listing: &'a str,
+    /// The source that stands in place of the set's program.
+    pub source: Option<&'a str>,
+    /// The byte of the DIP switches: 201 where the words don't say it.
+    pub dip: u8,
+}

@@ -1,0 +1,109 @@
+//! A console that keeps what is printed, for command lines that are run in process.
+
+ghost use Rattle.std.specs.Prelude.{◌≤◌, length, IfOk};
+
+use arrayvec::ArrayString;
+use pac_out::Out;
+use pac_out::memory::Memory;
+use std::alloc::{AllocError, Global};
+use std::cell::RefCell;
+use std::fmt::{Display, Write};
+use std::io;
+use std::io::ErrorKind;
+
+/// A console that keeps what is printed, as far as its room goes.
+#[derive(Drop)]
+pub struct Console {
+    output: RefCell<Memory>,
+    error: RefCell<Memory>,
+}
+
+/// Adds a prefix of the bytes.
+fn add(kept: &RefCell<Memory>, bytes: &[u8]) -> io::Result<usize>
+    ensures { IfOk result (λ count. count ≤ length bytes.now) }
+{
+    let Ok(mut kept) = kept.try_borrow_mut() else {
+        return Err(io::Error::from(ErrorKind::Other));
+    };
+    match kept.write(bytes) {
+        Ok(count) => Ok(count),
+        Err(_) => Err(io::Error::from(ErrorKind::StorageFull)),
+    }
+}
+
+/// Adds a printed value and an end.
+fn add_printed<D: Display + Drop>(kept: &RefCell<Memory>, value: D, end: &str) -> io::Result<()> {
+    let mut text = ArrayString::<2000>::new();
+    if write!(text, "{value}{end}").is_err() {
+        return Err(io::Error::from(ErrorKind::Other));
+    }
+    add(kept, text.as_bytes())?;
+    Ok(())
+}
+
+impl Console {
+    /// One whose standard output takes so many bytes.
+    pub fn new(alloc: Global, room: usize) -> Result<Console, AllocError> {
+        Ok(Console {
+            output: RefCell::new(Memory::new(alloc, room)?),
+            error: RefCell::new(Memory::new(alloc, 4000)?),
+        })
+    }
+
+    /// Whether it printed these texts on standard output and standard error.
+    pub fn has(&self, output: &str, error: &str) -> bool {
+        match (self.output.try_borrow(), self.error.try_borrow()) {
+            (Ok(out), Ok(err)) => {
+                out.bytes() == output.as_bytes() && err.bytes() == error.as_bytes()
+            }
+            _ => false,
+        }
+    }
+}
+
+impl Console {
+    /// Whether it printed nothing on standard output, and something on standard error.
+    pub fn has_error_alone(&self) -> bool {
+        match (self.output.try_borrow(), self.error.try_borrow()) {
+            (Ok(out), Ok(err)) => out.bytes().is_empty() && !err.bytes().is_empty(),
+            _ => false,
+        }
+    }
+}
+
+impl Print for Console {
+    /// Keeps it.
+    fn print<D: Display + Drop>(&self, value: D) -> io::Result<()> {
+        add_printed(&self.output, value, "")
+    }
+
+    /// Keeps it.
+    fn println<D: Display + Drop>(&self, value: D) -> io::Result<()> {
+        add_printed(&self.output, value, "\n")
+    }
+
+    /// Keeps it.
+    fn write_all(&self, bytes: &[u8]) -> io::Result<()> {
+        add(&self.output, bytes)?;
+        Ok(())
+    }
+
+    /// Keeps it.
+    fn write_some(&self, bytes: &[u8]) -> io::Result<usize>
+        ensures bound { IfOk result (λ count. count ≤ length bytes.now) }
+    {
+        add(&self.output, bytes)
+    }
+}
+
+impl Eprint for Console {
+    /// Keeps it.
+    fn eprint<D: Display + Drop>(&self, value: D) -> io::Result<()> {
+        add_printed(&self.error, value, "")
+    }
+
+    /// Keeps it.
+    fn eprintln<D: Display + Drop>(&self, value: D) -> io::Result<()> {
+        add_printed(&self.error, value, "\n")
+    }
+}
