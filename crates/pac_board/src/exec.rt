@@ -26,7 +26,7 @@ pub struct Ran {
 }
 
 /// Counts a step, staying at the most that the count can hold; a stop is none.
-#[inline]
+#[inline(always)]
 fn count(made: &mut u64, once: &Once)
     ensures { made.new ≡ counted_once made.old once.now }
 {
@@ -59,7 +59,7 @@ impl Board {
     }
 
     /// The step of a board that may make one.
-    #[inline]
+    #[inline(always)]
     fn go(&mut self) -> Once
         requires early { self.old.state.now.time < latest }
         requires nothing { due_outputs self.old ≡ [] }
@@ -72,14 +72,17 @@ impl Board {
     }
 
     /// Its step, and the offer of what that gives.
-    #[inline]
+    #[inline(always)]
     fn turn<S: Sink>(&mut self, sink: &mut S) -> Result<Once, Refused>
         requires early { self.old.state.now.time < latest }
         requires nothing { due_outputs self.old ≡ [] }
         ensures { Turns S.took S.refused self.old sink.old result self.new sink.new }
     {
         let once = self.go();
-        self.offer(sink)?;
+        let is_due = self.due.is_some();
+        if is_due {
+            self.offer(sink)?;
+        }
         Ok(once)
     }
 

@@ -59,10 +59,12 @@ impl Bus for Flat {
 
     ghost after = { after };
 
+    #[inline(always)]
     fn read(&self, address: u16) -> u8 {
         self.memory[address as usize]
     }
 
+    #[inline(always)]
     fn write(&mut self, address: u16, byte: u8) {
         let at = address as usize;
         self.memory[at] = byte;

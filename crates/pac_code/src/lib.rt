@@ -5,6 +5,7 @@ ghost use Rattle.pac_code.specs.Codes.{DecodesPrefix, DecodesBack};
 
 mod decoder;
 mod encoder;
+mod entries;
 
 pub use decoder::decode;
 pub use encoder::{Code, encode};

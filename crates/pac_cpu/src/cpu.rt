@@ -75,6 +75,7 @@ impl Cpu {
     /// enabled and not directly after EI; a halted step; or the instruction at PC. Where that is none,
     /// or in mode 0 the vector byte is no RST, nothing is done and the stop is told, as often as it is
     /// asked for.
+    #[inline(always)]
     pub fn step<B: Bus>(&mut self, bus: &mut B, request: Option<u8>) -> Once
         ensures did { Did B.after (cpu_step (surroundings_of B.byte_at B.input_at B.after bus.old) self.old request)
             self.old bus.old self.new bus.new result }

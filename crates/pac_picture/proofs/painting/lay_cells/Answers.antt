@@ -1,4 +1,4 @@
-use Rattle.std.proofs.Common.{◌≡◌, rules, arith}
+use Rattle.std.proofs.Common.{◌≡◌, ◌∙◌, rules, arith}
 use Rattle.std.proofs.lemmas.List.{places}
 use Rattle.pac_tiles.specs.Tabulate.{tabulate}
 use Rattle.pac_picture.proofs.Dots.{cells-step, cells-end}
@@ -11,8 +11,8 @@ loop-column-init c = search rules
 pub loop-column-preserved : goal.loop-column-preserved
 loop-column-preserved c = (
   search (rules, places),
-  cells-step c.args.cells.now c.loop-column.out _ c.loop-column.column c.args.y _ c.copy_from_slice.ensures.after (search (rules, places))
-      c.loop-column.invariant.0 c.loop-column-test.true c.loop-column.invariant.1,
+  cells-step c.args.cells.now c.loop-column.out _ c.loop-column.column c.args.y _
+      (c.copy_from_slice.ensures.after ∙ c.copied-line.ensures) (search (rules, places)) c.loop-column.invariant.0 c.loop-column-test.true c.loop-column.invariant.1,
 )
 
 pub returns : goal.returns
