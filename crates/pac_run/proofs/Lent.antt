@@ -1,5 +1,6 @@
 -- Writers that are lent to a film and a wave file, and what they have when the loans end.
-use Rattle.std.proofs.Common.{◌≡◌, ℕ, ◌*◌, List, [], ◌++◌, Result, Ok, Err, inl, inr, sym, ap, subst, ◌∙◌, append_assoc}
+use Rattle.std.proofs.Common.{◌≡◌, ℕ, ◌*◌, List, [], ◌++◌, Result, Ok, Err, inl, inr, refl, sym, ap, subst, ◌∙◌, append_assoc}
+use Rattle.std.proofs.Common.{append-nil}
 use Rattle.std.specs.Borrow.{MutBor}
 use mathlib.Core.List.{IsPrefix}
 use Rattle.pac_out.specs.declared.counted.Counted.{Counted}
@@ -8,7 +9,7 @@ use Rattle.pac_out.specs.Counted.{HasTaken, HasStopped, Puts}
 use Rattle.pac_out.specs.Writes.{lent_took, lent_refused}
 use Rattle.pac_out.proofs.Files.{stops-within}
 use Rattle.pac_media.specs.Samples.{wav_header}
-use Rattle.pac_media.specs.Sound.{HasText, Finishes}
+use Rattle.pac_media.specs.Sound.{HasText, Delivers, Fails, Finishes}
 use Rattle.pac_media.specs.Sound as media
 use Rattle.pac_step.specs.Output.{Output}
 use Rattle.pac_run.specs.declared.fault.Output.{Output as Which}
@@ -54,6 +55,23 @@ module _ {W : Type 0} (took : W → List ℕ → W → Type 0) (refused : W → 
   written (Ok done) text file new fresh puts ends = has-taken new text (puts.after owner [] fresh) ends
   written (Err fault) text file new fresh puts ends = has-stopped new text fault.count (puts.after owner [] fresh) puts.told ends
 
+  -- a writer that refused within the beginning of a text
+  pub stopped-early : (head bytes more all : List ℕ) (old new : media.Sound (MutBor W)) (fault : WriteFault)
+      → HasText (lent_took took) owner head old → Fails (lent_took took) (lent_refused refused) old bytes fault new
+      → (head ++ bytes) ++ more ≡ all → Ends owner new.file.writer left
+      → Stopped (writing took refused owner.now left) all fault.count
+  stopped-early head bytes more all old new fault has fails whole ends =
+      let stop = fails.after owner head has in
+      has-stopped new.file all fault.count
+      (subst (λ text. HasStopped (lent_took took) (lent_refused refused) owner text new.file) whole
+      (record {
+        taken = stop.taken;
+        stopped = stops-within stop.stopped more;
+        count_is = stop.count_is;
+        closed = stop.closed;
+      }))
+      fails.told ends
+
   -- the sound so far, written where its writer doesn't refuse
   flushed : {A : Type 0} (answer : Result A WriteFault) (head bytes all : List ℕ) (old new : media.Sound (MutBor W))
       → HasText (lent_took took) owner head old → Finishes (lent_took took) (lent_refused refused) old bytes answer new → IsPrefix bytes all
@@ -65,20 +83,38 @@ module _ {W : Type 0} (took : W → List ℕ → W → Type 0) (refused : W → 
         took = has-taken new.file (head ++ bytes) (finishes.after owner head has) ends;
       })
   flushed (Err fault) head bytes all old new has finishes among ends =
-      let stop = finishes.after owner head has in
-      let whole : (head ++ bytes) ++ among.0 ≡ head ++ all = append_assoc head bytes among.0 ∙ ap (λ rest. head ++ rest) among.1 in
       inr (record {
         count = fault.count;
-        stopped = has-stopped new.file (head ++ all) fault.count
-            (subst (λ text. HasStopped (lent_took took) (lent_refused refused) owner text new.file) whole
-            (record {
-              taken = stop.taken;
-              stopped = stops-within stop.stopped among.0;
-              count_is = stop.count_is;
-              closed = stop.closed;
-            }))
-            finishes.told ends;
+        stopped = stopped-early head bytes among.0 (head ++ all) old new fault has finishes
+            (append_assoc head bytes among.0 ∙ ap (λ rest. head ++ rest) among.1) ends;
       })
+
+-- a wave file of which nothing waits any more was given the same text as before
+pub delivered : {W : Type 0} {took : W → List ℕ → W → Type 0} {old new : media.Sound W} {start : W} {text : List ℕ}
+    → HasText took start text old → Delivers took old [] new → HasText took start text new
+delivered {took = took} {new = new} {start = start} {text = text} has done =
+    record {
+      prefix = text;
+      parts = sym (ap (λ waiting. text ++ waiting) done.none_waits ∙ append-nil text);
+      taken = subst (λ (all : List ℕ). HasTaken took start all new.file) (append-nil text) (done.after start text has);
+    }
+
+-- the writer of the wave file refused within the header, and that of the film was asked for nothing
+pub header-broke : {F W : Type 0} (took_f : F → List ℕ → F → Type 0) (refused_f : F → F → Type 0) (took_w : W → List ℕ → W → Type 0)
+    (refused_w : W → W → Type 0) (frames : F) (wave : MutBor W) (left_w : W) (count total : ℕ) (outputs : List Output)
+    (old new : media.Sound (MutBor W)) (fault : WriteFault) (writer : MutBor W)
+    → took_f frames [] frames → HasText (lent_took took_w) wave (wav_header (frame_samples * count)) old → count ≡ total
+    → Fails (lent_took took_w) (lent_refused refused_w) old [] fault new → writer ≡ new.file.writer → Ends wave writer left_w
+    → RecordsBroken (writing took_f refused_f frames frames) (writing took_w refused_w wave.now left_w) total outputs which.Wave fault.count
+header-broke {W = W} took_f refused_f took_w refused_w frames wave left_w count total outputs old new fault writer nothing text same fails is
+    ends = (
+  record { taken = []; is_prefix = (frames_text outputs, refl); took = nothing },
+  stopped-early took_w refused_w wave left_w (wav_header (frame_samples * count)) [] (sound_text (frame_samples * total) outputs)
+      (wave_text total outputs) old new fault text fails
+      (ap (λ head. head ++ sound_text (frame_samples * total) outputs) (append-nil (wav_header (frame_samples * count)))
+      ∙ ap (λ (n : ℕ). wav_header (frame_samples * n) ++ sound_text (frame_samples * total) outputs) same)
+      (subst (λ (it : MutBor W). Ends wave it left_w) is ends),
+)
 
 -- film and wave file together
 module _ {F W : Type 0} (took_f : F → List ℕ → F → Type 0) (refused_f : F → F → Type 0) (took_w : W → List ℕ → W → Type 0)

@@ -88,7 +88,8 @@ impl<F: Out, W: Out> Film<F, W> {
     }
 }
 
-/// Plays the script on a board at power-on, and writes frames and wave.
+/// Writes the wave's header, then plays the script on a board at power-on and writes frames and samples as they come.
+/// Where the header is refused no frame is begun.
 pub fn record_run<F: Out, W: Out>(
     board: &mut Board,
     script: &Script,
@@ -103,9 +104,14 @@ pub fn record_run<F: Out, W: Out>(
         (record { took = W.took; refused = W.refused; old = wave.old; new = wave.new })
         (total script.now) (run_of board.old script.now).outputs result }
 {
+    let mut wave = WaveFile::begin(wave, FRAME_SAMPLES * script.frames());
+    if let Err(fault) = wave.flush() {
+        let _ = wave.into_writer();
+        return Err((Output::Wave, fault.count));
+    }
     let mut film = Film {
         frames: Frames::new(frames, image),
-        wave: WaveFile::begin(wave, FRAME_SAMPLES * script.frames()),
+        wave,
         fault: None,
     };
     let recorded = film.perform(board, script);

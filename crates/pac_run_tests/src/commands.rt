@@ -311,18 +311,21 @@ fn writes_that_are_refused(rt: HostRuntime) -> io::Result<()> {
             "frames",
         ),
         (
-            "--frames @/f.ppm --wave /dev/full --listing @/l.txt",
-            "wave",
-        ),
-        (
             "--frames @/f.ppm --wave @/w.wav --listing /dev/full",
             "listing",
+        ),
+        (
+            "--frames @/f.ppm --wave /dev/full --listing @/l.txt",
+            "wave",
         ),
     ] {
         let line = format!(in rt.alloc(); "{inputs} {outputs}")?;
         let error = format!(in rt.alloc(); "write fault {output} after 0 bytes\n")?;
         expect(&rt, "cut", &line, 3, "", &error)?;
     }
+    // the wave's header was refused, before the first frame and after the listing
+    assert!(rt; bytes_of(&rt, "cut", "f.ppm")?.is_empty());
+    assert!(rt; bytes_of(&rt, "cut", "l.txt")?.as_slice() == CELL_LISTING.as_bytes());
     let line = format!(in rt.alloc(); "{inputs} {OUTPUTS}")?;
     let words = words_of(rt.alloc(), "cut", &line)?;
     for room in [0, 1, 30, 46] {

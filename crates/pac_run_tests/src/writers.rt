@@ -45,7 +45,8 @@ fn few_bytes_a_call_give_the_same_bytes(rt: HostRuntime) -> Result<(), Fail> {
     Ok(())
 }
 
-// The last sample of a frame comes before its picture, so the sound is whole where the first image is cut.
+// The wave's header of 44 bytes goes out before the first frame. The last sample of a frame comes before its picture, so
+// the sound is whole where the first image is cut; samples wait, and those of this frame go out after its picture.
 #[test]
 fn full_writers_are_told_with_their_counts(rt: HostRuntime) -> Result<(), Fail> {
     let files = Files::new(rt.alloc())?;
@@ -58,24 +59,36 @@ fn full_writers_are_told_with_their_counts(rt: HostRuntime) -> Result<(), Fail> 
         script: b"1 -",
     };
     for (output, rooms, lengths) in [
-        (Output::Listing, (200_000, 9, 200), (0, 0, 9, 0)),
-        (Output::Frames, (100, 1_000, 200), (100, 3_212, 95, 0)),
+        (Output::Listing, (200_000, 10_000, 9, 200), (0, 0, 9, 0)),
+        (Output::Wave, (200_000, 0, 1_000, 200), (0, 0, 95, 0)),
+        (Output::Wave, (200_000, 43, 1_000, 200), (0, 43, 95, 0)),
+        (
+            Output::Wave,
+            (200_000, 44, 1_000, 200),
+            (193_551, 44, 95, 0),
+        ),
+        (
+            Output::Frames,
+            (100, 10_000, 1_000, 200),
+            (100, 3_212, 95, 0),
+        ),
         (
             Output::Report,
-            (200_000, 1_000, 30),
+            (200_000, 10_000, 1_000, 30),
             (193_551, 3_212, 95, 30),
         ),
     ] {
         let mut outputs = Outputs {
             frames: Memory::new(rt.alloc(), rooms.0)?,
-            wave: Memory::new(rt.alloc(), 10_000)?,
-            listing: Memory::new(rt.alloc(), rooms.1)?,
-            report: Memory::new(rt.alloc(), rooms.2)?,
+            wave: Memory::new(rt.alloc(), rooms.1)?,
+            listing: Memory::new(rt.alloc(), rooms.2)?,
+            report: Memory::new(rt.alloc(), rooms.3)?,
         };
         let count = match output {
-            Output::Listing => lengths.2,
             Output::Frames => lengths.0,
-            _ => lengths.3,
+            Output::Wave => lengths.1,
+            Output::Listing => lengths.2,
+            Output::Report => lengths.3,
         };
         let found = outputs.run(rt.alloc(), &inputs);
         assert_eq!(rt; found, Err(RunFault::Write(output, count as u64)));
