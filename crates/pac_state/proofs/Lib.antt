@@ -1,0 +1,5 @@
+pub mod Bits
+pub mod Pieces
+pub mod Read
+pub mod Sealing
+pub mod Taken
