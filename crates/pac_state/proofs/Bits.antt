@@ -14,4 +14,13 @@ digit-bit n k = let below : bit n k < 2 = omega arith in digit-test (bit n k) be
 
 pub byte_of-bits_of : (n : ℕ) → n < 256 → byte_of (bits_of n) ≡ n
 byte_of-bits_of n below =
-    rw (digit-bit n 0, digit-bit n 1, digit-bit n 2, digit-bit n 3, digit-bit n 4, digit-bit n 5, digit-bit n 6, digit-bit n 7) (omega (arith, below))
+    rw (
+      digit-bit n 0,
+      digit-bit n 1,
+      digit-bit n 2,
+      digit-bit n 3,
+      digit-bit n 4,
+      digit-bit n 5,
+      digit-bit n 6,
+      digit-bit n 7,
+    ) (omega (arith, below))

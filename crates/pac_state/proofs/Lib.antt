@@ -3,3 +3,4 @@ pub mod Pieces
 pub mod Read
 pub mod Sealing
 pub mod Taken
+pub mod Whole

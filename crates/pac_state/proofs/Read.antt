@@ -24,5 +24,6 @@ state regs memory first second third lines time steps asked due = record {
 pub same-state : {regs regs' : Regs} {memory memory' : View} {first first' second second' third third' : ℕ} {lines lines' : List (List ℕ)}
     {time time' steps steps' asked asked' : ℕ} {due due' : Due} → regs ≡ regs' → memory ≡ memory' → first ≡ first' → second ≡ second'
     → third ≡ third' → lines ≡ lines' → time ≡ time' → steps ≡ steps' → asked ≡ asked' → due ≡ due'
-    → state regs memory first second third lines time steps asked due ≡ state regs' memory' first' second' third' lines' time' steps' asked' due'
+    → state regs memory first second third lines time steps asked due
+    ≡ state regs' memory' first' second' third' lines' time' steps' asked' due'
 same-state a b c d e f g h i j = rw (a, b, c, d, e, f, g, h, i, j) refl

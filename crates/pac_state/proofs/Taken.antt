@@ -1,5 +1,6 @@
 -- What is known of a file that was looked at.
-use Rattle.std.proofs.Common.{◌≡◌, ℕ, ◌<◌, ◌==◌, Bool, true, false, not, if◌then◌else◌, List, length, get_or, Option, Some, None, refl, sym, subst, ◌∙◌}
+use Rattle.std.proofs.Common.{◌≡◌, ℕ, ◌<◌, ◌==◌, Bool, true, false, not, if◌then◌else◌}
+use Rattle.std.proofs.Common.{List, length, get_or, Option, Some, None, refl, sym, subst, ◌∙◌}
 use Rattle.std.proofs.lemmas.List.{ext_get_or}
 use Rattle.std.proofs.lemmas.Bool.{eqb-true}
 use Rattle.pac_tiles.specs.Tabulate.{tabulate}
@@ -13,11 +14,11 @@ use Rattle.pac_state.specs.declared.fault.LoadFault.TheVariants.{NoState, OtherV
 use Rattle.pac_state.specs.Saved.{file_size, begins, is_of_another_version, fault_of, IsInRange}
 
 -- the rest of a search that finds nothing
-below : (found : Bool) (fault : LoadFault) (rest : Option LoadFault) → (if found then Some fault else rest) ≡ None → rest ≡ None
+pub below : (found : Bool) (fault : LoadFault) (rest : Option LoadFault) → (if found then Some fault else rest) ≡ None → rest ≡ None
 below true fault rest none = let no : ⊥ = cc in absurd no
 below false fault rest none = none
 
-tested : (holds : Bool) (fault : LoadFault) (rest : Option LoadFault) → (if not holds then Some fault else rest) ≡ None → holds ≡ true
+pub tested : (holds : Bool) (fault : LoadFault) (rest : Option LoadFault) → (if not holds then Some fault else rest) ≡ None → holds ≡ true
 tested true fault rest none = refl
 tested false fault rest none = let no : ⊥ = cc in absurd no
 

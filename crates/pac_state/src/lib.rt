@@ -4,6 +4,7 @@
 mod blocks;
 mod fault;
 mod header;
+pub mod laws;
 mod loading;
 mod reading;
 mod saving;

@@ -15,7 +15,8 @@ pub read-requires : goal.read-requires
 read-requires c = size-of (digest_of c.args.set) c.args.bytes.now (sym c.checked.ensures ∙ c.in_default.is)
 
 pub word-requires : goal.word-requires
-word-requires c = let size = size-of (digest_of c.args.set) c.args.bytes.now (sym c.checked.ensures ∙ c.in_default.is) in omega (arith, size)
+word-requires c =
+    let size = size-of (digest_of c.args.set) c.args.bytes.now (sym c.checked.ensures ∙ c.in_default.is) in omega (arith, size)
 
 pub returns : goal.returns
 returns c = record {

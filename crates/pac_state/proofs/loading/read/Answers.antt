@@ -47,7 +47,8 @@ pub returns-in-Ok-of : goal.returns-in-Ok-of
 returns-in-Ok-of c =
     let taken = c.is_taken-is_taken.ensures.0 c.if-not-is_taken.false in
     let picture : IsPicture (lines_of (picture_in c.args.bytes.now)) =
-    subst (λ (bytes : List ℕ). IsPicture (lines_of bytes)) c.part.ensures (c.take_lines-is_picture.ensures.picture.0 c.if-not-is_picture.false) in
+    subst (λ (bytes : List ℕ). IsPicture (lines_of bytes)) c.part.ensures
+    (c.take_lines-is_picture.ensures.picture.0 c.if-not-is_picture.false) in
     record {
       text = record {
         in_range = in-range c.fields-fields.result (state_in c.args.bytes.now) c.fields-fields.ensures taken.0 picture;

@@ -33,5 +33,6 @@ returns g c =
     c.in_ok-put_lines.ensures.hashed _ (c.in_ok-put_front.ensures.hashed [] c.new-hasher.ensures) in
     let digest : c.finalize.result ≡ sha1 text = c.finalize.ensures text held in
     subst (λ (digest : List ℕ). Puts g.W.Out.took g.W.Out.refused c.args.file.now (text ++ digest) c.put.result c.put.new.self) digest
-    (puts-after g.W.Out.refused (takes-joined c.in_ok-put_front.ensures.put c.in_ok-put_lines.ensures.put) c.finalize.result c.put.result c.put.new.self
+    (puts-after g.W.Out.refused (takes-joined c.in_ok-put_front.ensures.put c.in_ok-put_lines.ensures.put) c.finalize.result
+    c.put.result c.put.new.self
     c.put.ensures.put)
