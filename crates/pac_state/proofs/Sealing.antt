@@ -1,0 +1,42 @@
+-- What is put after what was taken.
+use Rattle.std.proofs.Common.{◌≡◌, ℕ, List, [], ◌++◌, Result, Ok, Err, OnOk, sym, ◌∙◌, subst}
+use Rattle.std.specs.Borrow.{MutBor}
+use Rattle.pac_out.specs.declared.counted.Counted.{Counted}
+use Rattle.pac_out.specs.declared.WriteFault.{WriteFault}
+use Rattle.pac_out.specs.Counted.{HasTaken, Takes, Puts}
+use Rattle.pac_out.specs.Writes.{lent_took, lent_refused}
+use Rattle.pac_out.proofs.Files.{takes-joined, refuses-after}
+use Rattle.pac_state.specs.Saves.{Saves}
+
+pub puts-after : {W A : Type 0} {took : W → List ℕ → W → Type 0} (refused : W → W → Type 0) {old mid : Counted W} {one : List ℕ}
+    → Takes took old one mid → (other : List ℕ) (result : Result A WriteFault) (new : Counted W) → Puts took refused mid other result new
+    → Puts took refused old (one ++ other) result new
+puts-after refused takes other (Ok done) new puts = takes-joined takes puts
+puts-after refused takes other (Err fault) new puts = refuses-after takes puts
+
+pub on-ok : {A E P Q : Type 0} → (result : Result A E) → (P → Q) → OnOk result P → OnOk result Q
+on-ok (Ok done) next given = next given
+on-ok (Err fault) next given = given
+
+-- a text that was put into a new file over a writer that is lent, and that writer when the loan ends
+pub saves : {W A : Type 0} (took : W → List ℕ → W → Type 0) (refused : W → W → Type 0) {owner : MutBor W} {file : Counted (MutBor W)}
+    → HasTaken (lent_took took) owner [] file → (text : List ℕ) (result : Result A WriteFault) (new : Counted (MutBor W)) (left : W)
+    → Puts (lent_took took) (lent_refused refused) file text result new
+    → (owner.ghost_name ≡ new.writer.ghost_name → left ≡ new.writer.now) → Saves took refused owner.now text result left
+saves took refused {owner} fresh text (Ok done) new left puts ends =
+    let written = (puts.after owner [] fresh).written in
+    subst (λ last. took owner.now text last) (sym (ends (sym written.0))) written.1
+saves took refused {owner} fresh text (Err fault) new left puts ends =
+    let stop = puts.after owner [] fresh in
+    let within = stop.stopped in
+    let last : left ≡ new.writer.now = ends (sym within.before.0 ∙ sym within.refusal.0) in
+    record {
+      taken = stop.taken;
+      stopped = record {
+        some_left = within.some_left;
+        asked = within.asked.now;
+        before = within.before.1;
+        refusal = subst (λ last. refused within.asked.now last) (sym last) within.refusal.1;
+      };
+      told_is = puts.told ∙ stop.count_is;
+    }

@@ -1,0 +1,64 @@
+-- What is known of a file that was looked at.
+use Rattle.std.proofs.Common.{◌≡◌, ℕ, ◌<◌, ◌==◌, Bool, true, false, not, if◌then◌else◌}
+use Rattle.std.proofs.Common.{List, length, get_or, Option, Some, None, refl, sym, subst, ◌∙◌}
+use Rattle.std.proofs.lemmas.List.{ext_get_or}
+use Rattle.std.proofs.lemmas.Bool.{eqb-true}
+use Rattle.pac_tiles.specs.Tabulate.{tabulate}
+use Rattle.pac_tiles.proofs.Tabulated.{length-tabulate, get_or-tabulate}
+use Rattle.pac_picture.specs.State.{IsPicture}
+use Rattle.pac_board.specs.declared.fields.Fields.{Fields}
+use Rattle.pac_board.specs.Fields.{state_of, AreInRange}
+use Rattle.pac_board.specs.State.{State}
+use Rattle.pac_state.specs.declared.fault.LoadFault.{LoadFault}
+use Rattle.pac_state.specs.declared.fault.LoadFault.TheVariants.{NoState, OtherVersion, Size}
+use Rattle.pac_state.specs.Saved.{file_size, begins, is_of_another_version, fault_of, IsInRange}
+
+-- the rest of a search that finds nothing
+pub below : (found : Bool) (fault : LoadFault) (rest : Option LoadFault) → (if found then Some fault else rest) ≡ None → rest ≡ None
+below true fault rest none = let no : ⊥ = cc in absurd no
+below false fault rest none = none
+
+pub tested : (holds : Bool) (fault : LoadFault) (rest : Option LoadFault) → (if not holds then Some fault else rest) ≡ None → holds ≡ true
+tested true fault rest none = refl
+tested false fault rest none = let no : ⊥ = cc in absurd no
+
+-- a file in which nothing is wrong before its fields has its size
+pub size-of : (digest bytes : List ℕ) → fault_of digest bytes ≡ None → length bytes ≡ file_size
+unfolding fault_of
+size-of digest bytes none =
+    eqb-true (length bytes) file_size (tested (length bytes == file_size) Size _
+    (below (is_of_another_version bytes) OtherVersion _ (below (not (begins bytes)) NoState _ none)))
+
+-- a list of a function's values
+pub tabulated : {A : Type 0} (xs : List A) (count : ℕ) (value : ℕ → A) (other : A) → length xs ≡ count
+    → ((k : ℕ) → k < count → get_or xs k other ≡ value k) → xs ≡ tabulate count value
+tabulated xs count value other long same =
+    ext_get_or other xs (tabulate count value) (long ∙ sym (length-tabulate count value))
+    (λ k inside. let within : k < count = subst (λ n. k < n) long inside in
+    same k within ∙ sym (get_or-tabulate count value k other within))
+
+-- fields in their ranges, with a picture, and a state in its ranges
+pub in-range : (fields : Fields) (state : State) → state_of fields ≡ state → AreInRange fields → IsPicture state.now.board.lines
+    → IsInRange state
+in-range fields state same range =
+    subst (λ (s : State). IsPicture s.now.board.lines → IsInRange s) same (λ picture. record {
+      registers = range.registers;
+      count = range.count;
+      accumulators = range.accumulators;
+      steps = range.steps;
+      time = range.time;
+      asked = range.asked;
+      picture = picture;
+    })
+
+pub range-of : (fields : Fields) (state : State) → state_of fields ≡ state → IsInRange state → AreInRange fields
+range-of fields state same range =
+    let r : IsInRange (state_of fields) = subst (λ (s : State). IsInRange s) (sym same) range in
+    record {
+      registers = r.registers;
+      count = r.count;
+      accumulators = r.accumulators;
+      steps = r.steps;
+      time = r.time;
+      asked = r.asked;
+    }

@@ -1,0 +1,169 @@
+-- A file whose fields stand as they are written is the text of its state.
+use Rattle.std.proofs.Common.{◌≡◌, ℕ, zero, suc, ◌+◌, ◌-◌, ◌*◌, ◌<◌, ◌≤◌, ◌==◌, min}
+use Rattle.std.proofs.Common.{not, List, [], ◌∷◌, ◌++◌, length, get_or, take, drop}
+use Rattle.std.proofs.Common.{None, refl, sym, ap, subst, ◌∙◌, arith, append-nil}
+use Rattle.std.proofs.Math.Seq.{take-add}
+use Rattle.std.proofs.lemmas.List.{drop-drop, length-take-le, length-drop, take_all, get_or-drop, take-append-drop}
+use Rattle.std.proofs.lemmas.Grind.{flat_map-append}
+use Rattle.std.proofs.lemmas.Nat.{le_bytes_2, le_bytes_4, le_bytes_8}
+use Rattle.std.proofs.lemmas.Slice.Eq.{bytes_eq-Decides}
+use Rattle.std.specs.Int.{w16, w32, w64, from_le_bytes}
+use Rattle.sha1.specs.Sha1.{sha1}
+use Rattle.pac_tiles.specs.Tabulate.{tabulate}
+use Rattle.pac_roms.specs.Parts.{Parts}
+use Rattle.pac_manifest.specs.Sets.{digest_of}
+use Rattle.pac_state.specs.declared.fault.LoadFault.TheVariants.{NoState, OtherVersion, Size, Damaged, OtherSet}
+use Rattle.pac_state.specs.Text.{joined, magic, word, double_word, long_word, head, ram, devices, front, body, save_text}
+use Rattle.pac_state.specs.Reading.{part, lines_of, picture_in, state_in}
+use Rattle.pac_state.specs.Saved.{begins, is_of_another_version, is_sealed, is_of, fault_of, file_size, body_size, version_in, AreWritten}
+use Rattle.pac_state.proofs.Taken.{below, tested, size-of}
+
+-- ---- parts of a list
+
+part-add : (at one other : ℕ) (bytes : List ℕ) → part at one bytes ++ part (at + one) other bytes ≡ part at (one + other) bytes
+part-add at one other bytes =
+    ap (λ (rest : List ℕ). part at one bytes ++ take other rest) (sym (drop-drop one at bytes)) ∙ sym (take-add one other (drop at bytes))
+
+-- pieces of these widths from a place on
+cut : ℕ → List ℕ → List ℕ → List (List ℕ)
+cut at [] bytes = []
+cut at (width ∷ more) bytes = part at width bytes ∷ cut (at + width) more bytes
+
+total : List ℕ → ℕ
+total [] = 0
+total (width ∷ more) = width + total more
+
+joined-cut : (at : ℕ) (widths bytes : List ℕ) → joined (cut at widths bytes) ≡ part at (total widths) bytes
+unfolding cut total
+joined-cut at [] bytes = refl
+joined-cut at (width ∷ more) bytes =
+    ap (λ (rest : List ℕ). part at width bytes ++ rest) (joined-cut (at + width) more bytes) ∙ part-add at width (total more) bytes
+
+length-part : (at width : ℕ) (bytes : List ℕ) → at + width ≤ length bytes → length (part at width bytes) ≡ width
+length-part at width bytes inside =
+    let rest : length (drop at bytes) ≡ length bytes - at = length-drop at bytes in
+    let within : width ≤ length (drop at bytes) = omega (arith, rest, inside) in
+    length-take-le width (drop at bytes) within
+
+-- each part of bytes is of bytes
+AreBytes : List ℕ → Type 0
+AreBytes bytes = (i : ℕ) → get_or bytes i 0 < 256
+
+take-bytes : (width : ℕ) (bytes : List ℕ) → AreBytes bytes → AreBytes (take width bytes)
+unfolding AreBytes
+take-bytes zero [] fits zero = omega arith
+take-bytes zero [] fits (suc i) = omega arith
+take-bytes zero (x ∷ xs) fits zero = omega arith
+take-bytes zero (x ∷ xs) fits (suc i) = omega arith
+take-bytes (suc width) [] fits zero = omega arith
+take-bytes (suc width) [] fits (suc i) = omega arith
+take-bytes (suc width) (x ∷ xs) fits zero = fits 0
+take-bytes (suc width) (x ∷ xs) fits (suc i) = take-bytes width xs (λ j. fits (suc j)) i
+
+drop-bytes : (at : ℕ) (bytes : List ℕ) → AreBytes bytes → AreBytes (drop at bytes)
+unfolding AreBytes
+drop-bytes at bytes fits i = rw (get_or-drop at bytes i 0) (fits (at + i))
+
+part-bytes : (at width : ℕ) (bytes : List ℕ) → AreBytes bytes → AreBytes (part at width bytes)
+part-bytes at width bytes fits = take-bytes width (drop at bytes) (drop-bytes at bytes fits)
+
+-- ---- numbers, read and written again
+
+word-again : (at : ℕ) (bytes : List ℕ) → AreBytes bytes → at + 2 ≤ length bytes
+    → word (from_le_bytes w16 (part at 2 bytes)) ≡ part at 2 bytes
+unfolding AreBytes
+word-again at bytes fits inside = le_bytes_2 (part at 2 bytes) _ (length-part at 2 bytes inside) (part-bytes at 2 bytes fits) refl
+
+double-again : (at : ℕ) (bytes : List ℕ) → AreBytes bytes → at + 4 ≤ length bytes
+    → double_word (from_le_bytes w32 (part at 4 bytes)) ≡ part at 4 bytes
+unfolding AreBytes
+double-again at bytes fits inside = le_bytes_4 (part at 4 bytes) _ (length-part at 4 bytes inside) (part-bytes at 4 bytes fits) refl
+
+long-again : (at : ℕ) (bytes : List ℕ) → AreBytes bytes → at + 8 ≤ length bytes
+    → long_word (from_le_bytes w64 (part at 8 bytes)) ≡ part at 8 bytes
+unfolding AreBytes
+long-again at bytes fits inside = le_bytes_8 (part at 8 bytes) _ (length-part at 8 bytes inside) (part-bytes at 8 bytes fits) refl
+
+-- ---- the groups of pieces
+
+same-seven : {a b c d e f g a' b' c' d' e' f' g' : List ℕ} → a ≡ a' → b ≡ b' → c ≡ c' → d ≡ d' → e ≡ e' → f ≡ f' → g ≡ g'
+    → joined (a ∷ b ∷ c ∷ d ∷ e ∷ f ∷ g ∷ []) ≡ joined (a' ∷ b' ∷ c' ∷ d' ∷ e' ∷ f' ∷ g' ∷ [])
+same-seven a b c d e f g = rw (a, b, c, d, e, f, g) refl
+
+head-is : (set : Parts) (bytes : List ℕ) → AreBytes bytes → length bytes ≡ file_size → magic ≡ part 0 8 bytes
+    → digest_of set ≡ part 10 20 bytes → AreWritten (state_in bytes) bytes
+    → joined (head (version_in bytes) (digest_of set) (state_in bytes)) ≡ part 0 82 bytes
+unfolding head cut total
+head-is set bytes fits size start digest written =
+    same-seven start (word-again 8 bytes fits (omega (arith, size))) digest written.processor
+    (long-again 58 bytes fits (omega (arith, size))) (long-again 66 bytes fits (omega (arith, size)))
+    (long-again 74 bytes fits (omega (arith, size)))
+    ∙ joined-cut 0 (8 ∷ 2 ∷ 20 ∷ 28 ∷ 8 ∷ 8 ∷ 8 ∷ []) bytes
+
+ram-is : (bytes : List ℕ) → joined (ram (state_in bytes)) ≡ part 82 3072 bytes
+unfolding ram cut total
+ram-is bytes = joined-cut 82 (1024 ∷ 1024 ∷ 1024 ∷ []) bytes
+
+devices-is : (bytes : List ℕ) → AreBytes bytes → length bytes ≡ file_size → AreWritten (state_in bytes) bytes
+    → joined (devices (state_in bytes)) ≡ part 3154 70 bytes
+unfolding devices cut total
+devices-is bytes fits size written =
+    same-seven {a = part 3154 16 bytes} {b = part 3170 32 bytes} refl refl
+    (double-again 3202 bytes fits (omega (arith, size))) (double-again 3206 bytes fits (omega (arith, size)))
+    (double-again 3210 bytes fits (omega (arith, size))) written.controls written.due
+    ∙ joined-cut 3154 (16 ∷ 32 ∷ 4 ∷ 4 ∷ 4 ∷ 7 ∷ 3 ∷ []) bytes
+
+lines-joined : (count : ℕ) (picture : List ℕ) → joined (tabulate count (λ y. part (288 * y) 288 picture)) ≡ part 0 (288 * count) picture
+unfolding tabulate
+lines-joined zero picture = refl
+lines-joined (suc count) picture =
+    let here : 0 + 288 * count ≡ 288 * count = omega arith in
+    let next : 288 * count + 288 ≡ 288 * suc count = omega arith in
+    flat_map-append (λ line. line) (tabulate count (λ y. part (288 * y) 288 picture)) (part (288 * count) 288 picture ∷ [])
+    ∙ (ap (λ (last : List ℕ). joined (tabulate count (λ y. part (288 * y) 288 picture)) ++ last)
+    (append-nil (part (288 * count) 288 picture))
+    ∙ (ap (λ (before : List ℕ). before ++ part (288 * count) 288 picture) (lines-joined count picture)
+    ∙ (ap (λ at. part 0 (288 * count) picture ++ part at 288 picture) (sym here)
+    ∙ (part-add 0 (288 * count) 288 picture ∙ ap (λ width. part 0 width picture) next))))
+
+lines-are : (bytes : List ℕ) → length bytes ≡ file_size → joined (lines_of (picture_in bytes)) ≡ part 3224 64512 bytes
+lines-are bytes size =
+    let long : length (picture_in bytes) ≡ 64512 = length-part 3224 64512 bytes (omega (arith, size)) in
+    lines-joined 224 (picture_in bytes) ∙ take_all 64512 (picture_in bytes) (omega (arith, long))
+
+-- ---- the whole
+
+body-is : (set : Parts) (bytes : List ℕ) → AreBytes bytes → length bytes ≡ file_size → magic ≡ part 0 8 bytes
+    → digest_of set ≡ part 10 20 bytes → AreWritten (state_in bytes) bytes
+    → body (version_in bytes) (digest_of set) (state_in bytes) ≡ part 0 67736 bytes
+body-is set bytes fits size start digest written =
+    let first = head-is set bytes fits size start digest written in
+    let third = devices-is bytes fits size written in
+    let before : front (version_in bytes) (digest_of set) (state_in bytes) ≡ part 0 3224 bytes =
+    ap (λ (text : List ℕ). (text ++ joined (ram (state_in bytes))) ++ joined (devices (state_in bytes))) first
+    ∙ (ap (λ (text : List ℕ). (part 0 82 bytes ++ text) ++ joined (devices (state_in bytes))) (ram-is bytes)
+    ∙ (ap (λ (text : List ℕ). (part 0 82 bytes ++ part 82 3072 bytes) ++ text) third
+    ∙ (ap (λ (text : List ℕ). text ++ part 3154 70 bytes) (part-add 0 82 3072 bytes) ∙ part-add 0 3154 70 bytes))) in
+    ap (λ (text : List ℕ). text ++ joined (lines_of (picture_in bytes))) before
+    ∙ (ap (λ (text : List ℕ). part 0 3224 bytes ++ text) (lines-are bytes size) ∙ part-add 0 3224 64512 bytes)
+
+pub text-of : (set : Parts) (bytes : List ℕ) → ((i : ℕ) → get_or bytes i 0 < 256) → fault_of (digest_of set) bytes ≡ None
+    → AreWritten (state_in bytes) bytes → save_text (version_in bytes) set (state_in bytes) ≡ bytes
+unfolding fault_of AreBytes
+text-of set bytes fits none written =
+    let size = size-of (digest_of set) bytes none in
+    let begun = tested (begins bytes) NoState _ none in
+    let second = below (is_of_another_version bytes) OtherVersion _ (below (not (begins bytes)) NoState _ none) in
+    let third = below (not (length bytes == file_size)) Size _ second in
+    let closed = tested (is_sealed bytes) Damaged _ third in
+    let same = tested (is_of (digest_of set) bytes) OtherSet _ (below (not (is_sealed bytes)) Damaged _ third) in
+    let start : take 8 bytes ≡ magic =
+    subst (λ n. take (min 8 n) bytes ≡ take (min 8 n) magic) size
+    ((bytes_eq-Decides (take (min 8 (length bytes)) bytes) (take (min 8 (length bytes)) magic)).0 begun) in
+    let digest : digest_of set ≡ part 10 20 bytes = (bytes_eq-Decides (digest_of set) (part 10 20 bytes)).0 same in
+    let seal : sha1 (take body_size bytes) ≡ drop body_size bytes =
+    (bytes_eq-Decides (sha1 (take body_size bytes)) (drop body_size bytes)).0 closed in
+    let before : body (version_in bytes) (digest_of set) (state_in bytes) ≡ take body_size bytes =
+    body-is set bytes fits size (sym start) digest written in
+    ap (λ (text : List ℕ). text ++ sha1 text) before
+    ∙ (ap (λ (last : List ℕ). take body_size bytes ++ last) seal ∙ take-append-drop body_size bytes)

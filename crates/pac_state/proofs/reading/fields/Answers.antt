@@ -1,0 +1,10 @@
+use Rattle.std.proofs.Common.{ap, ◌∙◌}
+use Rattle.pac_state.specs.Reading.{regs_of, due_of}
+use Rattle.pac_state.proofs.Read.{same-state}
+use Rattle.pac_state.proofs.reading.fields.Goals as goal
+
+pub returns : goal.returns
+returns c =
+    same-state (c.regs.ensures ∙ ap regs_of c.part.ensures) c.memory.ensures c.double_word.ensures
+    c.double_word-2.ensures c.double_word-3.ensures
+    c.requires.picture c.long_word.ensures c.long_word-2.ensures c.long_word-3.ensures (c.due_of.ensures ∙ ap due_of c.part-2.ensures)

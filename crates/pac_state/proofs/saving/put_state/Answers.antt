@@ -1,0 +1,38 @@
+use Rattle.std.proofs.Common.{◌≡◌, List, ℕ, [], ◌++◌, subst, sym, append_assoc}
+use Rattle.std.proofs.lemmas.Result.{err_from_is_err_and}
+use Rattle.sha1.specs.Sha1.{Holds, sha1}
+use Rattle.pac_out.specs.Counted.{Refuses, Puts}
+use Rattle.pac_out.proofs.Files.{refuses-after, refuses-within, takes-joined}
+use Rattle.pac_board.specs.Fields.{state_of}
+use Rattle.pac_state.specs.Text.{joined, front, body, written_version}
+use Rattle.pac_state.proofs.Sealing.{puts-after}
+use Rattle.pac_state.proofs.saving.put_state.Goals as goal
+
+pub returns-in_err-put_front : goal.returns-in_err-put_front
+returns-in_err-put_front g c =
+    let first = front written_version c.args.digest.now (state_of c.args.fields.now) in
+    let second = joined c.args.fields.now.lines.now in
+    let digest = sha1 (first ++ second) in
+    let p = err_from_is_err_and c.from_residual.result c.from_residual.ensures.1 in
+    rw (p.1, p.2)
+    (subst (λ (text : List ℕ). Refuses g.W.Out.took g.W.Out.refused c.args.file.now text c.in_err-put_front.field-0.0 c.put_front.new.file)
+    (sym (append_assoc first second digest))
+    (refuses-within c.in_err-put_front.ensures.put (second ++ digest)))
+
+pub returns-in_err-put_lines : goal.returns-in_err-put_lines
+returns-in_err-put_lines g c =
+    let p = err_from_is_err_and c.from_residual-in_err-put_lines.result c.from_residual-in_err-put_lines.ensures.1 in
+    rw (p.1, p.2)
+    (refuses-within (refuses-after c.in_ok-put_front.ensures.put c.in_err-put_lines.ensures.put)
+    (sha1 (body written_version c.args.digest.now (state_of c.args.fields.now))))
+
+pub returns : goal.returns
+returns g c =
+    let text = body written_version c.args.digest.now (state_of c.args.fields.now) in
+    let held : Holds c.put_lines.new.hasher text =
+    c.in_ok-put_lines.ensures.hashed _ (c.in_ok-put_front.ensures.hashed [] c.new-hasher.ensures) in
+    let digest : c.finalize.result ≡ sha1 text = c.finalize.ensures text held in
+    subst (λ (digest : List ℕ). Puts g.W.Out.took g.W.Out.refused c.args.file.now (text ++ digest) c.put.result c.put.new.self) digest
+    (puts-after g.W.Out.refused (takes-joined c.in_ok-put_front.ensures.put c.in_ok-put_lines.ensures.put) c.finalize.result
+    c.put.result c.put.new.self
+    c.put.ensures.put)

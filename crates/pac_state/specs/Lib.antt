@@ -1,0 +1,4 @@
+pub mod Reading
+pub mod Saved
+pub mod Saves
+pub mod Text

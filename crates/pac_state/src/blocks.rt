@@ -1,0 +1,122 @@
+//! The small fields of a state as bytes.
+
+ghost use Rattle.std.specs.Prelude.{◌≡◌, ◌≤◌};
+ghost use Rattle.pac_inputs.specs.Inputs as inputs;
+ghost use Rattle.pac_latch.specs.Latched as latched;
+ghost use Rattle.pac_map.specs.Fields.{view_of};
+ghost use Rattle.pac_state.specs.Text as text;
+
+use bitflags::Flags;
+use pac_board::Due;
+use pac_exec::Regs;
+use pac_inputs::Inputs;
+use pac_table::InterruptMode;
+
+/// A bit as a number.
+fn digit(bit: bool) -> u8
+    ensures value { result ≡ latched.digit bit }
+    ensures bound { result ≤ 1 }
+{
+    if bit { 1 } else { 0 }
+}
+
+/// IFF1, IFF2, halted and just after EI, in the low four bits.
+fn flags(regs: &Regs) -> u8
+    ensures { result ≡ text.flags_of regs.now }
+{
+    digit(regs.iff1) + 2 * (digit(regs.iff2) + 2 * (digit(regs.halted) + 2 * digit(regs.after_ei)))
+}
+
+/// The number of an interrupt mode.
+fn number_of_mode(mode: InterruptMode) -> u8
+    ensures { result ≡ text.number_of_mode mode }
+{
+    match mode {
+        InterruptMode::Zero => 0,
+        InterruptMode::One => 1,
+        InterruptMode::Two => 2,
+    }
+}
+
+/// The processor.
+#[tactic(auto, unfolding(crate::specs::Text::processor))]
+pub(crate) fn processor(regs: &Regs) -> [u8; 28]
+    ensures { result ≡ text.processor regs.now }
+{
+    let [ix, ix_high] = regs.ix.to_le_bytes();
+    let [iy, iy_high] = regs.iy.to_le_bytes();
+    let [sp, sp_high] = regs.sp.to_le_bytes();
+    let [pc, pc_high] = regs.pc.to_le_bytes();
+    let other = regs.alternate;
+    [
+        regs.a,
+        regs.f,
+        regs.b,
+        regs.c,
+        regs.d,
+        regs.e,
+        regs.h,
+        regs.l,
+        other.a,
+        other.f,
+        other.b,
+        other.c,
+        other.d,
+        other.e,
+        other.h,
+        other.l,
+        ix,
+        ix_high,
+        iy,
+        iy_high,
+        sp,
+        sp_high,
+        pc,
+        pc_high,
+        regs.i,
+        regs.r,
+        flags(regs),
+        number_of_mode(regs.mode),
+    ]
+}
+
+/// The mask of inputs.
+fn mask(held: Inputs) -> u16
+    ensures { result ≡ inputs.mask held }
+{
+    held.bits()
+}
+
+/// The byte of the latch, whose eight bits all have a meaning.
+fn latch_byte(latch: u8) -> u8
+    ensures { result ≡ latched.byte_of (latched.bits_of latch) }
+{
+    latch
+}
+
+/// Latch, vector, request and count, the inputs held, and the switches.
+#[tactic(auto, unfolding(crate::specs::Text::controls))]
+pub(crate) fn controls(memory: &pac_map::Fields) -> [u8; 7]
+    ensures { result ≡ text.controls (view_of memory.now) }
+{
+    let [held, held_high] = mask(memory.held).to_le_bytes();
+    [
+        latch_byte(memory.latch),
+        memory.vector,
+        digit(memory.requested),
+        memory.count,
+        held,
+        held_high,
+        memory.switches,
+    ]
+}
+
+/// What is due.
+#[tactic(auto, unfolding(crate::specs::Text::due))]
+pub(crate) fn due(due: Due) -> [u8; 3]
+    ensures { result ≡ text.due due }
+{
+    let bits = digit(due.sample.is_some()) + 2 * digit(due.picture);
+    let [low, high] = due.sample.unwrap_or(0).to_le_bytes();
+    [bits, low, high]
+}

@@ -1,0 +1,197 @@
+//! The fields of a state in the bytes of a file.
+
+ghost use Rattle.std.specs.Prelude.{◌≡◌, ◌↔◌, ◌<◌, ◌≤◌, ◌*◌, ◌+◌, true, length, slice_index};
+ghost use Rattle.pac_board.specs.Fields.{state_of, AreInRange};
+ghost use Rattle.pac_inputs.specs.Inputs as inputs;
+ghost use Rattle.pac_map.specs.Fields.{view_of};
+ghost use Rattle.pac_picture.specs.State.{IsPicture};
+ghost use Rattle.pac_state.specs.Reading as read;
+ghost use Rattle.pac_state.specs.Saved as saved;
+ghost use Rattle.pac_state.specs.Text as text;
+
+use crate::blocks::{controls, due, processor};
+use crate::header::{double_word, long_word, part, word};
+use bitflags::Flags;
+use pac_board::{Due, Fields};
+use pac_exec::{Alternate, Regs};
+use pac_inputs::Inputs;
+use pac_num::bit;
+use pac_picture::Lines;
+use pac_table::InterruptMode;
+
+/// Whether a bit of a byte is set.
+fn is_set(byte: u8, place: u8) -> bool
+    requires { place < 8 }
+    ensures { result ≡ read.is_set byte place }
+{
+    bit(byte, place) == 1
+}
+
+/// The interrupt mode of a number.
+fn mode(number: u8) -> InterruptMode
+    ensures { result ≡ read.mode_of number }
+{
+    match number {
+        0 => InterruptMode::Zero,
+        1 => InterruptMode::One,
+        _ => InterruptMode::Two,
+    }
+}
+
+/// The second set of registers of the processor's bytes.
+fn alternate(bytes: &[u8; 28]) -> Alternate
+    ensures { result ≡ (read.regs_of bytes.now).alternate }
+{
+    Alternate {
+        a: bytes[8],
+        f: bytes[9],
+        b: bytes[10],
+        c: bytes[11],
+        d: bytes[12],
+        e: bytes[13],
+        h: bytes[14],
+        l: bytes[15],
+    }
+}
+
+/// The processor of its bytes.
+fn regs(bytes: &[u8; 28]) -> Regs
+    ensures { result ≡ read.regs_of bytes.now }
+{
+    let flags = bytes[26];
+    Regs {
+        a: bytes[0],
+        f: bytes[1],
+        b: bytes[2],
+        c: bytes[3],
+        d: bytes[4],
+        e: bytes[5],
+        h: bytes[6],
+        l: bytes[7],
+        alternate: alternate(bytes),
+        ix: word(bytes, 16),
+        iy: word(bytes, 18),
+        sp: word(bytes, 20),
+        pc: word(bytes, 22),
+        i: bytes[24],
+        r: bytes[25],
+        iff1: is_set(flags, 0),
+        iff2: is_set(flags, 1),
+        mode: mode(bytes[27]),
+        halted: is_set(flags, 2),
+        after_ei: is_set(flags, 3),
+    }
+}
+
+/// What is due, of its bytes.
+fn due_of(bytes: &[u8; 3]) -> Due
+    ensures { result ≡ read.due_of bytes.now }
+{
+    let sample = if is_set(bytes[0], 0) {
+        Some(word(bytes, 1).cast_signed())
+    } else {
+        None
+    };
+    Due {
+        sample,
+        picture: is_set(bytes[0], 1),
+    }
+}
+
+/// The inputs of a mask.
+fn inputs_of(mask: u16) -> Inputs
+    ensures { inputs.mask result ≡ mask }
+{
+    Inputs::from_bits_retain(mask)
+}
+
+/// The memory in a file.
+fn memory(bytes: &[u8]) -> pac_map::Fields<'_>
+    requires { length bytes.now ≡ saved.file_size }
+    ensures { view_of result ≡ read.memory_of (read.controls_in bytes.now) bytes.now }
+{
+    let controls: &[u8; 7] = part(bytes, 3214);
+    pac_map::Fields {
+        tile: part(bytes, 82),
+        colour: part(bytes, 1106),
+        work: part(bytes, 2130),
+        coordinates: *part(bytes, 3154),
+        registers: *part(bytes, 3170),
+        latch: controls[0],
+        vector: controls[1],
+        requested: controls[2] == 1,
+        count: controls[3],
+        held: inputs_of(word(controls, 4)),
+        switches: controls[6],
+    }
+}
+
+/// The fields in a file, with the lines of its picture.
+pub(crate) fn fields<'a>(bytes: &'a [u8], lines: &'a Lines) -> Fields<'a>
+    requires size { length bytes.now ≡ saved.file_size }
+    requires picture { lines.now ≡ read.lines_of (read.picture_in bytes.now) }
+    ensures { state_of result ≡ read.state_in bytes.now }
+{
+    Fields {
+        regs: regs(part(bytes, 30)),
+        time: long_word(bytes, 58),
+        steps: long_word(bytes, 66),
+        asked: long_word(bytes, 74),
+        memory: memory(bytes),
+        accumulators: [
+            double_word(bytes, 3202),
+            double_word(bytes, 3206),
+            double_word(bytes, 3210),
+        ],
+        due: due_of(part(bytes, 3221)),
+        lines,
+    }
+}
+
+/// Whether fields, written again, are the bytes of a file that they were read from.
+fn are_written(fields: &Fields, bytes: &[u8]) -> bool
+    requires { length bytes.now ≡ saved.file_size }
+    ensures { (result ≡ true) ↔ saved.AreWritten (state_of fields.now) bytes.now }
+{
+    processor(&fields.regs) == *part(bytes, 30)
+        && controls(&fields.memory) == *part(bytes, 3214)
+        && due(fields.due) == *part(bytes, 3221)
+}
+
+/// Whether fields that were read from a file are a state's, and stand there as they are written.
+pub(crate) fn is_taken(fields: &Fields, bytes: &[u8]) -> bool
+    requires { length bytes.now ≡ saved.file_size }
+    ensures { (result ≡ true) ↔ (AreInRange fields.now × saved.AreWritten (state_of fields.now) bytes.now) }
+{
+    fields.are_in_range() && are_written(fields, bytes)
+}
+
+/// Whether each number of a line is a colour number.
+fn are_numbers(line: &[u8; 288]) -> bool
+    ensures { (result ≡ true) ↔ saved.AreNumbers line.now }
+{
+    for number in line {
+        if *number > 15 {
+            return false;
+        }
+    }
+    true
+}
+
+/// Takes the lines of a picture from its bytes, and tells whether all of them are colour numbers; else lines are missing.
+pub(crate) fn take_lines(lines: &mut Lines, bytes: &[u8; 64512]) -> bool
+    ensures picture { (result ≡ true) ↔ IsPicture (read.lines_of bytes.now) }
+    ensures taken { result ≡ true → lines.new ≡ read.lines_of bytes.now }
+{
+    let _before = lines.row(0);
+    for y in 0..224u8 {
+        let line: &[u8; 288] = part(bytes, 288 * y as usize);
+        if !are_numbers(line) {
+            return false;
+        }
+        lines.set_row(y, line);
+    }
+    // any row tells that all of them are there
+    let _after = lines.row(0);
+    true
+}
