@@ -70,26 +70,26 @@ module _ (setting : Setting) where
     pub steps : (now_at setting index).steps ≡ index
 
   pub record IsOneMore (index : ℕ) (now : Moment BoardView) (outputs : List Output) : Type 0 where
-    pub open : IsOpen (suc index)
+    pub stands : IsOpen (suc index)
     pub now_is : now_at setting (suc index) ≡ now
     pub outputs_is : (run setting (suc index)).outputs ≡ (run setting index).outputs ++ outputs
     pub later : (now_at setting index).time < (now_at setting (suc index)).time
 
   pub one-more : (index : ℕ) (now : Moment BoardView) (outputs : List Output) (kind : Kind) → IsOpen index
       → is_late setting index ≡ false → next_at setting index ≡ Goes now outputs kind → IsOneMore index now outputs
-  one-more index now outputs kind open early is =
+  one-more index now outputs kind before early is =
       let w = run setting index in
       let whole : run setting (suc index) ≡ after_step w (Goes now outputs kind)
-      = next-index index open.open_yet early ∙ ap (after_step w) is in
+      = next-index index before.open_yet early ∙ ap (after_step w) is in
       let times = subst (IsTimely w.now) is (timely w.now) in
       let one = times.2 in
       let longer = times.0 in
-      let before = open.steps in
+      let so_far = before.steps in
       let now_is : now_at setting (suc index) ≡ now = ap (λ (walked : Walk BoardView). walked.now) whole in
       let steps = ap (λ (m : Moment BoardView). m.steps) now_is in
       let time = ap (λ (m : Moment BoardView). m.time) now_is in
       record {
-        open = record {
+        stands = record {
           open_yet = ap (λ (walked : Walk BoardView). walked.stop) whole;
           steps = omega arith;
         };
@@ -104,7 +104,7 @@ module _ (setting : Setting) where
       let here = goes index (omega arith) in
       let on = goes-on index here in
       (one-more index on.now on.outputs on.kind (open-up-to index (λ earlier less. goes earlier (omega arith)))
-      (goes-early index here) on.is).open
+      (goes-early index here) on.is).stands
 
   -- ---- what is given out
 

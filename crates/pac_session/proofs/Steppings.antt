@@ -1,6 +1,6 @@
 -- One step of a session, over plain values: what stands before it stands after it.
 use Rattle.std.proofs.Common.{◌≡◌, ℕ, zero, suc, ◌+◌, ◌-◌, ◌*◌, ◌==◌, ◌<◌, ◌≤◌, Bool, true, false, max, nat_lt, if◌then◌else◌}
-use Rattle.std.proofs.Common.{◌&&◌, not, is_none, Option, List, [], ◌∷◌, ◌++◌, length, drop, refl, sym, ap, subst, ◌∙◌, append_assoc, add-one, arith}
+use Rattle.std.proofs.Common.{◌&&◌, not, is_none, map, Option, None, Some, List, [], ◌∷◌, ◌++◌, length, drop, refl, sym, ap, subst, ◌∙◌, append_assoc, add-one, arith}
 use Rattle.std.proofs.lemmas.Bool.Decides.{nat_tests}
 use Rattle.std.proofs.lemmas.List.{length-append, length-drop, drop-drop, drop-append-le}
 use Rattle.circular_buffer.specs.Buffer.{keep_last}
@@ -17,12 +17,13 @@ use Rattle.pac_board.specs.State.{BoardValue, nothing_due, counted, due_in}
 use Rattle.pac_board.specs.Calls.{stepped, once_at, outputs_in}
 use Rattle.pac_session.specs.declared.history.PastStep.{PastStep}
 use Rattle.pac_session.specs.declared.kept.Kept.{Kept}
-use Rattle.pac_session.specs.Inside.{IsStanding}
-use Rattle.pac_session.specs.Keeping.{Ring, kept_of, one_more, taken_at, IsKeptAt, AreCheckpoints}
+use Rattle.pac_session.specs.declared.kept.Slot.{Slot}
+use Rattle.pac_session.specs.Inside.{IsStanding, AreRight}
+use Rattle.pac_session.specs.Keeping.{Ring, mark_of, kept_of, one_more, taken_at, IsKeptAt, AreCheckpoints}
 use Rattle.pac_session.specs.Motions.{checkpoint_steps, checkpoint_count, stepped as stepped_session}
 use Rattle.pac_session.specs.Past.{past, past_of, told_at, told_steps}
 use Rattle.pac_session.specs.Running.{Setting, now_at, next_from, next_at, is_late, stop_in, stop_at, goes_at}
-use Rattle.pac_session.specs.Session.{SessionValue}
+use Rattle.pac_session.specs.Session.{SessionValue, IsSeen, AreSeen}
 use Rattle.pac_session.specs.Steps.{PlaysStep, next_on, told_after}
 use Rattle.pac_session.proofs.Indices.{open-up-to, one-more, timely}
 
@@ -68,6 +69,36 @@ module _ (setting : Setting) where
       checkpoints-append (taken + 1) ks k so_far.1 (subst (λ n. IsKeptAt setting (checkpoint_steps * n) k) same here)
 
 -- ---- a step
+
+-- a session whose board this is
+abbrev pub with_board : (switches : ℕ) → List Stretch → BoardValue → ℕ → List ℕ → List (Option ℕ) → ℕ → SessionValue
+with_board switches script b far breakpoints slots replayed = record {
+  setting = record { set = b.set; switches = switches; script = script };
+  index = b.state.now.steps;
+  furthest = far;
+  breakpoints = breakpoints;
+  slots = slots;
+  due = b.state.due;
+  made = b.made;
+  replayed = replayed;
+}
+
+-- slots stay right as the session goes further
+seen-later : (furthest later : ℕ) (slot : Option ℕ) → furthest ≤ later → IsSeen furthest slot → IsSeen later slot
+seen-later furthest later None less seen = tt
+seen-later furthest later (Some index) less seen = omega arith
+
+pub all-seen-later : (furthest later : ℕ) (slots : List (Option ℕ)) → furthest ≤ later → AreSeen furthest slots → AreSeen later slots
+all-seen-later furthest later [] less seen = tt
+all-seen-later furthest later (slot ∷ slots) less seen = (
+  seen-later furthest later slot less seen.0,
+  all-seen-later furthest later slots less seen.1,
+)
+
+pub right-later : (setting : Setting) (furthest later : ℕ) (slots : List Slot) → furthest ≤ later → AreRight setting furthest slots
+    → AreRight setting later slots
+right-later setting furthest later slots less right =
+    record { count = right.count; kept = right.kept; seen = all-seen-later furthest later (map mark_of slots) less right.seen }
 
 module _ (board : BoardValue) (switches : ℕ) (script : List Stretch) (history : List PastStep) (furthest : ℕ) (ring : Ring) where
   abbrev setting : Setting
@@ -138,9 +169,9 @@ module _ (board : BoardValue) (switches : ℕ) (script : List Stretch) (history 
       → steps ≡ keep_last told_steps (history ++ record { index = index; pc = board.state.now.regs.pc; kind = kind } ∷ [])
       → IsStanding setting now steps (max furthest now.steps) ring_after × (now.steps ≡ index + 1)
   stands-on now outputs kind steps stands gone early is told =
-      let open = open-up-to setting index (λ earlier less. let within = stands.within in stands.goes earlier (omega arith)) in
-      let on = one-more setting index now outputs kind open early is in
-      let count : now.steps ≡ suc index = ap (λ (m : Moment BoardView). m.steps) (sym on.now_is) ∙ on.open.steps in
+      let so_far = open-up-to setting index (λ earlier less. let within = stands.within in stands.goes earlier (omega arith)) in
+      let on = one-more setting index now outputs kind so_far early is in
+      let count : now.steps ≡ suc index = ap (λ (m : Moment BoardView). m.steps) (sym on.now_is) ∙ on.stands.steps in
       let within = stands.within in
       let few = gone.few in
       let enough = gone.enough in
@@ -190,26 +221,14 @@ module _ (board : BoardValue) (switches : ℕ) (script : List Stretch) (history 
         checkpoints = gone.checkpoints;
       })
 
-  -- a session whose board this is, and the same one step on
-  abbrev pub with_board : BoardValue → ℕ → List ℕ → List (Option ℕ) → ℕ → SessionValue
-  with_board b far breakpoints slots replayed = record {
-    setting = record { set = b.set; switches = switches; script = script };
-    index = b.state.now.steps;
-    furthest = far;
-    breakpoints = breakpoints;
-    slots = slots;
-    due = b.state.due;
-    made = b.made;
-    replayed = replayed;
-  }
-
   pub record HasMade (steps : List PastStep) (new : BoardValue) : Type 0 where
+    pub set : new.set ≡ board.set
     pub standing :
         IsStanding (record { set = new.set; switches = switches; script = script }) new.state.now steps (max furthest new.state.now.steps)
         ring_after
     pub value : (breakpoints : List ℕ) (slots : List (Option ℕ)) (replayed : ℕ)
-        → with_board new (max furthest new.state.now.steps) breakpoints slots replayed
-        ≡ stepped_session (next_at setting index) (with_board board furthest breakpoints slots replayed) new.state.due
+        → with_board switches script new (max furthest new.state.now.steps) breakpoints slots replayed
+        ≡ stepped_session (next_at setting index) (with_board switches script board furthest breakpoints slots replayed) new.state.due
 
   made-by : (h : Next BoardView) → next_at setting index ≡ h → IsStanding setting board.state.now history furthest ring
       → IsLeft ring_after → is_late setting index ≡ false → (due : Due) (steps : List PastStep)
@@ -218,9 +237,10 @@ module _ (board : BoardValue) (switches : ℕ) (script : List Stretch) (history 
   made-by (Goes now outputs kind) is stands gone early due steps told nothing =
       let on = stands-on now outputs kind steps stands gone early is told in
       record {
+        set = refl;
         standing = on.0;
         value = λ breakpoints slots replayed.
-            ap (λ n. with_board (stepped (Goes now outputs kind) board due) (max furthest n) breakpoints slots replayed) refl
+            ap (λ n. with_board switches script (stepped (Goes now outputs kind) board due) (max furthest n) breakpoints slots replayed) refl
             ∙ ap (λ n. record {
               setting = setting;
               index = n;
@@ -231,16 +251,17 @@ module _ (board : BoardValue) (switches : ℕ) (script : List Stretch) (history 
               made = counted board.made 1;
               replayed = replayed;
             }) on.1
-            ∙ ap (λ h. stepped_session h (with_board board furthest breakpoints slots replayed) due) (sym is);
+            ∙ ap (λ h. stepped_session h (with_board switches script board furthest breakpoints slots replayed) due) (sym is);
       }
   made-by (Ends stop) is stands gone early due steps told nothing =
       let within = stands.within in
       let same : max furthest index ≡ furthest = omega arith in
       record {
+        set = refl;
         standing = subst (λ xs. IsStanding setting board.state.now xs (max furthest index) ring_after) (sym told) (stands-still stands gone);
         value = λ breakpoints slots replayed.
-            ap (λ n. with_board board n breakpoints slots replayed) same
-            ∙ ap (λ h. stepped_session h (with_board board furthest breakpoints slots replayed) due) (sym is);
+            ap (λ n. with_board switches script board n breakpoints slots replayed) same
+            ∙ ap (λ h. stepped_session h (with_board switches script board furthest breakpoints slots replayed) board.state.due) (sym is);
       }
 
   pub made-step : (once : Once) (new : BoardValue) (steps : List PastStep)

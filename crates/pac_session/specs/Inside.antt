@@ -1,5 +1,6 @@
 -- What a session's fields say, and what holds of them.
 use Rattle.std.specs.Prelude.{◌≡◌, ◌<◌, ◌≤◌, ℕ, ◌+◌, ◌*◌, true, List, length, map}
+use Rattle.pac_inputs.specs.Stretches.{total, most_frames}
 use Rattle.pac_step.specs.BoardView.{BoardView}
 use Rattle.pac_step.specs.Step.{Moment}
 use Rattle.pac_session.specs.declared.history.PastStep.{PastStep}
@@ -8,7 +9,7 @@ use Rattle.pac_session.specs.declared.session.Session.TheInside.{Inside}
 use Rattle.pac_session.specs.Keeping.{Ring, AreCheckpoints, AreSlots, mark_of}
 use Rattle.pac_session.specs.Motions.{checkpoint_steps, checkpoint_count}
 use Rattle.pac_session.specs.Past.{told_at}
-use Rattle.pac_session.specs.Running.{Setting, now_at, goes_at}
+use Rattle.pac_session.specs.Running.{Setting, now_at, limit, goes_at}
 use Rattle.pac_session.specs.Session.{SessionValue, AreSeen, slot_count, most_breakpoints}
 
 abbrev pub setting_of : Inside → Setting
@@ -47,6 +48,8 @@ pub record AreRight (setting : Setting) (furthest : ℕ) (slots : List Slot) : T
   pub seen : AreSeen furthest (map mark_of slots)
 
 pub record IsRight (inside : Inside) : Type 0 where
+  pub limit : inside.limit ≡ limit (setting_of inside)
+  pub short : total inside.script ≤ most_frames
   pub standing : IsStanding (setting_of inside) inside.board.state.now inside.history inside.furthest inside.checkpoints
   pub slots : AreRight (setting_of inside) inside.furthest inside.slots.items
   pub breakpoints : length inside.breakpoints.items ≤ most_breakpoints

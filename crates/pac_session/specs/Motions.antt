@@ -16,7 +16,7 @@ use Rattle.pac_session.specs.declared.motion.Motion.TheVariants.{Steps, Continue
 use Rattle.pac_session.specs.declared.motion.Ending.{Ending}
 use Rattle.pac_session.specs.declared.motion.Ending.TheVariants.{AtStop, AtEnd, AtBreakpoint, AtFrame, AtStep}
 use Rattle.pac_session.specs.declared.motion.Outcome.{Outcome}
-use Rattle.pac_session.specs.Running.{now_at, next_at, is_late, stop_at, goes_at, blanks_at, outputs_between, whole_run, IsLeast}
+use Rattle.pac_session.specs.Running.{now_at, next_at, is_late, stop_at, goes_at, blanks_at, outputs_between, outputs_from, whole_run, IsLeast}
 use Rattle.pac_session.specs.Session.{SessionValue, IsOfferRefused, breaks_at, due_outputs}
 
 -- ---- where a motion rests
@@ -42,6 +42,11 @@ word_of (Steps count) breaks = AtStep
 word_of Continue breaks = AtBreakpoint
 word_of (Frames count) breaks = if breaks then AtBreakpoint else AtFrame
 word_of ToEnd breaks = AtEnd
+
+-- the stop that it met, if one was
+abbrev pub stop_of : Ending → Option Stop
+stop_of (AtStop stop) = Some stop
+stop_of why = None
 
 -- Why it rests: the run is over, or it has done what it is for, or a step was tried and met a stop, in this order.
 pub record IsDone (s : SessionValue) (motion : Motion) (from index : ℕ) (why : Ending) : Type 0 where
@@ -123,6 +128,13 @@ Gives took refused old sink (Ok done) new later =
     (new ≡ record old { due = nothing_due }) × TookAll took sink (due_outputs old) later
 Gives took refused old sink (Err refusal) new later = IsGiftRefused took refused old sink new later
 
+-- where it is fresh; what isn't was taken before, and is let go
+abbrev pub PassesOn : {S A E : Type 0} → (S → Output → S → Type 0) → (S → Output → S → Type 0)
+    → Bool → SessionValue → S → Result A E → SessionValue → S → Type 0
+PassesOn took refused true old sink result new later = Gives took refused old sink result new later
+PassesOn took refused false old sink (Ok done) new later = (new ≡ record old { due = nothing_due }) × (later ≡ sink)
+PassesOn took refused false old sink (Err refusal) new later = ⊥
+
 -- the session one step on
 abbrev pub stepped_on : SessionValue → SessionValue
 stepped_on s = moved_to s (s.index + 1)
@@ -170,7 +182,7 @@ pub record IsFinished {S : Type 0} (took : S → Output → S → Type 0) (old :
   pub rest : IsLeast (λ index. not (goes_at old.setting index)) old.index new.index
   pub outcome_is : IsOutcome old outcome
   pub session : new ≡ record (moved_to old new.index) { replayed = 0 }
-  pub sink_is : TookAll took sink (due_outputs old ++ outputs_between old.setting old.furthest new.furthest) later
+  pub sink_is : TookAll took sink (due_outputs old ++ outputs_from old.setting old.furthest) later
 
 -- The sink refused: an output that was due before, or one of a new step.
 pub record IsFinishRefused {S : Type 0} (took refused : S → Output → S → Type 0) (old : SessionValue) (sink : S) (new : SessionValue)

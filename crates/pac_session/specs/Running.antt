@@ -66,6 +66,10 @@ blanks_at setting index = (now_at setting index).time / frame_ticks
 abbrev pub outputs_between : Setting → (from index : ℕ) → List Output
 outputs_between setting from index = drop (length (run setting from).outputs) (run setting index).outputs
 
+-- and from one on to its end
+abbrev pub outputs_from : Setting → (from : ℕ) → List Output
+outputs_from setting from = drop (length (run setting from).outputs) (whole_run setting).outputs
+
 -- ---- the least index
 
 -- the least index, from one on, at which a test is met

@@ -1,8 +1,9 @@
 -- A session: an index into the run, the furthest index that it has been at, breakpoints, and slots that keep an index. Outputs up to
 -- the furthest index went to a sink once, in order, or are due.
-use Rattle.std.specs.Prelude.{◌≡◌, ◌<◌, ◌≤◌, ℕ, ◌==◌, Bool, true, false, filter, not}
+use Rattle.std.specs.Prelude.{◌≡◌, ◌<◌, ◌≤◌, ◌^◌, ℕ, ◌==◌, Bool, true, false, filter, not}
 use Rattle.std.specs.Prelude.{List, [], ◌∷◌, ◌++◌, length, Option, None, Some, Result, Ok, Err}
 use Rattle.std.specs.List.{list_any}
+use Rattle.pac_inputs.specs.Stretches.{total, most_frames}
 use Rattle.pac_step.specs.Output.{Output}
 use Rattle.pac_board.specs.declared.due.Due.{Due}
 use Rattle.pac_board.specs.Sinks.{TookAll, RefusesAt}
@@ -50,11 +51,13 @@ AreSeen furthest [] = Unit {0}
 AreSeen furthest (slot ∷ slots) = IsSeen furthest slot × AreSeen furthest slots
 
 pub record IsSession (s : SessionValue) : Type 0 where
+  pub short : total s.setting.script ≤ most_frames
   pub within : s.index ≤ s.furthest
   pub goes : (earlier : ℕ) → earlier < s.furthest → goes_at s.setting earlier ≡ true
   pub slots : length s.slots ≡ slot_count
   pub seen : AreSeen s.furthest s.slots
   pub few : length s.breakpoints ≤ most_breakpoints
+  pub counted : s.made < 2 ^ 64
 
 -- ---- the beginning
 

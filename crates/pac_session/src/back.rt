@@ -24,6 +24,7 @@ impl Session {
         requires nothing { self.old.due ≡ state.nothing_due }
         ensures { GoesBack self.old count result self.new }
     {
+        self.facts();
         let oldest = self.oldest();
         let index = self.index();
         let count = u64::from(count);
@@ -54,7 +55,8 @@ impl Session {
         requires nothing { self.old.due ≡ state.nothing_due }
         ensures { self.new ≡ replayed_to self.old index }
     {
-        while self.index() < index {
+        self.facts();
+        'again: while self.index() < index {
             self.make_step();
             self.let_go();
         }

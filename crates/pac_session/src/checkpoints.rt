@@ -41,7 +41,7 @@ fn room(alloc: Global, board: &Board) -> Result<HeapCircularBuffer<Kept>, AllocE
     ensures { IfOk result (λ ring. (length ring.items ≡ checkpoint_count) × (ring.capacity ≡ checkpoint_count)) }
 {
     let mut ring = HeapCircularBuffer::with_capacity(alloc, COUNT)?;
-    for _ in 0..COUNT {
+    'making: for _ in 0..COUNT {
         ring.push_back(Kept::new(alloc, board)?);
     }
     Ok(ring)

@@ -1,9 +1,9 @@
 //! The steps of a run, on a board: while a script's frames are played, its inputs are held.
 
-ghost use Rattle.std.specs.Prelude.{◌≡◌, ◌<◌, ◌*◌, []};
+ghost use Rattle.std.specs.Prelude.{◌≡◌, ◌<◌, ◌≤◌, ◌*◌, []};
 ghost use Rattle.pac_board.specs.State as state;
 ghost use Rattle.pac_inputs.specs.Inputs.{mask};
-ghost use Rattle.pac_inputs.specs.Stretches.{total};
+ghost use Rattle.pac_inputs.specs.Stretches.{total, most_frames};
 ghost use Rattle.pac_step.specs.Step.{frame_ticks};
 ghost use Rattle.pac_session.specs.Steps.{PlaysStep, told_after};
 
@@ -29,6 +29,7 @@ pub fn hold(board: &mut Board, inputs: Inputs)
 pub fn play_step(board: &mut Board, script: &Script) -> Once
     requires nothing { state.due_outputs board.old ≡ [] }
     requires early { board.old.state.now.time < frame_ticks * total script.now }
+    requires short { total script.now ≤ most_frames }
     ensures { PlaysStep script.now board.old result board.new }
 {
     let frame = board.time() / FRAME_TICKS;

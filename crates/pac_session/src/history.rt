@@ -37,7 +37,10 @@ impl Model for History {
 
     ghost view = { λ history. history.steps.items };
 
-    ghost invariant = { λ history. history.steps.capacity ≡ 256 };
+    ghost invariant = { λ history. record {
+      capacity : history.steps.capacity ≡ 256;
+      full : length history.steps.items ≤ 256;
+    } };
 }
 
 impl History {
@@ -55,7 +58,7 @@ impl History {
     pub fn push(&mut self, step: PastStep)
         ensures { self.new ≡ keep_last told_steps (self.old ++ step ∷ []) }
     {
-        self.steps.push_back(step);
+        self.steps.extend_from_slice(&[step]);
     }
 
     /// Writes another's steps over its own. Takes no memory.

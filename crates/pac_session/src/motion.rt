@@ -1,7 +1,7 @@
 //! How a session moves forwards, and why it rests.
 
 ghost use Rattle.std.specs.Prelude.{◌≡◌};
-ghost use Rattle.pac_session.specs.Motions.{word_of};
+ghost use Rattle.pac_session.specs.Motions.{word_of, stop_of};
 
 use pac_cpu::Stop;
 
@@ -46,6 +46,18 @@ pub enum Ending {
     AtFrame,
     /// The steps are done.
     AtStep,
+}
+
+impl Ending {
+    /// The stop that was met, if one was.
+    pub fn stop(self) -> Option<Stop>
+        ensures { result ≡ stop_of self }
+    {
+        match self {
+            Ending::AtStop(stop) => Some(stop),
+            _ => None,
+        }
+    }
 }
 
 /// What a run came to.

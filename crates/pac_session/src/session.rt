@@ -11,7 +11,7 @@ ghost use Rattle.pac_session.specs.Session.{IsSession, IsNew, begun, IsSet, has_
 ghost use Rattle.pac_session.specs.Motions.{checkpoint_count, ReturnsTo, kept_in};
 
 use crate::checkpoints::Checkpoints;
-use crate::course::hold;
+use crate::course::{hold, FRAME_TICKS};
 use crate::history::{History, PastStep};
 use crate::kept::Slot;
 use arrayvec::ArrayVec;
@@ -24,7 +24,7 @@ use std::marker::Model;
 const SWITCHES: u16 = 0x5080;
 
 /// The slots of a session (this profile).
-const SLOTS: u32 = 4;
+const SLOTS: usize = 4;
 
 /// A session over the run of a script on a board. Clauses see the run, where the session is in it, its breakpoints and slots, what
 /// is due, and the counts of steps that were done.
@@ -33,6 +33,7 @@ pub struct Session {
     pub(crate) board: Board,
     pub(crate) script: Script,
     pub(crate) switches: u8,
+    pub(crate) limit: u64,
     pub(crate) furthest: u64,
     pub(crate) breakpoints: ArrayVec<u16, 64>,
     pub(crate) history: History,
@@ -67,7 +68,7 @@ fn empty_slots(alloc: Global, board: &Board) -> Result<Vec<Slot>, AllocError>
     ensures { IfOk result (λ slots. (length slots.items ≡ slot_count) × AreEmpty slots.items) }
 {
     let mut slots = Vec::new(alloc);
-    for _ in 0..SLOTS {
+    'making: for _ in 0..SLOTS {
         slots.push(Slot::new(alloc, board)?)?;
     }
     Ok(slots)
@@ -96,11 +97,13 @@ impl Session {
             return Err(SessionRefused { board, script });
         };
         let switches = board.peek(SWITCHES);
+        let limit = FRAME_TICKS * u64::from(script.frames());
         hold(&mut board, script.held(1));
         Ok(Session {
             board,
             script,
             switches,
+            limit,
             furthest: 0,
             breakpoints: ArrayVec::new(),
             history,
@@ -114,7 +117,7 @@ impl Session {
     pub fn facts(&self)
         ensures { IsSession self.now }
     {
-        let _ = &self.furthest;
+        self.board.made();
     }
 
     /// The index that it stands at: the steps of the run before it.

@@ -6,7 +6,7 @@ ghost use Rattle.pac_session.specs.declared.motion.Motion.TheVariants.{ToEnd};
 ghost use Rattle.pac_session.specs.Running.{is_late, blanks_at};
 ghost use Rattle.pac_session.specs.Keeping.{kept_of, taken_at};
 ghost use Rattle.pac_session.specs.Session.{Offers, breaks_at};
-ghost use Rattle.pac_session.specs.Motions.{has_met, Travels, MakesStep, Gives, StepsOn, Finishes, RestsBy, IsOutcome};
+ghost use Rattle.pac_session.specs.Motions.{has_met, Travels, MakesStep, Gives, PassesOn, StepsOn, Finishes, RestsBy, IsOutcome};
 
 use crate::checkpoints::Checkpoints;
 use crate::course::{play_step, tell, FRAME_TICKS};
@@ -44,13 +44,14 @@ impl Session {
     fn is_late(&self) -> bool
         ensures { result ≡ is_late self.now.setting self.now.index }
     {
-        self.board.time() >= FRAME_TICKS * u64::from(self.script.frames())
+        self.board.time() >= self.limit
     }
 
     /// The frames that have ended.
     #[inline]
     fn blanks(&self) -> u64
-        ensures { result ≡ blanks_at self.now.setting self.now.index }
+        ensures count { result ≡ blanks_at self.now.setting self.now.index }
+        ensures bound { result < 2 ^ 40 }
     {
         self.board.time() / FRAME_TICKS
     }
@@ -113,19 +114,27 @@ impl Session {
         };
     }
 
+    /// Offers what is due to a sink where it is fresh, and lets go of it where it isn't.
+    fn pass_on<S: Sink>(&mut self, fresh: bool, sink: &mut S) -> Result<(), Refused>
+        ensures { PassesOn S.took S.refused fresh self.old sink.old result self.new sink.new }
+    {
+        if fresh {
+            return self.give(sink);
+        }
+        self.let_go();
+        Ok(())
+    }
+
     /// One step on. What it gives is offered, unless it was before. Answers the stop that it met, if it did.
     fn step_on<S: Sink>(&mut self, sink: &mut S) -> Result<Option<Stop>, Refused>
         requires nothing { self.old.due ≡ state.nothing_due }
         requires early { is_late self.old.setting self.old.index ≡ false }
         ensures { StepsOn S.took S.refused self.old sink.old result self.new sink.new }
     {
+        self.facts();
         let fresh = self.index() == self.furthest();
         let once = self.make_step();
-        if fresh {
-            self.give(sink)?;
-        } else {
-            self.let_go();
-        }
+        self.pass_on(fresh, sink)?;
         match once {
             Once::Stepped { .. } => Ok(None),
             Once::Stopped(stop) => Ok(Some(stop)),
@@ -138,9 +147,10 @@ impl Session {
         requires nothing { self.old.due ≡ state.nothing_due }
         ensures { Travels S.took S.refused self.old motion sink.old result self.new sink.new }
     {
+        self.facts();
         let from = self.index();
         let blanks = self.blanks();
-        loop {
+        'onwards: loop {
             if self.is_late() {
                 return Ok(Ending::AtEnd);
             }
@@ -159,6 +169,7 @@ impl Session {
     {
         self.offer(sink)?;
         let ending = self.travel(Motion::ToEnd, sink)?;
+        self.facts();
         Ok(self.outcome(ending))
     }
 
@@ -167,15 +178,12 @@ impl Session {
         requires { (from : ℕ) × RestsBy self.now ToEnd from self.now.index ending }
         ensures { IsOutcome self.now result }
     {
-        let stop = match ending {
-            Ending::AtStop(stop) => Some(stop),
-            _ => None,
-        };
+        self.facts();
         Outcome {
             frames: self.blanks() as u32,
             steps: self.index(),
             ticks: self.board.time(),
-            stop,
+            stop: ending.stop(),
         }
     }
 }
