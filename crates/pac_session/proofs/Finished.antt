@@ -88,7 +88,8 @@ module _ {S : Type 0} (took refused : S → Output → S → Type 0) (old : Sess
         session = gone.session;
         sink_is =
             subst (λ xs. TookAll took sink (due_outputs old ++ xs) later) rest_is
-            (took-both took (due_outputs old) (outputs_between old.setting old.furthest new.furthest) sink between later before gone.sink_is);
+            (took-both took (due_outputs old) (outputs_between old.setting old.furthest new.furthest) sink between later before
+            gone.sink_is);
       }
 
   pub finish-refused : (mid new : SessionValue) (later : S) → mid ≡ begun-again

@@ -1,23 +1,28 @@
 -- One step forwards of a session: what its step gives is offered where it is fresh.
-use Rattle.std.proofs.Common.{◌≡◌, ℕ, suc, ◌+◌, ◌-◌, ◌==◌, ◌<◌, ◌≤◌, Bool, true, false, not, ◌&&◌, is_none, max, Some, Ok, Err}
-use Rattle.std.proofs.Common.{List, [], ◌∷◌, ◌++◌, sym, ap, subst, ◌∙◌, append_assoc, arith}
+use Rattle.std.proofs.Common.{◌≡◌, ℕ, suc, ◌+◌, ◌-◌, ◌*◌, ◌==◌, nat_le, ◌<◌, ◌≤◌, Bool, true, false, not, ◌&&◌, is_none, max, Some, Ok, Err}
+use Rattle.std.proofs.Common.{List, [], ◌∷◌, ◌++◌, length, drop, refl, sym, ap, subst, ◌∙◌, append_assoc, arith}
 use Rattle.std.proofs.lemmas.Bool.Decides.{nat_tests}
-use Rattle.std.proofs.Math.Seq.{drop-length}
+use Rattle.std.proofs.lemmas.List.{append-nil}
+use Rattle.std.proofs.Math.Seq.{drop-length, drop-append_seam}
 use mathlib.Core.List.{IsPrefix}
 use Rattle.pac_cpu.specs.declared.once.Kind.{Kind}
 use Rattle.pac_cpu.specs.declared.once.Once.{Once}
 use Rattle.pac_cpu.specs.declared.once.Once.TheVariants.{Stepped, Stopped}
 use Rattle.pac_cpu.specs.declared.once.Stop.{Stop}
+use Rattle.pac_inputs.specs.Stretches.{total}
 use Rattle.pac_step.specs.BoardView.{BoardView, power_on}
 use Rattle.pac_step.specs.Output.{Output}
 use Rattle.pac_step.specs.Step.{Moment, Next, Goes, Ends}
-use Rattle.pac_step.specs.Trace.{by_view}
-use Rattle.pac_step.proofs.Runs.{runs-are-joined}
+use Rattle.pac_step.specs.Trace.{by_view, frame_steps}
+use Rattle.pac_step.specs.Walk.{Walk}
+use Rattle.pac_step.proofs.Runs.{runs-are-joined, runs-end}
+use Rattle.pac_step.proofs.Walks.{ended-for-good}
 use Rattle.pac_board.specs.Calls.{once_at, outputs_in}
 use Rattle.pac_board.specs.Sinks.{TookAll}
 use Rattle.pac_board.specs.State.{nothing_due, counted}
 use Rattle.pac_session.specs.Motions.{stepped, MakesStep, PassesOn, HasStepped, HasStopped, IsStepRefused}
-use Rattle.pac_session.specs.Running.{Setting, play_of, run, now_at, next_at, is_late, stop_in, stop_at, goes_at, outputs_between}
+use Rattle.pac_session.specs.Running.{Setting, play_of, run, whole_run, now_at, next_from, next_at, limit, is_late, stop_in, stop_at, goes_at, outputs_between}
+use Rattle.pac_session.specs.Running.{outputs_from}
 use Rattle.pac_session.specs.Session.{SessionValue, IsSession, due_outputs}
 use Rattle.pac_session.proofs.Indices.{IsOpen, IsOneMore, open-up-to, one-more, between}
 
@@ -43,6 +48,38 @@ module _ (setting : Setting) where
 
   pub between-self : (index : ℕ) → outputs_between setting index index ≡ []
   between-self index = drop-length (run setting index).outputs
+
+  -- up to its end it gives no more than the whole of it
+  whole-prefix : (index : ℕ) → IsPrefix (run setting index).outputs (whole_run setting).outputs
+  whole-prefix index = choose (nat_le index (frame_steps * total setting.script)) refl
+    where
+      last : ℕ
+      last = frame_steps * total setting.script
+
+      choose : (b : Bool) → nat_le index last ≡ b → IsPrefix (run setting index).outputs (whole_run setting).outputs
+      choose true e = prefix index last (grind (arith, nat_tests))
+      choose false e =
+          let less : last ≤ index = grind (arith, nat_tests) in
+          let same : index ≡ last + (index - last) = omega arith in
+          let ended = (runs-end (by_view setting.set) (play_of setting.script) (power_on setting.switches) last).0 in
+          let stays =
+          ended-for-good (next_from setting) (limit setting) (run setting 0).now last (index - last) index same ended in
+          ([], append-nil (run setting index).outputs ∙ ap (λ (w : Walk BoardView). w.outputs) stays)
+
+  pub joined-to-end : (from index : ℕ) → from ≤ index
+      → outputs_between setting from index ++ outputs_from setting index ≡ outputs_from setting from
+  joined-to-end from index less =
+      let before = prefix from index less in
+      let after = whole-prefix index in
+      let rest : outputs_from setting index ≡ after.0
+      = ap (drop (length (run setting index).outputs)) (sym after.1) ∙ drop-append_seam (run setting index).outputs after.0 in
+      let all : (whole_run setting).outputs ≡ (run setting from).outputs ++ (before.0 ++ after.0)
+      = sym after.1 ∙ ap (λ xs. xs ++ after.0) (sym before.1) ∙ append_assoc (run setting from).outputs before.0 after.0 in
+      ap (λ xs. xs ++ outputs_from setting index) (between setting from index before.0 (sym before.1))
+      ∙ ap (λ xs. before.0 ++ xs) rest
+      ∙ sym
+      (ap (drop (length (run setting from).outputs)) all
+      ∙ drop-append_seam (run setting from).outputs (before.0 ++ after.0))
 
 -- ---- one step
 

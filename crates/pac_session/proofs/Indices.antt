@@ -105,9 +105,6 @@ module _ (setting : Setting) where
 
   -- ---- what is given out
 
-  pub nothing-between : (index : ℕ) → outputs_between setting index index ≡ drop (length (run setting index).outputs) (run setting index).outputs
-  nothing-between index = refl
-
   pub between : (from index : ℕ) (outputs : List Output) → (run setting index).outputs ≡ (run setting from).outputs ++ outputs
       → outputs_between setting from index ≡ outputs
   between from index outputs is =

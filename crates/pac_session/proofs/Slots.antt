@@ -38,7 +38,9 @@ module _ (setting : Setting) (furthest : ℕ) where
   right-set slots place slot right one seen = record {
     count = length-set slots place slot ∙ right.count;
     kept = slots-set slots place slot right.kept one;
-    seen = subst (AreSeen furthest) (sym (map-set mark_of slots place slot)) (seen-set (map mark_of slots) place (mark_of slot) right.seen seen);
+    seen =
+        subst (AreSeen furthest) (sym (map-set mark_of slots place slot))
+        (seen-set (map mark_of slots) place (mark_of slot) right.seen seen);
   }
 
   -- the slot of a place

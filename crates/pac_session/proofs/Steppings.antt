@@ -241,8 +241,7 @@ module _ (board : BoardValue) (switches : ℕ) (script : List Stretch) (history 
         set = refl;
         standing = on.0;
         value = λ breakpoints slots replayed.
-            ap (λ n. with_board switches script (stepped (Goes now outputs kind) board due) (max furthest n) breakpoints slots replayed) refl
-            ∙ ap (λ n. record {
+            ap (λ n. record {
               setting = setting;
               index = n;
               furthest = max furthest n;
@@ -259,7 +258,8 @@ module _ (board : BoardValue) (switches : ℕ) (script : List Stretch) (history 
       let same : max furthest index ≡ furthest = omega arith in
       record {
         set = refl;
-        standing = subst (λ xs. IsStanding setting board.state.now xs (max furthest index) ring_after) (sym told) (stands-still stands gone);
+        standing =
+            subst (λ xs. IsStanding setting board.state.now xs (max furthest index) ring_after) (sym told) (stands-still stands gone);
         value = λ breakpoints slots replayed.
             ap (λ n. with_board switches script board n breakpoints slots replayed) same
             ∙ ap (λ h. stepped_session h (with_board switches script board furthest breakpoints slots replayed) board.state.due) (sym is);

@@ -290,7 +290,8 @@ module _ {S : Type 0} (took : S → Output → S → Type 0) (old : SessionValue
       let longer = more.later in
       let falls : limit old.setting - (now_at old.setting (suc s.index)).time < limit old.setting - (now_at old.setting s.index).time
       = omega arith in
-      subst (λ (run : Setting). limit new.setting - (now_at new.setting new.index).time < limit run - (now_at run s.index).time) (sym setting)
+      subst (λ (run : Setting). limit new.setting - (now_at new.setting new.index).time < limit run - (now_at run s.index).time)
+      (sym setting)
       (subst (λ (run : Setting). limit run - (now_at run new.index).time < limit old.setting - (now_at old.setting s.index).time)
       (sym (same ∙ setting))
       (subst (λ n. limit old.setting - (now_at old.setting n).time < limit old.setting - (now_at old.setting s.index).time)

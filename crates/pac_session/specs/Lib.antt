@@ -6,3 +6,4 @@ pub mod Keeping
 pub mod Steps
 pub mod Inside
 pub mod Silent
+pub mod Laws

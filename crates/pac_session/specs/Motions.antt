@@ -116,7 +116,7 @@ pub record MakesStep (old : SessionValue) (once : Once) (new : SessionValue) : T
   pub once_is : once ≡ once_at (next_at old.setting old.index) (now_at old.setting old.index).time
 
 -- what is due is offered to a sink
-pub record IsGiftRefused {S : Type 0} (took refused : S → Output → S → Type 0) (old : SessionValue) (sink : S) (new : SessionValue)
+pub record IsGivingRefused {S : Type 0} (took refused : S → Output → S → Type 0) (old : SessionValue) (sink : S) (new : SessionValue)
     (later : S)
     : Type 0 where
   pub session : new ≡ record old { due = new.due }
@@ -128,7 +128,7 @@ abbrev pub Gives : {S A E : Type 0} → (S → Output → S → Type 0) → (S �
     → SessionValue → S → Result A E → SessionValue → S → Type 0
 Gives took refused old sink (Ok done) new later =
     (new ≡ record old { due = nothing_due }) × TookAll took sink (due_outputs old) later
-Gives took refused old sink (Err refusal) new later = IsGiftRefused took refused old sink new later
+Gives took refused old sink (Err refusal) new later = IsGivingRefused took refused old sink new later
 
 -- where it is fresh; what isn't was taken before, and is let go
 abbrev pub PassesOn : {S A E : Type 0} → (S → Output → S → Type 0) → (S → Output → S → Type 0)
@@ -208,7 +208,7 @@ Finishes took refused old sink (Err refusal) new later =
 
 -- ---- back
 
--- T-states aside, a checkpoint is kept each 4,096 steps, and 16 of them (this profile)
+-- a checkpoint is kept each 4,096 steps, and the last 16 of them are (this profile)
 abbrev pub checkpoint_steps : ℕ
 checkpoint_steps = 4096
 

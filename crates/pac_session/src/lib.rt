@@ -7,6 +7,7 @@ mod checkpoints;
 mod course;
 mod history;
 mod kept;
+pub mod laws;
 mod motion;
 mod session;
 mod silent;

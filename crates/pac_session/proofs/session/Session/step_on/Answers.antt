@@ -34,5 +34,5 @@ returns-in-Stopped g c =
     let old = c.args.self.now in
     let fresh = c.index.result == c.furthest.result in
     stops-there g.S.Sink.took g.S.Sink.refused old c.facts.ensures (Stopped c.in-Stopped.stop) c.make_step-once.new.self
-    c.pass_on.new.self c.args.sink.now c.pass_on.new.sink c.requires.early (Unit {0}) Refused c.in_ok-pass_on.field-0 fresh c.requires.nothing
-    (next_at old.setting old.index) refl c.in-Stopped.stop refl c.in-Stopped.ensures c.in_ok-pass_on.ensures
+    c.pass_on.new.self c.args.sink.now c.pass_on.new.sink c.requires.early (Unit {0}) Refused c.in_ok-pass_on.field-0 fresh
+    c.requires.nothing (next_at old.setting old.index) refl c.in-Stopped.stop refl c.in-Stopped.ensures c.in_ok-pass_on.ensures
