@@ -21,7 +21,8 @@ use Rattle.pac_board.specs.Calls.{once_at, outputs_in}
 use Rattle.pac_board.specs.Sinks.{TookAll}
 use Rattle.pac_board.specs.State.{nothing_due, counted}
 use Rattle.pac_session.specs.Motions.{stepped, MakesStep, PassesOn, HasStepped, HasStopped, IsStepRefused}
-use Rattle.pac_session.specs.Running.{Setting, play_of, run, whole_run, now_at, next_from, next_at, limit, is_late, stop_in, stop_at, goes_at, outputs_between}
+use Rattle.pac_session.specs.Running.{Setting, play_of, run, whole_run, now_at, next_from, next_at, limit, is_late, stop_in, stop_at}
+use Rattle.pac_session.specs.Running.{goes_at, outputs_between}
 use Rattle.pac_session.specs.Running.{outputs_from}
 use Rattle.pac_session.specs.Session.{SessionValue, IsSession, due_outputs}
 use Rattle.pac_session.proofs.Indices.{IsOpen, IsOneMore, open-up-to, one-more, between}
