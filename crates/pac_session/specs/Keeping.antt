@@ -1,0 +1,61 @@
+-- What a session keeps beside its board: the steps that are told, the checkpoints, and what the slots have.
+use Rattle.std.specs.Prelude.{◌≡◌, ◌<◌, ◌≤◌, ℕ, ◌+◌, ◌-◌, ◌*◌, ◌==◌, Bool, true, false, List, [], ◌∷◌, ◌++◌, Option, None, Some, if◌then◌else◌, length, map, drop}
+use Rattle.pac_board.specs.State.{BoardValue, State, nothing_due}
+use Rattle.pac_session.specs.declared.history.PastStep.{PastStep}
+use Rattle.pac_session.specs.declared.kept.Kept.{Kept}
+use Rattle.pac_session.specs.declared.kept.Slot.{Slot}
+use Rattle.pac_session.specs.Motions.{checkpoint_steps, checkpoint_count}
+use Rattle.pac_session.specs.Past.{told_at}
+use Rattle.pac_session.specs.Running.{Setting, now_at}
+
+-- what is kept of a board, and of the steps that are told then
+abbrev pub kept_of : BoardValue → List PastStep → Kept
+kept_of board steps = record { snapshot = board.state; history = steps }
+
+-- the checkpoints, the oldest first, and how many were ever taken
+pub record Ring : Type 0 where
+  pub kept : List Kept
+  pub taken : ℕ
+
+-- one more, which is written over the oldest
+abbrev pub one_more : Ring → Kept → Ring
+one_more ring kept = record { kept = drop 1 ring.kept ++ kept ∷ []; taken = ring.taken + 1 }
+
+-- at the index of the next one
+abbrev pub taken_at : (index : ℕ) → Ring → Kept → Ring
+taken_at index ring kept = if index == checkpoint_steps * ring.taken then one_more ring kept else ring
+
+-- ---- what is right
+
+-- what is kept is that of an index, with nothing due
+pub record IsKeptAt (setting : Setting) (index : ℕ) (kept : Kept) : Type 0 where
+  pub now : kept.snapshot.now ≡ now_at setting index
+  pub nothing : kept.snapshot.due ≡ nothing_due
+  pub history : kept.history ≡ told_at setting index
+
+-- The checkpoints of a ring after so many were taken: where 16 more than n were, the first of them is that of index 4,096 n, and the
+-- next ones follow. What is there before is of no use.
+abbrev pub AreCheckpoints : Setting → (taken : ℕ) → List Kept → Type 0
+AreCheckpoints setting taken [] = Unit {0}
+AreCheckpoints setting taken (kept ∷ more) =
+    (checkpoint_count ≤ taken → IsKeptAt setting (checkpoint_steps * (taken - checkpoint_count)) kept)
+    × AreCheckpoints setting (taken + 1) more
+
+-- what a slot has, where it is filled
+abbrev pub mark_if : Bool → ℕ → Option ℕ
+mark_if filled index = if filled then Some index else None
+
+abbrev pub mark_of : Slot → Option ℕ
+mark_of slot = mark_if slot.filled slot.kept.snapshot.now.steps
+
+abbrev pub IsSlot : Setting → Slot → Type 0
+IsSlot setting slot = slot.filled ≡ true → IsKeptAt setting slot.kept.snapshot.now.steps slot.kept
+
+abbrev pub AreSlots : Setting → List Slot → Type 0
+AreSlots setting [] = Unit {0}
+AreSlots setting (slot ∷ more) = IsSlot setting slot × AreSlots setting more
+
+-- slots that were never filled
+abbrev pub AreEmpty : List Slot → Type 0
+AreEmpty [] = Unit {0}
+AreEmpty (slot ∷ more) = (slot.filled ≡ false) × AreEmpty more

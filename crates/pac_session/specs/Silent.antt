@@ -1,0 +1,11 @@
+-- A sink for steps that are done again: what they give was taken before, and goes nowhere.
+use Rattle.std.specs.Prelude.{◌≡◌}
+use Rattle.pac_step.specs.Output.{Output}
+
+-- it takes all
+abbrev pub Swallows : {S : Type 0} → S → Output → S → Type 0
+Swallows old output new = new ≡ old
+
+-- and refuses nothing
+abbrev pub NeverRefuses : {S : Type 0} → S → Output → S → Type 0
+NeverRefuses old output new = ⊥

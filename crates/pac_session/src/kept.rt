@@ -1,0 +1,61 @@
+//! What is kept of a session's moment, to go back to.
+
+ghost use Rattle.std.specs.Prelude.{◌≡◌, IfOk, false};
+ghost use Rattle.pac_board.specs.State.{restored};
+ghost use Rattle.pac_session.specs.Keeping.{kept_of};
+
+use crate::history::History;
+use pac_board::{Board, Snapshot};
+use std::alloc::{AllocError, Global};
+
+/// A board's state, and the steps that were told then.
+#[derive(Drop)]
+pub struct Kept {
+    pub snapshot: Snapshot,
+    pub history: History,
+}
+
+/// What a slot has, where it is filled.
+#[derive(Drop)]
+pub struct Slot {
+    pub kept: Kept,
+    pub filled: bool,
+}
+
+impl Kept {
+    /// Room for what is kept: this board's state for now, and no steps. Refused for want of memory alone.
+    pub fn new(alloc: Global, board: &Board) -> Result<Kept, AllocError> {
+        let snapshot = board.snapshot(alloc)?;
+        let history = History::new(alloc)?;
+        Ok(Kept { snapshot, history })
+    }
+
+    /// Writes a moment over what was kept. Takes no memory.
+    pub fn write(&mut self, board: &Board, history: &History)
+        ensures { self.new ≡ kept_of board.now history.now }
+    {
+        board.snapshot_into(&mut self.snapshot);
+        self.history.copy_from(history);
+    }
+
+    /// Brings board and history back to it.
+    pub fn put_back(&self, board: &mut Board, history: &mut History)
+        ensures board { board.new ≡ restored board.old self.now.snapshot }
+        ensures history { history.new ≡ self.now.history }
+    {
+        board.restore(&self.snapshot);
+        history.copy_from(&self.history);
+    }
+}
+
+impl Slot {
+    /// An empty one. Refused for want of memory alone.
+    pub fn new(alloc: Global, board: &Board) -> Result<Slot, AllocError>
+        ensures { IfOk result (λ slot. slot.filled ≡ false) }
+    {
+        Ok(Slot {
+            kept: Kept::new(alloc, board)?,
+            filled: false,
+        })
+    }
+}

@@ -1,0 +1,7 @@
+//! Tests of the session: rows of a debugger's session without its texts, sinks that refuse, and memory that is refused.
+#![tactic(auto)]
+
+#[cfg(test)]
+mod rows;
+#[cfg(test)]
+mod set;
