@@ -1,10 +1,11 @@
 -- The way back, over plain values: a checkpoint is found by its place, and steps are done again.
-use Rattle.std.proofs.Common.{◌≡◌, ℕ, zero, suc, ◌+◌, ◌-◌, ◌*◌, ◌/◌, ◌%◌, ◌<◌, ◌≤◌, true, max, Some, List, [], ◌∷◌, slice_get, refl, sym, ap, subst, ◌∙◌, arith}
+use Rattle.std.proofs.Common.{◌≡◌, ℕ, zero, suc, ◌+◌, ◌-◌, ◌*◌, ◌<◌, ◌≤◌, true, max, Some, List, [], ◌∷◌, slice_get, sym, ap, subst}
+use Rattle.std.proofs.Common.{◌∙◌, arith}
 use Rattle.pac_cpu.specs.declared.once.Kind.{Kind}
 use Rattle.pac_cpu.specs.declared.once.Once.{Once}
 use Rattle.pac_step.specs.BoardView.{BoardView}
 use Rattle.pac_step.specs.Output.{Output}
-use Rattle.pac_step.specs.Step.{Moment, Next, Goes, Ends}
+use Rattle.pac_step.specs.Step.{Moment, Goes}
 use Rattle.pac_board.specs.State.{nothing_due, counted}
 use Rattle.pac_session.specs.declared.kept.Kept.{Kept}
 use Rattle.pac_session.specs.Keeping.{IsKeptAt, AreCheckpoints}

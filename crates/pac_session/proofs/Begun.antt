@@ -1,12 +1,11 @@
 -- A session at the beginning of its run.
-use Rattle.std.proofs.Common.{◌≡◌, ℕ, zero, suc, ◌+◌, ◌*◌, ◌<◌, ◌≤◌, true, false, List, [], ◌∷◌, length, map, replicate, Option, None, Some}
+use Rattle.std.proofs.Common.{◌≡◌, ℕ, zero, suc, ◌+◌, ◌≤◌, List, [], ◌∷◌, length, map, replicate, None}
 use Rattle.std.proofs.Common.{refl, sym, ap, subst, ◌∙◌, arith}
 use Rattle.pac_inputs.specs.Stretches.{held}
 use Rattle.pac_inputs.specs.declared.line.Stretch.{Stretch}
-use Rattle.pac_step.specs.BoardView.{BoardView}
-use Rattle.pac_step.specs.Step.{Moment}
+use Rattle.pac_roms.specs.Parts.{Parts}
 use Rattle.pac_step.proofs.Walks.{not-both}
-use Rattle.pac_board.specs.State.{BoardValue, State, nothing_due, held as holding}
+use Rattle.pac_board.specs.State.{BoardValue, State, nothing_due, at_power_on, held as holding}
 use Rattle.pac_session.specs.declared.history.PastStep.{PastStep}
 use Rattle.pac_session.specs.declared.kept.Kept.{Kept}
 use Rattle.pac_session.specs.declared.kept.Slot.{Slot}
@@ -104,3 +103,9 @@ module _ (board new : BoardValue) (script : List Stretch) (switches : ℕ) (same
         switches = board.state.now.board.memory.switches;
         script = script;
       }) board.made) { slots = marks }) (four-marks slots count empty)
+
+-- ---- boards
+
+-- a board that was just made is a new one
+pub made-is-new : (board : BoardValue) (set : Parts) (switches : ℕ) → board ≡ at_power_on set switches → IsNew board
+made-is-new board set switches is = subst IsNew (sym is) refl

@@ -1,7 +1,7 @@
 -- To the end of a run: what was due, and what the run gives from there on.
-use Rattle.std.proofs.Common.{◌≡◌, ℕ, ◌/◌, Bool, true, false, not, ◌&&◌, ◌||◌, nat_lt, ◌<◌, length, drop, List, ◌++◌, refl, sym, ap, subst, ◌∙◌, append_assoc, arith}
+use Rattle.std.proofs.Common.{◌≡◌, ℕ, ◌/◌, Bool, true, false, not, ◌&&◌, ◌||◌, nat_lt, ◌<◌, length, drop, ◌++◌, refl, sym, ap, subst}
+use Rattle.std.proofs.Common.{◌∙◌, append_assoc, arith}
 use Rattle.std.proofs.lemmas.Bool.Decides.{nat_tests}
-use mathlib.Core.List.{IsPrefix}
 use Rattle.pac_step.specs.Output.{Output}
 use Rattle.pac_step.specs.Step.{frame_ticks}
 use Rattle.pac_step.proofs.Walks.{not-both}
@@ -106,8 +106,7 @@ module _ {S : Type 0} (took refused : S → Output → S → Type 0) (old : Sess
         taken = due ++ gone.taken;
         parts = ap (λ xs. due ++ xs) gone.parts ∙ sym (append_assoc due gone.taken (due_outputs new));
         of_last =
-            let most = gone.of_last in
-            (
+            let most = gone.of_last in (
               most.0,
               append_assoc due (outputs_between old.setting old.furthest gone.last) most.0 ∙ ap (λ xs. due ++ xs) most.1,
             );

@@ -1,20 +1,17 @@
 -- A run at its indices: where it goes on, each index is one step, and each step takes its time.
-use Rattle.std.proofs.Common.{◌≡◌, ℕ, zero, suc, ◌+◌, ◌*◌, ◌<◌, ◌≤◌, Bool, true, false, ◌&&◌, not, is_none, nat_le, Option, None, Some}
+use Rattle.std.proofs.Common.{◌≡◌, ℕ, zero, suc, ◌<◌, Bool, true, false, ◌&&◌, not, is_none, Option, None, Some}
 use Rattle.std.proofs.Common.{List, ◌++◌, length, drop, refl, sym, ap, subst, ◌∙◌, arith}
 use Rattle.std.proofs.lemmas.Bool.Decides.{nat_tests}
-use Rattle.std.proofs.lemmas.List.{append-nil}
 use Rattle.std.proofs.Math.Seq.{drop-append_seam}
 use Rattle.pac_cpu.specs.declared.once.Kind.{Kind}
-use Rattle.pac_cpu.specs.declared.once.Stop.{Stop}
 use Rattle.pac_inputs.specs.Stretches.{held}
 use Rattle.pac_step.specs.BoardView.{BoardView}
 use Rattle.pac_step.specs.Laws.{IsTimely}
 use Rattle.pac_step.specs.Output.{Output}
 use Rattle.pac_step.specs.Step.{Moment, Next, Goes, Ends}
 use Rattle.pac_step.specs.Trace.{by_view}
-use Rattle.pac_step.specs.Walk.{Walk, after_step, has_ended}
+use Rattle.pac_step.specs.Walk.{Walk, after_step}
 use Rattle.pac_step.proofs.Walks.{open-goes-on, going-steps, play-timely, not-both}
-use Rattle.pac_board.specs.Calls.{outputs_in}
 use Rattle.pac_session.specs.Running.{Setting, run, now_at, next_from, next_at, limit, is_late, stop_in, stop_at, goes_at, outputs_between}
 
 -- ---- tests

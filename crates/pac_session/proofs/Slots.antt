@@ -1,6 +1,6 @@
 -- What slots and checkpoints keep, and a session that goes to it.
-use Rattle.std.proofs.Common.{◌≡◌, ℕ, zero, suc, ◌+◌, ◌-◌, ◌*◌, ◌<◌, ◌≤◌, Bool, true, false, List, [], ◌∷◌, length, map, set, get_or, Option, None, Some}
-use Rattle.std.proofs.Common.{slice_set, refl, sym, ap, subst, ◌∙◌, arith}
+use Rattle.std.proofs.Common.{◌≡◌, ℕ, zero, suc, ◌<◌, ◌≤◌, true, List, [], ◌∷◌, length, map, set, get_or, Option, None, Some}
+use Rattle.std.proofs.Common.{sym, ap, subst, ◌∙◌, arith}
 use Rattle.std.proofs.lemmas.List.{map-set, length-set}
 use Rattle.pac_inputs.specs.declared.line.Stretch.{Stretch}
 use Rattle.pac_step.specs.BoardView.{BoardView}
@@ -10,7 +10,7 @@ use Rattle.pac_session.specs.declared.history.PastStep.{PastStep}
 use Rattle.pac_session.specs.declared.kept.Kept.{Kept}
 use Rattle.pac_session.specs.declared.kept.Slot.{Slot}
 use Rattle.pac_session.specs.Inside.{IsStanding, AreRight}
-use Rattle.pac_session.specs.Keeping.{Ring, kept_of, mark_of, mark_if, IsKeptAt, IsSlot, AreSlots}
+use Rattle.pac_session.specs.Keeping.{Ring, mark_of, mark_if, IsKeptAt, IsSlot, AreSlots}
 use Rattle.pac_session.specs.Past.{told_at}
 use Rattle.pac_session.specs.Running.{Setting, now_at}
 use Rattle.pac_session.specs.Session.{IsSeen, AreSeen}

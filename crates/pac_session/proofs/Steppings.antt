@@ -1,17 +1,16 @@
 -- One step of a session, over plain values: what stands before it stands after it.
-use Rattle.std.proofs.Common.{◌≡◌, ℕ, zero, suc, ◌+◌, ◌-◌, ◌*◌, ◌==◌, ◌<◌, ◌≤◌, Bool, true, false, max, nat_lt, if◌then◌else◌}
-use Rattle.std.proofs.Common.{◌&&◌, not, is_none, map, Option, None, Some, List, [], ◌∷◌, ◌++◌, length, drop, refl, sym, ap, subst, ◌∙◌, append_assoc, add-one, arith}
+use Rattle.std.proofs.Common.{◌≡◌, ℕ, suc, ◌+◌, ◌-◌, ◌*◌, ◌==◌, ◌<◌, ◌≤◌, Bool, true, false, max, nat_lt, if◌then◌else◌}
+use Rattle.std.proofs.Common.{◌&&◌, not, is_none, map, Option, None, Some, List, [], ◌∷◌, ◌++◌, length, drop, refl, sym, ap, subst, ◌∙◌}
+use Rattle.std.proofs.Common.{arith}
 use Rattle.std.proofs.lemmas.Bool.Decides.{nat_tests}
 use Rattle.std.proofs.lemmas.List.{length-append, length-drop, drop-drop, drop-append-le}
 use Rattle.circular_buffer.specs.Buffer.{keep_last}
 use Rattle.pac_cpu.specs.declared.once.Once.{Once}
-use Rattle.pac_cpu.specs.declared.once.Once.TheVariants.{Stepped, Stopped}
 use Rattle.pac_cpu.specs.declared.once.Kind.{Kind}
 use Rattle.pac_inputs.specs.declared.line.Stretch.{Stretch}
 use Rattle.pac_step.specs.BoardView.{BoardView}
 use Rattle.pac_step.specs.Output.{Output}
 use Rattle.pac_step.specs.Step.{Moment, Next, Goes, Ends}
-use Rattle.pac_step.proofs.Walks.{not-both}
 use Rattle.pac_board.specs.declared.due.Due.{Due}
 use Rattle.pac_board.specs.State.{BoardValue, nothing_due, counted, due_in}
 use Rattle.pac_board.specs.Calls.{stepped, once_at, outputs_in}
@@ -25,7 +24,7 @@ use Rattle.pac_session.specs.Past.{past, past_of, told_at, told_steps}
 use Rattle.pac_session.specs.Running.{Setting, now_at, next_from, next_at, is_late, stop_in, stop_at, goes_at}
 use Rattle.pac_session.specs.Session.{SessionValue, IsSeen, AreSeen}
 use Rattle.pac_session.specs.Steps.{PlaysStep, next_on, told_after}
-use Rattle.pac_session.proofs.Indices.{open-up-to, one-more, timely}
+use Rattle.pac_session.proofs.Indices.{open-up-to, one-more}
 
 -- ---- the steps that are told
 
@@ -51,14 +50,16 @@ module _ (setting : Setting) where
   pub checkpoints-append : (taken : ℕ) (ks : List Kept) (k : Kept) → AreCheckpoints setting taken ks
       → IsKeptAt setting (checkpoint_steps * (taken + length ks - checkpoint_count)) k
       → AreCheckpoints setting taken (ks ++ k ∷ [])
-  checkpoints-append taken [] k so_far here =
-      (λ enough. let same : taken + 0 ≡ taken = omega arith in
-      subst (λ n. IsKeptAt setting (checkpoint_steps * (n - checkpoint_count)) k) same here, tt)
+  checkpoints-append taken [] k so_far here = (
+    λ enough. let same : taken + 0 ≡ taken = omega arith in
+        subst (λ n. IsKeptAt setting (checkpoint_steps * (n - checkpoint_count)) k) same here,
+    tt,
+  )
   checkpoints-append taken (first ∷ ks) k so_far here =
       let same : taken + length (first ∷ ks) ≡ taken + 1 + length ks = omega arith in (
         so_far.0,
         checkpoints-append (taken + 1) ks k so_far.1
-        (subst (λ n. IsKeptAt setting (checkpoint_steps * (n - checkpoint_count)) k) same here),
+            (subst (λ n. IsKeptAt setting (checkpoint_steps * (n - checkpoint_count)) k) same here),
       )
 
   pub checkpoints-more : (taken : ℕ) (ks : List Kept) (k : Kept) → length ks ≡ checkpoint_count → AreCheckpoints setting taken ks

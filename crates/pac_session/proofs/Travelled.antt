@@ -1,6 +1,6 @@
 -- A motion is steps forwards, one after another, up to the least index at which it rests.
 use Rattle.std.proofs.Common.{◌≡◌, ℕ, suc, ◌+◌, ◌-◌, ◌^◌, ◌<◌, ◌≤◌, Bool, true, false, not, ◌&&◌, ◌||◌, is_none, max, nat_lt}
-use Rattle.std.proofs.Common.{Option, None, Some, List, [], ◌∷◌, ◌++◌, refl, sym, ap, subst, ◌∙◌, append_assoc, arith}
+use Rattle.std.proofs.Common.{Option, None, Some, ◌++◌, refl, sym, ap, subst, ◌∙◌, append_assoc, arith}
 use Rattle.std.proofs.lemmas.Bool.Decides.{nat_tests}
 use mathlib.Core.List.{IsPrefix, prefix-append}
 use Rattle.pac_cpu.specs.declared.once.Stop.{Stop}
@@ -21,9 +21,11 @@ use Rattle.pac_session.specs.declared.motion.Ending.{Ending}
 use Rattle.pac_session.specs.declared.motion.Ending.TheVariants.{AtStop, AtEnd, AtBreakpoint, AtFrame, AtStep}
 use Rattle.pac_session.specs.declared.motion.Motion.{Motion}
 use Rattle.pac_session.specs.declared.motion.Motion.TheVariants.{Steps, Continue, Frames, ToEnd}
-use Rattle.pac_session.specs.Motions.{has_met, rests, word_of, stop_of, RestsBy, moved_to, stepped_on, HasStepped, HasStopped, IsStepRefused}
+use Rattle.pac_session.specs.Motions.{has_met, rests, word_of, stop_of, RestsBy, moved_to, stepped_on, HasStepped, HasStopped}
+use Rattle.pac_session.specs.Motions.{IsStepRefused}
 use Rattle.pac_session.specs.Motions.{HasTravelled, IsTravelRefused}
-use Rattle.pac_session.specs.Running.{Setting, play_of, run, whole_run, now_at, next_from, next_at, limit, is_late, stop_in, stop_at, goes_at}
+use Rattle.pac_session.specs.Running.{Setting, play_of, run, whole_run, now_at, next_from, next_at, limit, is_late, stop_in, stop_at}
+use Rattle.pac_session.specs.Running.{goes_at}
 use Rattle.pac_session.specs.Running.{outputs_between}
 use Rattle.pac_session.specs.Session.{SessionValue, IsSession, breaks_at, due_outputs}
 use Rattle.pac_session.proofs.Indices.{IsOpen, open-up-to, next-index, timely, early-time, goes-on, one-more}

@@ -1,6 +1,7 @@
 -- What a session keeps beside its board: the steps that are told, the checkpoints, and what the slots have.
-use Rattle.std.specs.Prelude.{◌≡◌, ◌<◌, ◌≤◌, ℕ, ◌+◌, ◌-◌, ◌*◌, ◌==◌, Bool, true, false, List, [], ◌∷◌, ◌++◌, Option, None, Some, if◌then◌else◌, length, map, drop}
-use Rattle.pac_board.specs.State.{BoardValue, State, nothing_due}
+use Rattle.std.specs.Prelude.{◌≡◌, ◌≤◌, ℕ, ◌+◌, ◌-◌, ◌*◌, ◌==◌, Bool, true, false, List, [], ◌∷◌, ◌++◌, Option, None, Some}
+use Rattle.std.specs.Prelude.{if◌then◌else◌, drop}
+use Rattle.pac_board.specs.State.{BoardValue, nothing_due}
 use Rattle.pac_session.specs.declared.history.PastStep.{PastStep}
 use Rattle.pac_session.specs.declared.kept.Kept.{Kept}
 use Rattle.pac_session.specs.declared.kept.Slot.{Slot}

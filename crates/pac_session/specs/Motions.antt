@@ -1,6 +1,7 @@
 -- How a session moves: forwards to where a motion rests, back by so many steps, and to a slot.
-use Rattle.std.specs.Prelude.{◌≡◌, ◌<◌, ◌≤◌, ℕ, ◌+◌, ◌-◌, ◌*◌, ◌/◌, ◌%◌, Bool, true, false, ◌&&◌, ◌||◌, not, nat_le, nat_lt, max, if◌then◌else◌}
-use Rattle.std.specs.Prelude.{List, ◌++◌, Option, None, Some, Result, Ok, Err, ◌⊎◌, slice_set, slice_index_or, is_some}
+use Rattle.std.specs.Prelude.{◌≡◌, ◌<◌, ◌≤◌, ℕ, ◌+◌, ◌-◌, ◌*◌, ◌/◌, ◌%◌, Bool, true, false, ◌&&◌, ◌||◌, not, nat_le, nat_lt, max}
+use Rattle.std.specs.Prelude.{if◌then◌else◌}
+use Rattle.std.specs.Prelude.{List, ◌++◌, Option, None, Some, Result, Ok, Err, ◌⊎◌, slice_set}
 use mathlib.Core.List.{IsPrefix}
 use Rattle.pac_cpu.specs.declared.once.Once.{Once}
 use Rattle.pac_cpu.specs.declared.once.Stop.{Stop}
@@ -16,7 +17,8 @@ use Rattle.pac_session.specs.declared.motion.Motion.TheVariants.{Steps, Continue
 use Rattle.pac_session.specs.declared.motion.Ending.{Ending}
 use Rattle.pac_session.specs.declared.motion.Ending.TheVariants.{AtStop, AtEnd, AtBreakpoint, AtFrame, AtStep}
 use Rattle.pac_session.specs.declared.motion.Outcome.{Outcome}
-use Rattle.pac_session.specs.Running.{now_at, next_at, is_late, stop_at, goes_at, blanks_at, outputs_between, outputs_from, whole_run, IsLeast}
+use Rattle.pac_session.specs.Running.{now_at, next_at, is_late, stop_at, goes_at, blanks_at, outputs_between, outputs_from, whole_run}
+use Rattle.pac_session.specs.Running.{IsLeast}
 use Rattle.pac_session.specs.Session.{SessionValue, IsOfferRefused, breaks_at, due_outputs}
 
 -- ---- where a motion rests

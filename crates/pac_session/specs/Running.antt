@@ -1,5 +1,6 @@
 -- The run that a session looks at: the trace of a script on a board from power-on, state by state. A session is a place in it.
-use Rattle.std.specs.Prelude.{◌≡◌, ◌<◌, ◌≤◌, ℕ, ◌*◌, ◌/◌, Bool, true, false, ◌&&◌, not, is_none, nat_le, List, ◌++◌, length, drop, Option, None, Some}
+use Rattle.std.specs.Prelude.{◌≡◌, ◌<◌, ◌≤◌, ℕ, ◌*◌, ◌/◌, Bool, true, false, ◌&&◌, not, is_none, nat_le, List, length, drop, Option}
+use Rattle.std.specs.Prelude.{None, Some}
 use Rattle.pac_cpu.specs.declared.once.Stop.{Stop}
 use Rattle.pac_inputs.specs.Stretches.{total, held}
 use Rattle.pac_inputs.specs.declared.line.Stretch.{Stretch}

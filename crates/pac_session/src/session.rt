@@ -11,7 +11,7 @@ ghost use Rattle.pac_session.specs.Session.{IsSession, IsNew, begun, IsSet, has_
 ghost use Rattle.pac_session.specs.Motions.{checkpoint_count, ReturnsTo, kept_in};
 
 use crate::checkpoints::Checkpoints;
-use crate::course::{hold, FRAME_TICKS};
+use crate::course::{FRAME_TICKS, hold};
 use crate::history::{History, PastStep};
 use crate::kept::Slot;
 use arrayvec::ArrayVec;

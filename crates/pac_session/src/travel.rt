@@ -9,7 +9,7 @@ ghost use Rattle.pac_session.specs.Session.{Offers, breaks_at};
 ghost use Rattle.pac_session.specs.Motions.{has_met, Travels, MakesStep, Gives, PassesOn, StepsOn, Finishes, RestsBy, IsOutcome};
 
 use crate::checkpoints::Checkpoints;
-use crate::course::{play_step, tell, FRAME_TICKS};
+use crate::course::{FRAME_TICKS, play_step, tell};
 use crate::history::History;
 use crate::motion::{Ending, Motion, Outcome};
 use crate::session::Session;

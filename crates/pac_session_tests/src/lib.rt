@@ -2,6 +2,12 @@
 #![tactic(auto)]
 
 #[cfg(test)]
+mod memory;
+#[cfg(test)]
+mod past;
+#[cfg(test)]
 mod rows;
 #[cfg(test)]
 mod set;
+#[cfg(test)]
+mod sinks;

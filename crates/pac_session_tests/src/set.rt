@@ -1,5 +1,8 @@
 //! Sessions whose program is given as bytes, and what they show.
 
+ghost use Rattle.std.specs.Prelude.{◌≤◌, ◌<◌, IfOk};
+ghost use Rattle.pac_session.specs.Session.{IsNew, slot_count};
+
 use pac_board::{Board, Sink};
 use pac_inputs::read_script;
 use pac_roms::{Raw, RomSet};
@@ -14,7 +17,9 @@ fn colours() -> [u8; 32] {
 }
 
 /// A board at power-on whose program begins with these bytes.
-pub fn board(alloc: Global, bytes: &[u8]) -> Result<Board, AllocError> {
+pub fn board(alloc: Global, bytes: &[u8]) -> Result<Board, AllocError>
+    ensures { IfOk result (λ board. IsNew board) }
+{
     let mut program = [0u8; 16384];
     for (place, byte) in program.iter_mut().zip(bytes.iter()) {
         *place = *byte;
@@ -74,4 +79,35 @@ pub fn go<S: Sink>(
         Ok(ending) => (word(ending), place(session)),
         Err(_) => ("refused", place(session)),
     }
+}
+
+/// Goes back, after what is due was offered: whether it did, or the oldest index.
+pub fn back<S: Sink>(session: &mut Session, count: u32, sink: &mut S) -> Result<(), u64>
+    requires { 1 ≤ count }
+{
+    if session.offer(sink).is_err() {
+        return Err(0);
+    }
+    session.back(count)
+}
+
+/// Keeps its index in a slot, after what is due was offered; whether it did.
+pub fn keep<S: Sink>(session: &mut Session, slot: usize, sink: &mut S) -> bool
+    requires { slot < slot_count }
+{
+    if session.offer(sink).is_err() {
+        return false;
+    }
+    session.keep(slot);
+    true
+}
+
+/// Goes to a slot, after what is due was offered; whether it did.
+pub fn go_to<S: Sink>(session: &mut Session, slot: usize, sink: &mut S) -> bool
+    requires { slot < slot_count }
+{
+    if session.offer(sink).is_err() {
+        return false;
+    }
+    session.go_to(slot).is_ok()
 }

@@ -1,5 +1,5 @@
 -- The board makes its step, and the frame after it is one of the script's.
-use Rattle.std.proofs.Common.{◌≡◌, ℕ, ◌+◌, ◌*◌, ◌<◌, ◌≤◌, [], ap, subst, arith}
+use Rattle.std.proofs.Common.{◌≡◌, ℕ, ◌+◌, ◌*◌, ◌<◌, ◌≤◌, [], ap, arith}
 use Rattle.pac_inputs.specs.Stretches.{total, most_frames}
 use Rattle.pac_step.specs.BoardView.{BoardView}
 use Rattle.pac_step.specs.Laws.{IsTimely}

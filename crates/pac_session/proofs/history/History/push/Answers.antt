@@ -1,7 +1,7 @@
 -- No more than 256 are kept.
 use Rattle.std.proofs.Common.{◌≡◌, ℕ, ◌≤◌, List, [], ◌∷◌, ◌++◌, ◌-◌, length, ap, sym, subst, ◌∙◌, arith}
 use Rattle.std.proofs.lemmas.List.{length-drop}
-use Rattle.circular_buffer.specs.Buffer.{Buffer, buffer, keep_last}
+use Rattle.circular_buffer.specs.Buffer.{Buffer, keep_last}
 use Rattle.pac_session.specs.declared.history.PastStep.{PastStep}
 use Rattle.pac_session.proofs.history.History.push.Goals as goal
 

@@ -1,5 +1,5 @@
 -- To the end of the run.
-use Rattle.std.proofs.Common.{◌≡◌, inl, inr}
+use Rattle.std.proofs.Common.{inl, inr}
 use Rattle.std.proofs.lemmas.Result.{err_from_is_err_and}
 use Rattle.pac_session.proofs.Finished.{finished, finish-refused, rests-there}
 use Rattle.pac_session.proofs.session.Session.finish.Goals as goal

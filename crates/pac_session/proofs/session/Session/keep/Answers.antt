@@ -1,5 +1,5 @@
 -- The slot keeps what stands.
-use Rattle.std.proofs.Common.{◌≡◌, ℕ, true, Some, List, Option, set, map, ap, subst, sym, ◌∙◌}
+use Rattle.std.proofs.Common.{◌≡◌, ℕ, true, List, Option, set, map, ap, subst, sym, ◌∙◌}
 use Rattle.std.proofs.lemmas.List.{map-set}
 use Rattle.pac_board.specs.State.{nothing_due}
 use Rattle.pac_session.specs.declared.kept.Kept.{Kept}

@@ -1,5 +1,5 @@
 -- One step of the run: what stood before it stands after it.
-use Rattle.std.proofs.Common.{◌≡◌, ℕ, ◌≤◌, max, List, Option, map, refl, ap, sym, subst, ◌∙◌, arith}
+use Rattle.std.proofs.Common.{◌≡◌, ℕ, max, List, map, refl, ap, sym, subst, ◌∙◌, arith}
 use Rattle.pac_cpu.specs.declared.once.Once.{Once}
 use Rattle.pac_exec.specs.declared.regs.Regs.{Regs}
 use Rattle.pac_roms.specs.Parts.{Parts}
@@ -9,11 +9,11 @@ use Rattle.pac_board.specs.State.{due_in, nothing_due}
 use Rattle.pac_session.specs.declared.history.PastStep.{PastStep}
 use Rattle.pac_session.specs.Inside.{IsStanding, AreRight}
 use Rattle.pac_session.specs.Keeping.{Ring, kept_of, taken_at, mark_of}
-use Rattle.pac_session.specs.Motions.{MakesStep, stepped}
-use Rattle.pac_session.specs.Running.{is_late, next_at}
+use Rattle.pac_session.specs.Motions.{MakesStep}
+use Rattle.pac_session.specs.Running.{is_late}
 use Rattle.pac_session.specs.Session.{SessionValue}
 use Rattle.pac_session.specs.Steps.{told_after}
-use Rattle.pac_session.proofs.Steppings.{HasMade, made-step, made-once, made-outputs, right-later, with_board}
+use Rattle.pac_session.proofs.Steppings.{made-step, made-once, made-outputs, right-later, with_board}
 use Rattle.pac_session.proofs.session.Session.make_step.Goals as goal
 
 -- what was told, at the board's own index and PC

@@ -1,10 +1,8 @@
 -- The session stands at the beginning of its run.
-use Rattle.std.proofs.Common.{◌≡◌, ◌*◌, ◌≤◌, List, [], length, map, refl, ap, sym, subst, ◌∙◌, arith}
-use Rattle.pac_inputs.specs.Stretches.{total, held, most_frames}
-use Rattle.pac_board.specs.State.{BoardValue, held as holding}
-use Rattle.pac_session.specs.Inside.{AreRight}
+use Rattle.std.proofs.Common.{◌≡◌, ◌*◌, [], length, map, ap, ◌∙◌, arith}
+use Rattle.pac_inputs.specs.Stretches.{held}
+use Rattle.pac_board.specs.State.{held as holding}
 use Rattle.pac_session.specs.Keeping.{mark_of}
-use Rattle.pac_session.specs.Session.{most_breakpoints}
 use Rattle.pac_session.proofs.Begun.{stands-first, right-empty, value-first}
 use Rattle.pac_session.proofs.Steppings.{with_board}
 use Rattle.pac_session.proofs.session.Session.new.Goals as goal
@@ -17,7 +15,7 @@ invariant_of-result c =
     let count = c.frames.ensures.count in
     let within = c.frames.ensures.within in
     let frames = c.from-limit.ensures in
-    let none : c.new.result.items ≡ [] = ? in
+    let none : c.new.result.items ≡ [] = c.new.ensures in
     record {
       limit = ap (λ n. 50688 * n) (frames ∙ count);
       short = omega arith;
@@ -35,7 +33,7 @@ returns-clause-session c =
     let board = c.args.board in
     let switches : c.peek-switches.result ≡ board.state.now.board.memory.switches = c.peek-switches.ensures in
     let hold : c.hold.new.board ≡ holding board (held c.args.script 1) = c.hold.ensures ∙ ap (holding board) c.held.ensures in
-    let none : c.new.result.items ≡ [] = ? in
+    let none : c.new.result.items ≡ [] = c.new.ensures in
     ap (λ breakpoints. with_board c.peek-switches.result c.args.script c.hold.new.board 0 breakpoints (map mark_of c.in-Ok.slots.items) 0)
     none
     ∙ value-first board c.hold.new.board c.args.script c.peek-switches.result switches c.requires hold c.in-Ok.slots.items

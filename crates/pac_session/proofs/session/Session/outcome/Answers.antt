@@ -1,5 +1,5 @@
 -- Where a run goes no further it is the whole run.
-use Rattle.std.proofs.Common.{◌≡◌, ◌<◌, ◌/◌, ap, sym, ◌∙◌, arith}
+use Rattle.std.proofs.Common.{◌/◌, ap, sym, ◌∙◌, arith}
 use Rattle.pac_step.specs.BoardView.{BoardView}
 use Rattle.pac_step.specs.Step.{Moment, frame_ticks}
 use Rattle.pac_session.specs.Running.{now_at}

@@ -1,5 +1,5 @@
 -- The session stands at the checkpoint.
-use Rattle.std.proofs.Common.{◌≡◌, ℕ, ◌+◌, ◌-◌, ◌*◌, ◌≤◌, map, refl, ap, subst, sym, ◌∙◌, arith}
+use Rattle.std.proofs.Common.{◌≡◌, ◌+◌, ◌-◌, ◌*◌, map, ap, subst, ◌∙◌, arith}
 use Rattle.pac_board.specs.State.{nothing_due}
 use Rattle.pac_session.specs.Inside.{setting_of}
 use Rattle.pac_session.specs.Keeping.{mark_of, IsKeptAt}

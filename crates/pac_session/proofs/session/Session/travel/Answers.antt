@@ -1,5 +1,5 @@
 -- From step to step.
-use Rattle.std.proofs.Common.{◌≡◌, false, true, Option, Some, None, Ok, Err, ap, sym, subst, ◌∙◌}
+use Rattle.std.proofs.Common.{◌≡◌, false, true, Option, Ok, ap, sym, subst, ◌∙◌}
 use Rattle.std.proofs.lemmas.Result.{err_from_is_err_and}
 use Rattle.pac_cpu.specs.declared.once.Stop.{Stop}
 use Rattle.pac_board.specs.declared.sink.Refused.{Refused}
