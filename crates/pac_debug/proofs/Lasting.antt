@@ -1,0 +1,19 @@
+-- The last ones of a list, written one after another.
+use Rattle.std.proofs.Common.{◌≡◌, ℕ, ◌+◌, ◌-◌, ◌<◌, ◌≤◌, List, [], ◌∷◌, ◌++◌, length, get_or, set, take, drop, sym, ap, ◌∙◌, arith}
+use Rattle.std.proofs.lemmas.List.{take_more, take_more_set, get_or-drop, length-drop}
+use Rattle.std.proofs.lemmas.Option.{get_or_from_slice_get, slice_get_within}
+use Rattle.std.specs.Prelude.{slice_get, Some}
+use Rattle.pac_session.specs.Past.{past, told_at}
+use Rattle.pac_session.specs.Running.{Setting}
+
+pub one-more : {X : Type 0} (written all : List X) (first i : ℕ) (x : X) → i < length written → slice_get all (first + i) ≡ Some x
+    → take i written ≡ take i (drop first all) → take (i + 1) (set written i x) ≡ take (i + 1) (drop first all)
+one-more written all first i x room is front =
+    let inside : first + i < length all = slice_get_within all (first + i) x is in
+    let here : get_or (drop first all) i x ≡ x = get_or-drop first all i x ∙ get_or_from_slice_get all (first + i) x x is in
+    let within : i < length (drop first all) = omega (arith, inside, length-drop first all) in
+    take_more_set written i x room ∙ ap (λ l. l ++ x ∷ []) front
+    ∙ sym (take_more (drop first all) i x within ∙ ap (λ y. take i (drop first all) ++ y ∷ []) here)
+
+pub told-few : (setting : Setting) (index : ℕ) → length (told_at setting index) ≤ 256
+told-few setting index = omega (arith, length-drop (length (past setting index) - 256) (past setting index))

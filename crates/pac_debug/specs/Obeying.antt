@@ -1,0 +1,185 @@
+-- What a command line does to a session, and what it is answered with.
+use Rattle.std.specs.Prelude.{◌≡◌, ◌<◌, ℕ, Bool, true, false, List, [], ◌∷◌, ◌++◌, length, Option, None, Some, Result, Ok, Err, ◌⊎◌, slice_index_or}
+use Rattle.pac_step.specs.Output.{Output}
+use Rattle.pac_board.specs.Sinks.{TookAll}
+use Rattle.pac_board.specs.State.{nothing_due}
+use Rattle.pac_out.specs.declared.counted.Counted.{Counted}
+use Rattle.pac_out.specs.Counted.{Takes, Refuses}
+use Rattle.pac_debug_text.specs.declared.command.Command.{Command}
+use Rattle.pac_debug_text.specs.declared.command.Command.TheVariants as commands
+use Rattle.pac_debug_text.specs.declared.command.NoCommand.{NoCommand}
+use Rattle.pac_debug_text.specs.declared.place.Ending.TheVariants as endings
+use Rattle.pac_debug_text.specs.declared.refusal.Refusal.TheVariants as refusals
+use Rattle.pac_debug_text.specs.Commands.{command_of}
+use Rattle.pac_debug_text.specs.Slots.{slot_index}
+use Rattle.pac_session.specs.declared.motion.Ending.{Ending}
+use Rattle.pac_session.specs.declared.motion.Motion.{Motion}
+use Rattle.pac_session.specs.declared.motion.Motion.TheVariants as motions
+use Rattle.pac_session.specs.Motions.{HasTravelled, IsTravelRefused, IsBack, IsTooOld, kept_in}
+use Rattle.pac_session.specs.Session.{SessionValue, IsOfferRefused, due_outputs, has_breakpoint, without_breakpoint, most_breakpoints}
+use Rattle.pac_debug.specs.declared.answer.Answer.{Answer}
+use Rattle.pac_debug.specs.declared.answer.Answer.TheVariants as answers
+use Rattle.pac_debug.specs.declared.line.CommandFault.{CommandFault}
+use Rattle.pac_debug.specs.declared.line.CommandFault.TheVariants as faults
+use Rattle.pac_debug.specs.Answers.{ending_of, answer_text}
+
+-- ---- what is done, with nothing due
+
+-- the session moved on to where the motion rests
+pub record HasMoved {S : Type 0} (took : S → Output → S → Type 0) (old : SessionValue) (motion : Motion) (sink : S) (answer : Answer)
+    (new : SessionValue) (later : S)
+    : Type 0 where
+  pub why : Ending
+  pub travelled : HasTravelled took old motion sink why new later
+  pub answer_is : answer ≡ answers.Moved (ending_of why)
+
+-- back by so many steps, unless that is older than the oldest index
+abbrev pub WentBack : SessionValue → (count : ℕ) → Answer → SessionValue → Type 0
+WentBack old count (answers.Moved endings.Back) new = IsBack old count new
+WentBack old count (answers.Refused (refusals.TooFarBack oldest)) new = IsTooOld old count oldest new
+WentBack old count other new = ⊥
+
+-- to what a slot keeps, unless it keeps nothing
+abbrev pub Returned : SessionValue → (kept : Option ℕ) → Answer → SessionValue → Type 0
+Returned old (Some index) answer new = (answer ≡ answers.Moved endings.Return) × (new ≡ record old { index = index })
+Returned old None answer new = (answer ≡ answers.Refused refusals.EmptySlot) × (new ≡ old)
+
+-- a breakpoint is set: a second time changes nothing, and a 65th is refused
+abbrev pub SetsBreakpoint : SessionValue → (address : ℕ) → (is_set : Bool) → Answer → SessionValue → Type 0
+SetsBreakpoint old address true answer new = (answer ≡ answers.Done) × (new ≡ old)
+SetsBreakpoint old address false answers.Done new =
+    (length old.breakpoints < most_breakpoints) × (new ≡ record old { breakpoints = old.breakpoints ++ address ∷ [] })
+SetsBreakpoint old address false (answers.Refused refusals.NoRoom) new =
+    (length old.breakpoints ≡ most_breakpoints) × (new ≡ old)
+SetsBreakpoint old address false other new = ⊥
+
+-- what stands in a slot
+abbrev pub kept_at : SessionValue → ℕ → Option ℕ
+kept_at s slot = slice_index_or s.slots slot None
+
+-- a command that doesn't move on
+abbrev pub Stays : SessionValue → Command → Answer → SessionValue → Type 0
+Stays old (commands.Back count) answer new = WentBack old count answer new
+Stays old (commands.Return slot) answer new = Returned old (kept_at old (slot_index slot)) answer new
+Stays old (commands.Keep slot) answer new = (answer ≡ answers.Done) × (new ≡ kept_in old (slot_index slot))
+Stays old (commands.Break at) answer new = SetsBreakpoint old at (has_breakpoint old at) answer new
+Stays old (commands.Unbreak at) answer new = (answer ≡ answers.Done) × (new ≡ without_breakpoint old at)
+Stays old commands.Regs answer new = (answer ≡ answers.Registers) × (new ≡ old)
+Stays old (commands.Mem at count) answer new = (answer ≡ answers.Bytes at count) × (new ≡ old)
+Stays old (commands.Dis at count) answer new = (answer ≡ answers.Instructions at count) × (new ≡ old)
+Stays old (commands.History count) answer new = (answer ≡ answers.Steps count) × (new ≡ old)
+Stays old other answer new = ⊥
+
+-- the motion of a command that moves on
+abbrev pub motion_of : Command → Option Motion
+motion_of (commands.Step count) = Some (motions.Steps count)
+motion_of commands.Continue = Some motions.Continue
+motion_of (commands.Frames count) = Some (motions.Frames count)
+motion_of others = None
+
+-- moving on; where the sink refused, there is no answer
+abbrev pub Moves : {S E : Type 0} → (S → Output → S → Type 0) → (S → Output → S → Type 0)
+    → SessionValue → Motion → S → Result Answer E → SessionValue → S → Type 0
+Moves took refused old motion sink (Ok answer) new later = HasMoved took old motion sink answer new later
+Moves took refused old motion sink (Err refusal) new later = IsTravelRefused took refused old motion sink new later
+
+-- a command, by its motion
+abbrev pub Performed : {S : Type 0} → (S → Output → S → Type 0) → SessionValue → Command → Option Motion → S → Answer → SessionValue → S
+    → Type 0
+Performed took old command (Some motion) sink answer new later = HasMoved took old motion sink answer new later
+Performed took old command None sink answer new later = Stays old command answer new × (later ≡ sink)
+
+-- a line with words, be it a command or none
+abbrev pub Obeyed : {S : Type 0} → (S → Output → S → Type 0) → SessionValue → Result Command NoCommand → S → Answer → SessionValue → S
+    → Type 0
+Obeyed took old (Ok command) sink answer new later = Performed took old command (motion_of command) sink answer new later
+Obeyed took old (Err none) sink answer new later =
+    (answer ≡ answers.Refused refusals.NoCommand) × (new ≡ old) × (later ≡ sink)
+
+-- the sink refused an output on the way
+pub record IsHeldUp {S : Type 0} (took refused : S → Output → S → Type 0) (old : SessionValue) (asked : Result Command NoCommand) (sink : S)
+    (new : SessionValue) (later : S)
+    : Type 0 where
+  pub command : Command
+  pub asked_is : asked ≡ Ok command
+  pub motion : Motion
+  pub motion_is : motion_of command ≡ Some motion
+  pub held_up : IsTravelRefused took refused old motion sink new later
+
+abbrev pub Obeys : {S E : Type 0} → (S → Output → S → Type 0) → (S → Output → S → Type 0)
+    → SessionValue → Result Command NoCommand → S → Result Answer E → SessionValue → S → Type 0
+Obeys took refused old asked sink (Ok answer) new later = Obeyed took old asked sink answer new later
+Obeys took refused old asked sink (Err refusal) new later = IsHeldUp took refused old asked sink new later
+
+-- ---- a line with words
+
+-- the session when what was due was taken
+abbrev pub cleared : SessionValue → SessionValue
+cleared s = record s { due = nothing_due; replayed = 0 }
+
+-- It was done: what was due was taken first.
+pub record Did {S : Type 0} (took : S → Output → S → Type 0) (old : SessionValue) (asked : Result Command NoCommand) (sink : S)
+    (answer : Answer) (new : SessionValue) (later : S)
+    : Type 0 where
+  pub between : S
+  pub offered : TookAll took sink (due_outputs old) between
+  pub obeyed : Obeyed took (cleared old) asked between answer new later
+
+-- The sink took what was due, and refused an output on the way.
+pub record IsRefusedLater {S : Type 0} (took refused : S → Output → S → Type 0) (old : SessionValue) (asked : Result Command NoCommand)
+    (sink : S) (new : SessionValue) (later : S)
+    : Type 0 where
+  pub between : S
+  pub offered : TookAll took sink (due_outputs old) between
+  pub held_up : IsHeldUp took refused (cleared old) asked between new later
+
+-- the sink refused what was due, or an output on the way
+abbrev pub IsRefused : {S : Type 0} → (S → Output → S → Type 0) → (S → Output → S → Type 0)
+    → SessionValue → Result Command NoCommand → S → SessionValue → S → Type 0
+IsRefused took refused old asked sink new later =
+    IsOfferRefused took refused old sink new later ⊎ IsRefusedLater took refused old asked sink new later
+
+abbrev pub Does : {S E : Type 0} → (S → Output → S → Type 0) → (S → Output → S → Type 0)
+    → SessionValue → Result Command NoCommand → S → Result Answer E → SessionValue → S → Type 0
+Does took refused old asked sink (Ok answer) new later = Did took old asked sink answer new later
+Does took refused old asked sink (Err refusal) new later = IsRefused took refused old asked sink new later
+
+-- ---- a command line
+
+-- what is before a command line, and after it: the session, the sink of its outputs, and the file of its texts
+pub record Scene (S W : Type 0) : Type 0 where
+  pub session : SessionValue
+  pub sink : S
+  pub text : Counted W
+
+-- It was done, and this is what became of its answer's text: the command is done whether that could be written or not.
+pub record HasAnswered {S W : Type 0} (took : S → Output → S → Type 0) (Told : Counted W → List ℕ → Counted W → Type 0)
+    (asked : Result Command NoCommand) (old new : Scene S W)
+    : Type 0 where
+  pub answer : Answer
+  pub did : Did took old.session asked old.sink answer new.session new.sink
+  pub told : Told old.text (answer_text new.session answer) new.text
+
+-- a line with words: it is answered; or the sink refused, and nothing is told; or its text's writer refused
+abbrev pub Answers : {S W A : Type 0} → (took refused : S → Output → S → Type 0) → (wrote : W → List ℕ → W → Type 0)
+    → (balked : W → W → Type 0) → Result Command NoCommand → Scene S W → Result A CommandFault → Scene S W → Type 0
+Answers took refused wrote balked asked old (Ok done) new = HasAnswered took (Takes wrote) asked old new
+Answers took refused wrote balked asked old (Err faults.Refused) new =
+    IsRefused took refused old.session asked old.sink new.session new.sink × (new.text ≡ old.text)
+Answers took refused wrote balked asked old (Err (faults.Text fault)) new =
+    HasAnswered took (λ before text after. Refuses wrote balked before text fault after) asked old new
+
+-- a line without words, which does nothing
+abbrev pub Skips : {S W A : Type 0} → Scene S W → Result A CommandFault → Scene S W → Type 0
+Skips old (Ok done) new = (new.session ≡ old.session) × (new.sink ≡ old.sink) × (new.text ≡ old.text)
+Skips old (Err fault) new = ⊥
+
+-- a command line, by what it asks
+abbrev pub Asks : {S W A : Type 0} → (took refused : S → Output → S → Type 0) → (wrote : W → List ℕ → W → Type 0)
+    → (balked : W → W → Type 0) → Option (Result Command NoCommand) → Scene S W → Result A CommandFault → Scene S W → Type 0
+Asks took refused wrote balked None old result new = Skips old result new
+Asks took refused wrote balked (Some asked) old result new = Answers took refused wrote balked asked old result new
+
+abbrev pub Commands : {S W A : Type 0} → (took refused : S → Output → S → Type 0) → (wrote : W → List ℕ → W → Type 0)
+    → (balked : W → W → Type 0) → (line : List ℕ) → Scene S W → Result A CommandFault → Scene S W → Type 0
+Commands took refused wrote balked line old result new = Asks took refused wrote balked (command_of line) old result new

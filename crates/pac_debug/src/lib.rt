@@ -1,0 +1,12 @@
+//! The debugger, line by line: what a command line asks of a session is done, and what it comes to is told.
+#![tactic(auto)]
+
+mod answer;
+mod line;
+mod obey;
+mod past;
+mod seen;
+mod tell;
+
+pub use answer::Answer;
+pub use line::{CommandFault, command};
