@@ -1,7 +1,7 @@
 -- What a command line does to a session, and what it is answered with.
 use Rattle.std.specs.Prelude.{◌≡◌, ◌<◌, ℕ, Bool, true, false, List, [], ◌∷◌, ◌++◌, length, Option, None, Some, Result, Ok, Err, ◌⊎◌, slice_index_or}
 use Rattle.pac_step.specs.Output.{Output}
-use Rattle.pac_board.specs.Sinks.{TookAll}
+use Rattle.pac_board.specs.Sinks.{TookAll, Then}
 use Rattle.pac_board.specs.State.{nothing_due}
 use Rattle.pac_out.specs.declared.counted.Counted.{Counted}
 use Rattle.pac_out.specs.Counted.{Takes, Refuses}
@@ -183,3 +183,21 @@ Asks took refused wrote balked (Some asked) old result new = Answers took refuse
 abbrev pub Commands : {S W A : Type 0} → (took refused : S → Output → S → Type 0) → (wrote : W → List ℕ → W → Type 0)
     → (balked : W → W → Type 0) → (line : List ℕ) → Scene S W → Result A CommandFault → Scene S W → Type 0
 Commands took refused wrote balked line old result new = Asks took refused wrote balked (command_of line) old result new
+
+-- ---- a text of commands
+
+-- a line that is answered, or that has no words
+abbrev pub IsAnswered : {S W : Type 0} → (took refused : S → Output → S → Type 0) → (wrote : W → List ℕ → W → Type 0)
+    → (balked : W → W → Type 0) → (line : List ℕ) → (old new : Scene S W) → Type 0
+IsAnswered took refused wrote balked line old new = Commands {A = Unit {0}} took refused wrote balked line old (Ok tt) new
+
+-- the lines of a text, one after another, up to the first that isn't answered
+abbrev pub ObeysLines : {S W : Type 0} → (took refused : S → Output → S → Type 0) → (wrote : W → List ℕ → W → Type 0)
+    → (balked : W → W → Type 0) → (lines : List (List ℕ)) → Scene S W → Result (Unit {0}) CommandFault → Scene S W → Type 0
+ObeysLines took refused wrote balked [] old (Ok done) new = new ≡ old
+ObeysLines took refused wrote balked [] old (Err fault) new = ⊥
+ObeysLines took refused wrote balked (line ∷ more) old (Ok done) new =
+    Then (IsAnswered took refused wrote balked line old) (λ between. ObeysLines took refused wrote balked more between (Ok done) new)
+ObeysLines took refused wrote balked (line ∷ more) old (Err fault) new =
+    Commands {A = Unit {0}} took refused wrote balked line old (Err fault) new
+    ⊎ Then (IsAnswered took refused wrote balked line old) (λ between. ObeysLines took refused wrote balked more between (Err fault) new)

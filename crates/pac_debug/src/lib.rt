@@ -3,6 +3,7 @@
 
 mod answer;
 mod line;
+mod lines;
 mod obey;
 mod past;
 mod seen;
@@ -10,3 +11,4 @@ mod tell;
 
 pub use answer::Answer;
 pub use line::{CommandFault, command};
+pub use lines::commands;

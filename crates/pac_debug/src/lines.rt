@@ -1,0 +1,31 @@
+//! Command texts.
+
+ghost use Rattle.std.specs.Str.Lines.{lines};
+ghost use Rattle.pac_debug.specs.Obeying.{ObeysLines};
+
+use crate::line::{CommandFault, command};
+use pac_board::Sink;
+use pac_lex::first_line;
+use pac_out::Out;
+use pac_out::counted::Counted;
+use pac_session::Session;
+
+/// Does what the lines of a text ask, one after another, up to the first one that isn't answered. A line ends at a line feed, with
+/// one carriage return before it dropped, or at the end of the text. Takes no memory.
+pub fn commands<S: Sink, W: Out>(
+    session: &mut Session,
+    bytes: &[u8],
+    sink: &mut S,
+    text: &mut Counted<W>,
+) -> Result<(), CommandFault>
+    ensures { ObeysLines S.took S.refused W.took W.refused (lines bytes.now)
+        (record { session = session.old; sink = sink.old; text = text.old }) result
+        (record { session = session.new; sink = sink.new; text = text.new }) }
+{
+    let mut rest = bytes;
+    while let Some((line, after)) = first_line(rest) {
+        command(session, line, sink, text)?;
+        rest = after;
+    }
+    Ok(())
+}
