@@ -108,13 +108,13 @@ pub header-broke : {F W : Type 0} (took_f : F → List ℕ → F → Type 0) (re
     → RecordsBroken (writing took_f refused_f frames frames) (writing took_w refused_w wave.now left_w) total outputs which.Wave fault.count
 header-broke {W = W} took_f refused_f took_w refused_w frames wave left_w count total outputs old new fault writer nothing text same fails is
     ends = (
-  record { taken = []; is_prefix = (frames_text outputs, refl); took = nothing },
-  stopped-early took_w refused_w wave left_w (wav_header (frame_samples * count)) [] (sound_text (frame_samples * total) outputs)
-      (wave_text total outputs) old new fault text fails
-      (ap (λ head. head ++ sound_text (frame_samples * total) outputs) (append-nil (wav_header (frame_samples * count)))
-      ∙ ap (λ (n : ℕ). wav_header (frame_samples * n) ++ sound_text (frame_samples * total) outputs) same)
-      (subst (λ (it : MutBor W). Ends wave it left_w) is ends),
-)
+      record { taken = []; is_prefix = (frames_text outputs, refl); took = nothing },
+      stopped-early took_w refused_w wave left_w (wav_header (frame_samples * count)) [] (sound_text (frame_samples * total) outputs)
+          (wave_text total outputs) old new fault text fails
+          (ap (λ head. head ++ sound_text (frame_samples * total) outputs) (append-nil (wav_header (frame_samples * count)))
+          ∙ ap (λ (n : ℕ). wav_header (frame_samples * n) ++ sound_text (frame_samples * total) outputs) same)
+          (subst (λ (it : MutBor W). Ends wave it left_w) is ends),
+    )
 
 -- film and wave file together
 module _ {F W : Type 0} (took_f : F → List ℕ → F → Type 0) (refused_f : F → F → Type 0) (took_w : W → List ℕ → W → Type 0)
