@@ -119,6 +119,7 @@ module _ {F W L R : Type 0} (to : Writers F W L R) (inputs : RunInputs) where
         }
     broken-at which.Listing count told e broken listing report = absurd broken
     broken-at which.Report count told e broken listing report = absurd broken
+    broken-at which.Text count told e broken listing report = absurd broken
 
     pub media-broke : (output : Which) (count : ℕ) → RecordsBroken to.frames to.wave (total prepared.script) outputs output count
         → Took to.listing (planned inputs prepared.program prepared.board.set prepared.script).listing → Untouched to.report

@@ -164,6 +164,7 @@ module _ {F W : Type 0} (took_f : F → List ℕ → F → Type 0) (refused_f : 
   )
   broken which.Listing count breaks = absurd breaks
   broken which.Report count breaks = absurd breaks
+  broken which.Text count breaks = absurd breaks
 
   pub records : {A : Type 0} (result : Result A (Which × ℕ))
       → Performs (lent_took took_f) (lent_refused refused_f) (lent_took took_w) (lent_refused refused_w) outputs old result new

@@ -14,10 +14,11 @@ use Rattle.pac_step.proofs.Outputs.{outputs-timed}
 use Rattle.pac_step.proofs.Runs.{walk-near}
 use Rattle.pac_step.proofs.Walks.{play-timely}
 use Rattle.pac_board.specs.State.{BoardValue}
+use Rattle.pac_session.specs.Running.{play_of}
 use Rattle.pac_run.specs.declared.inputs.RunInputs.{RunInputs}
 use Rattle.pac_run.specs.declared.plan.Prepared.{Prepared}
 use Rattle.pac_run.specs.Plan.{Plan, planned, items_in, IsPrepared}
-use Rattle.pac_run.specs.Plays.{IsUntouched, play_of, run_of}
+use Rattle.pac_run.specs.Plays.{IsUntouched, run_of}
 use Rattle.pac_run.specs.Recorded.{HasPlayed, outcome_at}
 use Rattle.pac_run.specs.Run.{trace_of, outcome_of}
 

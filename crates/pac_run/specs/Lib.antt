@@ -5,3 +5,5 @@ pub mod Films
 pub mod Plays
 pub mod Run
 pub mod Recorded
+pub mod Watched
+pub mod Debugs

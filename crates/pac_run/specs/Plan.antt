@@ -4,7 +4,6 @@ use Rattle.pac_code.specs.Items.{Item, AllLie}
 use Rattle.pac_asm.specs.Programs.{program_of}
 use Rattle.pac_asm.specs.declared.fault.AsmFault.{AsmFault}
 use Rattle.pac_inputs.specs.Script.{script_of}
-use Rattle.pac_inputs.specs.Stretches.{total, held}
 use Rattle.pac_inputs.specs.declared.line.Stretch.{Stretch}
 use Rattle.pac_inputs.specs.declared.fault.ScriptFault.{ScriptFault}
 use Rattle.pac_listing.specs.Listing.{listing, symbol_rows}
@@ -17,17 +16,16 @@ use Rattle.pac_manifest.specs.declared.part.Part.{Part}
 use Rattle.pac_program.specs.Programs.{Assembled, items_of}
 use Rattle.pac_roms.specs.Parts.{Parts, IsWhole}
 use Rattle.pac_board.specs.State.{at_power_on}
-use Rattle.pac_step.specs.Trace.{Play}
 use Rattle.pac_run.specs.declared.inputs.RunInputs.{RunInputs}
 use Rattle.pac_run.specs.declared.plan.Prepared.{Prepared}
 use Rattle.pac_run.specs.declared.fault.RunFault.{RunFault}
 use Rattle.pac_run.specs.declared.fault.RunFault.TheVariants as fault
 
--- what is played on which set, and the listing
+-- what is played on which set, by which script, and the listing
 pub record Plan : Type 0 where
   pub items : List Item
   pub set : Parts
-  pub play : Play
+  pub script : List Stretch
   pub listing : List ℕ
 
 -- the first of two questions that is refused, or the answer to both
@@ -82,7 +80,7 @@ abbrev pub planned : RunInputs → Option Assembled → Parts → List Stretch �
 planned inputs program set script = record {
   items = items_in program;
   set = set;
-  play = record { frames = total script; held = held script };
+  script = script;
   listing = listing_in (source_in inputs) program;
 }
 

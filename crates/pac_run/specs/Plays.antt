@@ -2,15 +2,15 @@
 use Rattle.std.specs.Prelude.{◌≡◌, ℕ, List, ◌++◌, Option, None, Some, Result, Ok, Err}
 use mathlib.Core.List.{IsPrefix}
 use Rattle.pac_cpu.specs.declared.once.Stop.{Stop}
-use Rattle.pac_inputs.specs.Stretches.{total, held}
 use Rattle.pac_inputs.specs.declared.line.Stretch.{Stretch}
 use Rattle.pac_step.specs.BoardView.{BoardView}
 use Rattle.pac_step.specs.Output.{Output}
-use Rattle.pac_step.specs.Trace.{Play, by_view, start, trace}
+use Rattle.pac_step.specs.Trace.{by_view, start, trace}
 use Rattle.pac_step.specs.Walk.{Walk}
 use Rattle.pac_board.specs.Sinks.{TookAll, RefusesAt}
 use Rattle.pac_board.specs.State.{BoardValue, State, nothing_due, held as holding}
 use Rattle.pac_board.specs.Calls.{course, given, ran}
+use Rattle.pac_session.specs.Running.{play_of}
 
 -- a board on which nothing happened yet: no time went by, nothing was asked of it, and nothing is due
 abbrev pub untouched : BoardView → State
@@ -19,10 +19,7 @@ untouched view = record { now = start view; asked = 0; due = nothing_due }
 abbrev pub IsUntouched : BoardValue → Type 0
 IsUntouched board = board.state ≡ untouched board.state.now.board
 
--- what a script has a board play, and the run of that on a board
-abbrev pub play_of : List Stretch → Play
-play_of script = record { frames = total script; held = held script }
-
+-- the run of what a script has a board play
 abbrev pub run_of : BoardValue → List Stretch → Walk BoardView
 run_of board script = trace (by_view board.set) (play_of script) board.state.now.board
 

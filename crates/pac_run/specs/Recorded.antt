@@ -66,6 +66,7 @@ Breaks took_f refused_f took_w refused_w outputs old which.Frames count new =
 Breaks took_f refused_f took_w refused_w outputs old which.Wave count new = SoundBreaks took_f took_w refused_w outputs old count new
 Breaks took_f refused_f took_w refused_w outputs old which.Listing count new = ⊥
 Breaks took_f refused_f took_w refused_w outputs old which.Report count new = ⊥
+Breaks took_f refused_f took_w refused_w outputs old which.Text count new = ⊥
 
 abbrev pub Performs : {F W A : Type 0} → (F → List ℕ → F → Type 0) → (F → F → Type 0) → (W → List ℕ → W → Type 0) → (W → W → Type 0)
     → List Output → Film F W → Result A (Which × ℕ) → Film F W → Type 0
@@ -98,6 +99,7 @@ RecordsBroken frames wave total outputs which.Wave count =
     TookPrefix frames (text.frames_text outputs) × Stopped wave (text.wave_text total outputs) count
 RecordsBroken frames wave total outputs which.Listing count = ⊥
 RecordsBroken frames wave total outputs which.Report count = ⊥
+RecordsBroken frames wave total outputs which.Text count = ⊥
 
 abbrev pub Records : {F W A : Type 0} → Writing F → Writing W → ℕ → List Output → Result A (Which × ℕ) → Type 0
 Records frames wave total outputs (Ok done) =

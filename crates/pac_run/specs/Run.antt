@@ -3,13 +3,15 @@ use Rattle.std.specs.Prelude.{◌≡◌, ℕ, List, [], Result, Ok, Err, ◌⊎�
 use mathlib.Core.List.{IsPrefix}
 use Rattle.pac_out.specs.Counted.{counted}
 use Rattle.pac_out.specs.Writes.{StopsAfter}
+use Rattle.pac_inputs.specs.Stretches.{total}
 use Rattle.pac_map.specs.Entry.{Entry}
 use Rattle.pac_step.specs.BoardView.{power_on}
 use Rattle.pac_step.specs.Shown.{blanks}
 use Rattle.pac_step.specs.Trace.{by_history, trace}
 use Rattle.pac_step.specs.Walk.{Walk}
+use Rattle.pac_session.specs.Running.{play_of}
 use Rattle.pac_run.specs.declared.fault.Output.{Output}
-use Rattle.pac_run.specs.declared.fault.Output.TheVariants.{Frames, Wave, Listing, Report}
+use Rattle.pac_run.specs.declared.fault.Output.TheVariants.{Frames, Wave, Listing, Report, Text}
 use Rattle.pac_run.specs.declared.fault.RunFault.{RunFault}
 use Rattle.pac_run.specs.declared.fault.RunFault.TheVariants as fault
 use Rattle.pac_run.specs.declared.inputs.RunInputs.{RunInputs}
@@ -19,7 +21,7 @@ use Rattle.pac_run.specs.Texts as text
 
 -- the trace of a plan: the source's items on the board, from power-on with a byte of the DIP switches
 abbrev pub trace_of : Plan → ℕ → Walk (List Entry)
-trace_of plan dip = trace (by_history plan.set plan.items (power_on dip)) plan.play []
+trace_of plan dip = trace (by_history plan.set plan.items (power_on dip)) (play_of plan.script) []
 
 -- the frames, steps and time at its end, and its stop, if it met one
 abbrev pub outcome_of : Walk (List Entry) → Outcome
@@ -30,10 +32,10 @@ abbrev pub frames_text : Plan → ℕ → List ℕ
 frames_text plan dip = text.frames_text (trace_of plan dip).outputs
 
 abbrev pub wave_text : Plan → ℕ → List ℕ
-wave_text plan dip = text.wave_text plan.play.frames (trace_of plan dip).outputs
+wave_text plan dip = text.wave_text (total plan.script) (trace_of plan dip).outputs
 
 abbrev pub report_text : Plan → ℕ → List ℕ
-report_text plan dip = text.report (outcome_of (trace_of plan dip)) plan.play.frames
+report_text plan dip = text.report (outcome_of (trace_of plan dip)) (total plan.script)
 
 -- ---- the four writers
 
@@ -121,6 +123,7 @@ IsCutAt plan dip to Report count = record {
   wave : Took to.wave (wave_text plan dip);
   report : Stopped to.report (report_text plan dip) count;
 }
+IsCutAt plan dip to Text count = ⊥
 
 -- the plan of the inputs, and a fact of it
 pub record WithPlan (inputs : RunInputs) (fact : Plan → Type 0) : Type 0 where

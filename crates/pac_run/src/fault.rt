@@ -20,6 +20,8 @@ pub enum Output {
     Listing,
     /// The report.
     Report,
+    /// What a debugger's session tells.
+    Text,
 }
 
 impl fmt::Display for Output {
@@ -34,6 +36,7 @@ impl fmt::Display for Output {
             Output::Wave => f.write_str("wave"),
             Output::Listing => f.write_str("listing"),
             Output::Report => f.write_str("report"),
+            Output::Text => f.write_str("text"),
         }
     }
 }

@@ -55,11 +55,11 @@ impl<F: Out, W: Out> Sink for Film<F, W> {
 }
 
 /// The samples of a frame.
-const FRAME_SAMPLES: u32 = 1584;
+pub(crate) const FRAME_SAMPLES: u32 = 1584;
 
 impl<F: Out, W: Out> Film<F, W> {
     /// The output that refused. Where that is the film, the samples that came before are still written.
-    fn give_up(&mut self) -> (Output, u64)
+    pub(crate) fn give_up(&mut self) -> (Output, u64)
         requires { IsSome self.old.fault }
         ensures told { Some result ≡ self.old.fault }
         ensures left { GivesUp W.took W.refused self.old result.0 self.new }

@@ -1,6 +1,7 @@
-//! A run: a source, a ROM set and a script become frames, sound, a listing and a report.
+//! A run: a source, a ROM set and a script become frames, sound, a listing and a report; and the same under a debugger.
 #![tactic(auto)]
 
+mod debug;
 mod fault;
 mod film;
 mod inputs;
@@ -10,7 +11,9 @@ mod plan;
 mod play;
 mod report;
 pub mod run;
+mod watch;
 
+pub use debug::debug_all;
 pub use fault::{Output, RunFault};
 pub use inputs::RunInputs;
 pub use outcome::Outcome;

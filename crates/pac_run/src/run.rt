@@ -42,7 +42,7 @@ fn put_listing<L: Out>(
 }
 
 /// Writes the listing.
-fn list<L: Out>(
+pub(crate) fn list<L: Out>(
     listing: &mut L,
     source: Option<&[u8]>,
     program: &Option<Program>,
@@ -55,7 +55,7 @@ fn list<L: Out>(
 }
 
 /// Writes the report of what a run of so many frames came to.
-fn report_on<R: Out>(report: &mut R, outcome: Outcome, total: u32) -> Result<(), WriteFault>
+pub(crate) fn report_on<R: Out>(report: &mut R, outcome: Outcome, total: u32) -> Result<(), WriteFault>
     ensures { Written (record { took = R.took; refused = R.refused; old = report.old; new = report.new })
         (text.report outcome total) result }
 {

@@ -1,0 +1,69 @@
+-- What a run under a debugger writes, tells and answers.
+use Rattle.std.specs.Prelude.{◌≡◌, ℕ, List, Result, Ok, Err}
+use Rattle.std.specs.Str.Lines.{lines}
+use Rattle.pac_session.specs.Running.{Setting}
+use Rattle.pac_run.specs.declared.fault.Output.{Output}
+use Rattle.pac_run.specs.declared.fault.Output.TheVariants.{Frames, Wave, Listing, Report, Text}
+use Rattle.pac_run.specs.declared.fault.RunFault.{RunFault}
+use Rattle.pac_run.specs.declared.fault.RunFault.TheVariants as fault
+use Rattle.pac_run.specs.declared.inputs.RunInputs.{RunInputs}
+use Rattle.pac_run.specs.declared.outcome.Outcome.{Outcome}
+use Rattle.pac_run.specs.Plan.{Plan, plan_of}
+use Rattle.pac_run.specs.Run.{Writing, Writers, Took, TookPrefix, TookSome, Stopped, Untouched, NothingWritten, IsWhole, IsCutAt, WithPlan}
+use Rattle.pac_run.specs.Run.{frames_text, wave_text}
+use Rattle.pac_run.specs.Watched.{AllTold, SomeTold, LastBroke}
+
+-- the run that its session looks at
+abbrev pub setting_of : Plan → ℕ → Setting
+setting_of plan dip = record { set = plan.set; switches = dip; script = plan.script }
+
+-- what a session is made from, and that it stands at the beginning of its run of so many frames
+pub record IsReady (inputs : RunInputs) (program : Option Assembled) (session : SessionValue) (frames : ℕ) : Type 0 where
+  pub plan_is : plan_of inputs ≡ Ok (planned inputs program session.setting.set session.setting.script)
+  pub switches : session.setting.switches ≡ inputs.dip
+  pub session_is : session ≡ begun session.setting 0
+  pub frames_is : frames ≡ total session.setting.script
+  pub whole : IsWhole session.setting.set
+  pub lie : Plays session.setting.set program
+
+-- ---- the text of the session
+
+-- its output has exactly what the session tells of all lines of the commands
+abbrev pub HasTold : {T : Type 0} → Plan → ℕ → (commands : List ℕ) → Writing T → Type 0
+HasTold plan dip commands text = AllTold (Took text) (setting_of plan dip) (lines commands)
+
+-- of some of them, from the first on
+abbrev pub HasToldSome : {T : Type 0} → Plan → ℕ → (commands : List ℕ) → Writing T → Type 0
+HasToldSome plan dip commands text = SomeTold (Took text) (setting_of plan dip) (lines commands)
+
+-- it refused within what they tell up to one of them
+abbrev pub HasBroken : {T : Type 0} → Plan → ℕ → (commands : List ℕ) → Writing T → ℕ → Type 0
+HasBroken plan dip commands text count = LastBroke (Stopped text) (setting_of plan dip) (lines commands) count
+
+-- ---- the run, by its answer
+
+-- Done: the four files are exactly those of the run without a session, and the text is what the session tells.
+pub record IsWatched {F W L R T : Type 0} (plan : Plan) (dip : ℕ) (commands : List ℕ) (to : Writers F W L R) (text : Writing T)
+    (outcome : Outcome) : Type 0 where
+  pub files : IsWhole plan dip to outcome
+  pub told : HasTold plan dip commands text
+
+-- a refused write, by its output: what a run leaves then, and what the session has told till then
+abbrev pub IsBrokenAt : {F W L R T : Type 0} → Plan → ℕ → (commands : List ℕ) → Writers F W L R → Writing T → Output → ℕ → Type 0
+IsBrokenAt plan dip commands to text Listing count = IsCutAt plan dip to Listing count × Untouched text
+IsBrokenAt plan dip commands to text Report count = IsCutAt plan dip to Report count × HasTold plan dip commands text
+IsBrokenAt plan dip commands to text Text count = record {
+  listing : Took to.listing plan.listing;
+  frames : TookPrefix to.frames (frames_text plan dip);
+  wave : TookSome to.wave (wave_text plan dip);
+  report : Untouched to.report;
+  told : HasBroken plan dip commands text count;
+}
+IsBrokenAt plan dip commands to text other count = IsCutAt plan dip to other count × HasToldSome plan dip commands text
+
+abbrev pub Debugs : {F W L R T : Type 0} → RunInputs → (commands : List ℕ) → Writers F W L R → Writing T → Result Outcome RunFault → Type 0
+Debugs inputs commands to text (Ok outcome) = WithPlan inputs (λ plan. IsWatched plan inputs.dip commands to text outcome)
+Debugs inputs commands to text (Err (fault.Write output count)) =
+    WithPlan inputs (λ plan. IsBrokenAt plan inputs.dip commands to text output count)
+Debugs inputs commands to text (Err fault.NoMemory) = NothingWritten to × Untouched text
+Debugs inputs commands to text (Err refusal) = (plan_of inputs ≡ Err refusal) × NothingWritten to × Untouched text

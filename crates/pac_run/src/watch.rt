@@ -1,0 +1,93 @@
+//! A session's pictures, samples and words: to the film, to the wave file and to the text, side by side.
+
+ghost use Rattle.std.specs.Prelude.{◌≡◌, ℕ, IfOk, List};
+ghost use Rattle.std.specs.Str.Lines.{lines};
+ghost use Rattle.pac_inputs.specs.Stretches.{total};
+ghost use Rattle.pac_out.specs.Counted.{Takes};
+ghost use Rattle.pac_session.specs.Motions.{IsOutcome};
+ghost use Rattle.pac_session.specs.Running.{whole_run};
+ghost use Rattle.pac_session.specs.Session.{begun};
+ghost use Rattle.pac_run.specs.Run.{Took, Stopped};
+ghost use Rattle.pac_run.specs.Watched.{Told, Films, Filmed, BreaksOff};
+
+use crate::fault::Output;
+use crate::film::{FRAME_SAMPLES, Film};
+use pac_debug::{CommandFault, watch};
+use pac_media::{Frames, Image, WaveFile};
+use pac_out::Out;
+use pac_out::counted::Counted;
+use pac_session::{Outcome, Session};
+
+impl<F: Out, W: Out> Film<F, W> {
+    /// Does a session's commands and goes on to the end of its run. All that the run gives out is written, whatever the commands
+    /// do, and zeros for the samples that never came. Answers what the run came to, or the output that refused, after how many bytes.
+    fn watch<T: Out>(
+        &mut self,
+        session: &mut Session,
+        commands: &[u8],
+        text: &mut Counted<T>,
+    ) -> Result<Outcome, (Output, u64)>
+        requires { session.old ≡ begun session.old.setting 0 }
+        ensures outcome { IfOk result (IsOutcome session.old) }
+        ensures film { Films F.took F.refused W.took W.refused (whole_run session.old.setting).outputs self.old result self.new }
+        ensures told { Told (λ told. Takes T.took text.old told text.new) (λ told count. BreaksOff T.took T.refused text.old told count text.new)
+            session.old.setting (lines commands.now) result }
+    {
+        match watch(session, commands, self, text) {
+            Ok(outcome) => match self.wave.finish() {
+                Ok(()) => Ok(outcome),
+                Err(fault) => Err((Output::Wave, fault.count)),
+            },
+            Err(CommandFault::Refused) => Err(self.give_up()),
+            Err(CommandFault::Text(fault)) => {
+                let _ = self.wave.flush();
+                Err((Output::Text, fault.count))
+            }
+        }
+    }
+}
+
+/// Writes the wave's header, then does a session's commands, goes on to the end of its run of so many frames, and writes frames,
+/// samples and text as they come. Where the header is refused no frame is begun, and nothing is told.
+pub fn watch_run<F: Out, W: Out, T: Out>(
+    session: &mut Session,
+    commands: &[u8],
+    total: u32,
+    image: Image,
+    frames: &mut F,
+    wave: &mut W,
+    text: &mut T,
+) -> Result<Outcome, (Output, u64)>
+    requires begun { session.old ≡ begun session.old.setting 0 }
+    requires total { total ≡ total session.old.setting.script }
+    ensures outcome { IfOk result (IsOutcome session.old) }
+    ensures texts { Filmed
+        (record { took = F.took; refused = F.refused; old = frames.old; new = frames.new })
+        (record { took = W.took; refused = W.refused; old = wave.old; new = wave.new })
+        (total session.old.setting.script) (whole_run session.old.setting).outputs result }
+    ensures told { Told
+        (Took (record { took = T.took; refused = T.refused; old = text.old; new = text.new }))
+        (Stopped (record { took = T.took; refused = T.refused; old = text.old; new = text.new }))
+        session.old.setting (lines commands.now) result }
+{
+    let mut words = Counted::new(text);
+    let mut wave = WaveFile::begin(wave, FRAME_SAMPLES * total);
+    if let Err(fault) = wave.flush() {
+        let _ = wave.into_writer();
+        return Err((Output::Wave, fault.count));
+    }
+    let mut film = Film {
+        frames: Frames::new(frames, image),
+        wave,
+        fault: None,
+    };
+    let watched = film.watch(session, commands, &mut words);
+    let Film {
+        frames,
+        wave,
+        fault: _,
+    } = film;
+    let _ = frames.into_writer();
+    let _ = wave.into_writer();
+    watched
+}
