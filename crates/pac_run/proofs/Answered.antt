@@ -115,6 +115,7 @@ module _ {F W L R : Type 0} (to : Writers F W L R) (inputs : RunInputs) where
           listing = listing;
           frames = subst (λ outputs. TookPrefix to.frames (text.frames_text outputs)) e broken.0;
           wave = subst (λ outputs. Stopped to.wave (text.wave_text (total prepared.script) outputs) count) e broken.1;
+          header_first = broken.2;
           report = report;
         }
     broken-at which.Listing count told e broken listing report = absurd broken
