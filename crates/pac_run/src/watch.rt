@@ -70,6 +70,7 @@ pub fn watch_run<F: Out, W: Out, T: Out>(
         (Stopped (record { took = T.took; refused = T.refused; old = text.old; new = text.new }))
         session.old.setting (lines commands.now) result }
 {
+    session.facts();
     let mut words = Counted::new(text);
     let mut wave = WaveFile::begin(wave, FRAME_SAMPLES * frame_count);
     if let Err(fault) = wave.flush() {
