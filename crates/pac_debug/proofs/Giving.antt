@@ -1,9 +1,9 @@
 -- What lines give to a sink, whatever they ask: what was due, and what the run gives from one furthest index to the next.
-use Rattle.std.proofs.Common.{◌≡◌, ℕ, ◌+◌, ◌≤◌, Bool, true, false, Option, None, Some, Result, Ok, Err, max, List, [], ◌∷◌, ◌++◌, ◌⊎◌}
+use Rattle.std.proofs.Common.{◌≡◌, ℕ, ◌≤◌, Bool, true, false, Option, None, Some, Result, Ok, Err, max, List, [], ◌∷◌, ◌++◌, ◌⊎◌}
 use Rattle.std.proofs.Common.{refl, sym, ap, subst, ◌∙◌, append_assoc, append-nil, arith}
 use mathlib.Core.Logic.{inl, inr}
 use Rattle.pac_step.specs.Output.{Output}
-use Rattle.pac_board.specs.Sinks.{TookAll, RefusesAt}
+use Rattle.pac_board.specs.Sinks.{TookAll}
 use Rattle.pac_board.specs.State.{nothing_due, due_in}
 use Rattle.pac_board.proofs.Sinks.{took-both, refuses-after}
 use Rattle.pac_debug_text.specs.declared.command.Command.{Command}
@@ -14,16 +14,16 @@ use Rattle.pac_debug_text.specs.declared.refusal.Refusal.TheVariants as refusals
 use Rattle.pac_debug_text.specs.Commands.{command_of}
 use Rattle.pac_debug_text.specs.Slots.{slot_index}
 use Rattle.pac_session.specs.declared.motion.Motion.{Motion}
-use Rattle.pac_session.specs.Motions.{Finishes, IsFinishRefused, back_to, kept_in}
+use Rattle.pac_session.specs.Motions.{IsFinishRefused}
 use Rattle.pac_session.specs.Running.{Setting, now_at, outputs_between, outputs_from}
-use Rattle.pac_session.specs.Session.{SessionValue, IsOfferRefused, due_outputs, has_breakpoint, without_breakpoint}
+use Rattle.pac_session.specs.Session.{SessionValue, IsOfferRefused, due_outputs, has_breakpoint}
 use Rattle.pac_session.proofs.Forwards.{between-joined, between-self, joined-to-end}
 use Rattle.pac_debug.specs.declared.answer.Answer.{Answer}
 use Rattle.pac_debug.specs.declared.answer.Answer.TheVariants as answers
 use Rattle.pac_debug.specs.declared.line.CommandFault.{CommandFault}
 use Rattle.pac_debug.specs.declared.line.CommandFault.TheVariants as faults
-use Rattle.pac_debug.specs.Obeying.{WentBack, Returned, SetsBreakpoint, Stays, HasMoved, Performed, Obeyed, Did, IsRefused, cleared, kept_at}
-use Rattle.pac_debug.specs.Obeying.{Scene, Skips, Asks, Commands, ObeysLines, motion_of}
+use Rattle.pac_debug.specs.Obeying.{WentBack, Returned, SetsBreakpoint, Stays, Performed, Obeyed, Did, IsRefused, cleared, kept_at}
+use Rattle.pac_debug.specs.Obeying.{Scene, Asks, ObeysLines, motion_of}
 use Rattle.pac_debug.specs.Watched.{HasGiven, GaveAll, GaveSome, Gave, to_give}
 
 -- ---- commands that don't move on

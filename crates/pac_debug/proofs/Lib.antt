@@ -3,3 +3,4 @@ pub mod LineByLine
 pub mod Giving
 pub mod Telling
 pub mod ToTheEnd
+pub mod Sole

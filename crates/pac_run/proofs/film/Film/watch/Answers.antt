@@ -1,0 +1,72 @@
+use Rattle.std.proofs.Common.{◌++◌, refl, subst}
+use mathlib.Core.List.{IsPrefix}
+use Rattle.std.specs.Str.Lines.{lines}
+use Rattle.pac_board.specs.Sinks.{TookAll}
+use Rattle.pac_session.specs.Running.{whole_run}
+use Rattle.pac_run.specs.Films.{film_took}
+use Rattle.pac_run.proofs.Filmed.{recorded, unfinished, gave-up}
+use Rattle.pac_run.proofs.Watching.{all-to-give, tells-of, some-of-all, cut-by, told-till, cut-short}
+use Rattle.pac_run.proofs.film.Film.watch.Goals as goal
+
+pub returns-in-Ok-finish-clause-film : goal.returns-in-Ok-finish-clause-film
+returns-in-Ok-finish-clause-film g c =
+    recorded g.F.Out.took g.F.Out.refused g.W.Out.took g.W.Out.refused (whole_run c.args.session.now.setting).outputs c.args.self.now
+    c.watch.new.sink _ c.in-Ok-finish.field-0
+    (subst (λ outputs. TookAll (film_took g.F.Out.took g.W.Out.took) c.args.self.now outputs c.watch.new.sink)
+    (all-to-give c.args.session.now c.requires) c.in-Ok.ensures.sink)
+    c.in-Ok-finish.ensures.written refl
+
+pub returns-in-Err-clause-film : goal.returns-in-Err-clause-film
+returns-in-Err-clause-film g c =
+    unfinished g.F.Out.took g.F.Out.refused g.W.Out.took g.W.Out.refused (whole_run c.args.session.now.setting).outputs c.args.self.now
+    c.watch.new.sink _ c.in-Err.fault
+    (subst (λ outputs. TookAll (film_took g.F.Out.took g.W.Out.took) c.args.self.now outputs c.watch.new.sink)
+    (all-to-give c.args.session.now c.requires) c.in-Ok.ensures.sink)
+    c.in-Err.ensures.written refl
+
+pub returns-in-Err-clause-told : goal.returns-in-Err-clause-told
+returns-in-Err-clause-told g c =
+    let watched = c.in-Ok.ensures in
+    some-of-all _ c.args.session.now.setting (lines c.args.commands.now)
+    (record {
+      told = watched.told;
+      tells = tells-of c.args.session.now watched.between (lines c.args.commands.now) watched.told c.requires watched.lines;
+      taken = watched.text;
+    })
+
+pub returns-in-Err-Refused-clause-film : goal.returns-in-Err-Refused-clause-film
+returns-in-Err-Refused-clause-film g c =
+    let refused = c.in-Err-Refused.ensures in
+    cut-by g.F.Out.took g.F.Out.refused g.W.Out.took g.W.Out.refused (whole_run c.args.session.now.setting).outputs c.args.self.now
+    c.give_up.new.self c.give_up.result.0 c.give_up.result.1
+    (gave-up g.F.Out.took g.F.Out.refused g.W.Out.took g.W.Out.refused (whole_run c.args.session.now.setting).outputs refused.taken
+    refused.left c.args.self.now c.watch.new.sink c.give_up.new.self c.give_up.result
+    (subst (λ outputs. IsPrefix (refused.taken ++ refused.left) outputs) (all-to-give c.args.session.now c.requires) refused.among)
+    refused.refuses c.give_up.ensures.told c.give_up.ensures.left)
+
+pub returns-in-Err-Refused-clause-told : goal.returns-in-Err-Refused-clause-told
+returns-in-Err-Refused-clause-told g c =
+    let refused = c.in-Err-Refused.ensures in
+    told-till g.F.Out.took g.F.Out.refused g.W.Out.took g.W.Out.refused (whole_run c.args.session.now.setting).outputs c.args.self.now
+    c.give_up.new.self c.give_up.result.0 c.give_up.result.1
+    (gave-up g.F.Out.took g.F.Out.refused g.W.Out.took g.W.Out.refused (whole_run c.args.session.now.setting).outputs refused.taken
+    refused.left c.args.self.now c.watch.new.sink c.give_up.new.self c.give_up.result
+    (subst (λ outputs. IsPrefix (refused.taken ++ refused.left) outputs) (all-to-give c.args.session.now c.requires) refused.among)
+    refused.refuses c.give_up.ensures.told c.give_up.ensures.left)
+    _ _ c.args.session.now.setting (lines c.args.commands.now)
+    (record {
+      before = refused.before;
+      after = refused.after;
+      parts = refused.parts;
+      told = refused.told;
+      tells = tells-of c.args.session.now refused.between refused.before refused.told c.requires refused.lines;
+      taken = refused.text;
+    })
+
+pub returns-in-Err-Text-clause-film : goal.returns-in-Err-Text-clause-film
+returns-in-Err-Text-clause-film g c =
+    let untold = c.in-Err-Text.ensures in
+    cut-short g.F.Out.took g.F.Out.refused g.W.Out.took g.W.Out.refused (whole_run c.args.session.now.setting).outputs untold.taken
+    c.args.self.now c.watch.new.sink _ c.flush.result
+    (subst (λ outputs. IsPrefix untold.taken outputs) (all-to-give c.args.session.now c.requires) untold.among) untold.sink
+    c.flush.ensures.written refl
