@@ -74,7 +74,7 @@ fn difference_overflows(a: u8, operand: u8, carry: u8) -> bool
 }
 
 /// ADD and ADC.
-#[inline]
+#[inline(always)]
 #[tactic(auto, unfolding(crate::specs::Arithmetic::sum_of))]
 fn sum(a: u8, operand: u8, carry: u8, f: u8) -> Outcome
     ensures { result ≡ sum_of a operand carry f }
@@ -96,7 +96,7 @@ fn sum(a: u8, operand: u8, carry: u8, f: u8) -> Outcome
 }
 
 /// SUB, SBC and what CP tells.
-#[inline]
+#[inline(always)]
 #[tactic(auto, unfolding(crate::specs::Arithmetic::difference_of))]
 fn difference(a: u8, operand: u8, carry: u8, f: u8) -> Outcome
     requires { IsCarry carry }
@@ -119,7 +119,7 @@ fn difference(a: u8, operand: u8, carry: u8, f: u8) -> Outcome
 }
 
 /// AND, OR and XOR.
-#[inline]
+#[inline(always)]
 #[tactic(auto, unfolding(crate::specs::Arithmetic::logic_of))]
 fn logic(value: u8, half_carry: bool, f: u8) -> Outcome
     ensures { result ≡ logic_of value half_carry f }
@@ -131,7 +131,7 @@ fn logic(value: u8, half_carry: bool, f: u8) -> Outcome
 }
 
 /// A and F after an operation of A and an operand.
-#[inline]
+#[inline(always)]
 #[tactic(auto, unfolding(crate::specs::Arithmetic::arithmetic_of))]
 pub fn arithmetic(operation: Operation, a: u8, operand: u8, f: u8) -> Outcome
     ensures { result ≡ arithmetic_of operation a operand f }
@@ -152,7 +152,7 @@ pub fn arithmetic(operation: Operation, a: u8, operand: u8, f: u8) -> Outcome
 }
 
 /// A byte and F after INC.
-#[inline]
+#[inline(always)]
 #[tactic(auto, unfolding(crate::specs::Arithmetic::increment_of))]
 pub fn increment(byte: u8, f: u8) -> Outcome
     ensures { result ≡ increment_of byte f }
@@ -173,7 +173,7 @@ pub fn increment(byte: u8, f: u8) -> Outcome
 }
 
 /// A byte and F after DEC.
-#[inline]
+#[inline(always)]
 #[tactic(auto, unfolding(crate::specs::Arithmetic::decrement_of))]
 pub fn decrement(byte: u8, f: u8) -> Outcome
     ensures { result ≡ decrement_of byte f }

@@ -82,7 +82,7 @@ impl Flags {
     }
 
     /// The byte F with these flags, and with bits 5 and 3 of the byte F before.
-    #[inline]
+    #[inline(always)]
     pub fn byte(self, before: u8) -> u8
         ensures { result ≡ byte_of self before }
     {

@@ -1,9 +1,11 @@
 //! A bus of memory and ports alone.
 
 ghost use Rattle.std.specs.Prelude.{◌≡◌, ◌+◌, ◌<◌, ◌≤◌, ℕ, IfOk, length, slice_index};
+ghost use Rattle.std.specs.Int.{to_le_bytes, w32};
+ghost use Rattle.pac_bus.specs.Reads.{four_from};
 ghost use Rattle.pac_bus.specs.Flat.{Cells, byte_at, input_at, after, loaded, IsBlank};
 
-use crate::Bus;
+use crate::{Bus, packed};
 use std::alloc::{AllocError, Global};
 use std::marker::Model;
 
@@ -52,6 +54,34 @@ impl Flat {
     }
 }
 
+/// The four bytes from an address on, packed, one by one.
+#[cold]
+#[inline(never)]
+fn read_each(flat: &Flat, address: u16) -> u32
+    ensures { to_le_bytes w32 result ≡ four_from (byte_at flat.now) address }
+{
+    packed([
+        flat.read(address),
+        flat.read(address.wrapping_add(1)),
+        flat.read(address.wrapping_add(2)),
+        flat.read(address.wrapping_add(3)),
+    ])
+}
+
+/// The four bytes from an address on, packed: at once where none lies past the end.
+#[inline(always)]
+fn four_at(flat: &Flat, address: u16) -> u32
+    ensures { to_le_bytes w32 result ≡ four_from (byte_at flat.now) address }
+{
+    let at = usize::from(address);
+    if at < 0xFFFD {
+        let memory = &flat.memory;
+        packed([memory[at], memory[at + 1], memory[at + 2], memory[at + 3]])
+    } else {
+        read_each(flat, address)
+    }
+}
+
 impl Bus for Flat {
     ghost byte_at = { byte_at };
 
@@ -62,6 +92,12 @@ impl Bus for Flat {
     #[inline(always)]
     fn read(&self, address: u16) -> u8 {
         self.memory[address as usize]
+    }
+
+    /// The four bytes from the address on.
+    #[inline(always)]
+    fn read_four(&self, address: u16) -> [u8; 4] {
+        four_at(self, address).to_le_bytes()
     }
 
     #[inline(always)]

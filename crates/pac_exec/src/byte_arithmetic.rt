@@ -11,7 +11,7 @@ use pac_bus::Bus;
 use pac_table::{ByteArithmetic, Instr, Place};
 
 /// Puts what an operation leaves into A and F; the instruction's time.
-#[inline]
+#[inline(always)]
 pub fn put_in_accumulator(outcome: Outcome, instr: &Instr, regs: &mut Regs) -> u8
     ensures { DidInRegisters (in_accumulator outcome instr.now regs.old) regs.new result }
 {
@@ -21,6 +21,7 @@ pub fn put_in_accumulator(outcome: Outcome, instr: &Instr, regs: &mut Regs) -> u
 }
 
 /// Puts what an operation leaves into a place and F; the instruction's time.
+#[inline(always)]
 pub fn put_in_place<B: Bus>(
     outcome: Outcome,
     place: Place,
@@ -36,6 +37,7 @@ pub fn put_in_place<B: Bus>(
 }
 
 /// ADD, ADC, SUB, SBC, AND, XOR, OR and CP.
+#[inline(always)]
 fn alu<B: Bus>(place: Place, instr: &Instr, regs: &mut Regs, bus: &B) -> u8
     ensures { DidInRegisters (alu_transition place instr.now regs.old (B.byte_at bus.now)) regs.new result }
 {
@@ -46,6 +48,7 @@ fn alu<B: Bus>(place: Place, instr: &Instr, regs: &mut Regs, bus: &B) -> u8
 }
 
 /// INC of a byte.
+#[inline(always)]
 fn increment<B: Bus>(place: Place, instr: &Instr, regs: &mut Regs, bus: &mut B) -> u8
     ensures { Did B.after (increment_transition place instr.now regs.old (B.byte_at bus.old)) bus.old regs.new bus.new result }
 {
@@ -54,6 +57,7 @@ fn increment<B: Bus>(place: Place, instr: &Instr, regs: &mut Regs, bus: &mut B) 
 }
 
 /// DEC of a byte.
+#[inline(always)]
 fn decrement<B: Bus>(place: Place, instr: &Instr, regs: &mut Regs, bus: &mut B) -> u8
     ensures { Did B.after (decrement_transition place instr.now regs.old (B.byte_at bus.old)) bus.old regs.new bus.new result }
 {
@@ -62,6 +66,7 @@ fn decrement<B: Bus>(place: Place, instr: &Instr, regs: &mut Regs, bus: &mut B) 
 }
 
 /// DAA.
+#[inline(always)]
 fn decimal_adjust(instr: &Instr, regs: &mut Regs) -> u8
     ensures { DidInRegisters (decimal_adjust_transition instr.now regs.old) regs.new result }
 {
@@ -70,6 +75,7 @@ fn decimal_adjust(instr: &Instr, regs: &mut Regs) -> u8
 }
 
 /// CPL.
+#[inline(always)]
 fn complement(instr: &Instr, regs: &mut Regs) -> u8
     ensures { DidInRegisters (complement_transition instr.now regs.old) regs.new result }
 {
@@ -78,6 +84,7 @@ fn complement(instr: &Instr, regs: &mut Regs) -> u8
 }
 
 /// NEG.
+#[inline(always)]
 fn negate(instr: &Instr, regs: &mut Regs) -> u8
     ensures { DidInRegisters (negate_transition instr.now regs.old) regs.new result }
 {
@@ -86,6 +93,7 @@ fn negate(instr: &Instr, regs: &mut Regs) -> u8
 }
 
 /// SCF.
+#[inline(always)]
 fn set_carry(instr: &Instr, regs: &mut Regs) -> u8
     ensures { DidInRegisters (set_carry_transition instr.now regs.old) regs.new result }
 {
@@ -94,6 +102,7 @@ fn set_carry(instr: &Instr, regs: &mut Regs) -> u8
 }
 
 /// CCF.
+#[inline(always)]
 fn complement_carry(instr: &Instr, regs: &mut Regs) -> u8
     ensures { DidInRegisters (complement_carry_transition instr.now regs.old) regs.new result }
 {
@@ -102,6 +111,7 @@ fn complement_carry(instr: &Instr, regs: &mut Regs) -> u8
 }
 
 /// Arithmetic of a byte, by its function; the time in T-states.
+#[inline(always)]
 #[tactic(auto, unfolding(crate::specs::ByteArithmetic::byte_arithmetic_effect))]
 pub fn perform_byte_arithmetic<B: Bus>(
     with: ByteArithmetic,

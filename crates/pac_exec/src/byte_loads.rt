@@ -10,7 +10,8 @@ use pac_bus::Bus;
 use pac_table::{ByteLoad, Instr, Place};
 
 /// LD of a byte; its time in T-states.
-fn load<B: Bus>(to: Place, from: Place, instr: &Instr, regs: &mut Regs, bus: &mut B) -> u8
+#[inline(always)]
+pub fn load<B: Bus>(to: Place, from: Place, instr: &Instr, regs: &mut Regs, bus: &mut B) -> u8
     ensures { Did B.after (load_transition to from instr.now regs.old (B.byte_at bus.old)) bus.old regs.new bus.new result }
 {
     let byte = get(from, instr, regs, bus);

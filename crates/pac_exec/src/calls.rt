@@ -11,6 +11,7 @@ use pac_bus::Bus;
 use pac_table::Instr;
 
 /// Pushes PC and goes to an address.
+#[inline(always)]
 fn call_address<B: Bus>(address: u16, instr: &Instr, regs: &mut Regs, bus: &mut B) -> u8
     ensures { Did B.after (called address instr.now regs.old) bus.old regs.new bus.new result }
 {
@@ -20,6 +21,7 @@ fn call_address<B: Bus>(address: u16, instr: &Instr, regs: &mut Regs, bus: &mut 
 }
 
 /// CALL nn.
+#[inline(always)]
 fn call<B: Bus>(instr: &Instr, regs: &mut Regs, bus: &mut B) -> u8
     ensures { Did B.after (call_transition instr.now regs.old) bus.old regs.new bus.new result }
 {
@@ -27,6 +29,7 @@ fn call<B: Bus>(instr: &Instr, regs: &mut Regs, bus: &mut B) -> u8
 }
 
 /// CALL cc,nn.
+#[inline(always)]
 fn call_if<B: Bus>(instr: &Instr, regs: &mut Regs, bus: &mut B) -> u8
     ensures { Did B.after (call_if_transition instr.now regs.old) bus.old regs.new bus.new result }
 {
@@ -38,6 +41,7 @@ fn call_if<B: Bus>(instr: &Instr, regs: &mut Regs, bus: &mut B) -> u8
 }
 
 /// RST p.
+#[inline(always)]
 fn restart<B: Bus>(instr: &Instr, regs: &mut Regs, bus: &mut B) -> u8
     ensures { Did B.after (restart_transition instr.now regs.old) bus.old regs.new bus.new result }
 {
@@ -45,6 +49,7 @@ fn restart<B: Bus>(instr: &Instr, regs: &mut Regs, bus: &mut B) -> u8
 }
 
 /// RET.
+#[inline(always)]
 fn return_to_caller<B: Bus>(instr: &Instr, regs: &mut Regs, bus: &B) -> u8
     ensures { DidInRegisters (return_transition instr.now regs.old (B.byte_at bus.now)) regs.new result }
 {
@@ -53,6 +58,7 @@ fn return_to_caller<B: Bus>(instr: &Instr, regs: &mut Regs, bus: &B) -> u8
 }
 
 /// RET cc.
+#[inline(always)]
 fn return_if<B: Bus>(instr: &Instr, regs: &mut Regs, bus: &B) -> u8
     ensures { DidInRegisters (return_if_transition instr.now regs.old (B.byte_at bus.now)) regs.new result }
 {
@@ -64,6 +70,7 @@ fn return_if<B: Bus>(instr: &Instr, regs: &mut Regs, bus: &B) -> u8
 }
 
 /// RETI: in this profile both interrupt flip-flops stay.
+#[inline(always)]
 fn return_from_interrupt<B: Bus>(instr: &Instr, regs: &mut Regs, bus: &B) -> u8
     ensures { DidInRegisters (return_from_interrupt_transition instr.now regs.old (B.byte_at bus.now)) regs.new result }
 {
@@ -71,6 +78,7 @@ fn return_from_interrupt<B: Bus>(instr: &Instr, regs: &mut Regs, bus: &B) -> u8
 }
 
 /// RETN: IFF1 becomes IFF2.
+#[inline(always)]
 fn return_from_non_maskable<B: Bus>(instr: &Instr, regs: &mut Regs, bus: &B) -> u8
     ensures { DidInRegisters (return_from_non_maskable_transition instr.now regs.old (B.byte_at bus.now)) regs.new result }
 {
@@ -79,6 +87,7 @@ fn return_from_non_maskable<B: Bus>(instr: &Instr, regs: &mut Regs, bus: &B) -> 
 }
 
 /// A call, a return or a restart, by its function; the time in T-states.
+#[inline(always)]
 #[tactic(auto, unfolding(crate::specs::Calls::call_effect))]
 pub fn perform_call<B: Bus>(
     with: pac_table::Call,

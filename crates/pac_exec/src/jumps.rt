@@ -12,7 +12,7 @@ use pac_alu::Condition;
 use pac_table::{Instr, Pair};
 
 /// Whether the condition in an instruction's first field is met.
-#[inline]
+#[inline(always)]
 pub fn meets_condition(instr: &Instr, regs: &Regs) -> bool
     ensures { result ≡ is_met (condition_of instr.now.p) regs.now.f }
 {
@@ -20,7 +20,7 @@ pub fn meets_condition(instr: &Instr, regs: &Regs) -> bool
 }
 
 /// JP nn.
-#[inline]
+#[inline(always)]
 fn jump(instr: &Instr, regs: &mut Regs) -> u8
     ensures { DidInRegisters (jump_transition instr.now regs.old) regs.new result }
 {
@@ -29,6 +29,7 @@ fn jump(instr: &Instr, regs: &mut Regs) -> u8
 }
 
 /// JP cc,nn.
+#[inline(always)]
 fn jump_if(instr: &Instr, regs: &mut Regs) -> u8
     ensures { DidInRegisters (jump_if_transition instr.now regs.old) regs.new result }
 {
@@ -40,6 +41,7 @@ fn jump_if(instr: &Instr, regs: &mut Regs) -> u8
 }
 
 /// JP (HL).
+#[inline(always)]
 fn jump_to_pair(pair: Pair, instr: &Instr, regs: &mut Regs) -> u8
     ensures { DidInRegisters (jump_to_pair_transition pair instr.now regs.old) regs.new result }
 {
@@ -48,6 +50,7 @@ fn jump_to_pair(pair: Pair, instr: &Instr, regs: &mut Regs) -> u8
 }
 
 /// JR e.
+#[inline(always)]
 fn jump_relative(instr: &Instr, regs: &mut Regs) -> u8
     ensures { DidInRegisters (jump_relative_transition instr.now regs.old) regs.new result }
 {
@@ -56,6 +59,7 @@ fn jump_relative(instr: &Instr, regs: &mut Regs) -> u8
 }
 
 /// JR cc,e.
+#[inline(always)]
 fn jump_relative_if(instr: &Instr, regs: &mut Regs) -> u8
     ensures { DidInRegisters (jump_relative_if_transition instr.now regs.old) regs.new result }
 {
@@ -67,6 +71,7 @@ fn jump_relative_if(instr: &Instr, regs: &mut Regs) -> u8
 }
 
 /// DJNZ e.
+#[inline(always)]
 fn decrement_and_jump(instr: &Instr, regs: &mut Regs) -> u8
     ensures { DidInRegisters (decrement_and_jump_transition instr.now regs.old) regs.new result }
 {
@@ -79,6 +84,7 @@ fn decrement_and_jump(instr: &Instr, regs: &mut Regs) -> u8
 }
 
 /// A jump, by its function; the time in T-states.
+#[inline(always)]
 #[tactic(auto, unfolding(crate::specs::Jumps::jump_effect))]
 pub fn perform_jump(with: pac_table::Jump, instr: &Instr, regs: &mut Regs) -> u8
     ensures { DidInRegisters (jump_effect with instr.now regs.old) regs.new result }

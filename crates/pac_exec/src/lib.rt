@@ -20,6 +20,6 @@ mod special_loads;
 mod word_arithmetic;
 mod word_loads;
 
-pub use instructions::perform;
+pub use instructions::{perform, perform_inlined};
 pub use pairs::push_word;
 pub use regs::{Alternate, Regs, displaced};

@@ -18,7 +18,7 @@ pub fn read_word<B: Bus>(address: u16, bus: &B) -> u16
 }
 
 /// The register of 16 bits that an instruction speaks of.
-#[inline]
+#[inline(always)]
 pub fn get_pair(pair: Pair, instr: &Instr, regs: &Regs) -> u16
     ensures { result ≡ pairs.pair_value pair instr.now regs.now }
 {
@@ -31,7 +31,7 @@ pub fn get_pair(pair: Pair, instr: &Instr, regs: &Regs) -> u16
 }
 
 /// Puts a word into the register of 16 bits that an instruction speaks of.
-#[inline]
+#[inline(always)]
 pub fn set_pair(pair: Pair, word: u16, instr: &Instr, regs: &mut Regs)
     ensures { regs.new ≡ pairs.with_pair pair instr.now regs.old word }
 {
@@ -44,7 +44,7 @@ pub fn set_pair(pair: Pair, word: u16, instr: &Instr, regs: &mut Regs)
 }
 
 /// The register that PUSH speaks of: 3 is AF.
-#[inline]
+#[inline(always)]
 pub fn get_stack_pair(pair: Pair, instr: &Instr, regs: &Regs) -> u16
     ensures { result ≡ pairs.stack_pair_value pair instr.now regs.now }
 {
@@ -55,7 +55,7 @@ pub fn get_stack_pair(pair: Pair, instr: &Instr, regs: &Regs) -> u16
 }
 
 /// Puts a word into the register that POP speaks of: 3 is AF.
-#[inline]
+#[inline(always)]
 pub fn set_stack_pair(pair: Pair, word: u16, instr: &Instr, regs: &mut Regs)
     ensures { regs.new ≡ pairs.with_stack_pair pair instr.now regs.old word }
 {

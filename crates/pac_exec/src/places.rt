@@ -10,7 +10,7 @@ use pac_bus::Bus;
 use pac_table::{Instr, Place};
 
 /// The byte that a place gives.
-#[inline]
+#[inline(always)]
 pub(crate) fn get<B: Bus>(place: Place, instr: &Instr, regs: &Regs, bus: &B) -> u8
     ensures { result ≡ source place instr.now regs.now (B.byte_at bus.now) }
 {
@@ -29,7 +29,7 @@ pub(crate) fn get<B: Bus>(place: Place, instr: &Instr, regs: &Regs, bus: &B) -> 
 }
 
 /// Brings a byte to a place.
-#[inline]
+#[inline(always)]
 pub(crate) fn put<B: Bus>(place: Place, byte: u8, instr: &Instr, regs: &mut Regs, bus: &mut B)
     ensures regs { regs.new ≡ regs_with place instr.now regs.old byte }
     ensures bus { bus.new ≡ after_all B.after bus.old (writes_to place instr.now regs.old byte) }

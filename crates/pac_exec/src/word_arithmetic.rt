@@ -13,6 +13,7 @@ use pac_alu::{
 use pac_table::{Instr, Pair, WordArithmetic};
 
 /// The pair that ADD HL,ss and ADD IX,pp add: 2 names the sum's own register.
+#[inline(always)]
 fn addend_of(pair: Pair, instr: &Instr, regs: &Regs) -> u16
     ensures { result ≡ addend pair instr.now regs.now }
 {
@@ -24,7 +25,7 @@ fn addend_of(pair: Pair, instr: &Instr, regs: &Regs) -> u16
 }
 
 /// Puts what an operation leaves into a pair and F; the instruction's time.
-#[inline]
+#[inline(always)]
 fn put_in_pair(outcome: WordOutcome, pair: Pair, instr: &Instr, regs: &mut Regs) -> u8
     ensures { DidInRegisters (in_pair outcome pair instr.now regs.old) regs.new result }
 {
@@ -34,6 +35,7 @@ fn put_in_pair(outcome: WordOutcome, pair: Pair, instr: &Instr, regs: &mut Regs)
 }
 
 /// ADD HL,ss and ADD IX,pp.
+#[inline(always)]
 fn add_pair(pair: Pair, instr: &Instr, regs: &mut Regs) -> u8
     ensures { DidInRegisters (add_pair_transition pair instr.now regs.old) regs.new result }
 {
@@ -46,6 +48,7 @@ fn add_pair(pair: Pair, instr: &Instr, regs: &mut Regs) -> u8
 }
 
 /// ADC HL,ss.
+#[inline(always)]
 fn add_pair_with_carry(instr: &Instr, regs: &mut Regs) -> u8
     ensures { DidInRegisters (add_pair_with_carry_transition instr.now regs.old) regs.new result }
 {
@@ -54,6 +57,7 @@ fn add_pair_with_carry(instr: &Instr, regs: &mut Regs) -> u8
 }
 
 /// SBC HL,ss.
+#[inline(always)]
 fn subtract_pair_with_carry(instr: &Instr, regs: &mut Regs) -> u8
     ensures { DidInRegisters (subtract_pair_with_carry_transition instr.now regs.old) regs.new result }
 {
@@ -62,6 +66,7 @@ fn subtract_pair_with_carry(instr: &Instr, regs: &mut Regs) -> u8
 }
 
 /// INC of a pair.
+#[inline(always)]
 fn increment_pair(pair: Pair, instr: &Instr, regs: &mut Regs) -> u8
     ensures { DidInRegisters (increment_pair_transition pair instr.now regs.old) regs.new result }
 {
@@ -71,6 +76,7 @@ fn increment_pair(pair: Pair, instr: &Instr, regs: &mut Regs) -> u8
 }
 
 /// DEC of a pair.
+#[inline(always)]
 fn decrement_pair(pair: Pair, instr: &Instr, regs: &mut Regs) -> u8
     ensures { DidInRegisters (decrement_pair_transition pair instr.now regs.old) regs.new result }
 {
@@ -80,6 +86,7 @@ fn decrement_pair(pair: Pair, instr: &Instr, regs: &mut Regs) -> u8
 }
 
 /// Arithmetic of a word, by its function; the time in T-states.
+#[inline(always)]
 #[tactic(auto, unfolding(crate::specs::WordArithmetic::word_arithmetic_effect))]
 pub fn perform_word_arithmetic(with: WordArithmetic, instr: &Instr, regs: &mut Regs) -> u8
     ensures { DidInRegisters (word_arithmetic_effect with instr.now regs.old) regs.new result }

@@ -12,6 +12,7 @@ use pac_num::{high_byte, low_byte, offset};
 use pac_table::{Instr, Pair, WordLoad};
 
 /// LD dd,nn.
+#[inline(always)]
 fn load_pair(pair: Pair, instr: &Instr, regs: &mut Regs) -> u8
     ensures { DidInRegisters (load_pair_transition pair instr.now regs.old) regs.new result }
 {
@@ -20,6 +21,7 @@ fn load_pair(pair: Pair, instr: &Instr, regs: &mut Regs) -> u8
 }
 
 /// LD dd,(nn).
+#[inline(always)]
 fn load_pair_from_memory<B: Bus>(pair: Pair, instr: &Instr, regs: &mut Regs, bus: &B) -> u8
     ensures { DidInRegisters (load_pair_from_memory_transition pair instr.now regs.old (B.byte_at bus.now)) regs.new result }
 {
@@ -29,6 +31,7 @@ fn load_pair_from_memory<B: Bus>(pair: Pair, instr: &Instr, regs: &mut Regs, bus
 }
 
 /// LD (nn),dd.
+#[inline(always)]
 fn store_pair<B: Bus>(pair: Pair, instr: &Instr, regs: &Regs, bus: &mut B) -> u8
     ensures { Did B.after (store_pair_transition pair instr.now regs.now) bus.old regs.now bus.new result }
 {
@@ -39,6 +42,7 @@ fn store_pair<B: Bus>(pair: Pair, instr: &Instr, regs: &Regs, bus: &mut B) -> u8
 }
 
 /// LD SP,HL.
+#[inline(always)]
 fn load_stack_pointer(pair: Pair, instr: &Instr, regs: &mut Regs) -> u8
     ensures { DidInRegisters (load_stack_pointer_transition pair instr.now regs.old) regs.new result }
 {
@@ -47,6 +51,7 @@ fn load_stack_pointer(pair: Pair, instr: &Instr, regs: &mut Regs) -> u8
 }
 
 /// PUSH.
+#[inline(always)]
 fn push<B: Bus>(pair: Pair, instr: &Instr, regs: &mut Regs, bus: &mut B) -> u8
     ensures { Did B.after (push_transition pair instr.now regs.old) bus.old regs.new bus.new result }
 {
@@ -56,6 +61,7 @@ fn push<B: Bus>(pair: Pair, instr: &Instr, regs: &mut Regs, bus: &mut B) -> u8
 }
 
 /// POP.
+#[inline(always)]
 fn pop<B: Bus>(pair: Pair, instr: &Instr, regs: &mut Regs, bus: &B) -> u8
     ensures { DidInRegisters (pop_transition pair instr.now regs.old (B.byte_at bus.now)) regs.new result }
 {
@@ -65,6 +71,7 @@ fn pop<B: Bus>(pair: Pair, instr: &Instr, regs: &mut Regs, bus: &B) -> u8
 }
 
 /// A load of a word, PUSH or POP, by its function; the time in T-states.
+#[inline(always)]
 #[tactic(auto, unfolding(crate::specs::WordLoads::word_load_effect))]
 pub fn perform_word_load<B: Bus>(with: WordLoad, instr: &Instr, regs: &mut Regs, bus: &mut B) -> u8
     ensures { Did B.after (word_load_effect with instr.now regs.old (B.byte_at bus.old)) bus.old regs.new bus.new result }
