@@ -53,8 +53,9 @@ fn pair(pairs: &[Pair; 256], left: u8, right: u8) -> Pair
     pairs[16 * left as usize + right as usize]
 }
 
-/// Puts the pixels of a line, two at a time: the two bytes more of a pair are written over by the next one.
-#[inline(always)]
+/// Puts the pixels of a line, two at a time: the two bytes more of a pair are written over by the next one. It stands
+/// by itself, so that the table's place is kept in a register.
+#[inline(never)]
 fn colour_line(pairs: &[Pair; 256], line: &[u8], out: &mut [u8; LINE + 2])
     requires size { length line.now ≡ tile.width }
     requires below { EachIndex line.now (λ x. slice_index line.now x < colours) }
@@ -77,7 +78,9 @@ fn append_line(image: &mut Vec<u8>, pixels: &[u8; LINE + 2])
     image.extend_from_slice(&pixels[..LINE]).unwrap();
 }
 
-/// Puts the image of a picture in place of what a buffer holds that has room for it.
+/// Puts the image of a picture in place of what a buffer holds that has room for it. It stands by itself, so that who
+/// offers a sample pays nothing for its tables.
+#[inline(never)]
 fn draw(image: &mut Vec<u8>, picture: &Picture)
     requires { image_size ≤ vec_capacity image.old }
     ensures image { image.new.items ≡ ppm_of picture.now.lines picture.now.palette }
