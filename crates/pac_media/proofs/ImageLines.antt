@@ -1,6 +1,7 @@
 -- An image, line by line.
 use Rattle.std.proofs.Common.{◌≡◌, ℕ, zero, suc, ◌+◌, ◌*◌, ◌/◌, ◌%◌, ◌<◌, ◌≤◌, List, [], ◌∷◌, ◌++◌, length, take, get_or, slice_index}
-use Rattle.std.proofs.Common.{◌≢◌, ap, sym, ◌∙◌, refl, arith, append_assoc, add-one, set, below_more, get_or-set_other, get_or-set_same, EachIndex}
+use Rattle.std.proofs.Common.{◌≢◌, ap, sym, ◌∙◌, refl, arith, append_assoc, add-one, EachIndex}
+use Rattle.std.proofs.Common.{set, below_more, get_or-set_other, get_or-set_same}
 use Rattle.std.proofs.Math.Seq.{take-append-add}
 use Rattle.std.proofs.lemmas.List.{take_more, take_all, take-take, length-take-le, flat_map_more}
 use Rattle.std.proofs.lemmas.Slice.{take-put_mid}
@@ -14,7 +15,8 @@ abbrev pub ArePairs : List (List ℕ) → List (List ℕ) → Type 0
 ArePairs palette pairs = (number : ℕ) → number < 256 → take 6 (get_or pairs number []) ≡ pair_in palette number
 
 -- one pair more
-pub pair-step : (pairs : List (List ℕ)) (value : ℕ → List ℕ) (place : ℕ) (next : List ℕ) → place < length pairs → take 6 next ≡ value place →
+pub pair-step : (pairs : List (List ℕ)) (value : ℕ → List ℕ) (place : ℕ) (next : List ℕ) →
+    place < length pairs → take 6 next ≡ value place →
     ((k : ℕ) → k < place → take 6 (get_or pairs k []) ≡ value k) →
     (k : ℕ) → k < place + 1 → take 6 (get_or (set pairs place next) k []) ≡ value k
 pair-step pairs value place next inside is so_far =

@@ -1,6 +1,7 @@
 //! The image of a picture, in the binary PPM format.
 
-ghost use Rattle.std.specs.Prelude.{◌≡◌, ◌<◌, ◌≤◌, ◌++◌, [], length, slice_index, slice_index_or, take, ℕ, ◌+◌, ◌*◌, vec_len, vec_capacity, EachIndex, IfOk};
+ghost use Rattle.std.specs.Prelude.{◌≡◌, ◌<◌, ◌≤◌, ◌++◌, ◌+◌, ◌*◌, ℕ, [], length, slice_index, slice_index_or, take};
+ghost use Rattle.std.specs.Prelude.{vec_len, vec_capacity, EachIndex, IfOk};
 ghost use Rattle.std.specs.List.{flat_map};
 ghost use Rattle.pac_tiles.specs.Tabulate.{tabulate};
 ghost use Rattle.pac_tiles.specs.Tiles as tile;

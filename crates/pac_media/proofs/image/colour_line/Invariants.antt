@@ -1,4 +1,4 @@
-use Rattle.std.proofs.Common.{◌≡◌, ◌*◌, ◌+◌, [], length, get_or, take}
+use Rattle.std.proofs.Common.{◌≡◌, ◌*◌, [], length, get_or, take}
 use Rattle.std.specs.List.{flat_map}
 use Rattle.pac_tiles.specs.Tabulate.{tabulate}
 use Rattle.pac_media.specs.Images.{number_at}
