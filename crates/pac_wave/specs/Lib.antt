@@ -1,2 +1,3 @@
 pub mod Wave
 pub mod Sums
+pub mod Settings

@@ -6,7 +6,9 @@ ghost use Rattle.pac_wave.specs.Wave.{Fit20Bits, power_on, of_list};
 ghost use Rattle.pac_wave.specs.Wave as spec;
 
 pub mod laws;
+mod settings;
 
+use settings::Settings;
 use std::marker::Model;
 
 /// One of the wave generator's voices.
@@ -20,12 +22,14 @@ pub enum Voice {
     Third,
 }
 
-/// The wave generator's accumulators, 20 bits for each voice (Namco Pac-Man service schematics).
+/// The wave generator's accumulators, 20 bits for each voice (Namco Pac-Man service schematics), and what the registers said
+/// last.
 #[derive(Drop)]
 pub struct Wave {
     first: u32,
     second: u32,
     third: u32,
+    settings: Settings,
 }
 
 impl Model for Wave {
@@ -38,112 +42,15 @@ impl Model for Wave {
     ghost invariant = { λ wave. Fit20Bits (record { first = wave.first; second = wave.second; third = wave.third }) };
 }
 
-/// What a register holds: its low four bits.
-#[inline]
-fn register(registers: &[u8; 32], place: usize) -> u8
-    requires { place < 32 }
-    ensures register { result ≡ spec.register registers.now place }
-    ensures below { result < 16 }
-{
-    registers[place] % 16
-}
-
-/// The number of a voice's waveform, 0 to 7.
-#[inline]
-fn waveform(registers: &[u8; 32], voice: Voice) -> u8
-    ensures waveform { result ≡ spec.waveform registers.now voice }
-    ensures below { result < 8 }
-{
-    match voice {
-        Voice::First => register(registers, 0x05) % 8,
-        Voice::Second => register(registers, 0x0A) % 8,
-        Voice::Third => register(registers, 0x0F) % 8,
-    }
-}
-
-/// A voice's volume, 0 to 15.
-#[inline]
-fn volume(registers: &[u8; 32], voice: Voice) -> u8
-    ensures volume { result ≡ spec.volume registers.now voice }
-    ensures below { result < 16 }
-{
-    match voice {
-        Voice::First => register(registers, 0x15),
-        Voice::Second => register(registers, 0x1A),
-        Voice::Third => register(registers, 0x1F),
-    }
-}
-
-/// Five digits of four bits as one number, the lowest first.
-#[inline]
-fn digits(a: u8, b: u8, c: u8, d: u8, e: u8) -> u32
-    requires a { a < 16 }
-    requires b { b < 16 }
-    requires c { c < 16 }
-    requires d { d < 16 }
-    requires e { e < 16 }
-    ensures digits { result ≡ spec.digits a b c d e }
-    ensures below { result < spec.accumulator_range }
-{
-    u32::from(a)
-        + 16 * u32::from(b)
-        + 256 * u32::from(c)
-        + 4096 * u32::from(d)
-        + 65536 * u32::from(e)
-}
-
-/// A voice's frequency, 20 bits.
-#[inline]
-fn frequency(registers: &[u8; 32], voice: Voice) -> u32
-    ensures frequency { result ≡ spec.frequency registers.now voice }
-    ensures below { result < spec.accumulator_range }
-{
-    match voice {
-        Voice::First => digits(
-            register(registers, 0x10),
-            register(registers, 0x11),
-            register(registers, 0x12),
-            register(registers, 0x13),
-            register(registers, 0x14),
-        ),
-        Voice::Second => digits(
-            0,
-            register(registers, 0x16),
-            register(registers, 0x17),
-            register(registers, 0x18),
-            register(registers, 0x19),
-        ),
-        Voice::Third => digits(
-            0,
-            register(registers, 0x1B),
-            register(registers, 0x1C),
-            register(registers, 0x1D),
-            register(registers, 0x1E),
-        ),
-    }
-}
-
 /// A sample of a waveform, 0 to 15, about its middle 8 and at a volume.
 #[inline]
-fn amplified(sample: u8, volume: u8) -> i16
+pub(crate) fn amplified(sample: u8, volume: u8) -> i16
     requires sample { sample < 16 }
     requires volume { volume < 16 }
     ensures amplified { result ≡ spec.amplified sample volume }
     ensures within { spec.IsLevel result }
 {
     (i16::from(sample) - 8) * i16::from(volume)
-}
-
-/// What a voice puts into the sound, from the wave PROM's 256 bytes.
-#[inline]
-fn level(prom: &[u8], registers: &[u8; 32], voice: Voice, accumulator: u32) -> i16
-    requires prom { length prom.now ≡ spec.prom_size }
-    requires accumulator { accumulator < spec.accumulator_range }
-    ensures level { result ≡ spec.level prom.now registers.now voice accumulator }
-    ensures within { spec.IsLevel result }
-{
-    let place = 32 * usize::from(waveform(registers, voice)) + (accumulator / 32768) as usize;
-    amplified(prom[place] % 16, volume(registers, voice))
 }
 
 /// The sound sample that three voices add up to.
@@ -158,16 +65,6 @@ fn mixed(first: i16, second: i16, third: i16) -> i16
     64 * (first + second + third)
 }
 
-/// An accumulator a sample later.
-#[inline]
-fn grown(registers: &[u8; 32], voice: Voice, accumulator: u32) -> u32
-    requires accumulator { accumulator < spec.accumulator_range }
-    ensures grown { result ≡ spec.grown registers.now voice accumulator }
-    ensures below { result < spec.accumulator_range }
-{
-    (accumulator + frequency(registers, voice)) % 0x10_0000
-}
-
 impl Wave {
     /// All accumulators 0, as at power-on.
     pub fn new() -> Wave
@@ -177,6 +74,7 @@ impl Wave {
             first: 0,
             second: 0,
             third: 0,
+            settings: Settings::of(&[0; 32]),
         }
     }
 
@@ -190,10 +88,11 @@ impl Wave {
             first,
             second,
             third,
+            settings: Settings::of(&[0; 32]),
         }
     }
 
-    /// Becomes what another one is.
+    /// Becomes what another one is. What its registers said isn't taken: the next sample looks at its own.
     #[inline]
     pub fn copy_from(&mut self, other: &Wave)
         ensures { self.new ≡ other.now }
@@ -215,14 +114,16 @@ impl Wave {
         if !on {
             return 0;
         }
+        self.settings.follow(registers);
+        let settings = &self.settings;
         let sample = mixed(
-            level(prom, registers, Voice::First, self.first),
-            level(prom, registers, Voice::Second, self.second),
-            level(prom, registers, Voice::Third, self.third),
+            settings.level(prom, Voice::First, self.first),
+            settings.level(prom, Voice::Second, self.second),
+            settings.level(prom, Voice::Third, self.third),
         );
-        self.first = grown(registers, Voice::First, self.first);
-        self.second = grown(registers, Voice::Second, self.second);
-        self.third = grown(registers, Voice::Third, self.third);
+        self.first = settings.grown(Voice::First, self.first);
+        self.second = settings.grown(Voice::Second, self.second);
+        self.third = settings.grown(Voice::Third, self.third);
         sample
     }
 

@@ -1,5 +1,4 @@
-use Rattle.std.proofs.Common.{◌≡◌, ◌<◌, ◌≤◌, ◌+◌, ◌++◌, length, ap, ◌∙◌, rules, arith, vec_len}
-use Rattle.std.proofs.lemmas.List.{length-map}
+use Rattle.std.proofs.Common.{◌≡◌, ◌<◌, ◌≤◌, ◌++◌, length, take, ap, ◌∙◌, rules, arith}
 use Rattle.std.proofs.lemmas.List.{take_all}
 use Rattle.std.specs.List.{flat_map}
 use Rattle.pac_media.specs.Images.{colour_in, header, ppm_of}
@@ -10,17 +9,13 @@ pub loop-y-preserved : goal.loop-y-preserved
 loop-y-preserved c =
     let high : length c.args.picture.now.lines ≡ 224 = c.row.ensures.picture.high in
     let inside : c.loop-y.y < length c.args.picture.now.lines = omega (arith, high, c.loop-y-test.true) in
-    let pixels : length c.colours_of-line.result ≡ 288 =
-    ap length c.colours_of-line.ensures ∙ (length-map c.row.result.now (colour_in c.palette.result.now) ∙ c.row.ensures.size) in
-    let grown : c.extend_from_slice-in-loop-y.new.self.items ≡ c.loop-y.image.items ++ c.as_flattened.result.now = search rules in
-    let longer : vec_len c.extend_from_slice-in-loop-y.new.self ≡ vec_len c.loop-y.image + length c.as_flattened.result.now =
-    search rules in
+    let made = rw c.palette.ensures.palette at c.pairs_of-pairs.ensures in
     record {
-      drawn = grown ∙ (ap (λ bytes. bytes ++ c.as_flattened.result.now) c.loop-y.invariant.drawn
-          ∙ line-more c.args.picture.now.palette c.args.picture.now.lines c.colours_of-line.result c.palette.result.now c.row.result.now
-          c.as_flattened.result.now c.loop-y.y inside c.palette.ensures.palette c.row.ensures.line c.colours_of-line.ensures
-          c.as_flattened.ensures.value);
-      long = omega (arith, longer, c.loop-y.invariant.long, pixels, c.as_flattened.ensures.len);
+      drawn = c.append_line.ensures.items ∙ (ap (λ bytes. bytes ++ take 864 c.colour_line.new.out) c.loop-y.invariant.drawn
+          ∙ line-more c.args.picture.now.palette c.args.picture.now.lines c.pairs_of-pairs.result c.row.result.now
+          (take 864 c.colour_line.new.out) c.loop-y.y inside made c.row.ensures.line c.row.ensures.size c.row.ensures.below
+          c.colour_line.ensures);
+      long = omega (arith, c.append_line.ensures.len, c.loop-y.invariant.long);
       high = λ _. high;
       room = search rules;
     }

@@ -1,0 +1,206 @@
+//! What the registers say of the voices, told once for as many samples as they stay the same.
+
+ghost use Rattle.std.specs.Prelude.{◌≡◌, ◌<◌, length};
+ghost use Rattle.pac_wave.specs.Settings.{setting_of};
+ghost use Rattle.pac_wave.specs.Wave as spec;
+
+use crate::{Voice, amplified};
+use std::marker::Model;
+
+/// What the registers say of a voice.
+#[derive(Clone, Copy)]
+pub(crate) struct Setting {
+    /// The number of its waveform, 0 to 7.
+    pub(crate) waveform: u8,
+    /// Its volume, 0 to 15.
+    pub(crate) volume: u8,
+    /// Its frequency, 20 bits.
+    pub(crate) frequency: u32,
+}
+
+/// What a register holds: its low four bits.
+#[inline]
+fn register(registers: &[u8; 32], place: usize) -> u8
+    requires { place < 32 }
+    ensures register { result ≡ spec.register registers.now place }
+    ensures below { result < 16 }
+{
+    registers[place] % 16
+}
+
+/// The number of a voice's waveform, 0 to 7.
+#[inline]
+fn waveform(registers: &[u8; 32], voice: Voice) -> u8
+    ensures waveform { result ≡ spec.waveform registers.now voice }
+    ensures below { result < 8 }
+{
+    match voice {
+        Voice::First => register(registers, 0x05) % 8,
+        Voice::Second => register(registers, 0x0A) % 8,
+        Voice::Third => register(registers, 0x0F) % 8,
+    }
+}
+
+/// A voice's volume, 0 to 15.
+#[inline]
+fn volume(registers: &[u8; 32], voice: Voice) -> u8
+    ensures volume { result ≡ spec.volume registers.now voice }
+    ensures below { result < 16 }
+{
+    match voice {
+        Voice::First => register(registers, 0x15),
+        Voice::Second => register(registers, 0x1A),
+        Voice::Third => register(registers, 0x1F),
+    }
+}
+
+/// Five digits of four bits as one number, the lowest first.
+#[inline]
+fn digits(a: u8, b: u8, c: u8, d: u8, e: u8) -> u32
+    requires a { a < 16 }
+    requires b { b < 16 }
+    requires c { c < 16 }
+    requires d { d < 16 }
+    requires e { e < 16 }
+    ensures digits { result ≡ spec.digits a b c d e }
+    ensures below { result < spec.accumulator_range }
+{
+    u32::from(a)
+        + 16 * u32::from(b)
+        + 256 * u32::from(c)
+        + 4096 * u32::from(d)
+        + 65536 * u32::from(e)
+}
+
+/// A voice's frequency, 20 bits.
+#[inline]
+fn frequency(registers: &[u8; 32], voice: Voice) -> u32
+    ensures frequency { result ≡ spec.frequency registers.now voice }
+    ensures below { result < spec.accumulator_range }
+{
+    match voice {
+        Voice::First => digits(
+            register(registers, 0x10),
+            register(registers, 0x11),
+            register(registers, 0x12),
+            register(registers, 0x13),
+            register(registers, 0x14),
+        ),
+        Voice::Second => digits(
+            0,
+            register(registers, 0x16),
+            register(registers, 0x17),
+            register(registers, 0x18),
+            register(registers, 0x19),
+        ),
+        Voice::Third => digits(
+            0,
+            register(registers, 0x1B),
+            register(registers, 0x1C),
+            register(registers, 0x1D),
+            register(registers, 0x1E),
+        ),
+    }
+}
+
+/// What the registers say of a voice.
+fn read_setting(registers: &[u8; 32], voice: Voice) -> Setting
+    ensures { result ≡ setting_of registers.now voice }
+{
+    Setting {
+        waveform: waveform(registers, voice),
+        volume: volume(registers, voice),
+        frequency: frequency(registers, voice),
+    }
+}
+
+/// Registers, with what they say of each voice. Clauses see the registers.
+#[derive(Drop)]
+pub(crate) struct Settings {
+    registers: [u8; 32],
+    first: Setting,
+    second: Setting,
+    third: Setting,
+}
+
+impl Model for Settings {
+    ghost use Rattle.std.specs.Prelude.{ℕ, List, ◌≡◌};
+    ghost use Rattle.pac_wave.specs.declared.Voice.TheVariants.{First, Second, Third};
+    ghost use Rattle.pac_wave.specs.Settings.{setting_of};
+
+    ghost Value = { List ℕ };
+
+    ghost view = { λ settings. settings.registers };
+
+    ghost invariant = { λ settings. record {
+      first : settings.first ≡ setting_of settings.registers First;
+      second : settings.second ≡ setting_of settings.registers Second;
+      third : settings.third ≡ setting_of settings.registers Third;
+    } };
+}
+
+impl Settings {
+    /// Those of registers.
+    pub(crate) fn of(registers: &[u8; 32]) -> Settings
+        ensures { result ≡ registers.now }
+    {
+        Settings {
+            registers: *registers,
+            first: read_setting(registers, Voice::First),
+            second: read_setting(registers, Voice::Second),
+            third: read_setting(registers, Voice::Third),
+        }
+    }
+
+    /// Becomes those of registers, which mostly are the same as before.
+    #[inline]
+    pub(crate) fn follow(&mut self, registers: &[u8; 32])
+        ensures { self.new ≡ registers.now }
+    {
+        if self.registers != *registers {
+            *self = Settings::of(registers);
+        }
+    }
+
+    /// What they say of a voice.
+    #[inline]
+    fn setting(&self, voice: Voice) -> Setting
+        ensures setting { result ≡ setting_of self.now voice }
+        ensures waveform { result.waveform < 8 }
+        ensures volume { result.volume < 16 }
+        ensures frequency { result.frequency < spec.accumulator_range }
+    {
+        match voice {
+            Voice::First => self.first,
+            Voice::Second => self.second,
+            Voice::Third => self.third,
+        }
+    }
+
+    /// What a voice puts into the sound, from the wave PROM's 256 bytes.
+    #[inline]
+    pub(crate) fn level(&self, prom: &[u8], voice: Voice, accumulator: u32) -> i16
+        requires prom { length prom.now ≡ spec.prom_size }
+        requires accumulator { accumulator < spec.accumulator_range }
+        ensures level { result ≡ spec.level prom.now self.now voice accumulator }
+        ensures within { spec.IsLevel result }
+    {
+        let Setting {
+            waveform,
+            volume,
+            ..
+        } = self.setting(voice);
+        let place = 32 * usize::from(waveform) + (accumulator / 32768) as usize;
+        amplified(prom[place] % 16, volume)
+    }
+
+    /// An accumulator a sample later.
+    #[inline]
+    pub(crate) fn grown(&self, voice: Voice, accumulator: u32) -> u32
+        requires accumulator { accumulator < spec.accumulator_range }
+        ensures grown { result ≡ spec.grown self.now voice accumulator }
+        ensures below { result < spec.accumulator_range }
+    {
+        (accumulator + self.setting(voice).frequency) % 0x10_0000
+    }
+}
