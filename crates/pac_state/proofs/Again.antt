@@ -8,7 +8,7 @@ use Rattle.std.specs.Int.{w16, w32, w64, from_le_bytes, cast_signed, cast_unsign
 use Rattle.pac_table.specs.declared.effects.InterruptMode.{InterruptMode}
 use Rattle.pac_table.specs.declared.effects.InterruptMode.TheVariants.{Zero, One, Two}
 use Rattle.pac_exec.specs.declared.regs.Regs.{Regs}
-use Rattle.pac_latch.specs.Latched.{Bits, digit, byte_of, bits_of}
+use Rattle.pac_latch.specs.Latched.{Bits, digit}
 use Rattle.pac_latch.proofs.Bits.{bits_of-byte_of}
 use Rattle.pac_map.specs.View.{View}
 use Rattle.pac_roms.specs.Parts.{Parts}
@@ -64,8 +64,7 @@ same-words regs a b c d e f g h i = rw (a, b, c, d, e, f, g, h, i) refl
 regs-again : (regs : Regs) → AreWords regs → regs_of (processor regs) ≡ regs
 unfolding processor
 regs-again regs words =
-    let bits : bits_of (byte_of (low_bits regs.iff1 regs.iff2 regs.halted regs.after_ei)) ≡ low_bits regs.iff1 regs.iff2 regs.halted regs.after_ei =
-    bits_of-byte_of (low_bits regs.iff1 regs.iff2 regs.halted regs.after_ei) in
+    let bits = bits_of-byte_of (low_bits regs.iff1 regs.iff2 regs.halted regs.after_ei) in
     same-words regs (from_le_bytes-to_le_bytes_2 regs.ix words.ix) (from_le_bytes-to_le_bytes_2 regs.iy words.iy)
     (from_le_bytes-to_le_bytes_2 regs.sp words.sp) (from_le_bytes-to_le_bytes_2 regs.pc words.pc)
     (ap (λ (bits : Bits). bits.interrupt_enable) bits) (ap (λ (bits : Bits). bits.sound_enable) bits) (mode-again regs.mode)
@@ -89,8 +88,9 @@ view switches held tile colour work coordinates registers bits vector request co
   latched = record { bits = bits; vector = vector; request = request; count = count };
 }
 
-same-view : {switches vector count held held' : ℕ} {tile tile' colour colour' work work' coordinates coordinates' registers registers' : List ℕ}
-    {bits bits' : Bits} {request request' : Bool} → held ≡ held' → tile ≡ tile' → colour ≡ colour' → work ≡ work'
+same-view : {switches vector count held held' : ℕ} {tile tile' colour colour' work work' coordinates coordinates' : List ℕ}
+    {registers registers' : List ℕ} {bits bits' : Bits} {request request' : Bool}
+    → held ≡ held' → tile ≡ tile' → colour ≡ colour' → work ≡ work'
     → coordinates ≡ coordinates' → registers ≡ registers' → bits ≡ bits' → request ≡ request'
     → view switches held tile colour work coordinates registers bits vector request count
     ≡ view switches held' tile' colour' work' coordinates' registers' bits' vector request' count
@@ -121,8 +121,7 @@ waiting sample picture = record { sample = sample; picture = picture }
 due-again : (due : Due) → FitsSample due.sample → due_of (text.due due) ≡ due
 unfolding text.due
 due-again due fits =
-    let bits : bits_of (byte_of (low_bits (is_some due.sample) due.picture false false)) ≡ low_bits (is_some due.sample) due.picture false false =
-    bits_of-byte_of (low_bits (is_some due.sample) due.picture false false) in
+    let bits = bits_of-byte_of (low_bits (is_some due.sample) due.picture false false) in
     let first : is_set (slice_index (text.due due) 0) 0 ≡ is_some due.sample = ap (λ (bits : Bits). bits.interrupt_enable) bits in
     let second : is_set (slice_index (text.due due) 0) 1 ≡ due.picture = ap (λ (bits : Bits). bits.sound_enable) bits in
     let sample : sample_of (is_set (slice_index (text.due due) 0) 0) (word_at 1 (text.due due)) ≡ due.sample =

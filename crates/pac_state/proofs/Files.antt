@@ -160,7 +160,8 @@ known-of digest bytes none =
 text-board : (set : Parts) (bytes : List ℕ) (file : IsFile set bytes)
     → brought_up (version_in bytes) (record { set = set; state = state_in bytes; made = 0 }) ≡ board_of set file
 text-board set bytes file =
-    let version : version_in bytes ≡ file.version = ap version_in file.text ∙ text-version file.version set file.state file.known file.is_state in
+    let version : version_in bytes ≡ file.version =
+    ap version_in file.text ∙ text-version file.version set file.state file.known file.is_state in
     let state : state_in bytes ≡ file.state = ap state_in file.text ∙ state-again file.version set file.state file.is_state in
     ap (λ version. brought_up version (record { set = set; state = state_in bytes; made = 0 })) version
     ∙ ap (λ (state : State). brought_up file.version (record { set = set; state = state; made = 0 })) state

@@ -8,7 +8,8 @@ use Rattle.sha1.specs.Sha1.{sha1, digest_bytes}
 use Rattle.pac_map.specs.View.{IsWellFormed}
 use Rattle.pac_picture.specs.State.{IsPicture}
 use Rattle.pac_board.specs.State.{State}
-use Rattle.pac_state.specs.Text.{joined, magic, word, double_word, long_word, head, ram, devices, processor, controls, due, front, body, sealed}
+use Rattle.pac_state.specs.Text.{joined, magic, word, double_word, long_word, head, ram}
+use Rattle.pac_state.specs.Text.{devices, processor, controls, due, front, body, sealed}
 use Rattle.pac_state.specs.Reading.{part, lines_of}
 use Rattle.pac_state.proofs.Pieces.{pieces-more, pieces-split}
 use Rattle.pac_state.proofs.Taken.{tabulated}
@@ -64,7 +65,8 @@ places = 8 ∷ 2 ∷ 20 ∷ 28 ∷ 8 ∷ 8 ∷ 8 ∷ 1024 ∷ 1024 ∷ 1024 ∷ 
 joined-pieces : (version : ℕ) (digest : List ℕ) (state : State) → joined (pieces version digest state) ≡ front version digest state
 joined-pieces version digest state =
     flat_map-append (λ (piece : List ℕ). piece) (head version digest state ++ ram state) (devices state)
-    ∙ ap (λ (text : List ℕ). text ++ joined (devices state)) (flat_map-append (λ (piece : List ℕ). piece) (head version digest state) (ram state))
+    ∙ ap (λ (text : List ℕ). text ++ joined (devices state))
+    (flat_map-append (λ (piece : List ℕ). piece) (head version digest state) (ram state))
 
 widths-are : (version : ℕ) (digest : List ℕ) (state : State) → length digest ≡ 20 → IsWellFormed state.now.board.memory
     → widths (pieces version digest state) ≡ places

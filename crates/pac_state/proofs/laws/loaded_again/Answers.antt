@@ -7,8 +7,9 @@ use Rattle.pac_state.specs.Saved.{Answers}
 use Rattle.pac_state.specs.Files.{IsFile, Accepts, LoadsAgain}
 use Rattle.pac_state.proofs.laws.loaded_again.Goals as goal
 
-loads : (set : Parts) (bytes : List ℕ) (old : BoardValue) (file : IsFile set bytes) → file.version ≡ written_version → file.state ≡ old.state
-    → (result : Result BoardValue LoadRefused) → Answers set bytes result → Accepts set bytes result → LoadsAgain set old result
+loads : (set : Parts) (bytes : List ℕ) (old : BoardValue) (file : IsFile set bytes) → file.version ≡ written_version
+    → file.state ≡ old.state → (result : Result BoardValue LoadRefused)
+    → Answers set bytes result → Accepts set bytes result → LoadsAgain set old result
 loads set bytes old file version state (Ok board) answers accepts = accepts.board file ∙ rw (version, state) refl
 loads set bytes old file version state (Err refused) answers accepts = record { same_set = answers.same_set; fault = accepts file }
 
