@@ -1,6 +1,9 @@
+pub mod Again
 pub mod Bits
+pub mod Files
 pub mod Pieces
 pub mod Read
 pub mod Sealing
 pub mod Taken
 pub mod Whole
+pub mod Written

@@ -25,11 +25,11 @@ part-add at one other bytes =
     ap (λ (rest : List ℕ). part at one bytes ++ take other rest) (sym (drop-drop one at bytes)) ∙ sym (take-add one other (drop at bytes))
 
 -- pieces of these widths from a place on
-cut : ℕ → List ℕ → List ℕ → List (List ℕ)
+unfoldable pub cut : ℕ → List ℕ → List ℕ → List (List ℕ)
 cut at [] bytes = []
 cut at (width ∷ more) bytes = part at width bytes ∷ cut (at + width) more bytes
 
-total : List ℕ → ℕ
+unfoldable pub total : List ℕ → ℕ
 total [] = 0
 total (width ∷ more) = width + total more
 
@@ -39,14 +39,14 @@ joined-cut at [] bytes = refl
 joined-cut at (width ∷ more) bytes =
     ap (λ (rest : List ℕ). part at width bytes ++ rest) (joined-cut (at + width) more bytes) ∙ part-add at width (total more) bytes
 
-length-part : (at width : ℕ) (bytes : List ℕ) → at + width ≤ length bytes → length (part at width bytes) ≡ width
+pub length-part : (at width : ℕ) (bytes : List ℕ) → at + width ≤ length bytes → length (part at width bytes) ≡ width
 length-part at width bytes inside =
     let rest : length (drop at bytes) ≡ length bytes - at = length-drop at bytes in
     let within : width ≤ length (drop at bytes) = omega (arith, rest, inside) in
     length-take-le width (drop at bytes) within
 
 -- each part of bytes is of bytes
-AreBytes : List ℕ → Type 0
+unfoldable pub AreBytes : List ℕ → Type 0
 AreBytes bytes = (i : ℕ) → get_or bytes i 0 < 256
 
 take-bytes : (width : ℕ) (bytes : List ℕ) → AreBytes bytes → AreBytes (take width bytes)
@@ -64,7 +64,7 @@ drop-bytes : (at : ℕ) (bytes : List ℕ) → AreBytes bytes → AreBytes (drop
 unfolding AreBytes
 drop-bytes at bytes fits i = rw (get_or-drop at bytes i 0) (fits (at + i))
 
-part-bytes : (at width : ℕ) (bytes : List ℕ) → AreBytes bytes → AreBytes (part at width bytes)
+pub part-bytes : (at width : ℕ) (bytes : List ℕ) → AreBytes bytes → AreBytes (part at width bytes)
 part-bytes at width bytes fits = take-bytes width (drop at bytes) (drop-bytes at bytes fits)
 
 -- ---- numbers, read and written again

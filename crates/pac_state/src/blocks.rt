@@ -81,7 +81,7 @@ pub(crate) fn processor(regs: &Regs) -> [u8; 28]
 }
 
 /// The mask of inputs.
-fn mask(held: Inputs) -> u16
+pub(crate) fn mask(held: Inputs) -> u16
     ensures { result ≡ inputs.mask held }
 {
     held.bits()

@@ -1,13 +1,17 @@
 //! What holds of files and boards together.
 
 ghost use Rattle.std.specs.Prelude.{◌≡◌, IfOk};
+ghost use Rattle.pac_manifest.specs.Sets.{digest_of};
+ghost use Rattle.pac_state.specs.Files.{IsState, LoadsAgain, StatesAreReadBack, TextsTellStates};
 ghost use Rattle.pac_state.specs.Saved as saved;
 ghost use Rattle.pac_state.specs.Saves.{Saves};
 ghost use Rattle.pac_state.specs.Text as text;
 
 use crate::fault::LoadRefused;
 use crate::loading::load;
+use crate::ranges::in_range;
 use crate::saving::save;
+use pac_board::Board;
 use pac_out::{Out, WriteFault};
 use pac_roms::RomSet;
 use std::alloc::Global;
@@ -24,4 +28,37 @@ pub fn saved_again<W: Out>(
 {
     let board = load(alloc, bytes, set)?;
     Ok(save(&board, out))
+}
+
+/// Reading a state back out of its text gives the state.
+pub fn states_are_read_back()
+    ensures { StatesAreReadBack }
+{}
+
+/// Two states that have one text, with one set, are one state.
+pub fn texts_tell_states()
+    ensures { TextsTellStates }
+{}
+
+/// A board's state is in its ranges.
+pub fn boards_have_states(board: &Board)
+    ensures { IsState board.now.state }
+{
+    in_range(&board.fields());
+}
+
+/// What was saved of a board, loaded with a set that has the digest of its own, is a board with the same state, or there
+/// isn't the memory for it.
+pub fn loaded_again(
+    alloc: Global,
+    board: &Board,
+    bytes: &[u8],
+    set: RomSet,
+) -> Result<Board, LoadRefused>
+    requires saved { bytes.now ≡ text.save_text text.written_version board.now.set board.now.state }
+    requires set { digest_of set ≡ digest_of board.now.set }
+    ensures { LoadsAgain set board.now result }
+{
+    boards_have_states(board);
+    load(alloc, bytes, set)
 }

@@ -6,6 +6,7 @@ mod fault;
 mod header;
 pub mod laws;
 mod loading;
+mod ranges;
 mod reading;
 mod saving;
 

@@ -1,6 +1,7 @@
 //! A board made from a state file.
 
 ghost use Rattle.std.specs.Prelude.{◌≡◌, length};
+ghost use Rattle.pac_state.specs.Files.{Accepts};
 ghost use Rattle.pac_state.specs.Saved as saved;
 ghost use Rattle.pac_manifest.specs.Sets.{digest_of};
 
@@ -66,9 +67,11 @@ fn read(alloc: Global, bytes: &[u8], set: RomSet) -> Result<Board, LoadRefused>
 
 /// The board of a state file, with the ROM set that is handed in. Files of version 1 and 2 are taken; for version 1 the
 /// lines of the picture that have passed since the last blank are composed. Refused with the first of V1, V2, V3, V5, V6
-/// and V4 that is wrong with the file, or for want of memory; the set then comes back.
+/// and V4 that is wrong with the file, or for want of memory; the set then comes back. So exactly the texts of states in
+/// their ranges are taken.
 pub fn load(alloc: Global, bytes: &[u8], set: RomSet) -> Result<Board, LoadRefused>
-    ensures { saved.Answers set bytes.now result }
+    ensures answer { saved.Answers set bytes.now result }
+    ensures files { Accepts set bytes.now result }
 {
     if let Some(fault) = checked(bytes, &set) {
         return Err(LoadRefused { fault, set });

@@ -13,9 +13,9 @@ returns g c =
     let version : version_in c.args.bytes.now ≡ 2 = c.requires in
     let board : BoardValue = record { set = c.args.set; state = state_in c.args.bytes.now; made = 0 } in
     let same : c.in_ok-board.board ≡ board =
-    c.in_ok-board.ensures.board ∙ ap (λ (version : ℕ). brought_up version board) version in
+    c.in_ok-board.ensures.answer.board ∙ ap (λ (version : ℕ). brought_up version board) version in
     subst (λ (text : List ℕ). Saves g.W.Out.took g.W.Out.refused c.args.out.now text c.save.result c.save.new.out)
     (ap (λ (board : BoardValue). save_text 2 board.set board.state) same
     ∙ (ap (λ (version : ℕ). save_text version c.args.set (state_in c.args.bytes.now)) (sym version)
-    ∙ text-of c.args.set c.args.bytes.now fits c.in_ok-board.ensures.sound c.in_ok-board.ensures.text.written))
+    ∙ text-of c.args.set c.args.bytes.now fits c.in_ok-board.ensures.answer.sound c.in_ok-board.ensures.answer.text.written))
     c.save.ensures

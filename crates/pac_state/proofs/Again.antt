@@ -1,0 +1,152 @@
+-- A state that is read back out of its text.
+use Rattle.std.proofs.Common.{◌≡◌, ℕ, ℤ, pos, ◌<◌, ◌^◌, ◌==◌, Bool, true, false, List, Option, Some, None, is_some, unwrap_or}
+use Rattle.std.proofs.Common.{slice_index, refl, ap, ◌∙◌, arith}
+use Rattle.std.proofs.Math.Facts.{Fits-of_z}
+use Rattle.std.proofs.lemmas.Int.{to_z-of_z}
+use Rattle.std.proofs.lemmas.Nat.{from_le_bytes-to_le_bytes_2, from_le_bytes-to_le_bytes_4, from_le_bytes-to_le_bytes_8}
+use Rattle.std.specs.Int.{w16, w32, w64, from_le_bytes, cast_signed, cast_unsigned}
+use Rattle.pac_table.specs.declared.effects.InterruptMode.{InterruptMode}
+use Rattle.pac_table.specs.declared.effects.InterruptMode.TheVariants.{Zero, One, Two}
+use Rattle.pac_exec.specs.declared.regs.Regs.{Regs}
+use Rattle.pac_latch.specs.Latched.{Bits, digit}
+use Rattle.pac_latch.proofs.Bits.{bits_of-byte_of}
+use Rattle.pac_map.specs.View.{View}
+use Rattle.pac_roms.specs.Parts.{Parts}
+use Rattle.pac_manifest.specs.Sets.{digest_of}
+use Rattle.pac_board.specs.declared.due.Due.{Due}
+use Rattle.pac_board.specs.State.{State}
+use Rattle.pac_state.specs.Text.{word, number_of_mode, processor, controls, due, sealed, body, save_text}
+use Rattle.pac_state.specs.Text as text
+use Rattle.pac_state.specs.Reading.{word_at, is_set, mode_of, regs_of, sample_of, due_of, lines_of, controls_in, memory_of, state_in}
+use Rattle.pac_state.specs.Files.{AreWords, FitsSample, IsState}
+use Rattle.pac_state.proofs.Read.{same-state}
+use Rattle.pac_state.proofs.Written.{HasPieces, has-pieces, has-picture, lines-again, length-sha1}
+
+-- ---- the processor
+
+mode-again : (mode : InterruptMode) → mode_of (number_of_mode mode) ≡ mode
+mode-again Zero = refl
+mode-again One = refl
+mode-again Two = refl
+
+-- the low bits of a byte whose others are 0
+abbrev low_bits : (first second third fourth : Bool) → Bits
+low_bits first second third fourth = record {
+  interrupt_enable = first;
+  sound_enable = second;
+  auxiliary = third;
+  flip = fourth;
+  lamp_1 = false;
+  lamp_2 = false;
+  coin_lockout = false;
+  coin_counter = false;
+}
+
+abbrev with_words : Regs → (ix iy sp pc : ℕ) (iff1 iff2 : Bool) → InterruptMode → (halted after_ei : Bool) → Regs
+with_words regs ix iy sp pc iff1 iff2 mode halted after_ei = record regs {
+  ix = ix;
+  iy = iy;
+  sp = sp;
+  pc = pc;
+  iff1 = iff1;
+  iff2 = iff2;
+  mode = mode;
+  halted = halted;
+  after_ei = after_ei;
+}
+
+same-words : (regs : Regs) {ix ix' iy iy' sp sp' pc pc' : ℕ} {iff1 iff1' iff2 iff2' : Bool} {mode mode' : InterruptMode}
+    {halted halted' after_ei after_ei' : Bool} → ix ≡ ix' → iy ≡ iy' → sp ≡ sp' → pc ≡ pc' → iff1 ≡ iff1' → iff2 ≡ iff2'
+    → mode ≡ mode' → halted ≡ halted' → after_ei ≡ after_ei'
+    → with_words regs ix iy sp pc iff1 iff2 mode halted after_ei ≡ with_words regs ix' iy' sp' pc' iff1' iff2' mode' halted' after_ei'
+same-words regs a b c d e f g h i = rw (a, b, c, d, e, f, g, h, i) refl
+
+regs-again : (regs : Regs) → AreWords regs → regs_of (processor regs) ≡ regs
+unfolding processor
+regs-again regs words =
+    let bits = bits_of-byte_of (low_bits regs.iff1 regs.iff2 regs.halted regs.after_ei) in
+    same-words regs (from_le_bytes-to_le_bytes_2 regs.ix words.ix) (from_le_bytes-to_le_bytes_2 regs.iy words.iy)
+    (from_le_bytes-to_le_bytes_2 regs.sp words.sp) (from_le_bytes-to_le_bytes_2 regs.pc words.pc)
+    (ap (λ (bits : Bits). bits.interrupt_enable) bits) (ap (λ (bits : Bits). bits.sound_enable) bits) (mode-again regs.mode)
+    (ap (λ (bits : Bits). bits.auxiliary) bits) (ap (λ (bits : Bits). bits.flip) bits)
+
+-- ---- the memory
+
+digit-again : (bit : Bool) → (digit bit == 1) ≡ bit
+digit-again true = refl
+digit-again false = refl
+
+abbrev view : (switches held : ℕ) → (tile colour work coordinates registers : List ℕ) → Bits → ℕ → Bool → ℕ → View
+view switches held tile colour work coordinates registers bits vector request count = record {
+  switches = switches;
+  held = held;
+  tile = tile;
+  colour = colour;
+  work = work;
+  coordinates = coordinates;
+  registers = registers;
+  latched = record { bits = bits; vector = vector; request = request; count = count };
+}
+
+same-view : {switches vector count held held' : ℕ} {tile tile' colour colour' work work' coordinates coordinates' : List ℕ}
+    {registers registers' : List ℕ} {bits bits' : Bits} {request request' : Bool}
+    → held ≡ held' → tile ≡ tile' → colour ≡ colour' → work ≡ work'
+    → coordinates ≡ coordinates' → registers ≡ registers' → bits ≡ bits' → request ≡ request'
+    → view switches held tile colour work coordinates registers bits vector request count
+    ≡ view switches held' tile' colour' work' coordinates' registers' bits' vector request' count
+same-view a b c d e f g h = rw (a, b, c, d, e, f, g, h) refl
+
+memory-again : (version : ℕ) (digest bytes : List ℕ) (state : State) → HasPieces version digest state bytes
+    → state.now.board.memory.held < 2 ^ 16 → memory_of (controls_in bytes) bytes ≡ state.now.board.memory
+unfolding controls
+memory-again version digest bytes state pieces held =
+    ap (λ (controls : List ℕ). memory_of controls bytes) pieces.controls
+    ∙ same-view (from_le_bytes-to_le_bytes_2 state.now.board.memory.held held) pieces.tile pieces.colour pieces.work
+    pieces.coordinates pieces.registers (bits_of-byte_of state.now.board.memory.latched.bits)
+    (digit-again state.now.board.memory.latched.request)
+
+-- ---- what is due
+
+sample-again : (sample : Option ℤ) → FitsSample sample
+    → sample_of (is_some sample) (from_le_bytes w16 (word (cast_unsigned w16 (unwrap_or sample (pos 0))))) ≡ sample
+sample-again None fits = refl
+sample-again (Some sample) fits =
+    let bound = Fits-of_z {w = w16} {z = sample} fits in
+    ap (λ n. Some (cast_signed w16 n)) (from_le_bytes-to_le_bytes_2 (cast_unsigned w16 sample) bound.fits)
+    ∙ ap (λ sample. Some sample) (to_z-of_z w16 sample fits)
+
+abbrev waiting : Option ℤ → Bool → Due
+waiting sample picture = record { sample = sample; picture = picture }
+
+due-again : (due : Due) → FitsSample due.sample → due_of (text.due due) ≡ due
+unfolding text.due
+due-again due fits =
+    let bits = bits_of-byte_of (low_bits (is_some due.sample) due.picture false false) in
+    let first : is_set (slice_index (text.due due) 0) 0 ≡ is_some due.sample = ap (λ (bits : Bits). bits.interrupt_enable) bits in
+    let second : is_set (slice_index (text.due due) 0) 1 ≡ due.picture = ap (λ (bits : Bits). bits.sound_enable) bits in
+    let sample : sample_of (is_set (slice_index (text.due due) 0) 0) (word_at 1 (text.due due)) ≡ due.sample =
+    ap (λ is_due. sample_of is_due (word_at 1 (text.due due))) first ∙ sample-again due.sample fits in
+    ap (λ sample. waiting sample (is_set (slice_index (text.due due) 0) 1)) sample ∙ ap (waiting due.sample) second
+
+-- ---- the whole
+
+pub state-again : (version : ℕ) (set : Parts) (state : State) → IsState state → state_in (save_text version set state) ≡ state
+state-again version set state is =
+    let pieces = has-pieces version (digest_of set) state (length-sha1 _) is.memory in
+    let picture = has-picture version (digest_of set) state (length-sha1 _) is.memory is.range.picture in
+    let time = is.range.time in
+    let steps = is.range.steps in
+    let asked = is.range.asked in
+    same-state (ap regs_of pieces.processor ∙ regs-again state.now.regs is.words)
+    (memory-again version (digest_of set) (save_text version set state) state pieces is.held)
+    (ap (from_le_bytes w32) pieces.first
+    ∙ from_le_bytes-to_le_bytes_4 state.now.board.accumulators.first (let below = is.range.accumulators.first in omega (arith, below)))
+    (ap (from_le_bytes w32) pieces.second
+    ∙ from_le_bytes-to_le_bytes_4 state.now.board.accumulators.second (let below = is.range.accumulators.second in omega (arith, below)))
+    (ap (from_le_bytes w32) pieces.third
+    ∙ from_le_bytes-to_le_bytes_4 state.now.board.accumulators.third (let below = is.range.accumulators.third in omega (arith, below)))
+    (ap lines_of picture ∙ lines-again state.now.board.lines is.range.picture)
+    (ap (from_le_bytes w64) pieces.time ∙ from_le_bytes-to_le_bytes_8 state.now.time (omega (arith, time)))
+    (ap (from_le_bytes w64) pieces.steps ∙ from_le_bytes-to_le_bytes_8 state.now.steps (omega (arith, time, steps)))
+    (ap (from_le_bytes w64) pieces.asked ∙ from_le_bytes-to_le_bytes_8 state.asked (omega (arith, asked)))
+    (ap due_of pieces.due ∙ due-again state.due is.sample)

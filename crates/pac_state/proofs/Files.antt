@@ -1,0 +1,197 @@
+-- The text of a state is taken, and what is taken is the text of a state.
+use Rattle.std.proofs.Common.{◌≡◌, ℕ, ◌<◌, ◌^◌, ⊎_elim, min, Bool, true, false, not, ◌&&◌, nat_le, if◌then◌else◌}
+use Rattle.std.proofs.Common.{List, ◌++◌, length, get_or, take, drop, Option, Some, None, Result, Ok, Err, bytes_eq}
+use Rattle.std.proofs.Common.{refl, sym, ap, subst, ◌∙◌, arith}
+use Rattle.std.proofs.Math.Facts.{sfits_to_z}
+use Rattle.std.proofs.Math.Seq.{take-append_seam, drop-append_seam}
+use Rattle.std.proofs.lemmas.List.{length-append}
+use Rattle.std.proofs.lemmas.Nat.{from_le_bytes-to_le_bytes_2}
+use Rattle.std.proofs.lemmas.Slice.Eq.{bytes_eq-Decides}
+use Rattle.std.specs.Int.{w16, from_le_bytes}
+use Rattle.sha1.specs.Sha1.{sha1}
+use Rattle.pac_map.specs.View.{IsWellFormed}
+use Rattle.pac_roms.specs.Parts.{Parts}
+use Rattle.pac_manifest.specs.Sets.{digest_of}
+use Rattle.pac_board.specs.State.{State, BoardValue}
+use Rattle.pac_state.specs.declared.fault.LoadFault.{LoadFault}
+use Rattle.pac_state.specs.declared.fault.LoadFault.TheVariants.{NoState, OtherVersion, Size, OutOfRange, Damaged, OtherSet, NoMemory}
+use Rattle.pac_state.specs.declared.fault.LoadRefused.{LoadRefused}
+use Rattle.pac_state.specs.Text.{magic, body, save_text}
+use Rattle.pac_state.specs.Reading.{part, word_at, sample_of, processor_in, state_in}
+use Rattle.pac_state.specs.Saved.{file_size, begins, version_in, is_known, is_of_another_version, is_sealed, is_of, fault_of}
+use Rattle.pac_state.specs.Saved.{IsInRange, AreWritten, IsText, brought_up, Misses, Answers}
+use Rattle.pac_state.specs.Files.{FitsSample, IsState, IsFile, board_of, Accepts}
+use Rattle.pac_state.proofs.Taken.{below, size-of}
+use Rattle.pac_state.proofs.Whole.{AreBytes, length-part, part-bytes, text-of}
+use Rattle.pac_state.proofs.Written.{has-pieces, length-body, length-sha1}
+use Rattle.pac_state.proofs.Again.{state-again}
+
+-- ---- the text of a state has no fault
+
+known-word : (version : ℕ) → is_known version ≡ true → version < 2 ^ 16
+known-word version known = grind (arith, known)
+
+none-found : (digest bytes : List ℕ) → begins bytes ≡ true → is_of_another_version bytes ≡ false → length bytes ≡ file_size
+    → is_sealed bytes ≡ true → is_of digest bytes ≡ true → fault_of digest bytes ≡ None
+unfolding fault_of
+none-found digest bytes first second third fourth fifth = rw (first, second, third, fourth, fifth) refl
+
+text-size : (version : ℕ) (set : Parts) (state : State) → IsState state → length (save_text version set state) ≡ file_size
+text-size version set state is =
+    let long = length-body version (digest_of set) state (length-sha1 _) is.memory is.range.picture in
+    let seal = length-sha1 (body version (digest_of set) state) in
+    length-append (body version (digest_of set) state) (sha1 (body version (digest_of set) state)) ∙ omega (arith, long, seal)
+
+text-version : (version : ℕ) (set : Parts) (state : State) → is_known version ≡ true → IsState state
+    → version_in (save_text version set state) ≡ version
+text-version version set state known is =
+    let pieces = has-pieces version (digest_of set) state (length-sha1 _) is.memory in
+    ap (from_le_bytes w16) pieces.version ∙ from_le_bytes-to_le_bytes_2 version (known-word version known)
+
+text-begins : (version : ℕ) (set : Parts) (state : State) → IsState state → begins (save_text version set state) ≡ true
+text-begins version set state is =
+    let pieces = has-pieces version (digest_of set) state (length-sha1 _) is.memory in
+    subst (λ n. bytes_eq (take (min 8 n) (save_text version set state)) (take (min 8 n) magic) ≡ true)
+    (sym (text-size version set state is))
+    ((bytes_eq-Decides (take 8 (save_text version set state)) magic).1 pieces.magic)
+
+text-no-other : (version : ℕ) (set : Parts) (state : State) → is_known version ≡ true → IsState state
+    → is_of_another_version (save_text version set state) ≡ false
+text-no-other version set state known is =
+    let same : is_known (version_in (save_text version set state)) ≡ true =
+    ap is_known (text-version version set state known is) ∙ known in
+    let long = text-size version set state is in
+    rw (same, long) refl
+
+text-sealed : (version : ℕ) (set : Parts) (state : State) → IsState state → is_sealed (save_text version set state) ≡ true
+text-sealed version set state is =
+    let message = body version (digest_of set) state in
+    let long : length message ≡ 67736 = length-body version (digest_of set) state (length-sha1 _) is.memory is.range.picture in
+    let before : take 67736 (message ++ sha1 message) ≡ message =
+    subst (λ n. take n (message ++ sha1 message) ≡ message) long (take-append_seam message (sha1 message)) in
+    let after : drop 67736 (message ++ sha1 message) ≡ sha1 message =
+    subst (λ n. drop n (message ++ sha1 message) ≡ sha1 message) long (drop-append_seam message (sha1 message)) in
+    (bytes_eq-Decides (sha1 (take 67736 (message ++ sha1 message))) (drop 67736 (message ++ sha1 message))).1 (ap sha1 before ∙ sym after)
+
+text-of-set : (version : ℕ) (set : Parts) (state : State) → IsState state → is_of (digest_of set) (save_text version set state) ≡ true
+text-of-set version set state is =
+    let pieces = has-pieces version (digest_of set) state (length-sha1 _) is.memory in
+    (bytes_eq-Decides (digest_of set) (part 10 20 (save_text version set state))).1 (sym pieces.digest)
+
+text-sound : (version : ℕ) (set : Parts) (state : State) → is_known version ≡ true → IsState state
+    → fault_of (digest_of set) (save_text version set state) ≡ None
+text-sound version set state known is =
+    none-found (digest_of set) (save_text version set state) (text-begins version set state is) (text-no-other version set state known is)
+    (text-size version set state is) (text-sealed version set state is) (text-of-set version set state is)
+
+text-written : (version : ℕ) (set : Parts) (state : State) → IsState state → AreWritten state (save_text version set state)
+text-written version set state is =
+    let pieces = has-pieces version (digest_of set) state (length-sha1 _) is.memory in
+    record {
+      processor = sym pieces.processor;
+      controls = sym pieces.controls;
+      due = sym pieces.due;
+    }
+
+text-is-text : (version : ℕ) (set : Parts) (state : State) → IsState state → IsText (save_text version set state)
+text-is-text version set state is =
+    let same = sym (state-again version set state is) in
+    record {
+      in_range = subst IsInRange same is.range;
+      written = subst (λ state'. AreWritten state' (save_text version set state)) same (text-written version set state is);
+    }
+
+-- ---- what is taken is the text of a state
+
+word-below : (at : ℕ) (bytes : List ℕ) → AreBytes bytes → word_at at bytes < 2 ^ 16
+unfolding AreBytes
+word-below at bytes fits =
+    let parts = part-bytes at 2 bytes fits in
+    let first = parts 0 in
+    let second = parts 1 in
+    omega (arith, first, second)
+
+fits-sample : (is_due : Bool) (word : ℕ) → word < 2 ^ 16 → FitsSample (sample_of is_due word)
+fits-sample true word below = sfits_to_z {w = w16} {n = word} (record { fits = below })
+fits-sample false word below = tt
+
+sizes : (bytes : List ℕ) → length bytes ≡ file_size → IsInRange (state_in bytes) → IsWellFormed (state_in bytes).now.board.memory
+sizes bytes size range = record {
+  tile = length-part 82 1024 bytes (omega (arith, size));
+  colour = length-part 1106 1024 bytes (omega (arith, size));
+  work = length-part 2130 1024 bytes (omega (arith, size));
+  coordinates = length-part 3154 16 bytes (omega (arith, size));
+  registers = length-part 3170 32 bytes (omega (arith, size));
+  nibbles = range.registers;
+  count = let below = range.count in omega (arith, below);
+}
+
+is-state : (bytes : List ℕ) → AreBytes bytes → length bytes ≡ file_size → IsInRange (state_in bytes) → IsState (state_in bytes)
+is-state bytes fits size range = record {
+  words = record {
+    ix = word-below 16 (processor_in bytes) (part-bytes 30 28 bytes fits);
+    iy = word-below 18 (processor_in bytes) (part-bytes 30 28 bytes fits);
+    sp = word-below 20 (processor_in bytes) (part-bytes 30 28 bytes fits);
+    pc = word-below 22 (processor_in bytes) (part-bytes 30 28 bytes fits);
+  };
+  memory = sizes bytes size range;
+  held = word-below 4 (part 3214 7 bytes) (part-bytes 3214 7 bytes fits);
+  sample = fits-sample _ _ (word-below 1 (part 3221 3 bytes) (part-bytes 3221 3 bytes fits));
+  range = range;
+}
+
+known-of : (digest bytes : List ℕ) → fault_of digest bytes ≡ None → is_known (version_in bytes) ≡ true
+unfolding fault_of
+known-of digest bytes none =
+    let size = size-of digest bytes none in
+    let second = tested' (is_of_another_version bytes) OtherVersion _ (below (not (begins bytes)) NoState _ none) in
+    known-from (is_known (version_in bytes)) (subst (λ n. (nat_le 10 n && not (is_known (version_in bytes))) ≡ false) size second)
+  where
+    tested' : (found : Bool) (fault : LoadFault) (rest : Option LoadFault) → (if found then Some fault else rest) ≡ None → found ≡ false
+    tested' true fault rest none = let no : ⊥ = cc in absurd no
+    tested' false fault rest none = refl
+
+    known-from : (known : Bool) → (nat_le 10 67756 && not known) ≡ false → known ≡ true
+    known-from true no-other = refl
+    known-from false no-other = let no : ⊥ = cc in absurd no
+
+-- ---- the answer
+
+text-board : (set : Parts) (bytes : List ℕ) (file : IsFile set bytes)
+    → brought_up (version_in bytes) (record { set = set; state = state_in bytes; made = 0 }) ≡ board_of set file
+text-board set bytes file =
+    let version : version_in bytes ≡ file.version =
+    ap version_in file.text ∙ text-version file.version set file.state file.known file.is_state in
+    let state : state_in bytes ≡ file.state = ap state_in file.text ∙ state-again file.version set file.state file.is_state in
+    ap (λ version. brought_up version (record { set = set; state = state_in bytes; made = 0 })) version
+    ∙ ap (λ (state : State). brought_up file.version (record { set = set; state = state; made = 0 })) state
+
+no-memory : (set : Parts) (bytes : List ℕ) (fault : LoadFault) → IsText bytes → Misses bytes fault → fault ≡ NoMemory
+no-memory set bytes OutOfRange text misses = absurd (misses text)
+no-memory set bytes NoMemory text misses = refl
+no-memory set bytes NoState text misses = absurd misses
+no-memory set bytes OtherVersion text misses = absurd misses
+no-memory set bytes Size text misses = absurd misses
+no-memory set bytes Damaged text misses = absurd misses
+no-memory set bytes OtherSet text misses = absurd misses
+
+pub accepts : (set : Parts) (bytes : List ℕ) → ((i : ℕ) → get_or bytes i 0 < 256) → (result : Result BoardValue LoadRefused)
+    → Answers set bytes result → Accepts set bytes result
+unfolding AreBytes
+accepts set bytes fits (Ok board) answers =
+    let size = size-of (digest_of set) bytes answers.sound in
+    record {
+      file = record {
+        version = version_in bytes;
+        known = known-of (digest_of set) bytes answers.sound;
+        state = state_in bytes;
+        is_state = is-state bytes fits size answers.text.in_range;
+        text = sym (text-of set bytes fits answers.sound answers.text.written);
+      };
+      board = λ file. answers.board ∙ text-board set bytes file;
+    }
+accepts set bytes fits (Err refused) answers = λ (file : IsFile set bytes).
+    let sound : fault_of (digest_of set) bytes ≡ None =
+    ap (fault_of (digest_of set)) file.text ∙ text-sound file.version set file.state file.known file.is_state in
+    let text : IsText bytes = subst IsText (sym file.text) (text-is-text file.version set file.state file.is_state) in
+    ⊎_elim (λ told. let no : ⊥ = cc in absurd no) (λ (rest : _ × _). no-memory set bytes refused.fault text rest.1) answers.fault

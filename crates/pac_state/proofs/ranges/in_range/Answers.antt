@@ -1,0 +1,21 @@
+use Rattle.std.proofs.Common.{refl, arith}
+use Rattle.pac_board.specs.Fields.{state_of}
+use Rattle.pac_state.proofs.Taken.{in-range}
+use Rattle.pac_state.proofs.ranges.in_range.Goals as goal
+
+pub returns : goal.returns
+returns c = record {
+  words = c.words.ensures;
+  memory = record {
+    tile = c.sizes.ensures.tile;
+    colour = c.sizes.ensures.colour;
+    work = c.sizes.ensures.work;
+    coordinates = c.sizes.ensures.coordinates;
+    registers = c.sizes.ensures.registers;
+    nibbles = c.requires.registers;
+    count = let below = c.requires.count in omega (arith, below);
+  };
+  held = c.inputs.ensures;
+  sample = c.sample.ensures;
+  range = in-range c.args.fields.now (state_of c.args.fields.now) refl c.requires c.row-top.ensures.picture;
+}

@@ -1,0 +1,78 @@
+//! What holds of a board's fields by their types.
+
+ghost use Rattle.std.specs.Prelude.{◌≡◌, ◌<◌, ◌^◌, length};
+ghost use Rattle.pac_inputs.specs.Inputs as inputs;
+ghost use Rattle.pac_state.specs.Files.{AreWords, FitsSample, IsState};
+ghost use Rattle.pac_board.specs.Fields.{state_of, AreInRange};
+
+use crate::blocks::mask;
+use pac_board::{Due, Fields};
+use pac_exec::Regs;
+use pac_inputs::Inputs;
+
+/// A word has 16 bits.
+fn word(word: u16)
+    ensures { word < 2 ^ 16 }
+{}
+
+/// An array has its size.
+fn size<const N: usize>(bytes: &[u8; N])
+    ensures { length bytes.now ≡ N }
+{}
+
+/// Registers of two bytes have 16 bits.
+fn words(regs: &Regs)
+    ensures { AreWords regs.now }
+{
+    word(regs.ix);
+    word(regs.iy);
+    word(regs.sp);
+    word(regs.pc);
+}
+
+/// The mask of inputs has 16 bits.
+fn inputs(held: Inputs)
+    ensures { inputs.mask held < 2 ^ 16 }
+{
+    word(mask(held));
+}
+
+/// The sample that is due has 16 bits.
+fn sample(due: Due)
+    ensures { FitsSample due.sample }
+{
+    // where it is read, its type tells it
+    if let Some(sample) = due.sample {
+        let _sample = sample;
+    }
+}
+
+/// Memories have their sizes.
+fn sizes(memory: &pac_map::Fields)
+    ensures tile { length memory.now.tile.now ≡ 1024 }
+    ensures colour { length memory.now.colour.now ≡ 1024 }
+    ensures work { length memory.now.work.now ≡ 1024 }
+    ensures coordinates { length memory.now.coordinates ≡ 16 }
+    ensures registers { length memory.now.registers ≡ 32 }
+{
+    size(memory.tile);
+    size(memory.colour);
+    size(memory.work);
+    let coordinates = memory.coordinates;
+    size(&coordinates);
+    let registers = memory.registers;
+    size(&registers);
+}
+
+/// Fields in their ranges are those of a state.
+pub(crate) fn in_range(fields: &Fields)
+    requires { AreInRange fields.now }
+    ensures { IsState (state_of fields.now) }
+{
+    words(&fields.regs);
+    inputs(fields.memory.held);
+    sample(fields.due);
+    sizes(&fields.memory);
+    // any row tells that all of them are there
+    let _top = fields.lines.row(0);
+}

@@ -1,0 +1,13 @@
+//! Tests of state files: files made by hand from the table of the format, and boards that are saved and loaded again.
+#![tactic(auto)]
+
+#[cfg(test)]
+mod boards;
+#[cfg(test)]
+mod files;
+#[cfg(test)]
+mod memory;
+#[cfg(test)]
+mod refusals;
+#[cfg(test)]
+mod sets;
