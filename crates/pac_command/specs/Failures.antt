@@ -1,5 +1,5 @@
 -- What is told where the program can't do its work: the line that goes to standard error, and the exit status.
-use Rattle.std.specs.Prelude.{◌≡◌, ◌⊎◌, ℕ, List, ◌++◌, Option, Some, None, Result, Ok, Err, codes}
+use Rattle.std.specs.Prelude.{◌≡◌, ◌⊎◌, ⊤, ℕ, List, ◌++◌, Option, Some, None, Result, Ok, Err, codes}
 use Rattle.std.specs.Fmt.{decimal}
 use Rattle.clap.specs.Words.{IsAmong, Kinds}
 use Rattle.clap.specs.declared.error.kind.ErrorKind.{ErrorKind}
@@ -51,6 +51,16 @@ end_status (Some stop) = 5
 abbrev pub run_status : Result Outcome Failure → ℕ
 run_status (Ok outcome) = end_status outcome.stop
 run_status (Err failure) = status failure
+
+-- the most bytes of a file that is read, 16 MiB (this profile)
+abbrev pub most_read : ℕ
+most_read = 16777216
+
+-- the fault of reading the file of a name: that name is told, or that memory ran out
+abbrev pub IsReadFault : List ℕ → Failure → Type 0
+IsReadFault name (Read told) = told.now ≡ name
+IsReadFault name Memory = ⊤
+IsReadFault name other = ⊥
 
 -- the greatest exit status
 abbrev pub most_status : ℕ

@@ -1,6 +1,8 @@
 //! Files: they are read whole, up to a size, and created empty.
 
-ghost use Rattle.std.specs.Prelude.{◌≡◌};
+ghost use Rattle.std.specs.Prelude.{◌≡◌, ◌≤◌, IfOk, IfErr, length};
+ghost use Rattle.pac_command.specs.Failures.{IsReadFault, most_read};
+ghost use Rattle.pac_command.specs.declared.failure.Failure.TheVariants.{Write};
 
 use crate::failure::{Failure, Target};
 use std::io::{ErrorKind, Read};
@@ -15,7 +17,10 @@ pub fn read_at<'a, R: Files + AllocGlobal>(
     rt: &R,
     path: &str,
     name: &'a str,
-) -> Result<Vec<u8>, Failure<'a>> {
+) -> Result<Vec<u8>, Failure<'a>>
+    ensures size { IfOk result (λ bytes. length bytes.items ≤ most_read) }
+    ensures fault { IfErr result (IsReadFault name.now) }
+{
     let mut bytes = Vec::new(rt.alloc());
     let Ok(file) = fs::open(rt, path) else {
         return Err(Failure::Read(name));
@@ -31,7 +36,10 @@ pub fn read_at<'a, R: Files + AllocGlobal>(
 pub fn read_file<'a, R: Files + AllocGlobal>(
     rt: &R,
     name: &'a str,
-) -> Result<Vec<u8>, Failure<'a>> {
+) -> Result<Vec<u8>, Failure<'a>>
+    ensures size { IfOk result (λ bytes. length bytes.items ≤ most_read) }
+    ensures fault { IfErr result (IsReadFault name.now) }
+{
     read_at(rt, name, name)
 }
 
@@ -40,7 +48,10 @@ pub fn read_beside<'a, R: Files + AllocGlobal>(
     rt: &R,
     other: &str,
     name: &'a str,
-) -> Result<Vec<u8>, Failure<'a>> {
+) -> Result<Vec<u8>, Failure<'a>>
+    ensures size { IfOk result (λ bytes. length bytes.items ≤ most_read) }
+    ensures fault { IfErr result (IsReadFault name.now) }
+{
     let folder = match other.rsplit_once('/') {
         Some((folder, _)) => folder,
         None => ".",
@@ -52,7 +63,9 @@ pub fn read_beside<'a, R: Files + AllocGlobal>(
 }
 
 /// Creates the file of an output, or empties it.
-pub fn create<R: Files>(rt: &R, name: &str, output: Target) -> Result<R::File, Failure<'static>> {
+pub fn create<R: Files>(rt: &R, name: &str, output: Target) -> Result<R::File, Failure<'static>>
+    ensures { IfErr result (λ failure. failure ≡ Write output 0) }
+{
     match fs::create(rt, name) {
         Ok(file) => Ok(file),
         Err(_) => Err(Failure::Write(output, 0)),

@@ -1,6 +1,6 @@
 //! What is kept of a session's moment, to go back to.
 
-ghost use Rattle.std.specs.Prelude.{◌≡◌, IfOk, false};
+ghost use Rattle.std.specs.Prelude.{◌≡◌, IfOk, false, []};
 ghost use Rattle.pac_board.specs.State.{restored};
 ghost use Rattle.pac_session.specs.Keeping.{kept_of};
 
@@ -24,7 +24,9 @@ pub struct Slot {
 
 impl Kept {
     /// Room for what is kept: this board's state for now, and no steps. Refused for want of memory alone.
-    pub fn new(alloc: Global, board: &Board) -> Result<Kept, AllocError> {
+    pub fn new(alloc: Global, board: &Board) -> Result<Kept, AllocError>
+        ensures { IfOk result (λ kept. kept ≡ kept_of board.now []) }
+    {
         let snapshot = board.snapshot(alloc)?;
         let history = History::new(alloc)?;
         Ok(Kept { snapshot, history })
