@@ -1,0 +1,150 @@
+//! A debugger's session over the mixed program: the way back, step by step, and a long run of frames.
+
+use crate::board;
+use crate::sum::Sum;
+use pac_debug::command;
+use pac_inputs::read_script;
+use pac_out::counted::Counted;
+use pac_out::{Failed, Out};
+use pac_session::Session;
+use std::alloc::{AllocError, Global};
+use std::io;
+use std::time::Instant;
+
+/// How often the session goes back by a step.
+const BACKS: u32 = 1000;
+
+/// What brings it to where it goes back from: 25 times 4,096 steps, so that the steps which each `back` does again are as many as
+/// they can be, 4,095 for the first and one fewer each time.
+const THERE: &[u8] = b"step 102400";
+
+/// The frames that a session runs, the most that a script can have.
+const FRAMES: u32 = 36_000;
+
+/// The script of so many frames, and the command that runs them.
+const SCRIPT: &[u8] = b"36000 -";
+const RUN: &[u8] = b"frames 36000";
+
+/// A writer that counts the bytes of the session's answers.
+struct Told {
+    bytes: u64,
+}
+
+impl Out for Told {
+    ghost took = { λ old bytes new. Unit {0} };
+
+    ghost refused = { λ old new. Unit {0} };
+
+    ghost nothing = { λ writer. tt };
+
+    ghost joined = { λ first second third prefix suffix one other. tt };
+
+    /// Counts the bytes, and takes all of them.
+    fn write(&mut self, bytes: &[u8]) -> Result<usize, Failed> {
+        self.bytes = self.bytes.saturating_add(bytes.len() as u64);
+        Ok(bytes.len())
+    }
+}
+
+/// What the way back came to.
+struct Backs {
+    /// The time of all of it, in nanoseconds.
+    nanos: u128,
+    /// The steps that were done again.
+    replayed: u64,
+    /// The bytes of the answers.
+    told: u64,
+}
+
+/// A session at the beginning of a run of the mixed program.
+fn session(alloc: Global) -> Result<Session, AllocError> {
+    let board = board(alloc)?;
+    let Ok(script) = read_script(alloc, SCRIPT) else {
+        return Err(AllocError);
+    };
+    match Session::new(alloc, board, script) {
+        Ok(session) => Ok(session),
+        Err(_) => Err(AllocError),
+    }
+}
+
+/// Goes back, a step at a time.
+fn backs(rt: &HostRuntime) -> io::Result<Backs> {
+    let mut session = session(rt.alloc())?;
+    let mut sum = Sum::new();
+    let mut text = Counted::new(Told { bytes: 0 });
+    let _ = command(&mut session, THERE, &mut sum, &mut text);
+    let mut replayed = 0u64;
+    let start = Instant::now(rt)?;
+    for _ in 0..BACKS {
+        let _ = command(&mut session, b"back 1", &mut sum, &mut text);
+        replayed = replayed.saturating_add(u64::from(session.replayed()));
+    }
+    let nanos = start.elapsed(rt)?.as_nanos();
+    Ok(Backs {
+        nanos,
+        replayed,
+        told: text.writer.bytes,
+    })
+}
+
+/// Runs the frames, and gives their nanoseconds. What they came to is in the sum.
+fn frames(rt: &HostRuntime, sum: &mut Sum) -> io::Result<u128> {
+    let mut session = session(rt.alloc())?;
+    let mut text = Counted::new(Told { bytes: 0 });
+    let start = Instant::now(rt)?;
+    let _ = command(&mut session, RUN, sum, &mut text);
+    let nanos = start.elapsed(rt)?.as_nanos();
+    sum.steps = session.index();
+    sum.time = session.board().time();
+    Ok(nanos)
+}
+
+/// Tells of the way back.
+fn tell_backs(rt: &HostRuntime, backs: &Backs) {
+    let back = backs.nanos / u128::from(BACKS);
+    let step = backs.nanos.saturating_mul(10) / u128::from(backs.replayed.max(1));
+    let _ = eprintln!(rt;
+        "session: {BACKS} times back 1 in {} microseconds, {}.{} microseconds each, {} steps done again, {}.{} ns a step, {} bytes told",
+        backs.nanos / 1000,
+        back / 1000,
+        back % 1000 / 100,
+        backs.replayed,
+        step / 10,
+        step % 10,
+        backs.told
+    );
+}
+
+/// Tells of the frames.
+fn tell_frames(rt: &HostRuntime, nanos: u128, sum: &Sum) {
+    let nanos = nanos.max(1);
+    let frame = nanos / u128::from(FRAMES);
+    let rate = u128::from(FRAMES) * 1_000_000_000 / nanos;
+    let _ = eprintln!(rt;
+        "session: {FRAMES} frames in {} microseconds, {}.{} microseconds a frame, {rate} a second",
+        nanos / 1000,
+        frame / 1000,
+        frame % 1000 / 100
+    );
+    let _ = eprintln!(rt;
+        "session: {} steps, time {}, {} samples, {} pictures, samples' sum {}",
+        sum.steps, sum.time, sum.samples, sum.pictures, sum.sound
+    );
+}
+
+/// Measures the way back in some rounds, and the frames once.
+pub fn measure(rt: &HostRuntime, rounds: u32) -> io::Result<()> {
+    let mut least = backs(rt)?;
+    for _ in 1..rounds {
+        let again = backs(rt)?;
+        if again.nanos < least.nanos {
+            least = again;
+        }
+    }
+    tell_backs(rt, &least);
+    let mut sum = Sum::new();
+    let nanos = frames(rt, &mut sum)?;
+    tell_frames(rt, nanos, &sum);
+    Ok(())
+}
