@@ -15,13 +15,12 @@ use Rattle.pac_run.specs.declared.fault.RunFault.TheVariants as run
 use Rattle.pac_command.specs.declared.failure.Failure.{Failure}
 use Rattle.pac_command.specs.declared.failure.Failure.TheVariants.{Read, Source, Set, Script, Extent, Write, Memory}
 use Rattle.pac_command.specs.declared.failure.Target.{Target}
-use Rattle.pac_command.specs.declared.failure.Target.TheVariants.{Of, Rom, Text}
+use Rattle.pac_command.specs.declared.failure.Target.TheVariants.{Of, Rom}
 
 -- the name of an output
 abbrev pub target : Target → List ℕ
 target (Of output) = name_of output
 target Rom = codes "rom"
-target Text = codes "text"
 
 -- the line of a failure, without its line feed
 abbrev pub message : Failure → List ℕ

@@ -3,6 +3,7 @@ use Rattle.std.specs.Prelude.{◌≡◌, ℕ, List, Result, Ok, Err}
 use Rattle.pac_asm.specs.Programs.{program_of}
 use Rattle.pac_listing.specs.Listing.{listing}
 use Rattle.pac_program.specs.Programs.{Assembled}
+use Rattle.pac_run.specs.Debugs.{Debugs}
 use Rattle.pac_run.specs.Run.{Writing, Writers, Took, Stopped, Untouched, Runs}
 use Rattle.pac_run.specs.declared.fault.Output.TheVariants.{Listing}
 use Rattle.pac_run.specs.declared.fault.RunFault.{RunFault}
@@ -37,12 +38,21 @@ Assembles source rom list (Err Memory) = NothingWritten rom list
 Assembles source rom list (Err other) = ⊥
 
 -- what a run's fault was, and what it left
-pub record Fails {F W L R : Type 0} (inputs : RunInputs) (to : Writers F W L R) (failure : Failure) : Type 0 where
+pub record Fails (leaves : RunFault → Type 0) (failure : Failure) : Type 0 where
   pub fault : RunFault
   pub told : failure ≡ failure_of fault
-  pub left : Runs inputs to (Err fault)
+  pub left : leaves fault
 
--- a run, its faults told as the program's failures
+-- what holds by a run's answer, its faults told as the program's failures
+abbrev pub Tells : (Result Outcome RunFault → Type 0) → Result Outcome Failure → Type 0
+Tells holds (Ok outcome) = holds (Ok outcome)
+Tells holds (Err failure) = Fails (λ fault. holds (Err fault)) failure
+
+-- a run of the program
 abbrev pub Performs : {F W L R : Type 0} → RunInputs → Writers F W L R → Result Outcome Failure → Type 0
-Performs inputs to (Ok outcome) = Runs inputs to (Ok outcome)
-Performs inputs to (Err failure) = Fails inputs to failure
+Performs inputs to answer = Tells (Runs inputs to) answer
+
+-- a run of the program under a debugger
+abbrev pub PerformsWatched : {F W L R T : Type 0} → RunInputs → (commands : List ℕ) → Writers F W L R → Writing T
+    → Result Outcome Failure → Type 0
+PerformsWatched inputs commands to text answer = Tells (Debugs inputs commands to text) answer

@@ -11,6 +11,7 @@ use pac_dis_text::put_disassembly;
 use pac_out::counted::Counted;
 use pac_out::through::Through;
 use pac_out::{Out, WriteFault};
+use pac_run::Output;
 use std::io;
 use std::rt::Files;
 
@@ -35,7 +36,7 @@ pub fn write_text<W: Out>(bytes: &[u8], text: &mut W) -> Result<(), Failure<'sta
     }
     match put_text(text, bytes) {
         Ok(()) => Ok(()),
-        Err(fault) => Err(Failure::Write(Target::Text, fault.count)),
+        Err(fault) => Err(Failure::Write(Target::Of(Output::Text), fault.count)),
     }
 }
 

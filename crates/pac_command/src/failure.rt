@@ -13,12 +13,10 @@ use std::fmt;
 /// The outputs of the program.
 #[derive(Clone, Copy)]
 pub enum Target {
-    /// An output of a run.
+    /// An output of a run; a disassembly's is the text.
     Of(Output),
     /// The ROM of an assembled program.
     Rom,
-    /// The text of a disassembly.
-    Text,
 }
 
 /// What keeps the program from its work. It prints as the one line that goes to standard error.
@@ -50,7 +48,6 @@ impl fmt::Display for Target {
         match self {
             Target::Of(output) => write!(f, "{output}"),
             Target::Rom => f.write_str("rom"),
-            Target::Text => f.write_str("text"),
         }
     }
 }

@@ -2,13 +2,16 @@
 #![tactic(auto)]
 
 mod asm;
+mod debug;
 mod dis;
 mod failure;
 mod files;
+mod given;
 mod play;
 mod program;
 
 pub use asm::write_program;
+pub use debug::debug_inputs;
 pub use dis::write_text;
 pub use failure::{Failure, Target};
 pub use play::run_inputs;

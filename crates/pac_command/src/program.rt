@@ -6,6 +6,7 @@ ghost use Rattle.pac_options.specs.CommandLine.{pacboard};
 ghost use Rattle.pac_command.specs.Failures as told;
 
 use crate::asm::asm;
+use crate::debug::debug;
 use crate::dis::dis;
 use crate::failure::{Failure, end_status};
 use crate::files::standard_file;
@@ -67,6 +68,7 @@ pub fn run_words<R: Files + AllocGlobal, C: Print + Eprint>(
     match options(rt.alloc(), words) {
         Ok(Request::Asm(files)) => end(console, asm(rt, &files)),
         Ok(Request::Run(files)) => play(rt, console, &files),
+        Ok(Request::Debug(files)) => debug(rt, console, &files),
         Ok(Request::Dis(name)) => end(console, dis(rt, console, name)),
         Err(error) => explain(console, &error),
     }

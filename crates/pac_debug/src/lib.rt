@@ -8,7 +8,9 @@ mod obey;
 mod past;
 mod seen;
 mod tell;
+mod whole;
 
 pub use answer::Answer;
 pub use line::{CommandFault, command};
 pub use lines::commands;
+pub use whole::watch;

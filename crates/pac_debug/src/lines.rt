@@ -2,6 +2,7 @@
 
 ghost use Rattle.std.specs.Str.Lines.{lines};
 ghost use Rattle.pac_debug.specs.Obeying.{ObeysLines};
+ghost use Rattle.pac_debug.specs.Watched.{Gave};
 
 use crate::line::{CommandFault, command};
 use pac_board::Sink;
@@ -11,14 +12,18 @@ use pac_out::counted::Counted;
 use pac_session::Session;
 
 /// Does what the lines of a text ask, one after another, up to the first one that isn't answered. A line ends at a line feed, with
-/// one carriage return before it dropped, or at the end of the text. Takes no memory.
+/// one carriage return before it dropped, or at the end of the text. Whatever they ask, each output of the run up to the furthest
+/// index goes to the sink once, in order, or is still due. Takes no memory.
 pub fn commands<S: Sink, W: Out>(
     session: &mut Session,
     bytes: &[u8],
     sink: &mut S,
     text: &mut Counted<W>,
 ) -> Result<(), CommandFault>
-    ensures { ObeysLines S.took S.refused W.took W.refused (lines bytes.now)
+    ensures obeys { ObeysLines S.took S.refused W.took W.refused (lines bytes.now)
+        (record { session = session.old; sink = sink.old; text = text.old }) result
+        (record { session = session.new; sink = sink.new; text = text.new }) }
+    ensures given { Gave S.took S.refused
         (record { session = session.old; sink = sink.old; text = text.old }) result
         (record { session = session.new; sink = sink.new; text = text.new }) }
 {

@@ -17,8 +17,9 @@ use Rattle.clap.specs.Takes.{is_given}
 use Rattle.clap.specs.Faults.{built_fault, check_fault, defaults_fault, entered_fault, fault_of, level_fault, settle_fault, walk_fault}
 use Rattle.clap.specs.declared.parser.matches.ValueSource.TheVariants.{DefaultValue}
 use Rattle.clap.proofs.WalkLemmas.{both}
-use Rattle.pac_options.specs.CommandLine.{Asked, asked, asked_asm, asked_dis, asked_run, asm, asm_command, byte_of, dis, dis_command}
-use Rattle.pac_options.specs.CommandLine.{dip_option, pacboard, request_of, run, run_command}
+use Rattle.pac_options.specs.CommandLine.{Asked, asked, asked_asm, asked_debug, asked_dis, asked_run, asm, asm_command, byte_of, debug}
+use Rattle.pac_options.specs.CommandLine.{debug_command, dip_option, dis, dis_command, pacboard, request_of, required_option, run}
+use Rattle.pac_options.specs.CommandLine.{run_command, run_rules}
 use Rattle.pac_options.proofs.Levels.{AreFine, AreGood, is_good, level_good, new_row, or_both, some_kind}
 
 -- ---- what is given
@@ -125,6 +126,9 @@ asm_built = built_leaf asm_command
 abbrev run_built : Shape
 run_built = built_leaf run_command
 
+abbrev debug_built : Shape
+debug_built = built_leaf debug_command
+
 abbrev dis_built : Shape
 dis_built = built_leaf dis_command
 
@@ -137,8 +141,9 @@ asm_fine = (
 dis_fine : AreFine dis_built.rules
 dis_fine = (((refl, λ e. absurd (true≢false (sym e))), refl), ((tt, refl), tt))
 
-run_fine : AreFine run_built.rules
-run_fine = (
+-- the options of a run are fine, whatever comes after them
+run_rules_fine : (rest : List Rule) → AreFine rest → AreFine (filled_from 1 run_rules ++ rest)
+run_rules_fine rest fine = (
   ((refl, λ e. absurd (true≢false (sym e))), refl),
   (
     ((refl, λ e. absurd (true≢false (sym e))), refl),
@@ -148,12 +153,20 @@ run_fine = (
         ((refl, λ e. absurd (true≢false (sym e))), refl),
         (
           ((refl, λ e. absurd (true≢false (sym e))), refl),
-          (((refl, λ e. absurd (true≢false (sym e))), refl), (((refl, λ e. refl), refl), ((tt, refl), tt))),
+          (((refl, λ e. absurd (true≢false (sym e))), refl), (((refl, λ e. refl), refl), fine)),
         ),
       ),
     ),
   ),
 )
+
+run_fine : AreFine run_built.rules
+run_fine = run_rules_fine (filled help_rule ∷ []) ((tt, refl), tt)
+
+debug_fine : AreFine debug_built.rules
+debug_fine =
+    run_rules_fine (filled (required_option (codes "commands")) ∷ filled help_rule ∷ [])
+    (((refl, λ e. absurd (true≢false (sym e))), refl), ((tt, refl), tt))
 
 -- what the last checks of a subcommand ask
 missing : (b : Bool) → check_kinds false false b ≡ [] → b ≡ false
@@ -178,10 +191,15 @@ dis_said rows good none =
     let a = some_of _ (required_first (codes "file") rows good file.0) in
     rw a.1 refl
 
-run_said : (rows : List Row) → AreGood rows → has_row (codes "dip") rows ≡ true → check_fault run_built rows false ≡ []
-    → is_some (option_map run (asked_run rows)) ≡ true
-run_said rows good there none =
-    let all = missing (list_any (λ a. a.required && not (is_given a.id rows)) run_built.rules) none in
+-- some option of a run is missing, or some other
+abbrev some_missing : List Row → Bool → Bool
+some_missing rows other =
+    not (is_given (codes "set") rows) || (not (is_given (codes "script") rows) || (not (is_given (codes "frames") rows)
+    || (not (is_given (codes "wave") rows) || (not (is_given (codes "listing") rows) || other))))
+
+run_asked : (rows : List Row) (other : Bool) → AreGood rows → has_row (codes "dip") rows ≡ true → some_missing rows other ≡ false
+    → (is_some (asked_run rows) ≡ true) × (other ≡ false)
+run_asked rows other good there all =
     let set = either_false (not (is_given (codes "set") rows)) _ all in
     let script = either_false (not (is_given (codes "script") rows)) _ set.1 in
     let frames = either_false (not (is_given (codes "frames") rows)) _ script.1 in
@@ -193,7 +211,24 @@ run_said rows good there none =
     let d = some_of _ (required_first (codes "wave") rows good wave.0) in
     let e = some_of _ (required_first (codes "listing") rows good listing.0) in
     let n = some_of _ (dip_reads rows good there) in
-    rw (a.1, b.1, c.1, d.1, e.1, n.1) refl
+    (rw (a.1, b.1, c.1, d.1, e.1, n.1) refl, listing.1)
+
+run_said : (rows : List Row) → AreGood rows → has_row (codes "dip") rows ≡ true → check_fault run_built rows false ≡ []
+    → is_some (option_map run (asked_run rows)) ≡ true
+run_said rows good there none =
+    let all = missing (list_any (λ a. a.required && not (is_given a.id rows)) run_built.rules) none in
+    let files = some_of _ (run_asked rows false good there all).0 in
+    rw files.1 refl
+
+debug_said : (rows : List Row) → AreGood rows → has_row (codes "dip") rows ≡ true → check_fault debug_built rows false ≡ []
+    → is_some (option_map debug (asked_debug rows)) ≡ true
+debug_said rows good there none =
+    let all = missing (list_any (λ a. a.required && not (is_given a.id rows)) debug_built.rules) none in
+    let files = run_asked rows (not (is_given (codes "commands") rows) || false) good there all in
+    let commands = either_false (not (is_given (codes "commands") rows)) _ files.1 in
+    let a = some_of _ files.0 in
+    let b = some_of _ (required_first (codes "commands") rows good commands.0) in
+    rw (a.1, b.1) refl
 
 -- ---- the whole line
 
@@ -203,6 +238,15 @@ run_there words =
     let before = fold with_default (settled run_built.rules end).rows (take 6 run_built.rules) in
     no_default (codes "dip") (filled help_rule) (with_default before (filled dip_option))
     (default_lands (filled dip_option) (codes "201") before refl)
+
+debug_there : (words : List Text) → has_row (codes "dip") (rows_after debug_built.rules [] words) ≡ true
+debug_there words =
+    let end = (walk debug_built.rules [] nothing_held words).held in
+    let before = fold with_default (settled debug_built.rules end).rows (take 6 debug_built.rules) in
+    let after = with_default before (filled dip_option) in
+    let commands = filled (required_option (codes "commands")) in
+    no_default (codes "dip") (filled help_rule) (with_default after commands)
+    (no_default (codes "dip") commands after (default_lands (filled dip_option) (codes "201") before refl))
 
 abbrev top_built : Shape
 top_built = record (new_shape (codes "pacboard")) {
@@ -215,7 +259,7 @@ top_built = record (new_shape (codes "pacboard")) {
 }
 
 abbrev app_built : App
-app_built = record { top = top_built; subs = asm_built ∷ run_built ∷ dis_built ∷ [] }
+app_built = record { top = top_built; subs = asm_built ∷ run_built ∷ debug_built ∷ dis_built ∷ [] }
 
 -- a subcommand was there
 one_there : (b : Bool) (rows : List Row) → check_fault top_built rows b ≡ [] → b ≡ true
@@ -223,8 +267,8 @@ one_there true rows e = refl
 one_there false rows e = absurd (true≢false (ap some_kind e))
 
 -- the first subcommand whose test passed
-abbrev first_of_three : Bool → Bool → Bool → Option Shape
-first_of_three a b d = cond a (Some asm_built) (cond b (Some run_built) (cond d (Some dis_built) None))
+abbrev first_of_four : Bool → Bool → Bool → Bool → Option Shape
+first_of_four a b c d = cond a (Some asm_built) (cond b (Some run_built) (cond c (Some debug_built) (cond d (Some dis_built) None)))
 
 -- where no fault is found a subcommand was met, and it asks for something
 stops : (stop : Option (Text × List Text)) → entered_fault app_built stop ≡ [] → is_some (entered app_built stop) ≡ true
@@ -232,22 +276,25 @@ stops : (stop : Option (Text × List Text)) → entered_fault app_built stop ≡
 stops None f e = absurd (true≢false (sym e))
 stops (Some p) f e =
     let answers : Shape → Bool = λ s. answers_to p.0 (label_of s) in
-    go (answers asm_built) (answers run_built) (answers dis_built) f e
+    go (answers asm_built) (answers run_built) (answers debug_built) (answers dis_built) f e
   where
-    go : (a b d : Bool)
-        → option_map_or (λ (s : Shape). level_fault s [] nothing_held p.1 false []) (first_of_three a b d) [] ≡ []
-        → is_some (option_map (λ (s : Shape). rows_at s p.1) (first_of_three a b d)) ≡ true
-        → is_some (option_and_then asked (option_map (λ (s : Shape). rows_at s p.1) (first_of_three a b d))) ≡ true
-    go true b d g h =
+    go : (a b c d : Bool)
+        → option_map_or (λ (s : Shape). level_fault s [] nothing_held p.1 false []) (first_of_four a b c d) [] ≡ []
+        → is_some (option_map (λ (s : Shape). rows_at s p.1) (first_of_four a b c d)) ≡ true
+        → is_some (option_and_then asked (option_map (λ (s : Shape). rows_at s p.1) (first_of_four a b c d))) ≡ true
+    go true b c d g h =
         let level = level_good asm_built p.1 asm_fine g in
         asm_said (rows_after asm_built.rules [] p.1) level.0 level.1
-    go false true d g h =
+    go false true c d g h =
         let level = level_good run_built p.1 run_fine g in
         run_said (rows_after run_built.rules [] p.1) level.0 (run_there p.1) level.1
-    go false false true g h =
+    go false false true d g h =
+        let level = level_good debug_built p.1 debug_fine g in
+        debug_said (rows_after debug_built.rules [] p.1) level.0 (debug_there p.1) level.1
+    go false false false true g h =
         let level = level_good dis_built p.1 dis_fine g in
         dis_said (rows_after dis_built.rules [] p.1) level.0 level.1
-    go false false false g h = absurd (true≢false (sym h))
+    go false false false false g h = absurd (true≢false (sym h))
 
 said : (words : List Text) → built_fault app_built nothing_held words ≡ []
     → is_some (option_and_then asked (entered app_built (walk app_built.top.rules (names_of app_built) nothing_held words).stopped)) ≡ true

@@ -1,5 +1,5 @@
 -- The command line of the program as `clap` knows it, and what its words ask for.
-use Rattle.std.specs.Prelude.{ℕ, true, false, pos, List, [], ◌∷◌, Option, Some, None}
+use Rattle.std.specs.Prelude.{ℕ, true, false, pos, List, [], ◌∷◌, ◌++◌, Option, Some, None}
 use Rattle.std.specs.Prelude.{if◌then◌else◌, codes, fold, option_map, option_and_then}
 use Rattle.std.specs.Str.{bytes_eq}
 use Rattle.std.specs.Str.Parse.{digits_value, without_leading_plus}
@@ -8,6 +8,7 @@ use Rattle.clap.specs.Simple.{new_shape}
 use Rattle.clap.specs.ValueTests.{is_unsigned_in}
 use Rattle.clap.specs.declared.builder.value_parser.ValueParser.TheVariants as parser
 use Rattle.pac_options.specs.declared.request.AsmFiles.{AsmFiles}
+use Rattle.pac_options.specs.declared.request.DebugFiles.{DebugFiles}
 use Rattle.pac_options.specs.declared.request.RunFiles.{RunFiles}
 use Rattle.pac_options.specs.declared.request.Request.{Request}
 use Rattle.pac_options.specs.declared.request.Request.TheVariants as request
@@ -40,6 +41,9 @@ abbrev pub run_rules : List Rule
 run_rules = required_option (codes "set") ∷ required_option (codes "script") ∷ required_option (codes "frames")
     ∷ required_option (codes "wave") ∷ required_option (codes "listing") ∷ option (codes "source") ∷ dip_option ∷ []
 
+abbrev pub debug_rules : List Rule
+debug_rules = run_rules ++ required_option (codes "commands") ∷ []
+
 abbrev pub asm_rules : List Rule
 asm_rules = required_place (codes "source") ∷ required_option (codes "rom") ∷ required_option (codes "listing") ∷ []
 
@@ -55,6 +59,9 @@ asm_command = command (codes "asm") asm_rules
 abbrev pub run_command : Shape
 run_command = command (codes "run") run_rules
 
+abbrev pub debug_command : Shape
+debug_command = command (codes "debug") debug_rules
+
 abbrev pub dis_command : Shape
 dis_command = command (codes "dis") dis_rules
 
@@ -65,7 +72,7 @@ alone shape = record { top = shape; subs = [] }
 abbrev pub with_rules : List Rule → App → App
 with_rules rules app = fold with_rule app rules
 
--- the program: one of three subcommands has to be there
+-- the program: one of four subcommands has to be there
 unfoldable pub pacboard : App
 pacboard = record {
   top = record (new_shape (codes "pacboard")) {
@@ -74,7 +81,7 @@ pacboard = record {
     subcommand_required = true;
     disable_help_subcommand = true;
   };
-  subs = asm_command ∷ run_command ∷ dis_command ∷ [];
+  subs = asm_command ∷ run_command ∷ debug_command ∷ dis_command ∷ [];
 }
 
 -- ---- what was said
@@ -93,9 +100,14 @@ pub record AskedRun : Type 0 where
   pub source : Option Text
   pub dip : ℕ
 
+pub record AskedDebug : Type 0 where
+  pub run : AskedRun
+  pub commands : Text
+
 pub data Asked : Type 0 where
   asm : AskedAsm → Asked
   run : AskedRun → Asked
+  debug : AskedDebug → Asked
   dis : Text → Asked
 
 -- the number from 0 to 255 that a text spells in decimal, where it spells one
@@ -134,6 +146,13 @@ asked_run rows =
     (first_of (codes "script") rows))
     (first_of (codes "set") rows)
 
+abbrev pub asked_debug : List Row → Option AskedDebug
+asked_debug rows =
+    option_and_then (λ run.
+    option_map (λ commands. record { run = run; commands = commands })
+    (first_of (codes "commands") rows))
+    (asked_run rows)
+
 abbrev pub asked_dis : List Row → Option Text
 asked_dis rows = first_of (codes "file") rows
 
@@ -142,7 +161,8 @@ abbrev pub asked : Text × List Row → Option Asked
 asked p =
     if bytes_eq p.0 (codes "asm") then option_map asm (asked_asm p.1)
     else (if bytes_eq p.0 (codes "run") then option_map run (asked_run p.1)
-    else (if bytes_eq p.0 (codes "dis") then option_map dis (asked_dis p.1) else None))
+    else (if bytes_eq p.0 (codes "debug") then option_map debug (asked_debug p.1)
+    else (if bytes_eq p.0 (codes "dis") then option_map dis (asked_dis p.1) else None)))
 
 -- what the words of a command line ask for, the program's name first
 abbrev pub request_of : List Text → Option Asked
@@ -164,7 +184,11 @@ told_run files = record {
   dip = files.dip;
 }
 
+abbrev pub told_debug : DebugFiles → AskedDebug
+told_debug files = record { run = told_run files.run; commands = files.commands.now }
+
 abbrev pub told : Request → Asked
 told (request.Asm files) = asm (told_asm files)
 told (request.Run files) = run (told_run files)
+told (request.Debug files) = debug (told_debug files)
 told (request.Dis file) = dis file.now

@@ -19,6 +19,7 @@ pub fn pacboard<'a>(alloc: Global) -> Result<Command<'a>, AllocError>
         .disable_help_subcommand(true)
         .subcommand(asm_command(alloc)?)?
         .subcommand(run_command(alloc)?)?
+        .subcommand(debug_command(alloc)?)?
         .subcommand(dis_command(alloc)?)
 }
 
@@ -43,6 +44,21 @@ fn run_command<'a>(alloc: Global) -> Result<Command<'a>, AllocError>
         "Runs a ROM set by a script, and writes its pictures and its sound",
     );
     with_run_options(alloc, command)
+}
+
+/// `debug` with the options of a run and `--commands FILE`.
+fn debug_command<'a>(alloc: Global) -> Result<Command<'a>, AllocError>
+    ensures shape { IfOk result (λ command. app_of command ≡ line.alone line.debug_command) }
+    ensures local { IfOk result (λ command. (fields_of command).has_globals ≡ false) }
+{
+    let command = Command::new(alloc, "debug").about(
+        "Runs a ROM set as run does, and does a debugger's commands on the run",
+    );
+    with_run_options(alloc, command)?.arg(required_option(
+        alloc,
+        "commands",
+        "The debugger's commands, a line each",
+    ))
 }
 
 /// A command with the options of a run added: `--set FILE --script FILE --frames FILE --wave FILE --listing FILE

@@ -6,7 +6,7 @@ mod reading;
 mod request;
 
 pub use reading::options;
-pub use request::{AsmFiles, Request, RunFiles};
+pub use request::{AsmFiles, DebugFiles, Request, RunFiles};
 
 #[cfg(test)]
 mod tests;

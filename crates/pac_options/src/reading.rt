@@ -5,7 +5,7 @@ ghost use Rattle.clap.specs.Words.{FailsBy, fault_of, found_of, rows_of, subcomm
 ghost use Rattle.pac_options.specs.CommandLine as line;
 
 use crate::command::pacboard;
-use crate::request::{AsmFiles, Request, RunFiles};
+use crate::request::{AsmFiles, DebugFiles, Request, RunFiles};
 use clap::{ArgMatches, Error};
 use std::alloc::Global;
 use std::convert::AsStr;
@@ -32,6 +32,7 @@ fn request<'a>(matches: &ArgMatches<'a>) -> Option<Request<'a>>
     match name {
         "asm" => Some(Request::Asm(asm_files(values)?)),
         "run" => Some(Request::Run(run_files(values)?)),
+        "debug" => Some(Request::Debug(debug_files(values)?)),
         "dis" => Some(Request::Dis(values.get_str("file")?)),
         _ => None,
     }
@@ -60,5 +61,15 @@ fn run_files<'a>(values: &ArgMatches<'a>) -> Option<RunFiles<'a>>
         listing: values.get_str("listing")?,
         source: values.get_str("source"),
         dip: values.get_one::<u8>("dip")?,
+    })
+}
+
+/// The files of `debug`, where all are there.
+fn debug_files<'a>(values: &ArgMatches<'a>) -> Option<DebugFiles<'a>>
+    ensures { option_map line.told_debug result ≡ line.asked_debug (rows_of (found_of values.now)) }
+{
+    Some(DebugFiles {
+        run: run_files(values)?,
+        commands: values.get_str("commands")?,
     })
 }

@@ -7,6 +7,8 @@ pub enum Request<'a> {
     Asm(AsmFiles<'a>),
     /// `run`: a ROM set is run by a script.
     Run(RunFiles<'a>),
+    /// `debug`: a ROM set is run by a script, and a debugger's commands are done on it.
+    Debug(DebugFiles<'a>),
     /// `dis`: the file of this name is disassembled.
     Dis(&'a str),
 }
@@ -39,4 +41,13 @@ pub struct RunFiles<'a> {
     pub source: Option<&'a str>,
     /// The byte of the DIP switches: 201 where the words don't say it.
     pub dip: u8,
+}
+
+/// The files of `debug`: those of a run, and its commands.
+#[derive(Clone, Copy, Debug, PartialEq, Eq)]
+pub struct DebugFiles<'a> {
+    /// The files of the run, and the switches of the board.
+    pub run: RunFiles<'a>,
+    /// The debugger's commands.
+    pub commands: &'a str,
 }

@@ -1,6 +1,6 @@
 //! Command lines, what they ask for, and how `clap` refuses them.
 
-use crate::{AsmFiles, Request, RunFiles, options};
+use crate::{AsmFiles, DebugFiles, Request, RunFiles, options};
 use clap::error::ErrorKind;
 use std::test::Fail;
 
@@ -50,6 +50,23 @@ static RUN: [&str; 12] = [
     "l",
 ];
 
+/// A line of `debug` with what is required.
+static DEBUG: [&str; 13] = [
+    "pacboard",
+    "debug",
+    "--set=s",
+    "--commands",
+    "c",
+    "--script",
+    "t",
+    "--frames",
+    "f",
+    "--wave",
+    "w",
+    "--listing",
+    "l",
+];
+
 #[test]
 fn each_subcommand(rt: HostRuntime) -> Result<(), Fail> {
     let alloc = rt.alloc();
@@ -69,6 +86,8 @@ fn each_subcommand(rt: HostRuntime) -> Result<(), Fail> {
     };
     assert_eq!(rt; options(alloc, ASM.as_slice())?, Request::Asm(asm));
     assert_eq!(rt; options(alloc, RUN.as_slice())?, Request::Run(run));
+    let debug = DebugFiles { run, commands: "c" };
+    assert_eq!(rt; options(alloc, DEBUG.as_slice())?, Request::Debug(debug));
     run.source = Some("a");
     run.dip = 7;
     assert_eq!(rt; options(alloc, RUN_ALL.as_slice())?, Request::Run(run));
@@ -85,7 +104,7 @@ fn refusals_and_help(rt: HostRuntime) {
         (["pacboard"].as_slice(), ErrorKind::MissingSubcommand),
         (&[], ErrorKind::MissingSubcommand),
         (&["pacboard", "fly"], ErrorKind::InvalidSubcommand),
-        (&["pacboard", "debug"], ErrorKind::InvalidSubcommand),
+        (&["pacboard", "debug"], ErrorKind::MissingRequiredArgument),
         (&["pacboard", "--help"], ErrorKind::DisplayHelp),
         (&["pacboard", "--version"], ErrorKind::DisplayVersion),
         (&["pacboard", "run", "--help"], ErrorKind::DisplayHelp),

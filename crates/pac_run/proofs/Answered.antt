@@ -20,18 +20,18 @@ use Rattle.pac_run.specs.declared.fault.RunFault.TheVariants as fault
 use Rattle.pac_run.specs.declared.inputs.RunInputs.{RunInputs}
 use Rattle.pac_run.specs.declared.outcome.Outcome.{Outcome}
 use Rattle.pac_run.specs.declared.plan.Prepared.{Prepared}
-use Rattle.pac_run.specs.Plan.{◌>>=◌, plan_of, planned, program_in, source_in, assembled}
+use Rattle.pac_run.specs.Plan.{Plan, ◌>>=◌, plan_of, planned, program_in, source_in, assembled}
 use Rattle.pac_run.specs.Plan.{set_in, set_told, script_told, IsPrepared, Prepares}
 use Rattle.pac_run.specs.Plays.{run_of}
 use Rattle.pac_run.specs.Recorded.{RecordsBroken, HasPlayed, outcome_at}
-use Rattle.pac_run.specs.Run.{Writers, Untouched, Took, TookSome, TookPrefix, Stopped, NothingWritten, Runs, IsCutAt}
+use Rattle.pac_run.specs.Run.{Writers, Untouched, Took, TookSome, TookPrefix, Stopped, NothingWritten, Runs, IsWhole, IsCutAt}
 use Rattle.pac_run.specs.Run.{trace_of, outcome_of}
 use Rattle.pac_run.specs.Texts as text
 use Rattle.pac_run.proofs.Traced.{same-outputs, same-outcome}
 
 -- ---- judging tells of no refused write
 
-abbrev NoWrite : {A : Type 0} → Result A RunFault → Type 0
+abbrev pub NoWrite : {A : Type 0} → Result A RunFault → Type 0
 NoWrite (Err (fault.Write output count)) = ⊥
 NoWrite _ = Unit {0}
 
@@ -60,7 +60,7 @@ script-writes : (result : Result (List Stretch) ScriptFault) → NoWrite (script
 script-writes (Ok value) = tt
 script-writes (Err refused) = tt
 
-plan-writes : (inputs : RunInputs) → NoWrite (plan_of inputs)
+pub plan-writes : (inputs : RunInputs) → NoWrite (plan_of inputs)
 unfolding plan_of
 plan-writes inputs =
     one-then (program_in (source_in inputs)) _ (program-writes (source_in inputs))
@@ -69,7 +69,57 @@ plan-writes inputs =
     (λ read. set-writes (set_of read inputs.parts.now _)))
     (λ set. one-then (script_told (script_of inputs.script.now)) _ (script-writes (script_of inputs.script.now)) (λ script. tt)))
 
--- ---- nothing was written
+-- ---- a plan is played
+
+module _ {F W L R : Type 0} (to : Writers F W L R) (plan : Plan) (dip : ℕ) (outputs : List Output)
+    (same : outputs ≡ (trace_of plan dip).outputs) (listing : Took to.listing plan.listing) where
+  -- film or wave file broke
+  pub cut-at : (output : Which) (count : ℕ) → RecordsBroken to.frames to.wave (total plan.script) outputs output count
+      → Untouched to.report → IsCutAt plan dip to output count
+  cut-at which.Frames count broken report =
+      record {
+        listing = listing;
+        frames = subst (λ outputs. Stopped to.frames (text.frames_text outputs) count) same broken.0;
+        wave = subst (λ outputs. TookSome to.wave (text.wave_text (total plan.script) outputs)) same broken.1;
+        report = report;
+      }
+  cut-at which.Wave count broken report =
+      record {
+        listing = listing;
+        frames = subst (λ outputs. TookPrefix to.frames (text.frames_text outputs)) same broken.0;
+        wave = subst (λ outputs. Stopped to.wave (text.wave_text (total plan.script) outputs) count) same broken.1;
+        report = report;
+      }
+  cut-at which.Listing count broken report = absurd broken
+  cut-at which.Report count broken report = absurd broken
+  cut-at which.Text count broken report = absurd broken
+
+  -- both have all
+  module _ (frames : Took to.frames (text.frames_text outputs)) (wave : Took to.wave (text.wave_text (total plan.script) outputs))
+      (frame_count : ℕ) (count_is : frame_count ≡ total plan.script) (outcome : Outcome) (outcome_is : outcome ≡ outcome_of (trace_of plan dip))
+      where
+    pub is-whole : Took to.report (text.report outcome frame_count) → IsWhole plan dip to outcome
+    is-whole report =
+        record {
+          outcome_is = outcome_is;
+          frames = subst (λ outputs. Took to.frames (text.frames_text outputs)) same frames;
+          wave = subst (λ outputs. Took to.wave (text.wave_text (total plan.script) outputs)) same wave;
+          listing = listing;
+          report = subst (λ outcome. Took to.report (text.report outcome (total plan.script))) outcome_is
+              (subst (λ frames. Took to.report (text.report outcome frames)) count_is report);
+        }
+
+    pub cut-at-report : (count : ℕ) → Stopped to.report (text.report outcome frame_count) count → IsCutAt plan dip to which.Report count
+    cut-at-report count report =
+        record {
+          listing = listing;
+          frames = subst (λ outputs. Took to.frames (text.frames_text outputs)) same frames;
+          wave = subst (λ outputs. Took to.wave (text.wave_text (total plan.script) outputs)) same wave;
+          report = subst (λ outcome. Stopped to.report (text.report outcome (total plan.script)) count) outcome_is
+              (subst (λ frames. Stopped to.report (text.report outcome frames) count) count_is report);
+        }
+
+-- ---- the answers of a run
 
 module _ {F W L R : Type 0} (to : Writers F W L R) (inputs : RunInputs) where
   pub refused : (why : RunFault) → Prepares inputs (Err why) → NothingWritten to → Runs inputs to (Err why)
@@ -79,15 +129,15 @@ module _ {F W L R : Type 0} (to : Writers F W L R) (inputs : RunInputs) where
   refused (fault.Write output count) is none = absurd (subst NoWrite is (plan-writes inputs))
   refused fault.NoMemory is none = none
 
-  -- ---- a plan is played
-
   module _ (prepared : Prepared) (ready : IsPrepared inputs prepared) where
-    pub listing-broke : (count : ℕ) → Stopped to.listing (planned inputs prepared.program prepared.board.set prepared.script).listing count
-        → Untouched to.frames → Untouched to.wave → Untouched to.report
+    abbrev plan : Plan
+    plan = planned inputs prepared.program prepared.board.set prepared.script
+
+    pub listing-broke : (count : ℕ) → Stopped to.listing plan.listing count → Untouched to.frames → Untouched to.wave → Untouched to.report
         → Runs inputs to (Err (fault.Write which.Listing count))
     listing-broke count stopped frames wave report =
         record {
-          plan = planned inputs prepared.program prepared.board.set prepared.script;
+          plan = plan;
           plan_is = ready.plan_is;
           holds = record { listing = stopped; frames = frames; wave = wave; report = report };
         }
@@ -95,76 +145,40 @@ module _ {F W L R : Type 0} (to : Writers F W L R) (inputs : RunInputs) where
     abbrev outputs : List Output
     outputs = (run_of prepared.board prepared.script).outputs
 
-    same : outputs ≡ (trace_of (planned inputs prepared.program prepared.board.set prepared.script) inputs.dip).outputs
+    same : outputs ≡ (trace_of plan inputs.dip).outputs
     same = same-outputs inputs prepared ready
 
-    broken-at : (output : Which) (count : ℕ) (told : List Output)
-        → told ≡ (trace_of (planned inputs prepared.program prepared.board.set prepared.script) inputs.dip).outputs
-        → RecordsBroken to.frames to.wave (total prepared.script) told output count
-        → Took to.listing (planned inputs prepared.program prepared.board.set prepared.script).listing → Untouched to.report
-        → IsCutAt (planned inputs prepared.program prepared.board.set prepared.script) inputs.dip to output count
-    broken-at which.Frames count told e broken listing report =
-        record {
-          listing = listing;
-          frames = subst (λ outputs. Stopped to.frames (text.frames_text outputs) count) e broken.0;
-          wave = subst (λ outputs. TookSome to.wave (text.wave_text (total prepared.script) outputs)) e broken.1;
-          report = report;
-        }
-    broken-at which.Wave count told e broken listing report =
-        record {
-          listing = listing;
-          frames = subst (λ outputs. TookPrefix to.frames (text.frames_text outputs)) e broken.0;
-          wave = subst (λ outputs. Stopped to.wave (text.wave_text (total prepared.script) outputs) count) e broken.1;
-          report = report;
-        }
-    broken-at which.Listing count told e broken listing report = absurd broken
-    broken-at which.Report count told e broken listing report = absurd broken
-    broken-at which.Text count told e broken listing report = absurd broken
-
     pub media-broke : (output : Which) (count : ℕ) → RecordsBroken to.frames to.wave (total prepared.script) outputs output count
-        → Took to.listing (planned inputs prepared.program prepared.board.set prepared.script).listing → Untouched to.report
+        → Took to.listing plan.listing → Untouched to.report
         → Runs inputs to (Err (fault.Write output count))
     media-broke output count broken listing report =
         record {
-          plan = planned inputs prepared.program prepared.board.set prepared.script;
+          plan = plan;
           plan_is = ready.plan_is;
-          holds = broken-at output count outputs same broken listing report;
+          holds = cut-at to plan inputs.dip outputs same listing output count broken report;
         }
 
     module _ (new : BoardValue) (stop : Option Stop) (played : HasPlayed prepared.board prepared.script stop new)
         (frames : Took to.frames (text.frames_text outputs)) (wave : Took to.wave (text.wave_text (total prepared.script) outputs))
-        (listing : Took to.listing (planned inputs prepared.program prepared.board.set prepared.script).listing)
+        (listing : Took to.listing plan.listing)
         (frame_count : ℕ) (count_is : frame_count ≡ total prepared.script) (outcome : Outcome)
         (outcome_is : outcome ≡ outcome_at new.state.now stop) where
-      outcome-same : outcome ≡ outcome_of (trace_of (planned inputs prepared.program prepared.board.set prepared.script) inputs.dip)
+      outcome-same : outcome ≡ outcome_of (trace_of plan inputs.dip)
       outcome-same = outcome_is ∙ same-outcome inputs prepared ready new stop played
 
       pub all-written : Took to.report (text.report outcome frame_count) → Runs inputs to (Ok outcome)
       all-written report =
           record {
-            plan = planned inputs prepared.program prepared.board.set prepared.script;
+            plan = plan;
             plan_is = ready.plan_is;
-            holds = record {
-              outcome_is = outcome-same;
-              frames = subst (λ outputs. Took to.frames (text.frames_text outputs)) same frames;
-              wave = subst (λ outputs. Took to.wave (text.wave_text (total prepared.script) outputs)) same wave;
-              listing = listing;
-              report = subst (λ outcome. Took to.report (text.report outcome (total prepared.script))) outcome-same
-                  (subst (λ frames. Took to.report (text.report outcome frames)) count_is report);
-            };
+            holds = is-whole to plan inputs.dip outputs same listing frames wave frame_count count_is outcome outcome-same report;
           }
 
       pub report-broke : (count : ℕ) → Stopped to.report (text.report outcome frame_count) count
           → Runs inputs to (Err (fault.Write which.Report count))
       report-broke count report =
           record {
-            plan = planned inputs prepared.program prepared.board.set prepared.script;
+            plan = plan;
             plan_is = ready.plan_is;
-            holds = record {
-              listing = listing;
-              frames = subst (λ outputs. Took to.frames (text.frames_text outputs)) same frames;
-              wave = subst (λ outputs. Took to.wave (text.wave_text (total prepared.script) outputs)) same wave;
-              report = subst (λ outcome. Stopped to.report (text.report outcome (total prepared.script)) count) outcome-same
-                  (subst (λ frames. Stopped to.report (text.report outcome frames) count) count_is report);
-            };
+            holds = cut-at-report to plan inputs.dip outputs same listing frames wave frame_count count_is outcome outcome-same count report;
           }

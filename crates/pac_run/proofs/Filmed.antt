@@ -37,13 +37,13 @@ samples-append (Show image ∷ one) other = samples-append one other
 abbrev image_text : Image → List ℕ
 image_text image = ppm_of image.lines image.palette
 
-frames-append : (one other : List Output) → frames_text (one ++ other) ≡ frames_text one ++ frames_text other
+pub frames-append : (one other : List Output) → frames_text (one ++ other) ≡ frames_text one ++ frames_text other
 frames-append one other =
     ap (λ images. flat_map image_text images) (pictures-append one other)
     ∙ flat_map-append image_text (pictures_in one) (pictures_in other)
 
 -- the sound of a list begins with that of its beginning
-sound-append : (owed : ℕ) (one other : List Output)
+pub sound-append : (owed : ℕ) (one other : List Output)
     → samples_text (samples_in one)
     ++ samples_text (samples_in other ++ replicate (owed - length (samples_in (one ++ other))) (pos 0))
     ≡ sound_text owed (one ++ other)

@@ -5,9 +5,11 @@ use Rattle.std.specs.Borrow.{MutBor}
 use mathlib.Core.List.{IsPrefix}
 use Rattle.pac_out.specs.declared.counted.Counted.{Counted}
 use Rattle.pac_out.specs.declared.WriteFault.{WriteFault}
-use Rattle.pac_out.specs.Counted.{HasTaken, HasStopped, Puts}
+use Rattle.pac_out.specs.Counted.{HasTaken, HasStopped, Takes, Puts}
 use Rattle.pac_out.specs.Writes.{lent_took, lent_refused}
 use Rattle.pac_out.proofs.Files.{stops-within}
+use Rattle.pac_session.specs.Running.{Setting}
+use Rattle.pac_session.specs.Session.{begun}
 use Rattle.pac_media.specs.Samples.{wav_header}
 use Rattle.pac_media.specs.Sound.{HasText, Delivers, Fails, Finishes}
 use Rattle.pac_media.specs.Sound as media
@@ -15,9 +17,10 @@ use Rattle.pac_step.specs.Output.{Output}
 use Rattle.pac_run.specs.declared.fault.Output.{Output as Which}
 use Rattle.pac_run.specs.declared.fault.Output.TheVariants as which
 use Rattle.pac_run.specs.declared.film.Film.{Film}
-use Rattle.pac_run.specs.Recorded.{sound_text, Performs, Breaks, Records, RecordsBroken, Written}
-use Rattle.pac_run.specs.Run.{Writing, TookSome, Stopped}
+use Rattle.pac_run.specs.Recorded.{sound_text, IsRecorded, Performs, Breaks, Records, RecordsBroken, Written}
+use Rattle.pac_run.specs.Run.{Writing, Took, TookSome, Stopped}
 use Rattle.pac_run.specs.Texts.{frames_text, wave_text, frame_samples}
+use Rattle.pac_run.specs.Watched.{AllTold, SomeTold, LastBroke, ToldTill, Told, BreaksOff, CutBy, Films, FilmedTill, Filmed}
 
 -- a writer before a run and after it
 abbrev pub writing : {W : Type 0} → (W → List ℕ → W → Type 0) → (W → W → Type 0) → W → W → Writing W
@@ -54,6 +57,66 @@ module _ {W : Type 0} (took : W → List ℕ → W → Type 0) (refused : W → 
       → Ends owner new.writer left → Written (writing took refused owner.now left) text result
   written (Ok done) text file new fresh puts ends = has-taken new text (puts.after owner [] fresh) ends
   written (Err fault) text file new fresh puts ends = has-stopped new text fault.count (puts.after owner [] fresh) puts.told ends
+
+  -- what a session told, put into a new file
+  module _ (setting : Setting) (lines : List (List ℕ)) (file new : Counted (MutBor W)) (fresh : HasTaken (lent_took took) owner [] file)
+      (ends : Ends owner new.writer left) where
+    some-told : SomeTold (λ told. Takes (lent_took took) file told new) setting lines
+        → SomeTold (Took (writing took refused owner.now left)) setting lines
+    some-told some =
+        record {
+          before = some.before;
+          after = some.after;
+          parts = some.parts;
+          told = some.told;
+          tells = some.tells;
+          taken = has-taken new some.told (some.taken.after owner [] fresh) ends;
+        }
+
+    last-broke : (count : ℕ) → LastBroke (λ told count. BreaksOff (lent_took took) (lent_refused refused) file told count new) setting lines count
+        → LastBroke (Stopped (writing took refused owner.now left)) setting lines count
+    last-broke count last =
+        record {
+          before = last.before;
+          line = last.line;
+          after = last.after;
+          parts = last.parts;
+          told = last.told;
+          tells = last.tells;
+          broke = has-stopped new last.told count (last.broke.refuses.after owner [] fresh) (last.broke.count_is ∙ last.broke.refuses.told)
+              ends;
+        }
+
+    told-till : (output : Which) (count : ℕ)
+        → ToldTill (λ told. Takes (lent_took took) file told new)
+        (λ told count. BreaksOff (lent_took took) (lent_refused refused) file told count new) setting lines output count
+        → ToldTill (Took (writing took refused owner.now left)) (Stopped (writing took refused owner.now left)) setting lines output count
+    told-till which.Text count last = last-broke count last
+    told-till which.Frames count some = some-told some
+    told-till which.Wave count some = some-told some
+    told-till which.Listing count some = some-told some
+    told-till which.Report count some = some-told some
+
+    pub told : {A : Type 0} (result : Result A (Which × ℕ))
+        → Told (λ told. Takes (lent_took took) file told new)
+        (λ told count. BreaksOff (lent_took took) (lent_refused refused) file told count new) setting lines result
+        → Told (Took (writing took refused owner.now left)) (Stopped (writing took refused owner.now left)) setting lines result
+    told (Ok done) all =
+        record { told = all.told; tells = all.tells; taken = has-taken new all.told (all.taken.after owner [] fresh) ends }
+    told (Err fault) till = told-till fault.0 fault.1 till
+
+  -- nothing was put into a new file: none of the lines was told
+  pub none-told : (setting : Setting) (lines : List (List ℕ)) (file : Counted (MutBor W)) → HasTaken (lent_took took) owner [] file
+      → Ends owner file.writer left → SomeTold (Took (writing took refused owner.now left)) setting lines
+  none-told setting lines file fresh ends =
+      record {
+        before = [];
+        after = lines;
+        parts = refl;
+        told = [];
+        tells = record { left = begun setting 0; tells = (refl, refl) };
+        taken = has-taken file [] fresh ends;
+      }
 
   -- a writer that refused within the beginning of a text
   pub stopped-early : (head bytes more all : List ℕ) (old new : media.Sound (MutBor W)) (fault : WriteFault)
@@ -166,13 +229,41 @@ module _ {F W : Type 0} (took_f : F → List ℕ → F → Type 0) (refused_f : 
   broken which.Report count breaks = absurd breaks
   broken which.Text count breaks = absurd breaks
 
-  pub records : {A : Type 0} (result : Result A (Which × ℕ))
-      → Performs (lent_took took_f) (lent_refused refused_f) (lent_took took_w) (lent_refused refused_w) outputs old result new
-      → Records (writing took_f refused_f frames.now left_f) (writing took_w refused_w wave.now left_w) total outputs result
-  records (Ok done) performs = (
+  films-till : (output : Which) (count : ℕ)
+      → CutBy (lent_took took_f) (lent_refused refused_f) (lent_took took_w) (lent_refused refused_w) outputs old output count new
+      → FilmedTill (writing took_f refused_f frames.now left_f) (writing took_w refused_w wave.now left_w) total outputs output count
+  films-till which.Text count cut = (
+    record {
+      taken = cut.images;
+      is_prefix = cut.images_among;
+      took = has-taken took_f refused_f frames left_f new.frames cut.images (cut.frames.after frames [] fresh) ends_f;
+    },
+    flushed took_w refused_w wave left_w cut.wave.answer header cut.sound (sound_text (frame_samples * total) outputs) old.wave new.wave
+        begun cut.wave.written (subst (λ n. IsPrefix cut.sound (sound_text n outputs)) owed cut.sound_among) ends_w,
+  )
+  films-till which.Frames count cut = broken which.Frames count cut
+  films-till which.Wave count cut = broken which.Wave count cut
+  films-till which.Listing count cut = broken which.Listing count cut
+  films-till which.Report count cut = broken which.Report count cut
+
+  whole : IsRecorded (lent_took took_f) (lent_took took_w) outputs old new
+      → Took (writing took_f refused_f frames.now left_f) (frames_text outputs)
+      × Took (writing took_w refused_w wave.now left_w) (wave_text total outputs)
+  whole performs = (
     has-taken took_f refused_f frames left_f new.frames (frames_text outputs) (performs.frames.after frames [] fresh) ends_f,
     has-taken took_w refused_w wave left_w new.wave.file (wave_text total outputs)
         (subst (λ n. HasTaken (lent_took took_w) wave (header ++ sound_text n outputs) new.wave.file) owed
         (performs.wave.after wave header begun)) ends_w,
   )
+
+  pub films : {A : Type 0} (result : Result A (Which × ℕ))
+      → Films (lent_took took_f) (lent_refused refused_f) (lent_took took_w) (lent_refused refused_w) outputs old result new
+      → Filmed (writing took_f refused_f frames.now left_f) (writing took_w refused_w wave.now left_w) total outputs result
+  films (Ok done) performs = whole performs
+  films (Err fault) cut = films-till fault.0 fault.1 cut
+
+  pub records : {A : Type 0} (result : Result A (Which × ℕ))
+      → Performs (lent_took took_f) (lent_refused refused_f) (lent_took took_w) (lent_refused refused_w) outputs old result new
+      → Records (writing took_f refused_f frames.now left_f) (writing took_w refused_w wave.now left_w) total outputs result
+  records (Ok done) performs = whole performs
   records (Err fault) performs = broken fault.0 fault.1 performs

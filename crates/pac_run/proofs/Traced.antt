@@ -1,8 +1,11 @@
 -- A board that plays a plan, and the plan's trace.
-use Rattle.std.proofs.Common.{◌≡◌, ◌*◌, ◌/◌, ◌^◌, ◌<◌, ◌≤◌, Option, refl, sym, ap, subst, ◌∙◌, arith}
+use Rattle.std.proofs.Common.{◌≡◌, ℕ, ◌*◌, ◌/◌, ◌^◌, ◌<◌, ◌≤◌, List, Option, refl, sym, ap, subst, ◌∙◌, arith}
 use Rattle.pac_cpu.specs.declared.once.Stop.{Stop}
 use Rattle.pac_inputs.specs.Stretches.{total, held, most_frames}
+use Rattle.pac_inputs.specs.declared.line.Stretch.{Stretch}
 use Rattle.pac_map.specs.Entry.{Hold}
+use Rattle.pac_program.specs.Programs.{Assembled}
+use Rattle.pac_roms.specs.Parts.{Parts, IsWhole}
 use Rattle.pac_step.specs.BoardView.{BoardView, power_on}
 use Rattle.pac_step.specs.Carried.{walk_view}
 use Rattle.pac_step.specs.History.{board_of}
@@ -14,10 +17,14 @@ use Rattle.pac_step.proofs.Outputs.{outputs-timed}
 use Rattle.pac_step.proofs.Runs.{walk-near}
 use Rattle.pac_step.proofs.Walks.{play-timely}
 use Rattle.pac_board.specs.State.{BoardValue}
-use Rattle.pac_session.specs.Running.{play_of}
+use Rattle.pac_session.specs.Motions.{IsOutcome}
+use Rattle.pac_session.specs.Running.{play_of, whole_run}
+use Rattle.pac_session.specs.Session.{SessionValue}
+use Rattle.pac_session.specs.declared.motion.Outcome as told
 use Rattle.pac_run.specs.declared.inputs.RunInputs.{RunInputs}
 use Rattle.pac_run.specs.declared.plan.Prepared.{Prepared}
-use Rattle.pac_run.specs.Plan.{Plan, planned, items_in, IsPrepared}
+use Rattle.pac_run.specs.Debugs.{IsReady, setting_of}
+use Rattle.pac_run.specs.Plan.{Plan, Plays, planned, items_in, IsPrepared}
 use Rattle.pac_run.specs.Plays.{IsUntouched, run_of}
 use Rattle.pac_run.specs.Recorded.{HasPlayed, outcome_at}
 use Rattle.pac_run.specs.Run.{trace_of, outcome_of}
@@ -32,30 +39,70 @@ is-near board new script stop fresh played few =
     let time = ap (λ (now : Moment BoardView). now.time) played.now in
     omega (arith, near, time, few)
 
-module _ (inputs : RunInputs) (prepared : Prepared) (ready : IsPrepared inputs prepared) where
+-- what a plan's set, program and script come to on a board from power-on, told by the view, is its trace
+module _ (inputs : RunInputs) (program : Option Assembled) (set : Parts) (script : List Stretch) (whole : IsWhole set) (lie : Plays set program)
+    where
   abbrev plan : Plan
-  plan = planned inputs prepared.program prepared.board.set prepared.script
+  plan = planned inputs program set script
 
+  abbrev shown : Walk BoardView
+  shown = trace (by_view set) (play_of script) (power_on inputs.dip)
+
+  pub same-trace : shown ≡ walk_view (board_of set (power_on inputs.dip)) (trace_of plan inputs.dip)
+  same-trace =
+      sym (runs-agree set (items_in program) inputs.dip (frame_steps * total script) (play_of script) whole lie)
+
+  pub same-end : (run : Walk BoardView) → run ≡ shown → outcome_at run.now run.stop ≡ outcome_of (trace_of plan inputs.dip)
+  same-end run is =
+      let same = is ∙ same-trace in
+      let now = ap (λ (run : Walk BoardView). run.now) same in
+      let met = ap (λ (run : Walk BoardView). run.stop) same in
+      let blanks = (outputs-timed set (items_in program) inputs.dip (frame_steps * total script) (play_of script)).blanks in
+      let frames = ap (λ (now : Moment BoardView). now.time / frame_ticks) now ∙ sym blanks in
+      λ i. record { frames = frames i; steps = (now i).steps; ticks = (now i).time; stop = met i }
+
+module _ (inputs : RunInputs) (prepared : Prepared) (ready : IsPrepared inputs prepared) where
   pub untouched-board : IsUntouched prepared.board
   untouched-board = subst IsUntouched (sym ready.board) refl
 
   -- its run is that of the plan's history
-  same-run : run_of prepared.board prepared.script
-      ≡ walk_view (board_of prepared.board.set (power_on inputs.dip)) (trace_of plan inputs.dip)
-  same-run =
-      ap (λ (board : BoardValue). trace (by_view prepared.board.set) (play_of prepared.script) board.state.now.board) ready.board
-      ∙ sym (runs-agree prepared.board.set (items_in prepared.program) inputs.dip (frame_steps * total prepared.script)
-      (play_of prepared.script) ready.whole ready.lie)
+  shown-run : run_of prepared.board prepared.script ≡ shown inputs prepared.program prepared.board.set prepared.script ready.whole ready.lie
+  shown-run = ap (λ (board : BoardValue). trace (by_view prepared.board.set) (play_of prepared.script) board.state.now.board) ready.board
 
-  pub same-outputs : (run_of prepared.board prepared.script).outputs ≡ (trace_of plan inputs.dip).outputs
-  same-outputs = ap (λ (run : Walk BoardView). run.outputs) same-run
+  pub same-outputs : (run_of prepared.board prepared.script).outputs
+      ≡ (trace_of (planned inputs prepared.program prepared.board.set prepared.script) inputs.dip).outputs
+  same-outputs =
+      ap (λ (run : Walk BoardView). run.outputs)
+      (shown-run ∙ same-trace inputs prepared.program prepared.board.set prepared.script ready.whole ready.lie)
 
   pub same-outcome : (new : BoardValue) (stop : Option Stop) → HasPlayed prepared.board prepared.script stop new
-      → outcome_at new.state.now stop ≡ outcome_of (trace_of plan inputs.dip)
+      → outcome_at new.state.now stop ≡ outcome_of (trace_of (planned inputs prepared.program prepared.board.set prepared.script) inputs.dip)
   same-outcome new stop played =
-      let now = played.now ∙ ap (λ (run : Walk BoardView). run.now) same-run in
-      let met = played.stop_is ∙ ap (λ (run : Walk BoardView). run.stop) same-run in
-      let shown = (outputs-timed prepared.board.set (items_in prepared.program) inputs.dip (frame_steps * total prepared.script)
-      (play_of prepared.script)).blanks in
-      let frames = ap (λ (now : Moment BoardView). now.time / frame_ticks) now ∙ sym shown in
-      λ i. record { frames = frames i; steps = (now i).steps; ticks = (now i).time; stop = met i }
+      (λ i. outcome_at (played.now i) (played.stop_is i))
+      ∙ same-end inputs prepared.program prepared.board.set prepared.script ready.whole ready.lie (run_of prepared.board prepared.script)
+      shown-run
+
+-- the same of a session's run
+module _ (inputs : RunInputs) (program : Option Assembled) (session : SessionValue) (frames : ℕ) (ready : IsReady inputs program session frames)
+    where
+  abbrev session_plan : Plan
+  session_plan = planned inputs program session.setting.set session.setting.script
+
+  shown-whole : whole_run session.setting
+      ≡ shown inputs program session.setting.set session.setting.script ready.whole ready.lie
+  shown-whole = ap (λ switches. trace (by_view session.setting.set) (play_of session.setting.script) (power_on switches)) ready.switches
+
+  pub session-outputs : (whole_run session.setting).outputs ≡ (trace_of session_plan inputs.dip).outputs
+  session-outputs =
+      ap (λ (run : Walk BoardView). run.outputs)
+      (shown-whole ∙ same-trace inputs program session.setting.set session.setting.script ready.whole ready.lie)
+
+  pub session-outcome : (outcome : told.Outcome) → IsOutcome session outcome
+      → record { frames = outcome.frames; steps = outcome.steps; ticks = outcome.ticks; stop = outcome.stop }
+      ≡ outcome_of (trace_of session_plan inputs.dip)
+  session-outcome outcome is =
+      (λ i. record { frames = is.frames i; steps = is.steps i; ticks = is.ticks i; stop = is.stop i })
+      ∙ same-end inputs program session.setting.set session.setting.script ready.whole ready.lie (whole_run session.setting) shown-whole
+
+  pub same-setting : setting_of session_plan inputs.dip ≡ session.setting
+  same-setting = λ i. record { set = session.setting.set; switches = sym ready.switches i; script = session.setting.script }

@@ -1,14 +1,18 @@
 -- What a run under a debugger writes, tells and answers.
-use Rattle.std.specs.Prelude.{◌≡◌, ℕ, List, Result, Ok, Err}
+use Rattle.std.specs.Prelude.{◌≡◌, ℕ, List, Option, Result, Ok, Err}
 use Rattle.std.specs.Str.Lines.{lines}
+use Rattle.pac_inputs.specs.Stretches.{total}
+use Rattle.pac_program.specs.Programs.{Assembled}
+use Rattle.pac_roms.specs.Parts.{IsWhole as HasAllParts}
 use Rattle.pac_session.specs.Running.{Setting}
+use Rattle.pac_session.specs.Session.{SessionValue, begun}
 use Rattle.pac_run.specs.declared.fault.Output.{Output}
 use Rattle.pac_run.specs.declared.fault.Output.TheVariants.{Frames, Wave, Listing, Report, Text}
 use Rattle.pac_run.specs.declared.fault.RunFault.{RunFault}
 use Rattle.pac_run.specs.declared.fault.RunFault.TheVariants as fault
 use Rattle.pac_run.specs.declared.inputs.RunInputs.{RunInputs}
 use Rattle.pac_run.specs.declared.outcome.Outcome.{Outcome}
-use Rattle.pac_run.specs.Plan.{Plan, plan_of}
+use Rattle.pac_run.specs.Plan.{Plan, Plays, plan_of, planned}
 use Rattle.pac_run.specs.Run.{Writing, Writers, Took, TookPrefix, TookSome, Stopped, Untouched, NothingWritten, IsWhole, IsCutAt, WithPlan}
 use Rattle.pac_run.specs.Run.{frames_text, wave_text}
 use Rattle.pac_run.specs.Watched.{AllTold, SomeTold, LastBroke}
@@ -23,7 +27,7 @@ pub record IsReady (inputs : RunInputs) (program : Option Assembled) (session : 
   pub switches : session.setting.switches ≡ inputs.dip
   pub session_is : session ≡ begun session.setting 0
   pub frames_is : frames ≡ total session.setting.script
-  pub whole : IsWhole session.setting.set
+  pub whole : HasAllParts session.setting.set
   pub lie : Plays session.setting.set program
 
 -- ---- the text of the session

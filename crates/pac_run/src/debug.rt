@@ -1,11 +1,7 @@
 //! A run under a debugger as one call.
 
 ghost use Rattle.std.specs.Prelude.{◌≡◌};
-ghost use Rattle.pac_session.specs.Running.{whole_run};
-ghost use Rattle.pac_session.specs.Session.{begun};
-ghost use Rattle.pac_session.specs.Motions.{IsOutcome};
-ghost use Rattle.pac_run.specs.Debugs.{Debugs};
-ghost use Rattle.pac_run.specs.Plan.{IsPrepared};
+ghost use Rattle.pac_run.specs.Debugs.{Debugs, IsReady};
 
 use crate::fault::{Output, RunFault};
 use crate::inputs::RunInputs;

@@ -13,6 +13,8 @@ mod memory;
 #[cfg(test)]
 mod runs;
 #[cfg(test)]
+mod sessions;
+#[cfg(test)]
 mod set;
 #[cfg(test)]
 mod writers;

@@ -88,7 +88,7 @@ fn full_writers_are_told_with_their_counts(rt: HostRuntime) -> Result<(), Fail> 
             Output::Frames => lengths.0,
             Output::Wave => lengths.1,
             Output::Listing => lengths.2,
-            Output::Report => lengths.3,
+            Output::Report | Output::Text => lengths.3,
         };
         let found = outputs.run(rt.alloc(), &inputs);
         assert_eq!(rt; found, Err(RunFault::Write(output, count as u64)));

@@ -20,8 +20,9 @@ returns c =
     rw (c.disable_help_subcommand.ensures, c.subcommand_required.ensures, c.about.ensures, c.version.ensures)
     (ap (λ (a : App). record a { top = record a.top { has_version = true; subcommand_required = true; disable_help_subcommand = true } })
     c.new.ensures.app) in
-    IfOk-weaker c.subcommand-3.result _ _ (λ r h.
+    IfOk-weaker c.subcommand-4.result _ _ (λ r h.
     with_sub _ _ _ _ _ h c.in_ok-dis_command.ensures.local c.in_ok-dis_command.ensures.shape
+    (with_sub _ _ _ _ _ c.in_ok-subcommand-3.ensures c.in_ok-debug_command.ensures.local c.in_ok-debug_command.ensures.shape
     (with_sub _ _ _ _ _ c.in_ok-subcommand-2.ensures c.in_ok-run_command.ensures.local c.in_ok-run_command.ensures.shape
     (with_sub _ _ _ _ _ c.in_ok-subcommand.ensures c.in_ok-asm_command.ensures.local c.in_ok-asm_command.ensures.shape
-    base))) c.subcommand-3.ensures
+    base)))) c.subcommand-4.ensures

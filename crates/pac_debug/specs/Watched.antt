@@ -1,0 +1,148 @@
+-- A whole session: what the lines of a text are answered with, and what a sink is given, up to the end of the run. What is told is
+-- said of the run alone, without any sink; and whatever the lines ask, a sink is given each output of the run once, in order.
+use Rattle.std.specs.Prelude.{◌≡◌, ◌≤◌, ℕ, not, List, [], ◌∷◌, ◌++◌, Option, None, Some, Result, Ok, Err}
+use mathlib.Core.List.{IsPrefix}
+use Rattle.pac_step.specs.Output.{Output}
+use Rattle.pac_board.specs.Sinks.{TookAll, RefusesAt}
+use Rattle.pac_out.specs.declared.WriteFault.{WriteFault}
+use Rattle.pac_out.specs.Counted.{Takes, Refuses}
+use Rattle.pac_debug_text.specs.declared.command.Command.{Command}
+use Rattle.pac_debug_text.specs.declared.command.NoCommand.{NoCommand}
+use Rattle.pac_debug_text.specs.Commands.{command_of}
+use Rattle.pac_session.specs.declared.motion.Outcome.{Outcome}
+use Rattle.pac_session.specs.Motions.{IsOutcome, moved_to}
+use Rattle.pac_session.specs.Running.{IsLeast, goes_at, outputs_between, outputs_from}
+use Rattle.pac_session.specs.Session.{SessionValue, due_outputs}
+use Rattle.pac_debug.specs.declared.answer.Answer.{Answer}
+use Rattle.pac_debug.specs.declared.line.CommandFault.{CommandFault}
+use Rattle.pac_debug.specs.declared.line.CommandFault.TheVariants as faults
+use Rattle.pac_debug.specs.Answers.{answer_text}
+use Rattle.pac_debug.specs.Obeying.{Scene, Obeyed, cleared}
+
+-- ---- what is told
+
+-- a sink that takes all, of which nothing is kept: what a session does and tells doesn't hang on the sink
+abbrev pub takes_all : Unit {0} → Output → Unit {0} → Type 0
+takes_all old output new = Unit {0}
+
+-- What a line with words tells, and where it leaves the session: what is due is taken first.
+pub record Told (old : SessionValue) (asked : Result Command NoCommand) (text : List ℕ) (new : SessionValue) : Type 0 where
+  pub answer : Answer
+  pub obeyed : Obeyed takes_all (cleared old) asked tt answer new tt
+  pub text_is : text ≡ answer_text new answer
+
+-- a line; one without words tells nothing and changes nothing
+abbrev pub TellsOf : Option (Result Command NoCommand) → SessionValue → List ℕ → SessionValue → Type 0
+TellsOf None old text new = (text ≡ []) × (new ≡ old)
+TellsOf (Some asked) old text new = Told old asked text new
+
+abbrev pub Tells : (line : List ℕ) → SessionValue → (text : List ℕ) → SessionValue → Type 0
+Tells line old text new = TellsOf (command_of line) old text new
+
+-- Something is told first, and then the rest, from where that leaves the session.
+pub record TellsInTurn (first : List ℕ → SessionValue → Type 0) (rest : SessionValue → List ℕ → Type 0) (text : List ℕ) : Type 0 where
+  pub text_before : List ℕ
+  pub between : SessionValue
+  pub text_after : List ℕ
+  pub before : first text_before between
+  pub after : rest between text_after
+  pub text_is : text ≡ text_before ++ text_after
+
+-- lines, one after another
+abbrev pub TellsAll : (lines : List (List ℕ)) → SessionValue → (text : List ℕ) → SessionValue → Type 0
+TellsAll [] old text new = (text ≡ []) × (new ≡ old)
+TellsAll (line ∷ more) old text new = TellsInTurn (Tells line old) (λ between rest. TellsAll more between rest new) text
+
+-- ---- what is given
+
+-- From one moment of a session to a later one these outputs were taken: each output that was due, and each one from the furthest index
+-- to the new furthest index, was taken, once and in order, or is due now.
+pub record HasGiven (old : SessionValue) (taken : List Output) (new : SessionValue) : Type 0 where
+  pub setting : new.setting ≡ old.setting
+  pub further : old.furthest ≤ new.furthest
+  pub parts : due_outputs old ++ outputs_between old.setting old.furthest new.furthest ≡ taken ++ due_outputs new
+
+-- the sink took all that was offered
+pub record GaveAll {S : Type 0} (took : S → Output → S → Type 0) (old : SessionValue) (sink : S) (new : SessionValue) (later : S)
+    : Type 0 where
+  pub taken : List Output
+  pub given : HasGiven old taken new
+  pub sink_is : TookAll took sink taken later
+
+-- the sink took some, and refused the first of those that are due now
+pub record GaveSome {S : Type 0} (took refused : S → Output → S → Type 0) (old : SessionValue) (sink : S) (new : SessionValue) (later : S)
+    : Type 0 where
+  pub taken : List Output
+  pub given : HasGiven old taken new
+  pub refuses : RefusesAt took refused sink taken (due_outputs new) later
+
+-- what lines gave to the sink, whatever they asked, by their answer
+abbrev pub Gave : {S W A : Type 0} → (took refused : S → Output → S → Type 0) → Scene S W → Result A CommandFault → Scene S W → Type 0
+Gave took refused old (Ok done) new = GaveAll took old.session old.sink new.session new.sink
+Gave took refused old (Err faults.Refused) new = GaveSome took refused old.session old.sink new.session new.sink
+Gave took refused old (Err (faults.Text fault)) new = GaveAll took old.session old.sink new.session new.sink
+
+-- ---- a whole session
+
+-- what a session has still to give, in order: what is due, and what the run gives from the furthest index on
+abbrev pub to_give : SessionValue → List Output
+to_give s = due_outputs s ++ outputs_from s.setting s.furthest
+
+-- All lines were answered, and the run went on to its end. The sink took all that the session had still to give, once and in order.
+pub record Watched {S W : Type 0} (took : S → Output → S → Type 0) (wrote : W → List ℕ → W → Type 0) (asked : List (List ℕ))
+    (old : Scene S W) (result : Outcome) (new : Scene S W)
+    : Type 0 where
+  -- where the lines leave the session, and what they tell
+  pub between : SessionValue
+  pub told : List ℕ
+  pub lines : TellsAll asked old.session told between
+  pub text : Takes wrote old.text told new.text
+  pub outcome : IsOutcome old.session result
+  pub sink : TookAll took old.sink (to_give old.session) new.sink
+  -- from there it went on to the first index at which the run goes no further
+  pub rest : IsLeast (λ index. not (goes_at old.session.setting index)) between.index new.session.index
+  pub session : new.session ≡ record (moved_to between new.session.index) { replayed = 0 }
+
+-- The sink refused an output, at a line or on the way to the run's end. The lines before were answered, and no more is told. It took all
+-- outputs up to that one, once and in order; that one and those after it are due.
+pub record IsWatchRefused {S W : Type 0} (took refused : S → Output → S → Type 0) (wrote : W → List ℕ → W → Type 0)
+    (asked : List (List ℕ)) (old new : Scene S W)
+    : Type 0 where
+  pub before : List (List ℕ)
+  pub after : List (List ℕ)
+  pub parts : asked ≡ before ++ after
+  pub told : List ℕ
+  pub between : SessionValue
+  pub lines : TellsAll before old.session told between
+  pub text : Takes wrote old.text told new.text
+  pub taken : List Output
+  pub left : List Output
+  pub left_is : left ≡ due_outputs new.session
+  pub given : HasGiven old.session taken new.session
+  pub among : IsPrefix (taken ++ left) (to_give old.session)
+  pub refuses : RefusesAt took refused old.sink taken left new.sink
+
+-- The writer refused the text of a line: the lines up to that one are done, that one too. The sink took outputs, once and in order.
+pub record IsWatchUntold {S W : Type 0} (took : S → Output → S → Type 0) (wrote : W → List ℕ → W → Type 0) (balked : W → W → Type 0)
+    (asked : List (List ℕ)) (old : Scene S W) (fault : WriteFault) (new : Scene S W)
+    : Type 0 where
+  pub before : List (List ℕ)
+  pub line : List ℕ
+  pub after : List (List ℕ)
+  pub parts : asked ≡ before ++ line ∷ after
+  pub told : List ℕ
+  pub between : SessionValue
+  pub lines : TellsAll (before ++ line ∷ []) old.session told between
+  pub session : new.session ≡ between
+  pub text : Refuses wrote balked old.text told fault new.text
+  pub taken : List Output
+  pub given : HasGiven old.session taken new.session
+  pub among : IsPrefix taken (to_give old.session)
+  pub sink : TookAll took old.sink taken new.sink
+
+-- a whole session, by its answer: what the lines ask, one after another, and then the run's end
+abbrev pub Watches : {S W : Type 0} → (took refused : S → Output → S → Type 0) → (wrote : W → List ℕ → W → Type 0)
+    → (balked : W → W → Type 0) → (lines : List (List ℕ)) → Scene S W → Result Outcome CommandFault → Scene S W → Type 0
+Watches took refused wrote balked lines old (Ok outcome) new = Watched took wrote lines old outcome new
+Watches took refused wrote balked lines old (Err faults.Refused) new = IsWatchRefused took refused wrote lines old new
+Watches took refused wrote balked lines old (Err (faults.Text fault)) new = IsWatchUntold took wrote balked lines old fault new

@@ -1,0 +1,113 @@
+-- The answers of a run under a debugger, one by one.
+use Rattle.std.proofs.Common.{◌≡◌, ℕ, List, Option, Ok, Err, sym, subst, ◌∙◌}
+use Rattle.std.specs.Str.Lines.{lines}
+use Rattle.pac_inputs.specs.Stretches.{total}
+use Rattle.pac_program.specs.Programs.{Assembled}
+use Rattle.pac_step.specs.Output.{Output}
+use Rattle.pac_session.specs.Motions.{IsOutcome}
+use Rattle.pac_session.specs.Running.{whole_run}
+use Rattle.pac_session.specs.Session.{SessionValue}
+use Rattle.pac_session.specs.declared.motion.Outcome as told
+use Rattle.pac_run.specs.declared.fault.Output.{Output as Which}
+use Rattle.pac_run.specs.declared.fault.Output.TheVariants as which
+use Rattle.pac_run.specs.declared.fault.RunFault.{RunFault}
+use Rattle.pac_run.specs.declared.fault.RunFault.TheVariants as fault
+use Rattle.pac_run.specs.declared.inputs.RunInputs.{RunInputs}
+use Rattle.pac_run.specs.declared.outcome.Outcome.{Outcome}
+use Rattle.pac_run.specs.Debugs.{IsReady, setting_of, IsBrokenAt, Debugs}
+use Rattle.pac_run.specs.Plan.{Plan, planned, Prepares}
+use Rattle.pac_run.specs.Run.{Writing, Writers, Took, TookPrefix, TookSome, Stopped, Untouched, NothingWritten, outcome_of, trace_of}
+use Rattle.pac_run.specs.Texts as text
+use Rattle.pac_run.specs.Watched.{AllTold, ToldTill, FilmedTill}
+use Rattle.pac_run.proofs.Answered.{NoWrite, plan-writes, cut-at, cut-at-report, is-whole}
+use Rattle.pac_run.proofs.Traced.{session-outputs, session-outcome, same-setting}
+
+module _ {F W L R T : Type 0} (inputs : RunInputs) (commands : List ℕ) (to : Writers F W L R) (words : Writing T) where
+  -- nothing was written
+  pub refused-all : (why : RunFault) → Prepares inputs (Err why) → NothingWritten to → Untouched words
+      → Debugs inputs commands to words (Err why)
+  refused-all (fault.Source refusal) is none silent = (is, none, silent)
+  refused-all (fault.Set refusal) is none silent = (is, none, silent)
+  refused-all (fault.Script refusal) is none silent = (is, none, silent)
+  refused-all (fault.Write output count) is none silent = absurd (subst NoWrite is (plan-writes inputs))
+  refused-all fault.NoMemory is none silent = (none, silent)
+
+  module _ (program : Option Assembled) (session : SessionValue) (frames : ℕ) (ready : IsReady inputs program session frames) where
+    abbrev plan : Plan
+    plan = planned inputs program session.setting.set session.setting.script
+
+    pub unlisted : (count : ℕ) → Stopped to.listing plan.listing count → Untouched to.frames → Untouched to.wave → Untouched to.report
+        → Untouched words → Debugs inputs commands to words (Err (fault.Write which.Listing count))
+    unlisted count stopped frames wave report silent =
+        record {
+          plan = plan;
+          plan_is = ready.plan_is;
+          holds = (record { listing = stopped; frames = frames; wave = wave; report = report }, silent);
+        }
+
+    abbrev outputs : List Output
+    outputs = (whole_run session.setting).outputs
+
+    same : outputs ≡ (trace_of plan inputs.dip).outputs
+    same = session-outputs inputs program session frames ready
+
+    setting : session.setting ≡ setting_of plan inputs.dip
+    setting = sym (same-setting inputs program session frames ready)
+
+    broken-at : (output : Which) (count : ℕ) → FilmedTill to.frames to.wave (total session.setting.script) outputs output count
+        → ToldTill (Took words) (Stopped words) session.setting (lines commands) output count
+        → Took to.listing plan.listing → Untouched to.report → IsBrokenAt plan inputs.dip commands to words output count
+    broken-at which.Frames count filmed told listing report =
+        (cut-at to plan inputs.dip outputs same listing which.Frames count filmed report,
+        subst (λ it. ToldTill (Took words) (Stopped words) it (lines commands) which.Frames count) setting told)
+    broken-at which.Wave count filmed told listing report =
+        (cut-at to plan inputs.dip outputs same listing which.Wave count filmed report,
+        subst (λ it. ToldTill (Took words) (Stopped words) it (lines commands) which.Wave count) setting told)
+    broken-at which.Listing count filmed told listing report = absurd filmed
+    broken-at which.Report count filmed told listing report = absurd filmed
+    broken-at which.Text count filmed told listing report =
+        record {
+          listing = listing;
+          frames = subst (λ outputs. TookPrefix to.frames (text.frames_text outputs)) same filmed.0;
+          wave = subst (λ outputs. TookSome to.wave (text.wave_text (total session.setting.script) outputs)) same filmed.1;
+          report = report;
+          told = subst (λ it. ToldTill (Took words) (Stopped words) it (lines commands) which.Text count) setting told;
+        }
+
+    pub broke : (output : Which) (count : ℕ) → FilmedTill to.frames to.wave (total session.setting.script) outputs output count
+        → ToldTill (Took words) (Stopped words) session.setting (lines commands) output count
+        → Took to.listing plan.listing → Untouched to.report → Debugs inputs commands to words (Err (fault.Write output count))
+    broke output count filmed told listing report =
+        record { plan = plan; plan_is = ready.plan_is; holds = broken-at output count filmed told listing report }
+
+    module _ (outcome : told.Outcome) (outcome_is : IsOutcome session outcome)
+        (shown : Took to.frames (text.frames_text outputs) × Took to.wave (text.wave_text (total session.setting.script) outputs))
+        (told : AllTold (Took words) session.setting (lines commands)) (listing : Took to.listing plan.listing)
+        (result : Outcome)
+        (result_is : result ≡ record { frames = outcome.frames; steps = outcome.steps; ticks = outcome.ticks; stop = outcome.stop }) where
+      ends-so : result ≡ outcome_of (trace_of plan inputs.dip)
+      ends-so = result_is ∙ session-outcome inputs program session frames ready outcome outcome_is
+
+      all-told : AllTold (Took words) (setting_of plan inputs.dip) (lines commands)
+      all-told = subst (λ it. AllTold (Took words) it (lines commands)) setting told
+
+      pub all-watched : Took to.report (text.report result frames) → Debugs inputs commands to words (Ok result)
+      all-watched report =
+          record {
+            plan = plan;
+            plan_is = ready.plan_is;
+            holds = record {
+              files = is-whole to plan inputs.dip outputs same listing shown.0 shown.1 frames ready.frames_is result ends-so report;
+              told = all-told;
+            };
+          }
+
+      pub unreported : (count : ℕ) → Stopped to.report (text.report result frames) count
+          → Debugs inputs commands to words (Err (fault.Write which.Report count))
+      unreported count report =
+          record {
+            plan = plan;
+            plan_is = ready.plan_is;
+            holds = (cut-at-report to plan inputs.dip outputs same listing shown.0 shown.1 frames ready.frames_is result ends-so count report,
+            all-told);
+          }

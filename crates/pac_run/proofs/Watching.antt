@@ -1,0 +1,90 @@
+-- What film, wave file and text have after a session that was watched, by its answer.
+use Rattle.std.proofs.Common.{◌≡◌, ℕ, ◌-◌, pos, List, [], ◌∷◌, ◌++◌, length, replicate, Result, refl, sym, ap, subst, ◌∙◌, append-nil}
+use mathlib.Core.List.{IsPrefix}
+use Rattle.pac_out.specs.declared.WriteFault.{WriteFault}
+use Rattle.pac_out.specs.Counted.{Takes}
+use Rattle.pac_media.specs.Samples.{samples_text}
+use Rattle.pac_media.specs.Sound.{Finishes}
+use Rattle.pac_media.proofs.Gathered.{finishes-after}
+use Rattle.pac_step.specs.Output.{Output}
+use Rattle.pac_board.specs.Sinks.{TookAll}
+use Rattle.pac_session.specs.Running.{Setting, whole_run}
+use Rattle.pac_session.specs.Session.{SessionValue, begun}
+use Rattle.pac_debug.specs.Watched.{TellsAll, to_give}
+use Rattle.pac_run.specs.declared.fault.Output.{Output as Which}
+use Rattle.pac_run.specs.declared.fault.Output.TheVariants as which
+use Rattle.pac_run.specs.declared.film.Film.{Film}
+use Rattle.pac_run.specs.Films.{film_took}
+use Rattle.pac_run.specs.Recorded.{sound_text, Breaks}
+use Rattle.pac_run.specs.Texts.{samples_in, frames_text}
+use Rattle.pac_run.specs.Watched.{TellsOf, AllTold, SomeTold, ToldTill, CutBy, IsCutShort}
+use Rattle.pac_run.proofs.Filmed.{filmed, frames-append, sound-append}
+
+-- a session at the beginning of its run has all of it still to give
+pub all-to-give : (session : SessionValue) → session ≡ begun session.setting 0 → to_give session ≡ (whole_run session.setting).outputs
+all-to-give session fresh = ap to_give fresh
+
+-- what its lines tell
+pub tells-of : (session left : SessionValue) (lines : List (List ℕ)) (told : List ℕ) → session ≡ begun session.setting 0
+    → TellsAll lines session told left → TellsOf session.setting lines told
+tells-of session left lines told fresh tells =
+    record { left = left; tells = subst (λ it. TellsAll lines it told left) fresh tells }
+
+-- the sound of a list's beginning is the beginning of its sound
+sound-among : (owed : ℕ) (taken outputs : List Output) → IsPrefix taken outputs
+    → IsPrefix (samples_text (samples_in taken)) (sound_text owed outputs)
+sound-among owed taken outputs among = (
+  samples_text (samples_in among.0 ++ replicate (owed - length (samples_in (taken ++ among.0))) (pos 0)),
+  sound-append owed taken among.0 ∙ ap (λ all. sound_text owed all) among.1,
+)
+
+-- where all lines are told, some are
+pub some-of-all : (took : List ℕ → Type 0) (setting : Setting) (lines : List (List ℕ)) → AllTold took setting lines
+    → SomeTold took setting lines
+some-of-all took setting lines all =
+    record {
+      before = lines;
+      after = [];
+      parts = sym (append-nil lines);
+      told = all.told;
+      tells = all.tells;
+      taken = all.taken;
+    }
+
+module _ {F W : Type 0} (took_f : F → List ℕ → F → Type 0) (refused_f : F → F → Type 0) (took_w : W → List ℕ → W → Type 0)
+    (refused_w : W → W → Type 0) where
+  -- film or wave file broke, and the text didn't
+  pub cut-by : (outputs : List Output) (old new : Film F W) (output : Which) (count : ℕ)
+      → Breaks took_f refused_f took_w refused_w outputs old output count new
+      → CutBy took_f refused_f took_w refused_w outputs old output count new
+  cut-by outputs old new which.Frames count breaks = breaks
+  cut-by outputs old new which.Wave count breaks = breaks
+  cut-by outputs old new which.Listing count breaks = breaks
+  cut-by outputs old new which.Report count breaks = breaks
+  cut-by outputs old new which.Text count breaks = absurd breaks
+
+  pub told-till : (outputs : List Output) (old new : Film F W) (output : Which) (count : ℕ)
+      → Breaks took_f refused_f took_w refused_w outputs old output count new
+      → (took : List ℕ → Type 0) (stopped : List ℕ → ℕ → Type 0) (setting : Setting) (lines : List (List ℕ)) → SomeTold took setting lines
+      → ToldTill took stopped setting lines output count
+  told-till outputs old new which.Frames count breaks took stopped setting lines some = some
+  told-till outputs old new which.Wave count breaks took stopped setting lines some = some
+  told-till outputs old new which.Listing count breaks took stopped setting lines some = some
+  told-till outputs old new which.Report count breaks took stopped setting lines some = some
+  told-till outputs old new which.Text count breaks took stopped setting lines some = absurd breaks
+
+  -- the text broke: what was filmed till then is written
+  pub cut-short : {A : Type 0} (outputs taken : List Output) (old mid new : Film F W) (answer : Result A WriteFault)
+      → IsPrefix taken outputs → TookAll (film_took took_f took_w) old taken mid
+      → Finishes took_w refused_w mid.wave [] answer new.wave → new.frames ≡ mid.frames
+      → IsCutShort took_f took_w refused_w outputs old new
+  cut-short outputs taken old mid new answer among took flushed same =
+      let film = filmed took_f refused_f took_w refused_w taken old mid took in
+      record {
+        images = frames_text taken;
+        images_among = (frames_text among.0, sym (frames-append taken among.0) ∙ ap frames_text among.1);
+        frames = subst (λ file. Takes took_f old.frames (frames_text taken) file) (sym same) film.frames;
+        sound = samples_text (samples_in taken);
+        sound_among = sound-among old.wave.owed taken outputs among;
+        wave = record { answer = answer; written = finishes-after refused_w answer new.wave film.wave flushed };
+      }
