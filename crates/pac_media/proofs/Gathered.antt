@@ -17,6 +17,7 @@ module _ {W : Type 0} {took : W → List ℕ → W → Type 0} where
   fails-within {refused = refused} {new = new} {one = one} {other = other} first second more =
       record {
         told = second.told;
+        at_least = let e = first.at_least in let f = second.at_least in omega (arith, e, f);
         after = λ start text has. let stop = second.after start (text ++ one) (first.after start text has) in
             subst (λ (all : List ℕ). HasStopped took refused start all new.file)
             (append_assoc (text ++ one) other more
@@ -36,6 +37,7 @@ module _ {W : Type 0} {took : W → List ℕ → W → Type 0} where
       → Finishes took refused old bytes result new
   finishes-after refused (Ok done) new {bytes = bytes} first second =
       record {
+        at_least = let e = first.at_least in let f = second.at_least in omega (arith, e, f);
         after = λ start text has. subst (λ (all : List ℕ). HasTaken took start all new.file) (append-nil (text ++ bytes))
             (second.after start (text ++ bytes) (first.after start text has));
         none_waits = second.none_waits;

@@ -18,7 +18,10 @@ data_size samples = sample_size * samples
 abbrev pub riff_size : ℕ → ℕ
 riff_size samples = 36 + data_size samples
 
--- the header of a file of so many samples, 44 bytes
+-- the header of a file of so many samples, and how many bytes it has
+abbrev pub header_size : ℕ
+header_size = 44
+
 unfoldable pub wav_header : ℕ → List ℕ
 wav_header samples =
     flat_map (λ field. field)

@@ -42,6 +42,7 @@ module _ {W : Type 0} {took : W → List ℕ → W → Type 0} where
   -- nothing was put
   pub takes-nothing : (file : Counted W) → Takes took file [] file
   takes-nothing file = record {
+    at_least = omega arith;
     after = λ start text taken. subst (λ (all : List ℕ). HasTaken took start all file)
         (sym (append-nil text)) taken;
   }
@@ -51,6 +52,7 @@ module _ {W : Type 0} {took : W → List ℕ → W → Type 0} where
       → Takes took old (one ++ other) new
   takes-joined {new = new} {one = one} {other = other} first second =
       record {
+        at_least = let e = first.at_least in let f = second.at_least in omega (arith, e, f);
         after = λ start text taken. subst (λ (all : List ℕ). HasTaken took start all new) (append_assoc text one other)
             (second.after start (text ++ one) (first.after start text taken));
       }
@@ -63,6 +65,7 @@ module _ {W : Type 0} {took : W → List ℕ → W → Type 0} where
     refuses-after {new = new} {one = one} {other = other} first second =
         record {
           told = second.told;
+          at_least = let e = first.at_least in let f = second.at_least in omega (arith, e, f);
           after = λ start text taken. subst (λ (all : List ℕ). HasStopped took refused start all new) (append_assoc text one other)
               (second.after start (text ++ one) (first.after start text taken));
         }
@@ -74,6 +77,7 @@ module _ {W : Type 0} {took : W → List ℕ → W → Type 0} where
     refuses-within {new = new} {bytes = bytes} stop more =
         record {
           told = stop.told;
+          at_least = stop.at_least;
           after = λ start text taken. let stopped = stop.after start text taken in
               subst (λ (all : List ℕ). HasStopped took refused start all new) (append_assoc text bytes more)
               (record {

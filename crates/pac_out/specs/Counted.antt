@@ -1,5 +1,5 @@
 -- A file: a writer with the count of the bytes that it took, over all calls.
-use Rattle.std.specs.Prelude.{◌≡◌, ℕ, ◌+◌, ◌-◌, ◌^◌, min, List, ◌++◌, length, true, false, Result, Ok, Err}
+use Rattle.std.specs.Prelude.{◌≡◌, ℕ, ◌+◌, ◌-◌, ◌^◌, ◌≤◌, min, List, ◌++◌, length, true, false, Result, Ok, Err}
 use Rattle.pac_out.specs.declared.counted.Counted.{Counted}
 use Rattle.pac_out.specs.declared.WriteFault.{WriteFault}
 use Rattle.pac_out.specs.Writes.{StopsAfter}
@@ -28,16 +28,18 @@ pub record HasStopped {W : Type 0} (took : W → List ℕ → W → Type 0) (ref
   pub count_is : file.count ≡ counted taken
   pub closed : file.failed ≡ true
 
--- Whatever text the file had taken, it has taken these bytes after it.
+-- Whatever text the file had taken, it has taken these bytes after it. Its count never goes back.
 pub record Takes {W : Type 0} (took : W → List ℕ → W → Type 0) (old : Counted W) (bytes : List ℕ) (new : Counted W) : Type 0 where
+  pub at_least : old.count ≤ new.count
   pub after : (start : W) (text : List ℕ) → HasTaken took start text old → HasTaken took start (text ++ bytes) new
 
 -- Whatever text the file had taken, its writer has now refused within that text and these bytes, and the fault
--- tells the file's count.
+-- tells the file's count, which is at least what the file had counted before.
 pub record Refuses {W : Type 0} (took : W → List ℕ → W → Type 0) (refused : W → W → Type 0) (old : Counted W) (bytes : List ℕ)
     (fault : WriteFault)
     (new : Counted W) : Type 0 where
   pub told : fault.count ≡ new.count
+  pub at_least : old.count ≤ fault.count
   pub after : (start : W) (text : List ℕ) → HasTaken took start text old → HasStopped took refused start (text ++ bytes) new
 
 -- The writer of a file that hadn't refused took a prefix of these bytes, fewer than all, and refused; the file counts

@@ -88,6 +88,7 @@ module _ {F W L R : Type 0} (to : Writers F W L R) (plan : Plan) (dip : ℕ) (ou
         listing = listing;
         frames = subst (λ outputs. TookPrefix to.frames (text.frames_text outputs)) same broken.0;
         wave = subst (λ outputs. Stopped to.wave (text.wave_text (total plan.script) outputs) count) same broken.1;
+        header_first = broken.2;
         report = report;
       }
   cut-at which.Listing count broken report = absurd broken

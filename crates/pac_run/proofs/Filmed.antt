@@ -58,12 +58,17 @@ sound-append owed one other =
 module _ {F W : Type 0} (took_f : F → List ℕ → F → Type 0) (refused_f : F → F → Type 0) (took_w : W → List ℕ → W → Type 0)
     (refused_w : W → W → Type 0) where
   gains-nothing : (wave : media.Sound W) → Gains took_w wave [] wave
-  gains-nothing wave = record { after = λ start text has. subst (λ all. HasText took_w start all wave) (sym (append-nil text)) has }
+  gains-nothing wave =
+      record {
+        at_least = omega arith;
+        after = λ start text has. subst (λ all. HasText took_w start all wave) (sym (append-nil text)) has;
+      }
 
   gains-joined : (old mid new : media.Sound W) (one other : List ℕ) → Gains took_w old one mid → Gains took_w mid other new
       → Gains took_w old (one ++ other) new
   gains-joined old mid new one other first second =
       record {
+        at_least = let e = first.at_least in let f = second.at_least in omega (arith, e, f);
         after = λ start text has. subst (λ all. HasText took_w start all new) (append_assoc text one other)
             (second.after start (text ++ one) (first.after start text has));
       }
@@ -112,6 +117,7 @@ module _ {F W : Type 0} (took_f : F → List ℕ → F → Type 0) (refused_f : 
         frames = subst (λ file. Takes took_f old.frames (frames_text outputs) file) (sym same) film.frames;
         wave = subst (λ bytes. Delivers took_w old.wave bytes new.wave) (zeros-last outputs old mid film)
             (record {
+              at_least = let e = film.wave.at_least in let f = finished.at_least in omega (arith, e, f);
               after = λ start text has.
                   subst (λ all. HasTaken took_w start all new.wave.file)
                   (append_assoc text (samples_text (samples_in outputs)) (samples_text (replicate mid.wave.owed (pos 0))))

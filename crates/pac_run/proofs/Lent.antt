@@ -1,6 +1,6 @@
 -- Writers that are lent to a film and a wave file, and what they have when the loans end.
-use Rattle.std.proofs.Common.{◌≡◌, ℕ, ◌*◌, List, [], ◌++◌, Result, Ok, Err, inl, inr, refl, sym, ap, subst, ◌∙◌, append_assoc}
-use Rattle.std.proofs.Common.{append-nil}
+use Rattle.std.proofs.Common.{◌≡◌, ℕ, ◌*◌, ◌≤◌, List, length, [], ◌++◌, Result, Ok, Err, inl, inr, refl, sym, ap, subst, ◌∙◌, append_assoc}
+use Rattle.std.proofs.Common.{append-nil, arith}
 use Rattle.std.specs.Borrow.{MutBor}
 use mathlib.Core.List.{IsPrefix}
 use Rattle.pac_out.specs.declared.counted.Counted.{Counted}
@@ -10,7 +10,7 @@ use Rattle.pac_out.specs.Writes.{lent_took, lent_refused}
 use Rattle.pac_out.proofs.Files.{stops-within}
 use Rattle.pac_session.specs.Running.{Setting}
 use Rattle.pac_session.specs.Session.{begun}
-use Rattle.pac_media.specs.Samples.{wav_header}
+use Rattle.pac_media.specs.Samples.{wav_header, header_size}
 use Rattle.pac_media.specs.Sound.{HasText, Delivers, Fails, Finishes}
 use Rattle.pac_media.specs.Sound as media
 use Rattle.pac_step.specs.Output.{Output}
@@ -162,6 +162,20 @@ delivered {took = took} {new = new} {start = start} {text = text} has done =
       taken = subst (λ (all : List ℕ). HasTaken took start all new.file) (append-nil text) (done.after start text has);
     }
 
+-- the header has its size
+header-long : (samples : ℕ) → length (wav_header samples) ≡ header_size
+unfolding wav_header
+header-long samples = refl
+
+-- and a wave file that was given its header, and of which nothing waits any more, counts at least that
+pub header-counted : {W : Type 0} {took : W → List ℕ → W → Type 0} {old new : media.Sound W} {start : W} (samples : ℕ)
+    → HasText took start (wav_header samples) old → Delivers took old [] new → header_size ≤ new.file.count
+header-counted {start = start} samples has done =
+    let taken = done.after start (wav_header samples) has in
+    let long = header-long samples in
+    let whole = ap length (append-nil (wav_header samples)) in
+    omega (arith, taken.count_is, long, whole)
+
 -- the writer of the wave file refused within the header, and that of the film was asked for nothing
 pub header-broke : {F W : Type 0} (took_f : F → List ℕ → F → Type 0) (refused_f : F → F → Type 0) (took_w : W → List ℕ → W → Type 0)
     (refused_w : W → W → Type 0) (frames : F) (wave : MutBor W) (left_w : W) (count total : ℕ) (outputs : List Output)
@@ -177,6 +191,7 @@ header-broke {W = W} took_f refused_f took_w refused_w frames wave left_w count 
           (ap (λ head. head ++ sound_text (frame_samples * total) outputs) (append-nil (wav_header (frame_samples * count)))
           ∙ ap (λ (n : ℕ). wav_header (frame_samples * n) ++ sound_text (frame_samples * total) outputs) same)
           (subst (λ (it : MutBor W). Ends wave it left_w) is ends),
+      λ few. refl,
     )
 
 -- film and wave file together
@@ -185,6 +200,7 @@ module _ {F W : Type 0} (took_f : F → List ℕ → F → Type 0) (refused_f : 
     (old new : Film (MutBor F) (MutBor W))
     (fresh : HasTaken (lent_took took_f) frames [] old.frames)
     (text : HasText (lent_took took_w) wave (wav_header (frame_samples * count)) old.wave)
+    (headed : header_size ≤ old.wave.file.count)
     (owes : old.wave.owed ≡ frame_samples * count)
     (count_is : count ≡ total)
     (writer_f : MutBor F) (writer_w : MutBor W) (same_f : writer_f ≡ new.frames.writer) (same_w : writer_w ≡ new.wave.file.writer)
@@ -224,6 +240,7 @@ module _ {F W : Type 0} (took_f : F → List ℕ → F → Type 0) (refused_f : 
         (subst (λ n. HasStopped (lent_took took_w) (lent_refused refused_w) wave (header ++ sound_text n outputs) new.wave.file) owed
         (breaks.wave.after wave header begun))
         (breaks.count_is ∙ breaks.wave.told) ends_w,
+    λ few. let told = breaks.count_is in let after = breaks.wave.at_least in absurd (omega (arith, few, headed, told, after)),
   )
   broken which.Listing count breaks = absurd breaks
   broken which.Report count breaks = absurd breaks

@@ -1,11 +1,11 @@
 -- What recording a board's outputs leaves of the film and the wave file, side by side.
-use Rattle.std.specs.Prelude.{◌≡◌, ℕ, ◌/◌, List, [], Option, Result, Ok, Err}
+use Rattle.std.specs.Prelude.{◌≡◌, ℕ, ◌/◌, ◌<◌, List, [], Option, Result, Ok, Err}
 use mathlib.Core.List.{IsPrefix}
 use Rattle.pac_cpu.specs.declared.once.Stop.{Stop}
 use Rattle.pac_inputs.specs.declared.line.Stretch.{Stretch}
 use Rattle.pac_out.specs.Counted.{Takes, Refuses}
 use Rattle.pac_out.specs.declared.WriteFault.{WriteFault}
-use Rattle.pac_media.specs.Samples.{samples_text}
+use Rattle.pac_media.specs.Samples.{samples_text, header_size}
 use Rattle.pac_media.specs.Sound.{Delivers, Fails, Finishes}
 use Rattle.pac_media.specs.Sound as media
 use Rattle.pac_step.specs.BoardView.{BoardView}
@@ -17,7 +17,7 @@ use Rattle.pac_run.specs.declared.fault.Output.TheVariants as which
 use Rattle.pac_run.specs.declared.film.Film.{Film}
 use Rattle.pac_run.specs.declared.outcome.Outcome.{Outcome}
 use Rattle.pac_run.specs.Plays.{run_of}
-use Rattle.pac_run.specs.Run.{Writing, Took, TookPrefix, TookSome, Stopped}
+use Rattle.pac_run.specs.Run.{Writing, Took, TookPrefix, TookSome, Stopped, Untouched}
 use Rattle.pac_run.specs.Texts as text
 
 -- the sound of outputs, for a wave file that owes so many samples
@@ -91,12 +91,14 @@ outcome_at now stop = record { frames = now.time / frame_ticks; steps = now.step
 -- ---- two writers
 
 -- of outputs of so many frames the one has the images and the other the sound; or one of them refused, and the other has a
--- prefix
+-- prefix, of the images nothing where the wave's header was refused
 abbrev pub RecordsBroken : {F W : Type 0} → Writing F → Writing W → ℕ → List Output → Which → ℕ → Type 0
 RecordsBroken frames wave total outputs which.Frames count =
     Stopped frames (text.frames_text outputs) count × TookSome wave (text.wave_text total outputs)
 RecordsBroken frames wave total outputs which.Wave count =
-    TookPrefix frames (text.frames_text outputs) × Stopped wave (text.wave_text total outputs) count
+    TookPrefix frames (text.frames_text outputs)
+    × Stopped wave (text.wave_text total outputs) count
+    × (count < header_size → Untouched frames)
 RecordsBroken frames wave total outputs which.Listing count = ⊥
 RecordsBroken frames wave total outputs which.Report count = ⊥
 RecordsBroken frames wave total outputs which.Text count = ⊥

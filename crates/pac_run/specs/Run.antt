@@ -1,10 +1,11 @@
 -- What a run writes and answers.
-use Rattle.std.specs.Prelude.{◌≡◌, ℕ, List, [], Result, Ok, Err, ◌⊎◌}
+use Rattle.std.specs.Prelude.{◌≡◌, ℕ, ◌<◌, List, [], Result, Ok, Err, ◌⊎◌}
 use mathlib.Core.List.{IsPrefix}
 use Rattle.pac_out.specs.Counted.{counted}
 use Rattle.pac_out.specs.Writes.{StopsAfter}
 use Rattle.pac_inputs.specs.Stretches.{total}
 use Rattle.pac_map.specs.Entry.{Entry}
+use Rattle.pac_media.specs.Samples.{header_size}
 use Rattle.pac_step.specs.BoardView.{power_on}
 use Rattle.pac_step.specs.Shown.{blanks}
 use Rattle.pac_step.specs.Trace.{by_history, trace}
@@ -97,7 +98,8 @@ pub record IsWhole {F W L R : Type 0} (plan : Plan) (dip : ℕ) (to : Writers F 
   pub report : Took to.report (report_text plan dip)
 
 -- a refused write, by its output: that one took so many bytes of its text; those before it are whole, those after it untouched,
--- and of frames and wave, which are written side by side, the other one has a prefix
+-- and of frames and wave, which are written side by side, the other one has a prefix. The wave's header is written before the
+-- first frame: where it is refused, nothing is written to the frames.
 abbrev pub IsCutAt : {F W L R : Type 0} → Plan → ℕ → Writers F W L R → Output → ℕ → Type 0
 IsCutAt plan dip to Listing count = record {
   listing : Stopped to.listing plan.listing count;
@@ -115,6 +117,7 @@ IsCutAt plan dip to Wave count = record {
   listing : Took to.listing plan.listing;
   frames : TookPrefix to.frames (frames_text plan dip);
   wave : Stopped to.wave (wave_text plan dip) count;
+  header_first : count < header_size → Untouched to.frames;
   report : Untouched to.report;
 }
 IsCutAt plan dip to Report count = record {

@@ -1,10 +1,26 @@
-use Rattle.std.proofs.Common.{List, ℕ, ◌<◌, length, sym, subst, arith, ◌∙◌}
+use Rattle.std.proofs.Common.{List, ℕ, ◌<◌, ◌++◌, length, drop, refl, sym, subst, arith, ◌∙◌}
 use Rattle.std.proofs.lemmas.Bool.{eqb-false}
+use Rattle.std.proofs.lemmas.Result.{err_from_is_err_and}
+use Rattle.pac_out.specs.Counted.{Refuses}
 use Rattle.pac_out.specs.Pending.{Gathers}
-use Rattle.pac_out.proofs.Gathering.{gathers-both}
+use Rattle.pac_out.proofs.Gathering.{gathers-both, gathers-within}
 use Rattle.pac_listing.specs.Listing.{first_row, all_rows, next_row}
+use Rattle.pac_listing.specs.Texts.{row_bytes}
 use Rattle.pac_listing.proofs.RowLemmas.{item-more}
 use Rattle.pac_listing.proofs.rows.put_item.Goals as goal
+
+pub returns-in_err-put_first_row : goal.returns-in_err-put_first_row
+returns-in_err-put_first_row g c =
+    let bytes = c.args.bytes.now in
+    let some : 0 < length bytes = omega (arith, eqb-false (length bytes) 0 (sym c.is_empty.ensures ∙ c.if-is_empty.false)) in
+    let rows = item-more c.args.number c.args.at bytes c.args.text.now c.hex_word.result c.byte_columns.result (drop row_bytes bytes) some
+    c.hex_word.ensures c.byte_columns.ensures refl in
+    let p = err_from_is_err_and c.from_residual.result c.from_residual.ensures.1 in
+    rw (p.1, p.2)
+    (subst (λ (text : List ℕ). Refuses g.W.Out.took g.W.Out.refused c.args.file.now (c.args.pending.now ++ text)
+    c.in_err-put_first_row.field-0.0 c.put_first_row-2.new.file) rows
+    (gathers-within g.W.Out.refused c.args.pending.now (first_row c.args.number c.hex_word.result c.byte_columns.result c.args.text.now)
+    (all_rows (next_row c.args.at) (drop row_bytes bytes)) c.in_err-put_first_row.ensures))
 
 pub returns : goal.returns
 returns g c =

@@ -1,7 +1,7 @@
 use Rattle.std.proofs.Common.{None, ◌∙◌}
 use Rattle.pac_inputs.specs.Stretches.{total}
 use Rattle.pac_run.specs.Plays.{run_of}
-use Rattle.pac_run.proofs.Lent.{delivered, header-broke, records}
+use Rattle.pac_run.proofs.Lent.{delivered, header-broke, header-counted, records}
 use Rattle.pac_run.proofs.film.record_run.Goals as goal
 
 pub returns-in-Err-clause-texts : goal.returns-in-Err-clause-texts
@@ -17,6 +17,7 @@ returns-clause-texts g c =
     (run_of c.args.board.now c.args.script.now).outputs
     (record { frames = c.new.result; wave = c.flush.new.self; fault = None }) c.perform-recorded.new.self c.new.ensures
     (delivered c.begin-wave.ensures.text c.in_default.ensures.written)
+    (header-counted _ c.begin-wave.ensures.text c.in_default.ensures.written)
     (c.flush.ensures.owed ∙ c.begin-wave.ensures.owed) c.frames.ensures.count
     _ _ c.into_writer-2.ensures c.into_writer-3.ensures (assumption) (assumption)
     c.perform-recorded.result c.perform-recorded.ensures.film

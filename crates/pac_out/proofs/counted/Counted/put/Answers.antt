@@ -5,6 +5,7 @@ use Rattle.pac_out.proofs.counted.Counted.put.Goals as goal
 pub returns-in-Ok-clause-put : goal.returns-in-Ok-clause-put
 returns-in-Ok-clause-put g c =
     record {
+      at_least = omega arith;
       after = λ start text taken. record {
         written = g.met.W.Out.joined _ _ _ _ _ taken.written c.in-Ok.ensures.ok;
         count_is = rw length-append (omega (arith, taken.count_is));
@@ -16,6 +17,7 @@ pub returns-in-Err-clause-put : goal.returns-in-Err-clause-put
 returns-in-Err-clause-put g c =
     record {
       told = refl;
+      at_least = omega arith;
       after = λ start text taken. record {
         taken = _;
         stopped = stops-after g.met.W.Out.joined taken.written c.in-Err.ensures.err;
