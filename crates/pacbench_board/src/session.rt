@@ -26,6 +26,7 @@ const SCRIPT: &[u8] = b"36000 -";
 const RUN: &[u8] = b"frames 36000";
 
 /// A writer that counts the bytes of the session's answers.
+#[derive(Drop)]
 struct Told {
     bytes: u64,
 }
@@ -47,7 +48,8 @@ impl Out for Told {
 }
 
 /// What the way back came to.
-struct Backs {
+#[derive(Clone, Copy)]
+struct WayBack {
     /// The time of all of it, in nanoseconds.
     nanos: u128,
     /// The steps that were done again.
@@ -69,7 +71,7 @@ fn session(alloc: Global) -> Result<Session, AllocError> {
 }
 
 /// Goes back, a step at a time.
-fn backs(rt: &HostRuntime) -> io::Result<Backs> {
+fn backs(rt: &HostRuntime) -> io::Result<WayBack> {
     let mut session = session(rt.alloc())?;
     let mut sum = Sum::new();
     let mut text = Counted::new(Told { bytes: 0 });
@@ -81,7 +83,7 @@ fn backs(rt: &HostRuntime) -> io::Result<Backs> {
         replayed = replayed.saturating_add(u64::from(session.replayed()));
     }
     let nanos = start.elapsed(rt)?.as_nanos();
-    Ok(Backs {
+    Ok(WayBack {
         nanos,
         replayed,
         told: text.writer.bytes,
@@ -101,18 +103,18 @@ fn frames(rt: &HostRuntime, sum: &mut Sum) -> io::Result<u128> {
 }
 
 /// Tells of the way back.
-fn tell_backs(rt: &HostRuntime, backs: &Backs) {
-    let back = backs.nanos / u128::from(BACKS);
-    let step = backs.nanos.saturating_mul(10) / u128::from(backs.replayed.max(1));
+fn tell_backs(rt: &HostRuntime, way: &WayBack) {
+    let back = way.nanos / u128::from(BACKS);
+    let step = way.nanos.saturating_mul(10) / u128::from(way.replayed.max(1));
     let _ = eprintln!(rt;
         "session: {BACKS} times back 1 in {} microseconds, {}.{} microseconds each, {} steps done again, {}.{} ns a step, {} bytes told",
-        backs.nanos / 1000,
+        way.nanos / 1000,
         back / 1000,
         back % 1000 / 100,
-        backs.replayed,
+        way.replayed,
         step / 10,
         step % 10,
-        backs.told
+        way.told
     );
 }
 
