@@ -1,2 +1,6 @@
 pub mod Lasting
 pub mod LineByLine
+pub mod Giving
+pub mod Telling
+pub mod ToTheEnd
+pub mod Sole

@@ -1,10 +1,10 @@
 -- The lines of a text, one after another: what the lines that are left lead to is what the whole text leads to.
-use Rattle.std.proofs.Common.{◌≡◌, ℕ, List, ◌∷◌, sym, subst}
+use Rattle.std.proofs.Common.{◌≡◌, ℕ, List, [], ◌∷◌, refl, sym, subst}
 use Rattle.std.specs.Prelude.{Result, Ok, Err}
-use mathlib.Core.Logic.{inr}
+use mathlib.Core.Logic.{inl, inr}
 use Rattle.pac_step.specs.Output.{Output}
 use Rattle.pac_debug.specs.declared.line.CommandFault.{CommandFault}
-use Rattle.pac_debug.specs.Obeying.{Scene, IsAnswered, ObeysLines}
+use Rattle.pac_debug.specs.Obeying.{Scene, Commands, IsAnswered, ObeysLines}
 
 module _ {S W : Type 0} (took refused : S → Output → S → Type 0) (wrote : W → List ℕ → W → Type 0) (balked : W → W → Type 0) where
   abbrev pub Leads : (whole left : List (List ℕ)) → (old now : Scene S W) → Type 0
@@ -23,3 +23,16 @@ module _ {S W : Type 0} (took refused : S → Output → S → Type 0) (wrote : 
   leads-on whole left more line old now next is was first result last rest =
       was result last (subst (λ ls. ObeysLines took refused wrote balked ls now result last) (sym is)
       (one-more line more now next first result last rest))
+
+  -- none is left
+  pub leads-to-end : (whole left : List (List ℕ)) (old now : Scene S W) → left ≡ [] → Leads whole left old now
+      → ObeysLines took refused wrote balked whole old (Ok tt) now
+  leads-to-end whole left old now is was =
+      was (Ok tt) now (subst (λ ls. ObeysLines took refused wrote balked ls now (Ok tt) now) (sym is) refl)
+
+  -- the next one isn't answered
+  pub leads-to-fault : (whole left more : List (List ℕ)) (line : List ℕ) (old now next : Scene S W) (fault : CommandFault)
+      → left ≡ line ∷ more → Leads whole left old now → Commands {A = Unit {0}} took refused wrote balked line now (Err fault) next
+      → ObeysLines took refused wrote balked whole old (Err fault) next
+  leads-to-fault whole left more line old now next fault is was ends =
+      was (Err fault) next (subst (λ ls. ObeysLines took refused wrote balked ls now (Err fault) next) (sym is) (inl ends))

@@ -2,7 +2,6 @@
 use Rattle.std.specs.Prelude.{ℕ, ◌-◌, List, [], ◌∷◌, ◌++◌, length, drop, map}
 use Rattle.pac_cpu.specs.declared.once.Kind.{Kind}
 use Rattle.pac_cpu.specs.declared.once.Kind.TheVariants as kinds
-use Rattle.pac_exec.specs.declared.regs.Regs.{Regs}
 use Rattle.pac_latch.specs.Latched.{Latched, byte_of}
 use Rattle.pac_map.specs.Contents.{read_of}
 use Rattle.pac_table.specs.Instructions.{code}

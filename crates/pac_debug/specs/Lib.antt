@@ -1,3 +1,4 @@
 pub mod Answers
 pub mod Obeying
 pub mod Watched
+pub mod Laws

@@ -76,11 +76,12 @@ pub record GaveSome {S : Type 0} (took refused : S → Output → S → Type 0) 
   pub given : HasGiven old taken new
   pub refuses : RefusesAt took refused sink taken (due_outputs new) later
 
--- what lines gave to the sink, whatever they asked, by their answer
-abbrev pub Gave : {S W A : Type 0} → (took refused : S → Output → S → Type 0) → Scene S W → Result A CommandFault → Scene S W → Type 0
-Gave took refused old (Ok done) new = GaveAll took old.session old.sink new.session new.sink
-Gave took refused old (Err faults.Refused) new = GaveSome took refused old.session old.sink new.session new.sink
-Gave took refused old (Err (faults.Text fault)) new = GaveAll took old.session old.sink new.session new.sink
+-- what lines gave to the sink, whatever they asked, by their answer; a text that can't be written leaves its line done
+abbrev pub Gave : {S A : Type 0} → (took refused : S → Output → S → Type 0) → SessionValue → S → Result A CommandFault → SessionValue → S
+    → Type 0
+Gave took refused old sink (Ok done) new later = GaveAll took old sink new later
+Gave took refused old sink (Err faults.Refused) new later = GaveSome took refused old sink new later
+Gave took refused old sink (Err (faults.Text fault)) new later = GaveAll took old sink new later
 
 -- ---- a whole session
 

@@ -1,0 +1,305 @@
+-- What lines give to a sink, whatever they ask: what was due, and what the run gives from one furthest index to the next.
+use Rattle.std.proofs.Common.{◌≡◌, ℕ, ◌≤◌, Bool, true, false, Option, None, Some, Result, Ok, Err, max, List, [], ◌∷◌, ◌++◌, ◌⊎◌}
+use Rattle.std.proofs.Common.{refl, sym, ap, subst, ◌∙◌, append_assoc, append-nil, arith}
+use mathlib.Core.Logic.{inl, inr}
+use Rattle.pac_step.specs.Output.{Output}
+use Rattle.pac_board.specs.Sinks.{TookAll}
+use Rattle.pac_board.specs.State.{nothing_due, due_in}
+use Rattle.pac_board.proofs.Sinks.{took-both, refuses-after}
+use Rattle.pac_debug_text.specs.declared.command.Command.{Command}
+use Rattle.pac_debug_text.specs.declared.command.Command.TheVariants as commands
+use Rattle.pac_debug_text.specs.declared.command.NoCommand.{NoCommand}
+use Rattle.pac_debug_text.specs.declared.place.Ending.TheVariants as endings
+use Rattle.pac_debug_text.specs.declared.refusal.Refusal.TheVariants as refusals
+use Rattle.pac_debug_text.specs.Commands.{command_of}
+use Rattle.pac_debug_text.specs.Slots.{slot_index}
+use Rattle.pac_session.specs.declared.motion.Motion.{Motion}
+use Rattle.pac_session.specs.Motions.{IsFinishRefused}
+use Rattle.pac_session.specs.Running.{Setting, now_at, outputs_between, outputs_from}
+use Rattle.pac_session.specs.Session.{SessionValue, IsOfferRefused, due_outputs, has_breakpoint}
+use Rattle.pac_session.proofs.Forwards.{between-joined, between-self, joined-to-end}
+use Rattle.pac_debug.specs.declared.answer.Answer.{Answer}
+use Rattle.pac_debug.specs.declared.answer.Answer.TheVariants as answers
+use Rattle.pac_debug.specs.declared.line.CommandFault.{CommandFault}
+use Rattle.pac_debug.specs.declared.line.CommandFault.TheVariants as faults
+use Rattle.pac_debug.specs.Obeying.{WentBack, Returned, SetsBreakpoint, Stays, Performed, Obeyed, Did, IsRefused, cleared, kept_at}
+use Rattle.pac_debug.specs.Obeying.{Scene, Asks, ObeysLines, motion_of}
+use Rattle.pac_debug.specs.Watched.{HasGiven, GaveAll, GaveSome, Gave, to_give}
+
+-- ---- commands that don't move on
+
+-- the run, the furthest index and what is due are as they were
+record IsStill (old new : SessionValue) : Type 0 where
+  pub setting : new.setting ≡ old.setting
+  pub furthest : new.furthest ≡ old.furthest
+  pub due : new.due ≡ old.due
+
+like : (old new other : SessionValue) → new ≡ other → other.setting ≡ old.setting → other.furthest ≡ old.furthest → other.due ≡ old.due
+    → IsStill old new
+like old new other is setting furthest due =
+    record {
+      setting = ap (λ (s : SessionValue). s.setting) is ∙ setting;
+      furthest = ap (λ (s : SessionValue). s.furthest) is ∙ furthest;
+      due = ap (λ (s : SessionValue). s.due) is ∙ due;
+    }
+
+still : (old new : SessionValue) → new ≡ old → IsStill old new
+still old new same = like old new old same refl refl refl
+
+went-back : (old : SessionValue) (count : ℕ) (answer : Answer) (new : SessionValue) → WentBack old count answer new → IsStill old new
+went-back old count (answers.Moved endings.Back) new went = like old new _ went.session refl refl refl
+went-back old count (answers.Refused (refusals.TooFarBack oldest)) new went = still old new went.session
+went-back old count other new went = absurd went
+
+returned : (old : SessionValue) (kept : Option ℕ) (answer : Answer) (new : SessionValue) → Returned old kept answer new → IsStill old new
+returned old (Some index) answer new came = like old new _ came.1 refl refl refl
+returned old None answer new came = still old new came.1
+
+set-there : (old : SessionValue) (address : ℕ) (is_set : Bool) (answer : Answer) (new : SessionValue)
+    → SetsBreakpoint old address is_set answer new → IsStill old new
+set-there old address true answer new done = still old new done.1
+set-there old address false answers.Done new done = like old new _ done.1 refl refl refl
+set-there old address false (answers.Refused refusals.NoRoom) new done = still old new done.1
+set-there old address false other new done = absurd done
+
+stays : (old : SessionValue) (command : Command) (answer : Answer) (new : SessionValue) → Stays old command answer new → IsStill old new
+stays old (commands.Back count) answer new done = went-back old count answer new done
+stays old (commands.Return slot) answer new done = returned old (kept_at old (slot_index slot)) answer new done
+stays old (commands.Keep slot) answer new done = like old new _ done.1 refl refl refl
+stays old (commands.Break at) answer new done = set-there old at (has_breakpoint old at) answer new done
+stays old (commands.Unbreak at) answer new done = like old new _ done.1 refl refl refl
+stays old commands.Regs answer new done = still old new done.1
+stays old (commands.Mem at count) answer new done = still old new done.1
+stays old (commands.Dis at count) answer new done = still old new done.1
+stays old (commands.History count) answer new done = still old new done.1
+stays old other answer new done = absurd done
+
+-- ---- a line with words
+
+nothing-given : (s : SessionValue) → s.due ≡ nothing_due → due_outputs s ≡ []
+nothing-given s none = ap (λ due. due_in s.setting.set (now_at s.setting s.index).board due) none
+
+-- what is given from one furthest index to the same one
+none-between : (setting : Setting) (first second : ℕ) → second ≡ first → outputs_between setting first second ≡ []
+none-between setting first second same = ap (λ n. outputs_between setting first n) same ∙ between-self setting first
+
+module _ {S : Type 0} (took : S → Output → S → Type 0) where
+  -- it was done with nothing due, and nothing is due after it
+  record HasDone (old : SessionValue) (sink : S) (new : SessionValue) (later : S) : Type 0 where
+    pub setting : new.setting ≡ old.setting
+    pub further : old.furthest ≤ new.furthest
+    pub due : new.due ≡ nothing_due
+    pub sink_is : TookAll took sink (outputs_between old.setting old.furthest new.furthest) later
+
+  done-still : (old : SessionValue) (sink : S) (new : SessionValue) (later : S) → old.due ≡ nothing_due → IsStill old new → later ≡ sink
+      → HasDone old sink new later
+  done-still old sink new later none stayed same =
+      let far = stayed.furthest in
+      record {
+        setting = stayed.setting;
+        further = omega (arith, far);
+        due = stayed.due ∙ none;
+        sink_is =
+            subst (λ xs. TookAll took sink xs later) (sym (none-between old.setting old.furthest new.furthest far)) same;
+      }
+
+  performed : (old : SessionValue) (command : Command) (found : Option Motion) (sink : S) (answer : Answer) (new : SessionValue) (later : S)
+      → old.due ≡ nothing_due → Performed took old command found sink answer new later → HasDone old sink new later
+  performed old command (Some motion) sink answer new later none moved =
+      let is = moved.travelled.session in
+      let far : new.furthest ≡ max old.furthest new.index = ap (λ (s : SessionValue). s.furthest) is in
+      record {
+        setting = ap (λ (s : SessionValue). s.setting) is;
+        further = omega (arith, far);
+        due = ap (λ (s : SessionValue). s.due) is;
+        sink_is = moved.travelled.sink_is;
+      }
+  performed old command None sink answer new later none done =
+      done-still old sink new later none (stays old command answer new done.0) done.1
+
+  obeyed : (old : SessionValue) (asked : Result Command NoCommand) (sink : S) (answer : Answer) (new : SessionValue) (later : S)
+      → old.due ≡ nothing_due → Obeyed took old asked sink answer new later → HasDone old sink new later
+  obeyed old (Ok command) sink answer new later none done =
+      performed old command (motion_of command) sink answer new later none done
+  obeyed old (Err reason) sink answer new later none done = done-still old sink new later none (still old new done.1) done.2
+
+  did-given : (old : SessionValue) (asked : Result Command NoCommand) (sink : S) (answer : Answer) (new : SessionValue) (later : S)
+      → Did took old asked sink answer new later → GaveAll took old sink new later
+  did-given old asked sink answer new later did =
+      let done = obeyed (cleared old) asked did.between answer new later refl did.obeyed in
+      let given = outputs_between old.setting old.furthest new.furthest in
+      let taken = due_outputs old ++ given in
+      record {
+        taken = taken;
+        given = record {
+          setting = done.setting;
+          further = done.further;
+          parts = sym (ap (λ xs. taken ++ xs) (nothing-given new done.due) ∙ append-nil taken);
+        };
+        sink_is = took-both took (due_outputs old) given sink did.between later did.offered done.sink_is;
+      }
+
+  -- ---- a refusal
+
+  module _ (refused : S → Output → S → Type 0) where
+    offer-refused : (old : SessionValue) (sink : S) (new : SessionValue) (later : S) → IsOfferRefused took refused old sink new later
+        → GaveSome took refused old sink new later
+    offer-refused old sink new later refusal =
+        let is = refusal.session in
+        let far : new.furthest ≡ old.furthest = ap (λ (s : SessionValue). s.furthest) is in
+        record {
+          taken = refusal.taken;
+          given = record {
+            setting = ap (λ (s : SessionValue). s.setting) is;
+            further = omega (arith, far);
+            parts =
+                ap (λ xs. due_outputs old ++ xs) (none-between old.setting old.furthest new.furthest far)
+                ∙ append-nil (due_outputs old) ∙ refusal.parts;
+          };
+          refuses = refusal.refuses;
+        }
+
+    refused-given : (old : SessionValue) (asked : Result Command NoCommand) (sink : S) (new : SessionValue) (later : S)
+        → IsRefused took refused old asked sink new later → GaveSome took refused old sink new later
+    refused-given old asked sink new later (inl refusal) = offer-refused old sink new later refusal
+    refused-given old asked sink new later (inr refusal) =
+        let gone = refusal.held_up.held_up in
+        let is = gone.session in
+        let due = due_outputs old in
+        let most : new.furthest ≡ max old.furthest new.index = ap (λ (s : SessionValue). s.furthest) is in
+        let far : new.furthest ≡ new.index = omega (arith, most, gone.index, gone.fresh) in
+        record {
+          taken = due ++ gone.taken;
+          given = record {
+            setting = ap (λ (s : SessionValue). s.setting) is;
+            further = omega (arith, most);
+            parts =
+                ap (λ n. due ++ outputs_between old.setting old.furthest n) far ∙ ap (λ xs. due ++ xs) gone.parts
+                ∙ sym (append_assoc due gone.taken (due_outputs new));
+          };
+          refuses = refuses-after took refused due gone.taken (due_outputs new) sink refusal.between later refusal.offered gone.refuses;
+        }
+
+    pub finish-given : (old : SessionValue) (sink : S) (new : SessionValue) (later : S)
+        → IsOfferRefused took refused old sink new later ⊎ IsFinishRefused took refused old sink new later
+        → GaveSome took refused old sink new later
+    finish-given old sink new later (inl gone) = offer-refused old sink new later gone
+    finish-given old sink new later (inr gone) =
+        let is = gone.session in
+        let due = due_outputs old in
+        let most : new.furthest ≡ max old.furthest new.index = ap (λ (s : SessionValue). s.furthest) is in
+        let far : new.furthest ≡ new.index = omega (arith, most, gone.index, gone.fresh) in
+        record {
+          taken = gone.taken;
+          given = record {
+            setting = ap (λ (s : SessionValue). s.setting) is;
+            further = omega (arith, most);
+            parts = ap (λ n. due ++ outputs_between old.setting old.furthest n) far ∙ gone.parts;
+          };
+          refuses = gone.refuses;
+        }
+
+-- ---- one after another
+
+given-joined : (old mid new : SessionValue) (one other : List Output) → HasGiven old one mid → HasGiven mid other new
+    → HasGiven old (one ++ other) new
+given-joined old mid new one other first second =
+    let setting = old.setting in
+    let due = due_outputs old in
+    let due_then = due_outputs mid in
+    let due_now = due_outputs new in
+    let given = outputs_between setting old.furthest mid.furthest in
+    let later = outputs_between setting mid.furthest new.furthest in
+    let parts : due_then ++ later ≡ other ++ due_now
+    = subst (λ (run : Setting). due_then ++ outputs_between run mid.furthest new.furthest ≡ other ++ due_now) first.setting second.parts in
+    record {
+      setting = second.setting ∙ first.setting;
+      further = omega (arith, first.further, second.further);
+      parts =
+          ap (λ xs. due ++ xs)
+          (sym (between-joined setting old.furthest mid.furthest new.furthest first.further second.further))
+          ∙ sym (append_assoc due given later) ∙ ap (λ xs. xs ++ later) first.parts ∙ append_assoc one due_then later
+          ∙ ap (λ xs. one ++ xs) parts ∙ sym (append_assoc one other due_now);
+    }
+
+-- what was taken, what is due, and what the run gives from there on, is all that was still to be given
+pub all-to-give : (old new : SessionValue) (taken : List Output) → HasGiven old taken new
+    → (taken ++ due_outputs new) ++ outputs_from new.setting new.furthest ≡ to_give old
+all-to-give old new taken gave =
+    let setting = old.setting in
+    let given = outputs_between setting old.furthest new.furthest in
+    let rest = outputs_from setting new.furthest in
+    ap (λ (run : Setting). (taken ++ due_outputs new) ++ outputs_from run new.furthest) gave.setting
+    ∙ ap (λ xs. xs ++ rest) (sym gave.parts) ∙ append_assoc (due_outputs old) given rest
+    ∙ ap (λ xs. due_outputs old ++ xs) (joined-to-end setting old.furthest new.furthest gave.further)
+
+module _ {S : Type 0} (took refused : S → Output → S → Type 0) where
+  none-given : (s : SessionValue) (sink : S) → GaveAll took s sink s sink
+  none-given s sink =
+      record {
+        taken = [];
+        given = record {
+          setting = refl;
+          further = omega arith;
+          parts = ap (λ xs. due_outputs s ++ xs) (between-self s.setting s.furthest) ∙ append-nil (due_outputs s);
+        };
+        sink_is = refl;
+      }
+
+  pub some-after : (old mid new : SessionValue) (sink between later : S) → GaveAll took old sink mid between
+      → GaveSome took refused mid between new later → GaveSome took refused old sink new later
+  some-after old mid new sink between later first second =
+      record {
+        taken = first.taken ++ second.taken;
+        given = given-joined old mid new first.taken second.taken first.given second.given;
+        refuses =
+            refuses-after took refused first.taken second.taken (due_outputs new) sink between later first.sink_is second.refuses;
+      }
+
+  all-after : (old mid new : SessionValue) (sink between later : S) → GaveAll took old sink mid between
+      → GaveAll took mid between new later → GaveAll took old sink new later
+  all-after old mid new sink between later first second =
+      record {
+        taken = first.taken ++ second.taken;
+        given = given-joined old mid new first.taken second.taken first.given second.given;
+        sink_is = took-both took first.taken second.taken sink between later first.sink_is second.sink_is;
+      }
+
+  gave-after : {A : Type 0} (result : Result A CommandFault) (old mid new : SessionValue) (sink between later : S)
+      → GaveAll took old sink mid between → Gave took refused mid between result new later → Gave took refused old sink result new later
+  gave-after (Ok done) old mid new sink between later first second = all-after old mid new sink between later first second
+  gave-after (Err faults.Refused) old mid new sink between later first second = some-after old mid new sink between later first second
+  gave-after (Err (faults.Text fault)) old mid new sink between later first second = all-after old mid new sink between later first second
+
+  -- ---- lines
+
+  module _ {W : Type 0} (wrote : W → List ℕ → W → Type 0) (balked : W → W → Type 0) where
+    line-given : {A : Type 0} (found : Option (Result Command NoCommand)) (result : Result A CommandFault) (old new : Scene S W)
+        → Asks took refused wrote balked found old result new → Gave took refused old.session old.sink result new.session new.sink
+    line-given None (Ok done) old new skipped =
+        subst (λ (s : SessionValue). GaveAll took old.session old.sink s new.sink) (sym skipped.0)
+        (subst (λ (sink : S). GaveAll took old.session old.sink old.session sink) (sym skipped.1) (none-given old.session old.sink))
+    line-given None (Err fault) old new skipped = absurd skipped
+    line-given (Some asked) (Ok done) old new told =
+        did-given took old.session asked old.sink told.answer new.session new.sink told.did
+    line-given (Some asked) (Err faults.Refused) old new told =
+        refused-given took refused old.session asked old.sink new.session new.sink told.0
+    line-given (Some asked) (Err (faults.Text fault)) old new told =
+        did-given took old.session asked old.sink told.answer new.session new.sink told.did
+
+    pub lines-given : (lines : List (List ℕ)) (result : Result (Unit {0}) CommandFault) (old new : Scene S W)
+        → ObeysLines took refused wrote balked lines old result new
+        → Gave took refused old.session old.sink result new.session new.sink
+    lines-given [] (Ok done) old new same =
+        subst (λ (scene : Scene S W). GaveAll took old.session old.sink scene.session scene.sink) (sym same)
+        (none-given old.session old.sink)
+    lines-given [] (Err fault) old new obeyed = absurd obeyed
+    lines-given (line ∷ more) (Ok done) old new obeyed =
+        gave-after {A = Unit {0}} (Ok done) old.session obeyed.between.session new.session old.sink obeyed.between.sink new.sink
+        (line-given (command_of line) (Ok tt) old obeyed.between obeyed.before)
+        (lines-given more (Ok done) obeyed.between new obeyed.after)
+    lines-given (line ∷ more) (Err fault) old new (inl here) = line-given (command_of line) (Err fault) old new here
+    lines-given (line ∷ more) (Err fault) old new (inr later) =
+        gave-after {A = Unit {0}} (Err fault) old.session later.between.session new.session old.sink later.between.sink new.sink
+        (line-given (command_of line) (Ok tt) old later.between later.before)
+        (lines-given more (Err fault) later.between new later.after)

@@ -1,0 +1,175 @@
+-- What lines tell, and where they leave a session, is determined by them and by where the session stood.
+use Rattle.std.proofs.Common.{◌≡◌, ℕ, ◌-◌, ◌<◌, nat_lt, Bool, true, false, Option, None, Some, Result, Ok, Err, List, [], ◌∷◌, ◌++◌}
+use Rattle.std.proofs.Common.{◌⊎◌, refl, sym, ap, subst, ◌∙◌, arith}
+use Rattle.std.proofs.lemmas.Bool.Decides.{nat_tests}
+use mathlib.Core.Logic.{inl, inr}
+use Rattle.pac_cpu.specs.declared.once.Stop.{Stop}
+use Rattle.pac_step.specs.Output.{Output}
+use Rattle.pac_step.proofs.Walks.{not-both}
+use Rattle.pac_debug_text.specs.declared.command.Command.{Command}
+use Rattle.pac_debug_text.specs.declared.command.Command.TheVariants as commands
+use Rattle.pac_debug_text.specs.declared.command.NoCommand.{NoCommand}
+use Rattle.pac_debug_text.specs.declared.place.Ending.TheVariants as endings
+use Rattle.pac_debug_text.specs.declared.refusal.Refusal.TheVariants as refusals
+use Rattle.pac_debug_text.specs.Commands.{command_of}
+use Rattle.pac_debug_text.specs.Slots.{slot_index}
+use Rattle.pac_session.specs.declared.motion.Ending.{Ending}
+use Rattle.pac_session.specs.declared.motion.Ending.TheVariants.{AtStop, AtEnd, AtBreakpoint, AtFrame, AtStep}
+use Rattle.pac_session.specs.declared.motion.Motion.{Motion}
+use Rattle.pac_session.specs.Motions.{RestsBy, IsDone, IsBack, IsTooOld, has_met, word_of, moved_to, oldest_index}
+use Rattle.pac_session.specs.Running.{IsLeast, is_late, stop_at}
+use Rattle.pac_session.specs.Session.{SessionValue, breaks_at, has_breakpoint}
+use Rattle.pac_debug.specs.declared.answer.Answer.{Answer}
+use Rattle.pac_debug.specs.declared.answer.Answer.TheVariants as answers
+use Rattle.pac_debug.specs.Answers.{ending_of, answer_text}
+use Rattle.pac_debug.specs.Obeying.{WentBack, Returned, SetsBreakpoint, Stays, HasMoved, Performed, Obeyed, kept_at, motion_of}
+use Rattle.pac_debug.specs.Watched.{TellsOf, TellsAll}
+use Rattle.pac_debug.specs.Laws.{TellsOneThing}
+
+-- ---- where a motion rests
+
+not-less : (test : ℕ → Bool) (from index other : ℕ) → IsLeast test from index → IsLeast test from other → index < other → ⊥
+not-less test from index other one two less = not-both (sym one.here ∙ two.none_before index one.after less)
+
+least-once : (test : ℕ → Bool) (from index other : ℕ) → IsLeast test from index → IsLeast test from other → index ≡ other
+least-once test from index other one two = choose (nat_lt index other) (nat_lt other index) refl refl
+  where
+    choose : (less more : Bool) → nat_lt index other ≡ less → nat_lt other index ≡ more → index ≡ other
+    choose true more e f = absurd (not-less test from index other one two (grind (arith, nat_tests)))
+    choose false true e f = absurd (not-less test from other index two one (grind (arith, nat_tests)))
+    choose false false e f = grind (arith, nat_tests)
+
+-- why it rests, by the same tests in the same order
+why : (late met : Bool) → Option Stop → Ending → Ending
+why true met stop word = AtEnd
+why false true stop word = word
+why false false (Some stop) word = AtStop stop
+why false false None word = AtEnd
+
+module _ (s : SessionValue) (motion : Motion) (from index : ℕ) where
+  abbrev why_here : Ending
+  why_here =
+      why (is_late s.setting index) (has_met s motion from index) (stop_at s.setting index) (word_of motion (breaks_at s index))
+
+  done-why : (rest : Ending) → IsDone s motion from index rest → rest ≡ why_here
+  unfolding why
+  done-why rest done = rw (done.early, done.met) done.word
+
+  rests-why : (rest : Ending) → RestsBy s motion from index rest → rest ≡ why_here
+  unfolding why
+  rests-why AtEnd late = rw late refl
+  rests-why (AtStop stop) stopped = rw (stopped.early, stopped.unmet, stopped.stop_is) refl
+  rests-why AtBreakpoint done = done-why AtBreakpoint done
+  rests-why AtFrame done = done-why AtFrame done
+  rests-why AtStep done = done-why AtStep done
+
+-- ---- a line with words
+
+abbrev Same : (one other : Answer) (new last : SessionValue) → Type 0
+Same one other new last = (one ≡ other) × (new ≡ last)
+
+module _ {S : Type 0} (took : S → Output → S → Type 0) (old : SessionValue) (sink : S) where
+  moved-once : (motion : Motion) (one other : Answer) (new last : SessionValue) (later end : S)
+      → HasMoved took old motion sink one new later → HasMoved took old motion sink other last end → Same one other new last
+  moved-once motion one other new last later end first second =
+      let a = first.travelled in
+      let b = second.travelled in
+      let index = least-once _ old.index new.index last.index a.rest b.rest in
+      let rest = subst (λ n. RestsBy old motion old.index n first.why) index a.why_is in
+      let why_is : first.why ≡ second.why
+      = rests-why old motion old.index last.index first.why rest
+      ∙ sym (rests-why old motion old.index last.index second.why b.why_is) in (
+        first.answer_is ∙ ap (λ word. answers.Moved (ending_of word)) why_is ∙ sym second.answer_is,
+        a.session ∙ ap (moved_to old) index ∙ sym b.session,
+      )
+
+near-and-far : (old : SessionValue) (count oldest : ℕ) (new last : SessionValue) → IsBack old count new → IsTooOld old count oldest last → ⊥
+near-and-far old count oldest new last near far = choose far.older
+  where
+    choose : (old.index < count) ⊎ (old.index - count < oldest_index old.furthest) → ⊥
+    choose (inl less) = let enough = near.enough in omega (arith, enough, less)
+    choose (inr less) = let kept = near.kept in omega (arith, kept, less)
+
+back-once : (old : SessionValue) (count : ℕ) (one other : Answer) (new last : SessionValue) → WentBack old count one new
+    → WentBack old count other last → Same one other new last
+back-once old count (answers.Moved endings.Back) (answers.Moved endings.Back) new last a b = (refl, a.session ∙ sym b.session)
+back-once old count (answers.Moved endings.Back) (answers.Refused (refusals.TooFarBack oldest)) new last a b =
+    absurd (near-and-far old count oldest new last a b)
+back-once old count (answers.Moved endings.Back) other new last a b = absurd b
+back-once old count (answers.Refused (refusals.TooFarBack oldest)) (answers.Moved endings.Back) new last a b =
+    absurd (near-and-far old count oldest last new b a)
+back-once old count (answers.Refused (refusals.TooFarBack oldest)) (answers.Refused (refusals.TooFarBack least)) new last a b =
+    (ap (λ n. answers.Refused (refusals.TooFarBack n)) (a.oldest_is ∙ sym b.oldest_is), a.session ∙ sym b.session)
+back-once old count (answers.Refused (refusals.TooFarBack oldest)) other new last a b = absurd b
+back-once old count one other new last a b = absurd a
+
+-- an answer and a session that are both said outright
+outright : (one other : Answer) (new last : SessionValue) (answer : Answer) (session : SessionValue) → (one ≡ answer) × (new ≡ session)
+    → (other ≡ answer) × (last ≡ session) → Same one other new last
+outright one other new last answer session a b = (a.0 ∙ sym b.0, a.1 ∙ sym b.1)
+
+return-once : (old : SessionValue) (kept : Option ℕ) (one other : Answer) (new last : SessionValue) → Returned old kept one new
+    → Returned old kept other last → Same one other new last
+return-once old (Some index) one other new last a b = outright one other new last _ _ a b
+return-once old None one other new last a b = outright one other new last _ _ a b
+
+set-once : (old : SessionValue) (address : ℕ) (is_set : Bool) (one other : Answer) (new last : SessionValue)
+    → SetsBreakpoint old address is_set one new → SetsBreakpoint old address is_set other last → Same one other new last
+set-once old address true one other new last a b = outright one other new last _ _ a b
+set-once old address false answers.Done answers.Done new last a b = (refl, a.1 ∙ sym b.1)
+set-once old address false answers.Done (answers.Refused refusals.NoRoom) new last a b =
+    let room = a.0 in let full = b.0 in absurd (omega (arith, room, full))
+set-once old address false answers.Done other new last a b = absurd b
+set-once old address false (answers.Refused refusals.NoRoom) answers.Done new last a b =
+    let room = b.0 in let full = a.0 in absurd (omega (arith, room, full))
+set-once old address false (answers.Refused refusals.NoRoom) (answers.Refused refusals.NoRoom) new last a b = (refl, a.1 ∙ sym b.1)
+set-once old address false (answers.Refused refusals.NoRoom) other new last a b = absurd b
+set-once old address false one other new last a b = absurd a
+
+stays-once : (old : SessionValue) (command : Command) (one other : Answer) (new last : SessionValue) → Stays old command one new
+    → Stays old command other last → Same one other new last
+stays-once old (commands.Back count) one other new last a b = back-once old count one other new last a b
+stays-once old (commands.Return slot) one other new last a b =
+    return-once old (kept_at old (slot_index slot)) one other new last a b
+stays-once old (commands.Keep slot) one other new last a b = outright one other new last _ _ a b
+stays-once old (commands.Break at) one other new last a b = set-once old at (has_breakpoint old at) one other new last a b
+stays-once old (commands.Unbreak at) one other new last a b = outright one other new last _ _ a b
+stays-once old commands.Regs one other new last a b = outright one other new last _ _ a b
+stays-once old (commands.Mem at count) one other new last a b = outright one other new last _ _ a b
+stays-once old (commands.Dis at count) one other new last a b = outright one other new last _ _ a b
+stays-once old (commands.History count) one other new last a b = outright one other new last _ _ a b
+stays-once old rest one other new last a b = absurd a
+
+module _ {S : Type 0} (took : S → Output → S → Type 0) (old : SessionValue) (sink : S) where
+  performed-once : (command : Command) (found : Option Motion) (one other : Answer) (new last : SessionValue) (later end : S)
+      → Performed took old command found sink one new later → Performed took old command found sink other last end
+      → Same one other new last
+  performed-once command (Some motion) one other new last later end a b = moved-once took old sink motion one other new last later end a b
+  performed-once command None one other new last later end a b = stays-once old command one other new last a.0 b.0
+
+  obeyed-once : (asked : Result Command NoCommand) (one other : Answer) (new last : SessionValue) (later end : S)
+      → Obeyed took old asked sink one new later → Obeyed took old asked sink other last end → Same one other new last
+  obeyed-once (Ok command) one other new last later end a b =
+      performed-once command (motion_of command) one other new last later end a b
+  obeyed-once (Err none) one other new last later end a b = (a.0 ∙ sym b.0, a.1 ∙ sym b.1)
+
+-- ---- lines
+
+told-once : (old : SessionValue) (found : Option (Result Command NoCommand)) (text other : List ℕ) (new last : SessionValue)
+    → TellsOf found old text new → TellsOf found old other last → (text ≡ other) × (new ≡ last)
+told-once old None text other new last a b = (a.0 ∙ sym b.0, a.1 ∙ sym b.1)
+told-once old (Some asked) text other new last a b =
+    let same = obeyed-once _ _ tt asked a.answer b.answer new last tt tt a.obeyed b.obeyed in (
+      a.text_is ∙ ap (λ (s : SessionValue). answer_text s a.answer) same.1 ∙ ap (answer_text last) same.0 ∙ sym b.text_is,
+      same.1,
+    )
+
+pub tells-one-thing : TellsOneThing
+tells-one-thing [] old text other new last a b = (a.0 ∙ sym b.0, a.1 ∙ sym b.1)
+tells-one-thing (line ∷ more) old text other new last a b =
+    let first = told-once old (command_of line) a.text_before b.text_before a.between b.between a.before b.before in
+    let rest = subst (λ (s : SessionValue). TellsAll more s a.text_after new) first.1 a.after in
+    let then = tells-one-thing more b.between a.text_after b.text_after new last rest b.after in (
+      a.text_is ∙ ap (λ xs. xs ++ a.text_after) first.0 ∙ ap (λ xs. b.text_before ++ xs) then.0 ∙ sym b.text_is,
+      then.1,
+    )

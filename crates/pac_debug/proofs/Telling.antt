@@ -1,0 +1,212 @@
+-- What lines tell doesn't hang on the sink: it is said of the run alone.
+use Rattle.std.proofs.Common.{◌≡◌, ℕ, Option, None, Some, Result, Ok, Err, List, [], ◌∷◌, ◌++◌, refl, sym, ap, subst, append-nil}
+use mathlib.Core.Logic.{inl, inr}
+use Rattle.pac_step.specs.Output.{Output}
+use Rattle.pac_board.specs.Sinks.{TookAll}
+use Rattle.pac_out.specs.declared.counted.Counted.{Counted}
+use Rattle.pac_out.specs.declared.WriteFault.{WriteFault}
+use Rattle.pac_out.specs.Counted.{Takes, Refuses}
+use Rattle.pac_out.proofs.Files.{takes-nothing, takes-joined, refuses-after}
+use Rattle.pac_debug_text.specs.declared.command.Command.{Command}
+use Rattle.pac_debug_text.specs.declared.command.NoCommand.{NoCommand}
+use Rattle.pac_debug_text.specs.Commands.{command_of}
+use Rattle.pac_session.specs.declared.motion.Motion.{Motion}
+use Rattle.pac_session.specs.Session.{SessionValue}
+use Rattle.pac_debug.specs.declared.answer.Answer.{Answer}
+use Rattle.pac_debug.specs.declared.line.CommandFault.TheVariants as faults
+use Rattle.pac_debug.specs.Answers.{answer_text}
+use Rattle.pac_debug.specs.Obeying.{HasMoved, Performed, Obeyed, Did, Scene, Asks, ObeysLines, motion_of}
+use Rattle.pac_debug.specs.Watched.{takes_all, Told, TellsOf, TellsAll}
+
+-- ---- any sink for another
+
+all-taken : (outputs : List Output) → TookAll takes_all tt outputs tt
+all-taken [] = refl
+all-taken (output ∷ more) = record { between = tt; before = tt; after = all-taken more }
+
+module _ {S : Type 0} (took : S → Output → S → Type 0) where
+  moved-anyhow : (old : SessionValue) (motion : Motion) (sink : S) (answer : Answer) (new : SessionValue) (later : S)
+      → HasMoved took old motion sink answer new later → HasMoved takes_all old motion tt answer new tt
+  moved-anyhow old motion sink answer new later moved =
+      let gone = moved.travelled in
+      record {
+        why = moved.why;
+        travelled = record {
+          rest = gone.rest;
+          why_is = gone.why_is;
+          session = gone.session;
+          sink_is = all-taken _;
+        };
+        answer_is = moved.answer_is;
+      }
+
+  performed-anyhow : (old : SessionValue) (command : Command) (found : Option Motion) (sink : S) (answer : Answer) (new : SessionValue)
+      (later : S) → Performed took old command found sink answer new later → Performed takes_all old command found tt answer new tt
+  performed-anyhow old command (Some motion) sink answer new later moved = moved-anyhow old motion sink answer new later moved
+  performed-anyhow old command None sink answer new later done = (done.0, refl)
+
+  obeyed-anyhow : (old : SessionValue) (asked : Result Command NoCommand) (sink : S) (answer : Answer) (new : SessionValue) (later : S)
+      → Obeyed took old asked sink answer new later → Obeyed takes_all old asked tt answer new tt
+  obeyed-anyhow old (Ok command) sink answer new later done =
+      performed-anyhow old command (motion_of command) sink answer new later done
+  obeyed-anyhow old (Err none) sink answer new later done = (done.0, done.1, refl)
+
+  told : (old : SessionValue) (asked : Result Command NoCommand) (sink : S) (answer : Answer) (new : SessionValue) (later : S)
+      → Did took old asked sink answer new later → Told old asked (answer_text new answer) new
+  told old asked sink answer new later did =
+      record {
+        answer = answer;
+        obeyed = obeyed-anyhow _ asked did.between answer new later did.obeyed;
+        text_is = refl;
+      }
+
+-- ---- texts in turn
+
+told-then : (line : List ℕ) (more : List (List ℕ)) (old mid new : SessionValue) (one other : List ℕ) → TellsOf (command_of line) old one mid
+    → TellsAll more mid other new → TellsAll (line ∷ more) old (one ++ other) new
+told-then line more old mid new one other first rest =
+    record { text_before = one; between = mid; text_after = other; before = first; after = rest; text_is = refl }
+
+told-alone : (line : List ℕ) (old new : SessionValue) (text : List ℕ) → TellsOf (command_of line) old text new
+    → TellsAll (line ∷ []) old text new
+told-alone line old new text tells =
+    record { text_before = text; between = new; text_after = []; before = tells; after = (refl, refl); text_is = sym (append-nil text) }
+
+module _ {S W : Type 0} (took refused : S → Output → S → Type 0) (wrote : W → List ℕ → W → Type 0) (balked : W → W → Type 0) where
+  takes-same : (old new : Counted W) → new ≡ old → Takes wrote old [] new
+  takes-same old new same = subst (λ (file : Counted W). Takes wrote old [] file) (sym same) (takes-nothing old)
+
+  record LineTold (found : Option (Result Command NoCommand)) (old new : Scene S W) : Type 0 where
+    pub text : List ℕ
+    pub tells : TellsOf found old.session text new.session
+    pub takes : Takes wrote old.text text new.text
+
+  line-told : {A : Type 0} (done : A) (found : Option (Result Command NoCommand)) (old new : Scene S W)
+      → Asks {A = A} took refused wrote balked found old (Ok done) new → LineTold found old new
+  line-told done None old new skipped =
+      record { text = []; tells = (refl, skipped.0); takes = takes-same old.text new.text skipped.2 }
+  line-told done (Some asked) old new answered =
+      record {
+        text = answer_text new.session answered.answer;
+        tells = told took old.session asked old.sink answered.answer new.session new.sink answered.did;
+        takes = answered.told;
+      }
+
+  -- all lines were answered
+  pub record LinesTold (lines : List (List ℕ)) (old new : Scene S W) : Type 0 where
+    pub text : List ℕ
+    pub tells : TellsAll lines old.session text new.session
+    pub takes : Takes wrote old.text text new.text
+
+  pub lines-told : (lines : List (List ℕ)) (done : Unit {0}) (old new : Scene S W)
+      → ObeysLines took refused wrote balked lines old (Ok done) new → LinesTold lines old new
+  lines-told [] done old new same =
+      record {
+        text = [];
+        tells = (refl, ap (λ (scene : Scene S W). scene.session) same);
+        takes = takes-same old.text new.text (ap (λ (scene : Scene S W). scene.text) same);
+      }
+  lines-told (line ∷ more) done old new obeyed =
+      let mid = obeyed.between in
+      let first = line-told tt (command_of line) old mid obeyed.before in
+      let rest = lines-told more done mid new obeyed.after in
+      record {
+        text = first.text ++ rest.text;
+        tells = told-then line more old.session mid.session new.session first.text rest.text first.tells rest.tells;
+        takes = takes-joined first.takes rest.takes;
+      }
+
+  -- at one of them the sink refused
+  pub record LinesRefused (lines : List (List ℕ)) (old new : Scene S W) : Type 0 where
+    pub before : List (List ℕ)
+    pub after : List (List ℕ)
+    pub parts : lines ≡ before ++ after
+    pub text : List ℕ
+    pub between : SessionValue
+    pub tells : TellsAll before old.session text between
+    pub takes : Takes wrote old.text text new.text
+
+  line-refused : (found : Option (Result Command NoCommand)) (old new : Scene S W)
+      → Asks {A = Unit {0}} took refused wrote balked found old (Err faults.Refused) new → new.text ≡ old.text
+  line-refused None old new skipped = absurd skipped
+  line-refused (Some asked) old new refusal = refusal.1
+
+  pub lines-refused : (lines : List (List ℕ)) (old new : Scene S W)
+      → ObeysLines took refused wrote balked lines old (Err faults.Refused) new → LinesRefused lines old new
+  lines-refused [] old new obeyed = absurd obeyed
+  lines-refused (line ∷ more) old new (inl here) =
+      record {
+        before = [];
+        after = line ∷ more;
+        parts = refl;
+        text = [];
+        between = old.session;
+        tells = (refl, refl);
+        takes = takes-same old.text new.text (line-refused (command_of line) old new here);
+      }
+  lines-refused (line ∷ more) old new (inr later) =
+      let mid = later.between in
+      let first = line-told tt (command_of line) old mid later.before in
+      let rest = lines-refused more mid new later.after in
+      record {
+        before = line ∷ rest.before;
+        after = rest.after;
+        parts = ap (λ ls. line ∷ ls) rest.parts;
+        text = first.text ++ rest.text;
+        between = rest.between;
+        tells = told-then line rest.before old.session mid.session rest.between first.text rest.text first.tells rest.tells;
+        takes = takes-joined first.takes rest.takes;
+      }
+
+  -- the text of one of them couldn't be written
+  pub record LinesUntold (lines : List (List ℕ)) (old : Scene S W) (fault : WriteFault) (new : Scene S W) : Type 0 where
+    pub before : List (List ℕ)
+    pub line : List ℕ
+    pub after : List (List ℕ)
+    pub parts : lines ≡ before ++ line ∷ after
+    pub text : List ℕ
+    pub tells : TellsAll (before ++ line ∷ []) old.session text new.session
+    pub refuses : Refuses wrote balked old.text text fault new.text
+
+  record LineUntold (found : Option (Result Command NoCommand)) (old : Scene S W) (fault : WriteFault) (new : Scene S W) : Type 0 where
+    pub text : List ℕ
+    pub tells : TellsOf found old.session text new.session
+    pub refuses : Refuses wrote balked old.text text fault new.text
+
+  line-untold : (found : Option (Result Command NoCommand)) (fault : WriteFault) (old new : Scene S W)
+      → Asks {A = Unit {0}} took refused wrote balked found old (Err (faults.Text fault)) new → LineUntold found old fault new
+  line-untold None fault old new skipped = absurd skipped
+  line-untold (Some asked) fault old new answered =
+      record {
+        text = answer_text new.session answered.answer;
+        tells = told took old.session asked old.sink answered.answer new.session new.sink answered.did;
+        refuses = answered.told;
+      }
+
+  pub lines-untold : (lines : List (List ℕ)) (fault : WriteFault) (old new : Scene S W)
+      → ObeysLines took refused wrote balked lines old (Err (faults.Text fault)) new → LinesUntold lines old fault new
+  lines-untold [] fault old new obeyed = absurd obeyed
+  lines-untold (line ∷ more) fault old new (inl here) =
+      let one = line-untold (command_of line) fault old new here in
+      record {
+        before = [];
+        line = line;
+        after = more;
+        parts = refl;
+        text = one.text;
+        tells = told-alone line old.session new.session one.text one.tells;
+        refuses = one.refuses;
+      }
+  lines-untold (line ∷ more) fault old new (inr later) =
+      let mid = later.between in
+      let first = line-told tt (command_of line) old mid later.before in
+      let rest = lines-untold more fault mid new later.after in
+      record {
+        before = line ∷ rest.before;
+        line = rest.line;
+        after = rest.after;
+        parts = ap (λ ls. line ∷ ls) rest.parts;
+        text = first.text ++ rest.text;
+        tells = told-then line _ old.session mid.session new.session first.text rest.text first.tells rest.tells;
+        refuses = refuses-after first.takes rest.refuses;
+      }
