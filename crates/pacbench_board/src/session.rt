@@ -23,10 +23,11 @@ const FRAMES: u32 = 36_000;
 
 /// The script of so many frames, and the command that runs them.
 const SCRIPT: &[u8] = b"36000 -";
+
 const RUN: &[u8] = b"frames 36000";
 
 /// A writer that counts the bytes of the session's answers.
-#[derive(Drop)]
+#[derive(Clone, Copy)]
 struct Told {
     bytes: u64,
 }
@@ -70,18 +71,23 @@ fn session(alloc: Global) -> Result<Session, AllocError> {
     }
 }
 
-/// Goes back, a step at a time.
-fn backs(rt: &HostRuntime) -> io::Result<WayBack> {
-    let mut session = session(rt.alloc())?;
-    let mut sum = Sum::new();
-    let mut text = Counted::new(Told { bytes: 0 });
-    let _ = command(&mut session, THERE, &mut sum, &mut text);
+/// Goes back, a step at a time, and gives the steps that were done again.
+fn go_back(session: &mut Session, sum: &mut Sum, text: &mut Counted<Told>) -> u64 {
     let mut replayed = 0u64;
-    let start = Instant::now(rt)?;
     for _ in 0..BACKS {
-        let _ = command(&mut session, b"back 1", &mut sum, &mut text);
+        let _ = command(session, b"back 1", sum, text);
         replayed = replayed.saturating_add(u64::from(session.replayed()));
     }
+    replayed
+}
+
+/// Brings a session to where it goes back from, and back.
+fn time_backs(rt: &HostRuntime, session: &mut Session) -> io::Result<WayBack> {
+    let mut sum = Sum::new();
+    let mut text = Counted::new(Told { bytes: 0 });
+    let _ = command(session, THERE, &mut sum, &mut text);
+    let start = Instant::now(rt)?;
+    let replayed = go_back(session, &mut sum, &mut text);
     let nanos = start.elapsed(rt)?.as_nanos();
     Ok(WayBack {
         nanos,
@@ -90,16 +96,27 @@ fn backs(rt: &HostRuntime) -> io::Result<WayBack> {
     })
 }
 
-/// Runs the frames, and gives their nanoseconds. What they came to is in the sum.
-fn frames(rt: &HostRuntime, sum: &mut Sum) -> io::Result<u128> {
+/// The way back of a new session.
+fn backs(rt: &HostRuntime) -> io::Result<WayBack> {
     let mut session = session(rt.alloc())?;
+    time_backs(rt, &mut session)
+}
+
+/// Runs a session's frames, and gives their nanoseconds. What they came to is in the sum.
+fn time_frames(rt: &HostRuntime, session: &mut Session, sum: &mut Sum) -> io::Result<u128> {
     let mut text = Counted::new(Told { bytes: 0 });
     let start = Instant::now(rt)?;
-    let _ = command(&mut session, RUN, sum, &mut text);
+    let _ = command(session, RUN, sum, &mut text);
     let nanos = start.elapsed(rt)?.as_nanos();
     sum.steps = session.index();
     sum.time = session.board().time();
     Ok(nanos)
+}
+
+/// The frames of a new session.
+fn frames(rt: &HostRuntime, sum: &mut Sum) -> io::Result<u128> {
+    let mut session = session(rt.alloc())?;
+    time_frames(rt, &mut session, sum)
 }
 
 /// Tells of the way back.
