@@ -16,7 +16,7 @@ use Rattle.pac_debug.specs.declared.answer.Answer.{Answer}
 use Rattle.pac_debug.specs.declared.line.CommandFault.TheVariants as faults
 use Rattle.pac_debug.specs.Answers.{answer_text}
 use Rattle.pac_debug.specs.Obeying.{HasMoved, Performed, Obeyed, Did, Scene, Asks, ObeysLines, motion_of}
-use Rattle.pac_debug.specs.Watched.{takes_all, Told, TellsOf, TellsAll}
+use Rattle.pac_debug.specs.Watched.{takes_all, Told, TellsOf, TellsAll, RefusedOf, RefusedAt}
 
 -- ---- any sink for another
 
@@ -121,41 +121,41 @@ module _ {S W : Type 0} (took refused : S → Output → S → Type 0) (wrote : 
     pub before : List (List ℕ)
     pub after : List (List ℕ)
     pub parts : lines ≡ before ++ after
-    pub text : List ℕ
-    pub between : SessionValue
-    pub tells : TellsAll before old.session text between
-    pub takes : Takes wrote old.text text new.text
+    pub mid : Scene S W
+    pub obeyed : ObeysLines took refused wrote balked before old (Ok tt) mid
+    pub refusal : RefusedAt took refused after mid.session mid.sink new.session new.sink
+    pub text : new.text ≡ mid.text
 
   line-refused : (found : Option (Result Command NoCommand)) (old new : Scene S W)
-      → Asks {A = Unit {0}} took refused wrote balked found old (Err faults.Refused) new → new.text ≡ old.text
+      → Asks {A = Unit {0}} took refused wrote balked found old (Err faults.Refused) new
+      → RefusedOf took refused found old.session old.sink new.session new.sink × (new.text ≡ old.text)
   line-refused None old new skipped = absurd skipped
-  line-refused (Some asked) old new refusal = refusal.1
+  line-refused (Some asked) old new refusal = (refusal.0, refusal.1)
 
   pub lines-refused : (lines : List (List ℕ)) (old new : Scene S W)
       → ObeysLines took refused wrote balked lines old (Err faults.Refused) new → LinesRefused lines old new
   lines-refused [] old new obeyed = absurd obeyed
   lines-refused (line ∷ more) old new (inl here) =
+      let refusal = line-refused (command_of line) old new here in
       record {
         before = [];
         after = line ∷ more;
         parts = refl;
-        text = [];
-        between = old.session;
-        tells = (refl, refl);
-        takes = takes-same old.text new.text (line-refused (command_of line) old new here);
+        mid = old;
+        obeyed = refl;
+        refusal = refusal.0;
+        text = refusal.1;
       }
   lines-refused (line ∷ more) old new (inr later) =
-      let mid = later.between in
-      let first = line-told tt (command_of line) old mid later.before in
-      let rest = lines-refused more mid new later.after in
+      let rest = lines-refused more later.between new later.after in
       record {
         before = line ∷ rest.before;
         after = rest.after;
         parts = ap (λ ls. line ∷ ls) rest.parts;
-        text = first.text ++ rest.text;
-        between = rest.between;
-        tells = told-then line rest.before old.session mid.session rest.between first.text rest.text first.tells rest.tells;
-        takes = takes-joined first.takes rest.takes;
+        mid = rest.mid;
+        obeyed = record { between = later.between; before = later.before; after = rest.obeyed };
+        refusal = rest.refusal;
+        text = rest.text;
       }
 
   -- the text of one of them couldn't be written

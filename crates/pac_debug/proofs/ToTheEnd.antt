@@ -5,6 +5,8 @@ use Rattle.pac_step.specs.Output.{Output}
 use Rattle.pac_step.specs.Step.{frame_ticks}
 use Rattle.pac_board.specs.Sinks.{TookAll}
 use Rattle.pac_board.proofs.Sinks.{took-both}
+use Rattle.pac_out.specs.declared.counted.Counted.{Counted}
+use Rattle.pac_out.specs.Counted.{Takes}
 use Rattle.pac_session.specs.declared.motion.Outcome.{Outcome}
 use Rattle.pac_session.specs.Motions.{IsOutcome, IsFinished, IsFinishRefused}
 use Rattle.pac_session.specs.Running.{IsLeast, Setting, whole_run, goes_at, outputs_from}
@@ -13,7 +15,7 @@ use Rattle.pac_debug.specs.declared.line.CommandFault.{CommandFault}
 use Rattle.pac_debug.specs.declared.line.CommandFault.TheVariants as faults
 use Rattle.pac_debug.specs.Obeying.{Scene, ObeysLines}
 use Rattle.pac_debug.specs.Watched.{HasGiven, GaveAll, Gave, to_give, Watched, IsWatchRefused, Watches}
-use Rattle.pac_debug.proofs.Giving.{all-to-give, some-after, finish-given}
+use Rattle.pac_debug.proofs.Giving.{all-to-give, some-after, finish-given, lines-given}
 use Rattle.pac_debug.proofs.Telling.{lines-told, lines-refused, lines-untold}
 
 -- a run's outcome is that of its setting
@@ -78,10 +80,13 @@ module _ {S W : Type 0} (took refused : S → Output → S → Type 0) (wrote : 
         before = lines;
         after = [];
         parts = sym (append-nil lines);
-        told = told.text;
         between = mid.session;
+        sink_between = mid.sink;
+        told = told.text;
         lines = told.tells;
         text = told.takes;
+        gave = gave;
+        refusal = refusal;
         taken = some.taken;
         left = due_outputs end;
         left_is = refl;
@@ -95,15 +100,19 @@ module _ {S W : Type 0} (took refused : S → Output → S → Type 0) (wrote : 
       → Gave {A = Unit {0}} took refused old.session old.sink (Err fault) mid.session mid.sink
       → Watches took refused wrote balked lines old (Err fault) mid
   ended-early faults.Refused obeyed gave =
-      let told = lines-refused took refused wrote balked lines old mid obeyed in
+      let halt = lines-refused took refused wrote balked lines old mid obeyed in
+      let told = lines-told took refused wrote balked halt.before tt old halt.mid halt.obeyed in
       record {
-        before = told.before;
-        after = told.after;
-        parts = told.parts;
+        before = halt.before;
+        after = halt.after;
+        parts = halt.parts;
+        between = halt.mid.session;
+        sink_between = halt.mid.sink;
         told = told.text;
-        between = told.between;
         lines = told.tells;
-        text = told.takes;
+        text = subst (λ (file : Counted W). Takes wrote old.text told.text file) (sym halt.text) told.takes;
+        gave = lines-given took refused wrote balked halt.before (Ok tt) old halt.mid halt.obeyed;
+        refusal = halt.refusal;
         taken = gave.taken;
         left = due_outputs mid.session;
         left_is = refl;

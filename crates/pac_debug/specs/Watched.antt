@@ -1,6 +1,6 @@
 -- A whole session: what the lines of a text are answered with, and what a sink is given, up to the end of the run. What is told is
 -- said of the run alone, without any sink; and whatever the lines ask, a sink is given each output of the run once, in order.
-use Rattle.std.specs.Prelude.{◌≡◌, ◌≤◌, ℕ, not, List, [], ◌∷◌, ◌++◌, Option, None, Some, Result, Ok, Err}
+use Rattle.std.specs.Prelude.{◌≡◌, ◌≤◌, ℕ, not, List, [], ◌∷◌, ◌++◌, Option, None, Some, Result, Ok, Err, ◌⊎◌}
 use mathlib.Core.List.{IsPrefix}
 use Rattle.pac_step.specs.Output.{Output}
 use Rattle.pac_board.specs.Sinks.{TookAll, RefusesAt}
@@ -10,14 +10,14 @@ use Rattle.pac_debug_text.specs.declared.command.Command.{Command}
 use Rattle.pac_debug_text.specs.declared.command.NoCommand.{NoCommand}
 use Rattle.pac_debug_text.specs.Commands.{command_of}
 use Rattle.pac_session.specs.declared.motion.Outcome.{Outcome}
-use Rattle.pac_session.specs.Motions.{IsOutcome, moved_to}
+use Rattle.pac_session.specs.Motions.{IsOutcome, IsFinishRefused, moved_to}
 use Rattle.pac_session.specs.Running.{IsLeast, goes_at, outputs_between, outputs_from}
-use Rattle.pac_session.specs.Session.{SessionValue, due_outputs}
+use Rattle.pac_session.specs.Session.{SessionValue, IsOfferRefused, due_outputs}
 use Rattle.pac_debug.specs.declared.answer.Answer.{Answer}
 use Rattle.pac_debug.specs.declared.line.CommandFault.{CommandFault}
 use Rattle.pac_debug.specs.declared.line.CommandFault.TheVariants as faults
 use Rattle.pac_debug.specs.Answers.{answer_text}
-use Rattle.pac_debug.specs.Obeying.{Scene, Obeyed, cleared}
+use Rattle.pac_debug.specs.Obeying.{Scene, Obeyed, IsRefused, cleared}
 
 -- ---- what is told
 
@@ -104,18 +104,36 @@ pub record Watched {S W : Type 0} (took : S → Output → S → Type 0) (wrote 
   pub rest : IsLeast (λ index. not (goes_at old.session.setting index)) between.index new.session.index
   pub session : new.session ≡ record (moved_to between new.session.index) { replayed = 0 }
 
--- The sink refused an output, at a line or on the way to the run's end. The lines before were answered, and no more is told. It took all
--- outputs up to that one, once and in order; that one and those after it are due.
+-- the sink refused an output at a line; one without words offers none
+abbrev pub RefusedOf : {S : Type 0} → (took refused : S → Output → S → Type 0) → Option (Result Command NoCommand) → SessionValue → S
+    → SessionValue → S → Type 0
+RefusedOf took refused None old sink new later = ⊥
+RefusedOf took refused (Some asked) old sink new later = IsRefused took refused old asked sink new later
+
+-- at the next line; or, where none is left, on the way to the run's end
+abbrev pub RefusedAt : {S : Type 0} → (took refused : S → Output → S → Type 0) → (lines : List (List ℕ)) → SessionValue → S
+    → SessionValue → S → Type 0
+RefusedAt took refused [] old sink new later =
+    IsOfferRefused took refused old sink new later ⊎ IsFinishRefused took refused old sink new later
+RefusedAt took refused (line ∷ more) old sink new later = RefusedOf took refused (command_of line) old sink new later
+
+-- The sink refused an output. The lines before were answered, and no more is told. The sink took all outputs up to that one, once and in
+-- order; that one and those after it are due.
 pub record IsWatchRefused {S W : Type 0} (took refused : S → Output → S → Type 0) (wrote : W → List ℕ → W → Type 0)
     (asked : List (List ℕ)) (old new : Scene S W)
     : Type 0 where
   pub before : List (List ℕ)
   pub after : List (List ℕ)
   pub parts : asked ≡ before ++ after
-  pub told : List ℕ
+  -- where the lines before leave the session and the sink, and what they tell
   pub between : SessionValue
+  pub sink_between : S
+  pub told : List ℕ
   pub lines : TellsAll before old.session told between
   pub text : Takes wrote old.text told new.text
+  pub gave : GaveAll took old.session old.sink between sink_between
+  pub refusal : RefusedAt took refused after between sink_between new.session new.sink
+  -- what the sink took in all, and what is due
   pub taken : List Output
   pub left : List Output
   pub left_is : left ≡ due_outputs new.session
