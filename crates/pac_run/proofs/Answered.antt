@@ -10,6 +10,7 @@ use Rattle.pac_inputs.specs.declared.fault.ScriptFault.{ScriptFault}
 use Rattle.pac_manifest.specs.Manifests.{manifest_of}
 use Rattle.pac_manifest.specs.Sets.{set_of}
 use Rattle.pac_manifest.specs.declared.fault.SetFault.{SetFault}
+use Rattle.pac_media.specs.Samples.{header_size}
 use Rattle.pac_program.specs.Programs.{Assembled}
 use Rattle.pac_step.specs.Output.{Output}
 use Rattle.pac_board.specs.State.{BoardValue}
@@ -80,7 +81,7 @@ module _ {F W L R : Type 0} (to : Writers F W L R) (plan : Plan) (dip : ℕ) (ou
       record {
         listing = listing;
         frames = subst (λ outputs. Stopped to.frames (text.frames_text outputs) count) same broken.0;
-        wave = subst (λ outputs. TookSome to.wave (text.wave_text (total plan.script) outputs)) same broken.1;
+        wave = subst (λ outputs. TookSome to.wave header_size (text.wave_text (total plan.script) outputs)) same broken.1;
         report = report;
       }
   cut-at which.Wave count broken report =

@@ -2,6 +2,7 @@
 use Rattle.std.proofs.Common.{◌≡◌, ℕ, List, Option, Ok, Err, sym, subst, ◌∙◌}
 use Rattle.std.specs.Str.Lines.{lines}
 use Rattle.pac_inputs.specs.Stretches.{total}
+use Rattle.pac_media.specs.Samples.{header_size}
 use Rattle.pac_program.specs.Programs.{Assembled}
 use Rattle.pac_step.specs.Output.{Output}
 use Rattle.pac_session.specs.Motions.{IsOutcome}
@@ -69,7 +70,7 @@ module _ {F W L R T : Type 0} (inputs : RunInputs) (commands : List ℕ) (to : W
         record {
           listing = listing;
           frames = subst (λ outputs. TookPrefix to.frames (text.frames_text outputs)) same filmed.0;
-          wave = subst (λ outputs. TookSome to.wave (text.wave_text (total session.setting.script) outputs)) same filmed.1;
+          wave = subst (λ outputs. TookSome to.wave header_size (text.wave_text (total session.setting.script) outputs)) same filmed.1;
           report = report;
           told = subst (λ it. ToldTill (Took words) (Stopped words) it (lines commands) which.Text count) setting told;
         }

@@ -1,6 +1,6 @@
 -- Writers that are lent to a film and a wave file, and what they have when the loans end.
 use Rattle.std.proofs.Common.{◌≡◌, ℕ, ◌*◌, ◌≤◌, List, length, [], ◌++◌, Result, Ok, Err, inl, inr, refl, sym, ap, subst, ◌∙◌, append_assoc}
-use Rattle.std.proofs.Common.{append-nil, arith}
+use Rattle.std.proofs.Common.{append-nil, length-append, arith}
 use Rattle.std.specs.Borrow.{MutBor}
 use mathlib.Core.List.{IsPrefix}
 use Rattle.pac_out.specs.declared.counted.Counted.{Counted}
@@ -9,7 +9,7 @@ use Rattle.pac_out.specs.Counted.{HasTaken, HasStopped, Takes, Puts}
 use Rattle.pac_out.specs.Writes.{lent_took, lent_refused}
 use Rattle.pac_out.proofs.Files.{stops-within}
 use Rattle.pac_session.specs.Running.{Setting}
-use Rattle.pac_session.specs.Session.{begun}
+use Rattle.pac_session.specs.Session.{begun as first_of}
 use Rattle.pac_media.specs.Samples.{wav_header, header_size}
 use Rattle.pac_media.specs.Sound.{HasText, Delivers, Fails, Finishes}
 use Rattle.pac_media.specs.Sound as media
@@ -114,7 +114,7 @@ module _ {W : Type 0} (took : W → List ℕ → W → Type 0) (refused : W → 
         after = lines;
         parts = refl;
         told = [];
-        tells = record { left = begun setting 0; tells = (refl, refl) };
+        tells = record { left = first_of setting 0; tells = (refl, refl) };
         taken = has-taken file [] fresh ends;
       }
 
@@ -135,22 +135,29 @@ module _ {W : Type 0} (took : W → List ℕ → W → Type 0) (refused : W → 
       }))
       fails.told ends
 
-  -- the sound so far, written where its writer doesn't refuse
+  -- the sound so far after the header, written where its writer doesn't refuse
   flushed : {A : Type 0} (answer : Result A WriteFault) (head bytes all : List ℕ) (old new : media.Sound (MutBor W))
       → HasText (lent_took took) owner head old → Finishes (lent_took took) (lent_refused refused) old bytes answer new → IsPrefix bytes all
-      → Ends owner new.file.writer left → TookSome (writing took refused owner.now left) (head ++ all)
-  flushed (Ok done) head bytes all old new has finishes among ends =
-      inl (record {
-        taken = head ++ bytes;
-        is_prefix = (among.0, append_assoc head bytes among.0 ∙ ap (λ rest. head ++ rest) among.1);
-        took = has-taken new.file (head ++ bytes) (finishes.after owner head has) ends;
-      })
-  flushed (Err fault) head bytes all old new has finishes among ends =
-      inr (record {
-        count = fault.count;
-        stopped = stopped-early head bytes among.0 (head ++ all) old new fault has finishes
-            (append_assoc head bytes among.0 ∙ ap (λ rest. head ++ rest) among.1) ends;
-      })
+      → Ends owner new.file.writer left → header_size ≤ length head → header_size ≤ old.file.count
+      → TookSome (writing took refused owner.now left) header_size (head ++ all)
+  flushed (Ok done) head bytes all old new has finishes among ends long headed =
+      inl (
+        record {
+          taken = head ++ bytes;
+          is_prefix = (among.0, append_assoc head bytes among.0 ∙ ap (λ rest. head ++ rest) among.1);
+          took = has-taken new.file (head ++ bytes) (finishes.after owner head has) ends;
+        },
+        let parts = length-append head bytes in omega (arith, long, parts),
+      )
+  flushed (Err fault) head bytes all old new has finishes among ends long headed =
+      inr (
+        record {
+          count = fault.count;
+          stopped = stopped-early head bytes among.0 (head ++ all) old new fault has finishes
+              (append_assoc head bytes among.0 ∙ ap (λ rest. head ++ rest) among.1) ends;
+        },
+        let after = finishes.at_least in omega (arith, headed, after),
+      )
 
 -- a wave file of which nothing waits any more was given the same text as before
 pub delivered : {W : Type 0} {took : W → List ℕ → W → Type 0} {old new : media.Sound W} {start : W} {text : List ℕ}
@@ -228,7 +235,8 @@ module _ {F W : Type 0} (took_f : F → List ℕ → F → Type 0) (refused_f : 
         (breaks.count_is ∙ breaks.frames.told) ends_f,
     flushed took_w refused_w wave left_w breaks.wave.answer header breaks.sound (sound_text (frame_samples * total) outputs) old.wave
         new.wave
-        begun breaks.wave.written (subst (λ n. IsPrefix breaks.sound (sound_text n outputs)) owed breaks.is_prefix) ends_w,
+        begun breaks.wave.written (subst (λ n. IsPrefix breaks.sound (sound_text n outputs)) owed breaks.is_prefix) ends_w
+        (let long = header-long (frame_samples * total) in omega (arith, long)) headed,
   )
   broken which.Wave count breaks = (
     record {
@@ -256,7 +264,8 @@ module _ {F W : Type 0} (took_f : F → List ℕ → F → Type 0) (refused_f : 
       took = has-taken took_f refused_f frames left_f new.frames cut.images (cut.frames.after frames [] fresh) ends_f;
     },
     flushed took_w refused_w wave left_w cut.wave.answer header cut.sound (sound_text (frame_samples * total) outputs) old.wave new.wave
-        begun cut.wave.written (subst (λ n. IsPrefix cut.sound (sound_text n outputs)) owed cut.sound_among) ends_w,
+        begun cut.wave.written (subst (λ n. IsPrefix cut.sound (sound_text n outputs)) owed cut.sound_among) ends_w
+        (let long = header-long (frame_samples * total) in omega (arith, long)) headed,
   )
   films-till which.Frames count cut = broken which.Frames count cut
   films-till which.Wave count cut = broken which.Wave count cut

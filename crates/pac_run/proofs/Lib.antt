@@ -5,3 +5,5 @@ pub mod Filmed
 pub mod Lent
 pub mod Traced
 pub mod Answered
+pub mod Watching
+pub mod Debugged

@@ -74,7 +74,7 @@ module _ {F W : Type 0} (took_f : F → List ℕ → F → Type 0) (refused_f : 
   told-till outputs old new which.Text count breaks took stopped setting lines some = absurd breaks
 
   -- the text broke: what was filmed till then is written
-  pub cut-short : {A : Type 0} (outputs taken : List Output) (old mid new : Film F W) (answer : Result A WriteFault)
+  pub cut-short : (outputs taken : List Output) (old mid new : Film F W) (answer : Result (Unit {0}) WriteFault)
       → IsPrefix taken outputs → TookAll (film_took took_f took_w) old taken mid
       → Finishes took_w refused_w mid.wave [] answer new.wave → new.frames ≡ mid.frames
       → IsCutShort took_f took_w refused_w outputs old new

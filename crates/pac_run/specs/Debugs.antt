@@ -2,6 +2,7 @@
 use Rattle.std.specs.Prelude.{◌≡◌, ℕ, List, Option, Result, Ok, Err}
 use Rattle.std.specs.Str.Lines.{lines}
 use Rattle.pac_inputs.specs.Stretches.{total}
+use Rattle.pac_media.specs.Samples.{header_size}
 use Rattle.pac_program.specs.Programs.{Assembled}
 use Rattle.pac_roms.specs.Parts.{IsWhole as HasAllParts}
 use Rattle.pac_session.specs.Running.{Setting}
@@ -59,7 +60,7 @@ IsBrokenAt plan dip commands to text Report count = IsCutAt plan dip to Report c
 IsBrokenAt plan dip commands to text Text count = record {
   listing : Took to.listing plan.listing;
   frames : TookPrefix to.frames (frames_text plan dip);
-  wave : TookSome to.wave (wave_text plan dip);
+  wave : TookSome to.wave header_size (wave_text plan dip);
   report : Untouched to.report;
   told : HasBroken plan dip commands text count;
 }

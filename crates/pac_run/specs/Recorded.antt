@@ -91,10 +91,10 @@ outcome_at now stop = record { frames = now.time / frame_ticks; steps = now.step
 -- ---- two writers
 
 -- of outputs of so many frames the one has the images and the other the sound; or one of them refused, and the other has a
--- prefix, of the images nothing where the wave's header was refused
+-- prefix: of the sound at least the header, and of the images nothing where the header was refused
 abbrev pub RecordsBroken : {F W : Type 0} → Writing F → Writing W → ℕ → List Output → Which → ℕ → Type 0
 RecordsBroken frames wave total outputs which.Frames count =
-    Stopped frames (text.frames_text outputs) count × TookSome wave (text.wave_text total outputs)
+    Stopped frames (text.frames_text outputs) count × TookSome wave header_size (text.wave_text total outputs)
 RecordsBroken frames wave total outputs which.Wave count =
     TookPrefix frames (text.frames_text outputs)
     × Stopped wave (text.wave_text total outputs) count

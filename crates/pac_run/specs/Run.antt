@@ -1,5 +1,5 @@
 -- What a run writes and answers.
-use Rattle.std.specs.Prelude.{◌≡◌, ℕ, ◌<◌, List, [], Result, Ok, Err, ◌⊎◌}
+use Rattle.std.specs.Prelude.{◌≡◌, ℕ, ◌<◌, ◌≤◌, List, [], length, Result, Ok, Err, ◌⊎◌}
 use mathlib.Core.List.{IsPrefix}
 use Rattle.pac_out.specs.Counted.{counted}
 use Rattle.pac_out.specs.Writes.{StopsAfter}
@@ -66,13 +66,14 @@ pub record Stopped {W : Type 0} (writer : Writing W) (text : List ℕ) (count : 
 abbrev pub Untouched : {W : Type 0} → Writing W → Type 0
 Untouched writer = writer.new ≡ writer.old
 
--- it took some prefix of it, and may have refused then
+-- it took some prefix of it, of at least so many bytes, and may have refused then
 pub record WasCut {W : Type 0} (writer : Writing W) (text : List ℕ) : Type 0 where
   pub count : ℕ
   pub stopped : Stopped writer text count
 
-abbrev pub TookSome : {W : Type 0} → Writing W → List ℕ → Type 0
-TookSome writer text = TookPrefix writer text ⊎ WasCut writer text
+abbrev pub TookSome : {W : Type 0} → Writing W → ℕ → List ℕ → Type 0
+TookSome writer least text =
+    ((whole : TookPrefix writer text) × (least ≤ length whole.taken)) ⊎ ((cut : WasCut writer text) × (least ≤ cut.count))
 
 pub record Writers (F W L R : Type 0) : Type 1 where
   pub frames : Writing F
@@ -99,7 +100,7 @@ pub record IsWhole {F W L R : Type 0} (plan : Plan) (dip : ℕ) (to : Writers F 
 
 -- a refused write, by its output: that one took so many bytes of its text; those before it are whole, those after it untouched,
 -- and of frames and wave, which are written side by side, the other one has a prefix. The wave's header is written before the
--- first frame: where it is refused, nothing is written to the frames.
+-- first frame: where it is refused nothing is written to the frames, and where a frame is refused the wave has it.
 abbrev pub IsCutAt : {F W L R : Type 0} → Plan → ℕ → Writers F W L R → Output → ℕ → Type 0
 IsCutAt plan dip to Listing count = record {
   listing : Stopped to.listing plan.listing count;
@@ -110,7 +111,7 @@ IsCutAt plan dip to Listing count = record {
 IsCutAt plan dip to Frames count = record {
   listing : Took to.listing plan.listing;
   frames : Stopped to.frames (frames_text plan dip) count;
-  wave : TookSome to.wave (wave_text plan dip);
+  wave : TookSome to.wave header_size (wave_text plan dip);
   report : Untouched to.report;
 }
 IsCutAt plan dip to Wave count = record {

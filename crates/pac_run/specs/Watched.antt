@@ -4,6 +4,7 @@ use mathlib.Core.List.{IsPrefix}
 use Rattle.pac_out.specs.declared.counted.Counted.{Counted}
 use Rattle.pac_out.specs.declared.WriteFault.{WriteFault}
 use Rattle.pac_out.specs.Counted.{Takes, Refuses}
+use Rattle.pac_media.specs.Samples.{header_size}
 use Rattle.pac_session.specs.Running.{Setting}
 use Rattle.pac_session.specs.Session.{SessionValue, begun}
 use Rattle.pac_debug.specs.Watched.{TellsAll}
@@ -89,7 +90,7 @@ Films took_f refused_f took_w refused_w outputs old (Err fault) new = CutBy took
 
 abbrev pub FilmedTill : {F W : Type 0} → Writing F → Writing W → ℕ → List Output → Which → ℕ → Type 0
 FilmedTill frames wave total outputs which.Text count =
-    TookPrefix frames (text.frames_text outputs) × TookSome wave (text.wave_text total outputs)
+    TookPrefix frames (text.frames_text outputs) × TookSome wave header_size (text.wave_text total outputs)
 FilmedTill frames wave total outputs other count = RecordsBroken frames wave total outputs other count
 
 -- the images and the sound of outputs of so many frames; or one of the three writers refused

@@ -52,14 +52,14 @@ impl<F: Out, W: Out> Film<F, W> {
 pub fn watch_run<F: Out, W: Out, T: Out>(
     session: &mut Session,
     commands: &[u8],
-    total: u32,
+    frame_count: u32,
     image: Image,
     frames: &mut F,
     wave: &mut W,
     text: &mut T,
 ) -> Result<Outcome, (Output, u64)>
     requires begun { session.old ≡ begun session.old.setting 0 }
-    requires total { total ≡ total session.old.setting.script }
+    requires count { frame_count ≡ total session.old.setting.script }
     ensures outcome { IfOk result (IsOutcome session.old) }
     ensures texts { Filmed
         (record { took = F.took; refused = F.refused; old = frames.old; new = frames.new })
@@ -70,8 +70,9 @@ pub fn watch_run<F: Out, W: Out, T: Out>(
         (Stopped (record { took = T.took; refused = T.refused; old = text.old; new = text.new }))
         session.old.setting (lines commands.now) result }
 {
+    session.facts();
     let mut words = Counted::new(text);
-    let mut wave = WaveFile::begin(wave, FRAME_SAMPLES * total);
+    let mut wave = WaveFile::begin(wave, FRAME_SAMPLES * frame_count);
     if let Err(fault) = wave.flush() {
         let _ = wave.into_writer();
         return Err((Output::Wave, fault.count));

@@ -23,7 +23,7 @@ returns-in-Ok g c =
     let mid : Scene g.row.S.Denot g.row.W.Denot
     = record { session = c.commands.new.session; sink = c.commands.new.sink; text = c.commands.new.text } in
     finished g.S.Sink.took g.S.Sink.refused g.W.Out.took g.W.Out.refused (lines c.args.bytes.now) old mid c.in_ok-commands.field-0
-    c.in_ok-commands.ensures.obeys c.in_ok-commands.ensures.given c.in-Ok.outcome c.finish.new.self c.finish.new.sink c.in-Ok.ensures
+    c.in_ok-commands.ensures.obeys c.in_ok-commands.ensures.given _ _ _ c.in-Ok.ensures
 
 pub returns-in-Err : goal.returns-in-Err
 returns-in-Err g c =
@@ -32,4 +32,4 @@ returns-in-Err g c =
     let mid : Scene g.row.S.Denot g.row.W.Denot
     = record { session = c.commands.new.session; sink = c.commands.new.sink; text = c.commands.new.text } in
     held-up g.S.Sink.took g.S.Sink.refused g.W.Out.took g.W.Out.refused (lines c.args.bytes.now) old mid c.in_ok-commands.field-0
-    c.in_ok-commands.ensures.obeys c.in_ok-commands.ensures.given c.finish.new.self c.finish.new.sink c.in-Err.ensures
+    c.in_ok-commands.ensures.obeys c.in_ok-commands.ensures.given _ _ c.in-Err.ensures
