@@ -1,6 +1,6 @@
 //! Prints, on standard error, how fast the board and the processor by itself run a mixed program, and how fast a debugger's session
-//! over the board goes back and on: the least time of some rounds. `pacbench_board N` does N rounds, 1 to 9; without N there is one.
-//! The checksums of board and processor are those that the plain Rust in the folder `bench` prints for the same work.
+//! over the board goes back and on: the least time of some rounds. `pacbench_board N` does N rounds, 1 to 9; without N there is one,
+//! and of the session only a few frames. The checksums of board and processor are those that the plain Rust in the folder `bench` prints for the same work.
 #![tactic(auto)]
 
 ghost use Rattle.std.specs.Prelude.{◌≡◌, IfOk};
@@ -153,21 +153,22 @@ fn measure(rt: &HostRuntime, rounds: u32) -> io::Result<()> {
     }
     tell_frames(rt, least.0, &board);
     tell_steps(rt, least.1, &flat);
-    session::measure(rt, rounds)
+    Ok(())
 }
 
-/// The count of rounds that the program's word asks for.
-fn rounds(rt: &HostRuntime) -> io::Result<u32> {
+/// The count of rounds that the program's word asks for, if there is one.
+fn rounds(rt: &HostRuntime) -> io::Result<Option<u32>> {
     match std::env::args(rt)?.nth(1) {
-        Some(word) => Ok(word.parse::<u32>().unwrap_or(1).clamp(1, 9)),
-        None => Ok(1),
+        Some(word) => Ok(Some(word.parse::<u32>().unwrap_or(1).clamp(1, 9))),
+        None => Ok(None),
     }
 }
 
 /// Measures as often as is asked.
 fn run(rt: &HostRuntime) -> io::Result<()> {
     let rounds = rounds(rt)?;
-    measure(rt, rounds)
+    measure(rt, rounds.unwrap_or(1))?;
+    session::measure(rt, rounds)
 }
 
 fn main(rt: HostRuntime) -> ExitCode {

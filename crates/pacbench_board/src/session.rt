@@ -18,13 +18,29 @@ const BACKS: u32 = 1000;
 /// they can be, 4,095 for the first and one fewer each time.
 const THERE: &[u8] = b"step 102400";
 
-/// The frames that a session runs, the most that a script can have.
-const FRAMES: u32 = 36_000;
-
-/// The script of so many frames, and the command that runs them.
+/// The script of its run, of as many frames as a script can have.
 const SCRIPT: &[u8] = b"36000 -";
 
-const RUN: &[u8] = b"frames 36000";
+/// Frames that a session runs.
+#[derive(Clone, Copy)]
+struct Stretch {
+    /// How many they are.
+    frames: u32,
+    /// The command that runs them.
+    command: &'static [u8],
+}
+
+/// All that the script has.
+const ALL: Stretch = Stretch {
+    frames: 36_000,
+    command: b"frames 36000",
+};
+
+/// A few, where the times don't matter.
+const FEW: Stretch = Stretch {
+    frames: 360,
+    command: b"frames 360",
+};
 
 /// A writer that counts the bytes of the session's answers.
 #[derive(Clone, Copy)]
@@ -103,10 +119,15 @@ fn backs(rt: &HostRuntime) -> io::Result<WayBack> {
 }
 
 /// Runs a session's frames, and gives their nanoseconds. What they came to is in the sum.
-fn time_frames(rt: &HostRuntime, session: &mut Session, sum: &mut Sum) -> io::Result<u128> {
+fn time_frames(
+    rt: &HostRuntime,
+    session: &mut Session,
+    stretch: Stretch,
+    sum: &mut Sum,
+) -> io::Result<u128> {
     let mut text = Counted::new(Told { bytes: 0 });
     let start = Instant::now(rt)?;
-    let _ = command(session, RUN, sum, &mut text);
+    let _ = command(session, stretch.command, sum, &mut text);
     let nanos = start.elapsed(rt)?.as_nanos();
     sum.steps = session.index();
     sum.time = session.board().time();
@@ -114,9 +135,9 @@ fn time_frames(rt: &HostRuntime, session: &mut Session, sum: &mut Sum) -> io::Re
 }
 
 /// The frames of a new session.
-fn frames(rt: &HostRuntime, sum: &mut Sum) -> io::Result<u128> {
+fn frames(rt: &HostRuntime, stretch: Stretch, sum: &mut Sum) -> io::Result<u128> {
     let mut session = session(rt.alloc())?;
-    time_frames(rt, &mut session, sum)
+    time_frames(rt, &mut session, stretch, sum)
 }
 
 /// Tells of the way back.
@@ -136,12 +157,13 @@ fn tell_backs(rt: &HostRuntime, way: &WayBack) {
 }
 
 /// Tells of the frames.
-fn tell_frames(rt: &HostRuntime, nanos: u128, sum: &Sum) {
+fn tell_frames(rt: &HostRuntime, nanos: u128, stretch: Stretch, sum: &Sum) {
     let nanos = nanos.max(1);
-    let frame = nanos / u128::from(FRAMES);
-    let rate = u128::from(FRAMES) * 1_000_000_000 / nanos;
+    let frames = stretch.frames;
+    let frame = nanos / u128::from(frames.max(1));
+    let rate = u128::from(frames) * 1_000_000_000 / nanos;
     let _ = eprintln!(rt;
-        "session: {FRAMES} frames in {} microseconds, {}.{} microseconds a frame, {rate} a second",
+        "session: {frames} frames in {} microseconds, {}.{} microseconds a frame, {rate} a second",
         nanos / 1000,
         frame / 1000,
         frame % 1000 / 100
@@ -152,18 +174,19 @@ fn tell_frames(rt: &HostRuntime, nanos: u128, sum: &Sum) {
     );
 }
 
-/// Measures the way back in some rounds, and the frames once.
-pub fn measure(rt: &HostRuntime, rounds: u32) -> io::Result<()> {
+/// Measures the way back in some rounds, and the frames once: all of them, or a few where it wasn't asked for rounds.
+pub fn measure(rt: &HostRuntime, rounds: Option<u32>) -> io::Result<()> {
     let mut least = backs(rt)?;
-    for _ in 1..rounds {
+    for _ in 1..rounds.unwrap_or(1) {
         let again = backs(rt)?;
         if again.nanos < least.nanos {
             least = again;
         }
     }
     tell_backs(rt, &least);
+    let stretch = if rounds.is_some() { ALL } else { FEW };
     let mut sum = Sum::new();
-    let nanos = frames(rt, &mut sum)?;
-    tell_frames(rt, nanos, &sum);
+    let nanos = frames(rt, stretch, &mut sum)?;
+    tell_frames(rt, nanos, stretch, &sum);
     Ok(())
 }
