@@ -99,27 +99,27 @@ module _ {F W L R : Type 0} (to : Writers F W L R) (plan : Plan) (dip : ℕ) (ou
   -- both have all
   module _ (frames : Took to.frames (text.frames_text outputs)) (wave : Took to.wave (text.wave_text (total plan.script) outputs))
       (frame_count : ℕ) (count_is : frame_count ≡ total plan.script) (outcome : Outcome) (outcome_is : outcome ≡ outcome_of (trace_of plan dip))
-      where
-    pub is-whole : Took to.report (text.report outcome frame_count) → IsWhole plan dip to outcome
-    is-whole report =
-        record {
-          outcome_is = outcome_is;
-          frames = subst (λ outputs. Took to.frames (text.frames_text outputs)) same frames;
-          wave = subst (λ outputs. Took to.wave (text.wave_text (total plan.script) outputs)) same wave;
-          listing = listing;
-          report = subst (λ outcome. Took to.report (text.report outcome (total plan.script))) outcome_is
-              (subst (λ frames. Took to.report (text.report outcome frames)) count_is report);
-        }
+    where
+      pub is-whole : Took to.report (text.report outcome frame_count) → IsWhole plan dip to outcome
+      is-whole report =
+          record {
+            outcome_is = outcome_is;
+            frames = subst (λ outputs. Took to.frames (text.frames_text outputs)) same frames;
+            wave = subst (λ outputs. Took to.wave (text.wave_text (total plan.script) outputs)) same wave;
+            listing = listing;
+            report = subst (λ outcome. Took to.report (text.report outcome (total plan.script))) outcome_is
+                (subst (λ frames. Took to.report (text.report outcome frames)) count_is report);
+          }
 
-    pub cut-at-report : (count : ℕ) → Stopped to.report (text.report outcome frame_count) count → IsCutAt plan dip to which.Report count
-    cut-at-report count report =
-        record {
-          listing = listing;
-          frames = subst (λ outputs. Took to.frames (text.frames_text outputs)) same frames;
-          wave = subst (λ outputs. Took to.wave (text.wave_text (total plan.script) outputs)) same wave;
-          report = subst (λ outcome. Stopped to.report (text.report outcome (total plan.script)) count) outcome_is
-              (subst (λ frames. Stopped to.report (text.report outcome frames) count) count_is report);
-        }
+      pub cut-at-report : (count : ℕ) → Stopped to.report (text.report outcome frame_count) count → IsCutAt plan dip to which.Report count
+      cut-at-report count report =
+          record {
+            listing = listing;
+            frames = subst (λ outputs. Took to.frames (text.frames_text outputs)) same frames;
+            wave = subst (λ outputs. Took to.wave (text.wave_text (total plan.script) outputs)) same wave;
+            report = subst (λ outcome. Stopped to.report (text.report outcome (total plan.script)) count) outcome_is
+                (subst (λ frames. Stopped to.report (text.report outcome frames) count) count_is report);
+          }
 
 -- ---- the answers of a run
 

@@ -58,12 +58,14 @@ module _ {F W L R T : Type 0} (inputs : RunInputs) (commands : List ℕ) (to : W
     broken-at : (output : Which) (count : ℕ) → FilmedTill to.frames to.wave (total session.setting.script) outputs output count
         → ToldTill (Took words) (Stopped words) session.setting (lines commands) output count
         → Took to.listing plan.listing → Untouched to.report → IsBrokenAt plan inputs.dip commands to words output count
-    broken-at which.Frames count filmed told listing report =
-        (cut-at to plan inputs.dip outputs same listing which.Frames count filmed report,
-        subst (λ it. ToldTill (Took words) (Stopped words) it (lines commands) which.Frames count) setting told)
-    broken-at which.Wave count filmed told listing report =
-        (cut-at to plan inputs.dip outputs same listing which.Wave count filmed report,
-        subst (λ it. ToldTill (Took words) (Stopped words) it (lines commands) which.Wave count) setting told)
+    broken-at which.Frames count filmed told listing report = (
+      cut-at to plan inputs.dip outputs same listing which.Frames count filmed report,
+      subst (λ it. ToldTill (Took words) (Stopped words) it (lines commands) which.Frames count) setting told,
+    )
+    broken-at which.Wave count filmed told listing report = (
+      cut-at to plan inputs.dip outputs same listing which.Wave count filmed report,
+      subst (λ it. ToldTill (Took words) (Stopped words) it (lines commands) which.Wave count) setting told,
+    )
     broken-at which.Listing count filmed told listing report = absurd filmed
     broken-at which.Report count filmed told listing report = absurd filmed
     broken-at which.Text count filmed told listing report =
@@ -109,6 +111,8 @@ module _ {F W L R T : Type 0} (inputs : RunInputs) (commands : List ℕ) (to : W
           record {
             plan = plan;
             plan_is = ready.plan_is;
-            holds = (cut-at-report to plan inputs.dip outputs same listing shown.0 shown.1 frames ready.frames_is result ends-so count report,
-            all-told);
+            holds = (
+              cut-at-report to plan inputs.dip outputs same listing shown.0 shown.1 frames ready.frames_is result ends-so count report,
+              all-told,
+            );
           }

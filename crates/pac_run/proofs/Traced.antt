@@ -41,25 +41,25 @@ is-near board new script stop fresh played few =
 
 -- what a plan's set, program and script come to on a board from power-on, told by the view, is its trace
 module _ (inputs : RunInputs) (program : Option Assembled) (set : Parts) (script : List Stretch) (whole : IsWhole set) (lie : Plays set program)
-    where
-  abbrev plan : Plan
-  plan = planned inputs program set script
+  where
+    abbrev plan : Plan
+    plan = planned inputs program set script
 
-  abbrev shown : Walk BoardView
-  shown = trace (by_view set) (play_of script) (power_on inputs.dip)
+    abbrev shown : Walk BoardView
+    shown = trace (by_view set) (play_of script) (power_on inputs.dip)
 
-  pub same-trace : shown ≡ walk_view (board_of set (power_on inputs.dip)) (trace_of plan inputs.dip)
-  same-trace =
-      sym (runs-agree set (items_in program) inputs.dip (frame_steps * total script) (play_of script) whole lie)
+    pub same-trace : shown ≡ walk_view (board_of set (power_on inputs.dip)) (trace_of plan inputs.dip)
+    same-trace =
+        sym (runs-agree set (items_in program) inputs.dip (frame_steps * total script) (play_of script) whole lie)
 
-  pub same-end : (run : Walk BoardView) → run ≡ shown → outcome_at run.now run.stop ≡ outcome_of (trace_of plan inputs.dip)
-  same-end run is =
-      let same = is ∙ same-trace in
-      let now = ap (λ (run : Walk BoardView). run.now) same in
-      let met = ap (λ (run : Walk BoardView). run.stop) same in
-      let blanks = (outputs-timed set (items_in program) inputs.dip (frame_steps * total script) (play_of script)).blanks in
-      let frames = ap (λ (now : Moment BoardView). now.time / frame_ticks) now ∙ sym blanks in
-      λ i. record { frames = frames i; steps = (now i).steps; ticks = (now i).time; stop = met i }
+    pub same-end : (run : Walk BoardView) → run ≡ shown → outcome_at run.now run.stop ≡ outcome_of (trace_of plan inputs.dip)
+    same-end run is =
+        let same = is ∙ same-trace in
+        let now = ap (λ (run : Walk BoardView). run.now) same in
+        let met = ap (λ (run : Walk BoardView). run.stop) same in
+        let blanks = (outputs-timed set (items_in program) inputs.dip (frame_steps * total script) (play_of script)).blanks in
+        let frames = ap (λ (now : Moment BoardView). now.time / frame_ticks) now ∙ sym blanks in
+        λ i. record { frames = frames i; steps = (now i).steps; ticks = (now i).time; stop = met i }
 
 module _ (inputs : RunInputs) (prepared : Prepared) (ready : IsPrepared inputs prepared) where
   pub untouched-board : IsUntouched prepared.board
@@ -84,25 +84,25 @@ module _ (inputs : RunInputs) (prepared : Prepared) (ready : IsPrepared inputs p
 
 -- the same of a session's run
 module _ (inputs : RunInputs) (program : Option Assembled) (session : SessionValue) (frames : ℕ) (ready : IsReady inputs program session frames)
-    where
-  abbrev session_plan : Plan
-  session_plan = planned inputs program session.setting.set session.setting.script
+  where
+    abbrev session_plan : Plan
+    session_plan = planned inputs program session.setting.set session.setting.script
 
-  shown-whole : whole_run session.setting
-      ≡ shown inputs program session.setting.set session.setting.script ready.whole ready.lie
-  shown-whole = ap (λ switches. trace (by_view session.setting.set) (play_of session.setting.script) (power_on switches)) ready.switches
+    shown-whole : whole_run session.setting
+        ≡ shown inputs program session.setting.set session.setting.script ready.whole ready.lie
+    shown-whole = ap (λ switches. trace (by_view session.setting.set) (play_of session.setting.script) (power_on switches)) ready.switches
 
-  pub session-outputs : (whole_run session.setting).outputs ≡ (trace_of session_plan inputs.dip).outputs
-  session-outputs =
-      ap (λ (run : Walk BoardView). run.outputs)
-      (shown-whole ∙ same-trace inputs program session.setting.set session.setting.script ready.whole ready.lie)
+    pub session-outputs : (whole_run session.setting).outputs ≡ (trace_of session_plan inputs.dip).outputs
+    session-outputs =
+        ap (λ (run : Walk BoardView). run.outputs)
+        (shown-whole ∙ same-trace inputs program session.setting.set session.setting.script ready.whole ready.lie)
 
-  pub session-outcome : (outcome : told.Outcome) → IsOutcome session outcome
-      → record { frames = outcome.frames; steps = outcome.steps; ticks = outcome.ticks; stop = outcome.stop }
-      ≡ outcome_of (trace_of session_plan inputs.dip)
-  session-outcome outcome is =
-      (λ i. record { frames = is.frames i; steps = is.steps i; ticks = is.ticks i; stop = is.stop i })
-      ∙ same-end inputs program session.setting.set session.setting.script ready.whole ready.lie (whole_run session.setting) shown-whole
+    pub session-outcome : (outcome : told.Outcome) → IsOutcome session outcome
+        → record { frames = outcome.frames; steps = outcome.steps; ticks = outcome.ticks; stop = outcome.stop }
+        ≡ outcome_of (trace_of session_plan inputs.dip)
+    session-outcome outcome is =
+        (λ i. record { frames = is.frames i; steps = is.steps i; ticks = is.ticks i; stop = is.stop i })
+        ∙ same-end inputs program session.setting.set session.setting.script ready.whole ready.lie (whole_run session.setting) shown-whole
 
-  pub same-setting : setting_of session_plan inputs.dip ≡ session.setting
-  same-setting = λ i. record { set = session.setting.set; switches = sym ready.switches i; script = session.setting.script }
+    pub same-setting : setting_of session_plan inputs.dip ≡ session.setting
+    same-setting = λ i. record { set = session.setting.set; switches = sym ready.switches i; script = session.setting.script }

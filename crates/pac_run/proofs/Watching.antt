@@ -1,5 +1,5 @@
 -- What film, wave file and text have after a session that was watched, by its answer.
-use Rattle.std.proofs.Common.{◌≡◌, ℕ, ◌-◌, pos, List, [], ◌∷◌, ◌++◌, length, replicate, Result, refl, sym, ap, subst, ◌∙◌, append-nil}
+use Rattle.std.proofs.Common.{◌≡◌, ℕ, ◌-◌, pos, List, [], ◌∷◌, ◌++◌, length, replicate, Result, Err, refl, sym, ap, subst, ◌∙◌, append-nil}
 use mathlib.Core.List.{IsPrefix}
 use Rattle.pac_out.specs.declared.WriteFault.{WriteFault}
 use Rattle.pac_out.specs.Counted.{Takes}
@@ -10,7 +10,11 @@ use Rattle.pac_step.specs.Output.{Output}
 use Rattle.pac_board.specs.Sinks.{TookAll}
 use Rattle.pac_session.specs.Running.{Setting, whole_run}
 use Rattle.pac_session.specs.Session.{SessionValue, begun}
-use Rattle.pac_debug.specs.Watched.{TellsAll, to_give}
+use Rattle.pac_session.specs.declared.motion.Outcome as told
+use Rattle.pac_debug.specs.declared.line.CommandFault.{CommandFault}
+use Rattle.pac_debug.specs.declared.line.CommandFault.TheVariants as faults
+use Rattle.pac_debug.specs.Obeying.{Scene}
+use Rattle.pac_debug.specs.Watched.{TellsAll, Watches, IsWatchRefused, IsWatchUntold, to_give}
 use Rattle.pac_run.specs.declared.fault.Output.{Output as Which}
 use Rattle.pac_run.specs.declared.fault.Output.TheVariants as which
 use Rattle.pac_run.specs.declared.film.Film.{Film}
@@ -29,6 +33,16 @@ pub tells-of : (session left : SessionValue) (lines : List (List ℕ)) (told : L
     → TellsAll lines session told left → TellsOf session.setting lines told
 tells-of session left lines told fresh tells =
     record { left = left; tells = subst (λ it. TellsAll lines it told left) fresh tells }
+
+-- what a session leaves that its sink held up, and one that couldn't tell
+module _ {S T : Type 0} (took refused : S → Output → S → Type 0) (wrote : T → List ℕ → T → Type 0) (balked : T → T → Type 0)
+    (lines : List (List ℕ)) (old new : Scene S T) (result : Result told.Outcome CommandFault) (fault : CommandFault) (is : result ≡ Err fault)
+    (watched : Watches took refused wrote balked lines old result new) where
+  pub held-up : fault ≡ faults.Refused → IsWatchRefused took refused wrote lines old new
+  held-up here = subst (λ result. Watches took refused wrote balked lines old result new) (is ∙ ap (λ it. Err it) here) watched
+
+  pub untold : (why : WriteFault) → fault ≡ faults.Text why → IsWatchUntold took wrote balked lines old why new
+  untold why here = subst (λ result. Watches took refused wrote balked lines old result new) (is ∙ ap (λ it. Err it) here) watched
 
 -- the sound of a list's beginning is the beginning of its sound
 sound-among : (owed : ℕ) (taken outputs : List Output) → IsPrefix taken outputs

@@ -55,7 +55,11 @@ pub(crate) fn list<L: Out>(
 }
 
 /// Writes the report of what a run of so many frames came to.
-pub(crate) fn report_on<R: Out>(report: &mut R, outcome: Outcome, total: u32) -> Result<(), WriteFault>
+pub(crate) fn report_on<R: Out>(
+    report: &mut R,
+    outcome: Outcome,
+    total: u32,
+) -> Result<(), WriteFault>
     ensures { Written (record { took = R.took; refused = R.refused; old = report.old; new = report.new })
         (text.report outcome total) result }
 {
