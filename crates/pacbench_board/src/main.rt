@@ -1,9 +1,13 @@
-//! Prints, on standard error, how fast the board and the processor by itself run a mixed program: the least time of some
-//! rounds. `pacbench_board N` does N rounds, 1 to 9; without N there is one. The checksums are those that the plain Rust in the
-//! folder `bench` prints for the same work.
+//! Prints, on standard error, how fast the board and the processor by itself run a mixed program, and how fast a debugger's session
+//! over the board goes back and on: the least time of some rounds. `pacbench_board N` does N rounds, 1 to 9; without N there is one,
+//! and of the session only a few frames. The checksums of board and processor are those that the plain Rust in the folder `bench` prints for the same work.
 #![tactic(auto)]
 
+ghost use Rattle.std.specs.Prelude.{◌≡◌, IfOk};
+ghost use Rattle.pac_session.specs.Session.{IsNew};
+
 mod mixed;
+mod session;
 mod sum;
 
 use pac_asm::assemble;
@@ -46,7 +50,9 @@ fn program(alloc: Global) -> Result<Vec<u8>, AllocError> {
 }
 
 /// A board at power-on with the mixed program and ROMs that show much.
-fn board(alloc: Global) -> Result<Board, AllocError> {
+fn board(alloc: Global) -> Result<Board, AllocError>
+    ensures { IfOk result (λ board. IsNew board) }
+{
     let raw = Raw {
         tiles: &rom::<4096>(37),
         sprites: &rom::<4096>(91),
@@ -150,18 +156,19 @@ fn measure(rt: &HostRuntime, rounds: u32) -> io::Result<()> {
     Ok(())
 }
 
-/// The count of rounds that the program's word asks for.
-fn rounds(rt: &HostRuntime) -> io::Result<u32> {
+/// The count of rounds that the program's word asks for, if there is one.
+fn rounds(rt: &HostRuntime) -> io::Result<Option<u32>> {
     match std::env::args(rt)?.nth(1) {
-        Some(word) => Ok(word.parse::<u32>().unwrap_or(1).clamp(1, 9)),
-        None => Ok(1),
+        Some(word) => Ok(Some(word.parse::<u32>().unwrap_or(1).clamp(1, 9))),
+        None => Ok(None),
     }
 }
 
 /// Measures as often as is asked.
 fn run(rt: &HostRuntime) -> io::Result<()> {
     let rounds = rounds(rt)?;
-    measure(rt, rounds)
+    measure(rt, rounds.unwrap_or(1))?;
+    session::measure(rt, rounds)
 }
 
 fn main(rt: HostRuntime) -> ExitCode {
