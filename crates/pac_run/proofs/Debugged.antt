@@ -21,7 +21,7 @@ use Rattle.pac_run.specs.Run.{Writing, Writers, Took, TookPrefix, TookSome, Stop
 use Rattle.pac_run.specs.Texts as text
 use Rattle.pac_run.specs.Watched.{AllTold, ToldTill, FilmedTill}
 use Rattle.pac_run.proofs.Answered.{NoWrite, plan-writes, cut-at, cut-at-report, is-whole}
-use Rattle.pac_run.proofs.Traced.{session-outputs, session-outcome, same-setting}
+use Rattle.pac_run.proofs.Traced.{session-outputs, session-outcome, seen-through, same-setting}
 
 module _ {F W L R T : Type 0} (inputs : RunInputs) (commands : List ℕ) (to : Writers F W L R) (words : Writing T) where
   -- nothing was written
@@ -101,6 +101,7 @@ module _ {F W L R T : Type 0} (inputs : RunInputs) (commands : List ℕ) (to : W
             plan_is = ready.plan_is;
             holds = record {
               files = is-whole to plan inputs.dip outputs same listing shown.0 shown.1 frames ready.frames_is result ends-so report;
+              seen = seen-through inputs program session frames ready;
               told = all-told;
             };
           }

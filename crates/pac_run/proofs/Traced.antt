@@ -23,7 +23,7 @@ use Rattle.pac_session.specs.Session.{SessionValue}
 use Rattle.pac_session.specs.declared.motion.Outcome as told
 use Rattle.pac_run.specs.declared.inputs.RunInputs.{RunInputs}
 use Rattle.pac_run.specs.declared.plan.Prepared.{Prepared}
-use Rattle.pac_run.specs.Debugs.{IsReady, setting_of}
+use Rattle.pac_run.specs.Debugs.{IsReady, IsSeenThrough, setting_of}
 use Rattle.pac_run.specs.Plan.{Plan, Plays, planned, items_in, IsPrepared}
 use Rattle.pac_run.specs.Plays.{IsUntouched, run_of}
 use Rattle.pac_run.specs.Recorded.{HasPlayed, outcome_at}
@@ -104,5 +104,9 @@ module _ (inputs : RunInputs) (program : Option Assembled) (session : SessionVal
         (λ i. record { frames = is.frames i; steps = is.steps i; ticks = is.ticks i; stop = is.stop i })
         ∙ same-end inputs program session.setting.set session.setting.script ready.whole ready.lie (whole_run session.setting) shown-whole
 
-    pub same-setting : setting_of session_plan inputs.dip ≡ session.setting
+    pub seen-through : IsSeenThrough session_plan inputs.dip
+  seen-through index =
+      sym (runs-agree session.setting.set (items_in program) inputs.dip index (play_of session.setting.script) ready.whole ready.lie)
+
+  pub same-setting : setting_of session_plan inputs.dip ≡ session.setting
     same-setting = λ i. record { set = session.setting.set; switches = sym ready.switches i; script = session.setting.script }

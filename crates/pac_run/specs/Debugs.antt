@@ -1,12 +1,18 @@
 -- What a run under a debugger writes, tells and answers.
-use Rattle.std.specs.Prelude.{◌≡◌, ℕ, List, Option, Result, Ok, Err}
+use Rattle.std.specs.Prelude.{◌≡◌, ℕ, List, [], Option, Result, Ok, Err}
 use Rattle.std.specs.Str.Lines.{lines}
 use Rattle.pac_inputs.specs.Stretches.{total}
 use Rattle.pac_media.specs.Samples.{header_size}
+use Rattle.pac_map.specs.Entry.{Entry}
 use Rattle.pac_program.specs.Programs.{Assembled}
 use Rattle.pac_roms.specs.Parts.{IsWhole as HasAllParts}
-use Rattle.pac_session.specs.Running.{Setting}
+use Rattle.pac_session.specs.Running.{Setting, play_of, run}
 use Rattle.pac_session.specs.Session.{SessionValue, begun}
+use Rattle.pac_step.specs.BoardView.{power_on}
+use Rattle.pac_step.specs.Carried.{walk_view}
+use Rattle.pac_step.specs.History.{board_of}
+use Rattle.pac_step.specs.Trace.{by_history, run_at}
+use Rattle.pac_step.specs.Walk.{Walk}
 use Rattle.pac_run.specs.declared.fault.Output.{Output}
 use Rattle.pac_run.specs.declared.fault.Output.TheVariants.{Frames, Wave, Listing, Report, Text}
 use Rattle.pac_run.specs.declared.fault.RunFault.{RunFault}
@@ -21,6 +27,15 @@ use Rattle.pac_run.specs.Watched.{AllTold, SomeTold, LastBroke}
 -- the run that its session looks at
 abbrev pub setting_of : Plan → ℕ → Setting
 setting_of plan dip = record { set = plan.set; switches = dip; script = plan.script }
+
+-- the trace of a plan up to an index, told by its history
+abbrev pub trace_up_to : Plan → ℕ → (index : ℕ) → Walk (List Entry)
+trace_up_to plan dip index = run_at (by_history plan.set plan.items (power_on dip)) (play_of plan.script) [] index
+
+-- At each index that run is the trace of the plan, seen as a board keeps it.
+abbrev pub IsSeenThrough : Plan → ℕ → Type 0
+IsSeenThrough plan dip =
+    (index : ℕ) → run (setting_of plan dip) index ≡ walk_view (board_of plan.set (power_on dip)) (trace_up_to plan dip index)
 
 -- what a session is made from, and that it stands at the beginning of its run of so many frames
 pub record IsReady (inputs : RunInputs) (program : Option Assembled) (session : SessionValue) (frames : ℕ) : Type 0 where
@@ -47,10 +62,11 @@ HasBroken plan dip commands text count = LastBroke (Stopped text) (setting_of pl
 
 -- ---- the run, by its answer
 
--- Done: the four files are exactly those of the run without a session, and the text is what the session tells.
+-- Done: the four files are exactly those of the run without a session, and the text is what a session over that run tells.
 pub record IsWatched {F W L R T : Type 0} (plan : Plan) (dip : ℕ) (commands : List ℕ) (to : Writers F W L R) (text : Writing T)
     (outcome : Outcome) : Type 0 where
   pub files : IsWhole plan dip to outcome
+  pub seen : IsSeenThrough plan dip
   pub told : HasTold plan dip commands text
 
 -- a refused write, by its output: what a run leaves then, and what the session has told till then
