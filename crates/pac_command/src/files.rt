@@ -33,10 +33,7 @@ pub fn read_at<'a, R: Files + AllocGlobal>(
 }
 
 /// The bytes of a file of at most 16 MiB.
-pub fn read_file<'a, R: Files + AllocGlobal>(
-    rt: &R,
-    name: &'a str,
-) -> Result<Vec<u8>, Failure<'a>>
+pub fn read_file<'a, R: Files + AllocGlobal>(rt: &R, name: &'a str) -> Result<Vec<u8>, Failure<'a>>
     ensures size { IfOk result (λ bytes. length bytes.items ≤ most_read) }
     ensures fault { IfErr result (IsReadFault name.now) }
 {
