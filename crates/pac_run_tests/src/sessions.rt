@@ -156,16 +156,16 @@ fn texts_that_are_refused(rt: HostRuntime) -> io::Result<()> {
     lay(&rt, "full", "commands", COMMANDS)?;
     let line = format!(in rt.alloc(); "{DEBUG} --commands @/commands")?;
     let words = words_of(rt.alloc(), "full", &line)?;
-    let output = format!(in rt.alloc(); "{TEXT}{REPORT}")?;
-    for (room, error) in [
-        (0, "write fault text after 0 bytes\n"),
-        (10, "write fault text after 10 bytes\n"),
-        (164, "write fault report after 0 bytes\n"),
-        (170, "write fault report after 6 bytes\n"),
+    let begun = format!(in rt.alloc(); "{TEXT}frames")?;
+    for (room, output, error) in [
+        (0, "", "write fault text after 0 bytes\n"),
+        (10, "ok\nbreak 2", "write fault text after 10 bytes\n"),
+        (164, TEXT, "write fault report after 0 bytes\n"),
+        (170, begun.as_str(), "write fault report after 6 bytes\n"),
     ] {
         let console = Console::new(rt.alloc(), room)?;
         assert_eq!(rt; run_words(&rt, &console, &words), 3, "{room}");
-        assert!(rt; console.has(&output[..room], error), "{room}");
+        assert!(rt; console.has(output, error), "{room}");
     }
     fs::remove_dir_all(&rt, "full")
 }
