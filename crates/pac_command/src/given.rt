@@ -1,7 +1,10 @@
 //! The files of a run: those that the command line names, and those that the manifest names.
 
-ghost use Rattle.std.specs.Prelude.{◌≤◌, IfErr};
+ghost use Rattle.std.specs.Prelude.{◌≡◌, ◌≤◌, IfOk, IfErr};
+ghost use Rattle.std.specs.Result.{result_ok};
+ghost use Rattle.pac_manifest.specs.Manifests.{manifest_of};
 ghost use Rattle.pac_command.specs.Failures as told;
+ghost use Rattle.pac_command.specs.declared.failure.Failure.TheVariants.{Memory};
 
 use crate::failure::Failure;
 use crate::files::{read_beside, read_file};
@@ -51,7 +54,10 @@ pub(crate) fn read_given<'a, R: Files + AllocGlobal>(
 }
 
 /// The manifest, where it has none of the faults that keep its parts from being read.
-fn manifest_in(alloc: Global, bytes: &[u8]) -> Result<Option<Manifest>, Failure<'static>> {
+fn manifest_in(alloc: Global, bytes: &[u8]) -> Result<Option<Manifest>, Failure<'static>>
+    ensures manifest { IfOk result (λ manifest. manifest ≡ result_ok (manifest_of bytes.now)) }
+    ensures fault { IfErr result (λ failure. failure ≡ Memory) }
+{
     match read_manifest(alloc, bytes) {
         Ok(manifest) => Ok(Some(manifest)),
         Err(SetError::Fault(_)) => Ok(None),
