@@ -1,13 +1,14 @@
 -- The answers of a run under a debugger, one by one.
-use Rattle.std.proofs.Common.{◌≡◌, ℕ, List, Option, Ok, Err, sym, subst, ◌∙◌}
+use Rattle.std.proofs.Common.{◌≡◌, ℕ, List, Option, Ok, Err, refl, sym, ap, subst, ◌∙◌}
 use Rattle.std.specs.Str.Lines.{lines}
 use Rattle.pac_inputs.specs.Stretches.{total}
 use Rattle.pac_media.specs.Samples.{header_size}
 use Rattle.pac_program.specs.Programs.{Assembled}
 use Rattle.pac_step.specs.Output.{Output}
+use Rattle.pac_board.specs.State.{BoardValue}
 use Rattle.pac_session.specs.Motions.{IsOutcome}
 use Rattle.pac_session.specs.Running.{whole_run}
-use Rattle.pac_session.specs.Session.{SessionValue}
+use Rattle.pac_session.specs.Session.{SessionValue, begun}
 use Rattle.pac_session.specs.declared.motion.Outcome as told
 use Rattle.pac_run.specs.declared.fault.Output.{Output as Which}
 use Rattle.pac_run.specs.declared.fault.Output.TheVariants as which
@@ -16,12 +17,38 @@ use Rattle.pac_run.specs.declared.fault.RunFault.TheVariants as fault
 use Rattle.pac_run.specs.declared.inputs.RunInputs.{RunInputs}
 use Rattle.pac_run.specs.declared.outcome.Outcome.{Outcome}
 use Rattle.pac_run.specs.Debugs.{IsReady, setting_of, IsBrokenAt, Debugs}
-use Rattle.pac_run.specs.Plan.{Plan, planned, Prepares}
+use Rattle.pac_run.specs.declared.plan.Prepared.{Prepared}
+use Rattle.pac_run.specs.Plan.{Plan, planned, IsPrepared, Prepares}
 use Rattle.pac_run.specs.Run.{Writing, Writers, Took, TookPrefix, TookSome, Stopped, Untouched, NothingWritten, outcome_of, trace_of}
 use Rattle.pac_run.specs.Texts as text
 use Rattle.pac_run.specs.Watched.{AllTold, ToldTill, FilmedTill}
 use Rattle.pac_run.proofs.Answered.{NoWrite, plan-writes, cut-at, cut-at-report, is-whole}
 use Rattle.pac_run.proofs.Traced.{session-outputs, session-outcome, seen-through, same-setting}
+
+-- a session that was made of what was prepared
+pub ready-session : (inputs : RunInputs) (prepared : Prepared) (session : SessionValue) (frames : ℕ) → IsPrepared inputs prepared
+    → session ≡ begun (record {
+      set = prepared.board.set;
+      switches = prepared.board.state.now.board.memory.switches;
+      script = prepared.script;
+    }) prepared.board.made
+    → frames ≡ total prepared.script → IsReady inputs prepared.program session frames
+ready-session inputs prepared session frames ready is count =
+    let same : session ≡ begun (record { set = prepared.board.set; switches = inputs.dip; script = prepared.script }) 0 =
+    is ∙ ap (λ (board : BoardValue). begun (record {
+      set = prepared.board.set;
+      switches = board.state.now.board.memory.switches;
+      script = prepared.script;
+    }) board.made) ready.board in
+    subst (λ it. IsReady inputs prepared.program it frames) (sym same)
+    (record {
+      plan_is = ready.plan_is;
+      switches = refl;
+      session_is = refl;
+      frames_is = count;
+      whole = ready.whole;
+      lie = ready.lie;
+    })
 
 module _ {F W L R T : Type 0} (inputs : RunInputs) (commands : List ℕ) (to : Writers F W L R) (words : Writing T) where
   -- nothing was written

@@ -105,8 +105,8 @@ module _ (inputs : RunInputs) (program : Option Assembled) (session : SessionVal
         ∙ same-end inputs program session.setting.set session.setting.script ready.whole ready.lie (whole_run session.setting) shown-whole
 
     pub seen-through : IsSeenThrough session_plan inputs.dip
-  seen-through index =
-      sym (runs-agree session.setting.set (items_in program) inputs.dip index (play_of session.setting.script) ready.whole ready.lie)
+    seen-through index =
+        sym (runs-agree session.setting.set (items_in program) inputs.dip index (play_of session.setting.script) ready.whole ready.lie)
 
-  pub same-setting : setting_of session_plan inputs.dip ≡ session.setting
+    pub same-setting : setting_of session_plan inputs.dip ≡ session.setting
     same-setting = λ i. record { set = session.setting.set; switches = sym ready.switches i; script = session.setting.script }
