@@ -1,8 +1,6 @@
 //! Worked sessions.
 
-use crate::set::{CELL, file, obey, session};
-use pac_board::kept::Kept;
-use pac_debug::commands;
+use crate::set::{CELL, told, told_of_text};
 use std::test::Fail;
 
 // A breakpoint, a step, back over the write, on to the end, and back to a slot.
@@ -19,12 +17,9 @@ fn back_and_forth(rt: HostRuntime) -> Result<(), Fail> {
         b"return 1",
         b"continue",
     ];
-    let mut kept = Kept::new(rt.alloc(), 0);
-    let mut text = file(rt.alloc(), 1000)?;
-    let mut s = session(rt.alloc(), &CELL, b"1 -")?;
-    assert!(rt; obey(&mut s, &lines, &mut kept, &mut text));
+    let text = told(rt.alloc(), &CELL, b"1 -", &lines)?;
     assert_eq!(rt;
-        text.writer.bytes(),
+        text.bytes(),
         b"ok\n\
         break 2 20 0005 HALT\n\
         step 3 24 0006 HALTED\n\
@@ -36,7 +31,6 @@ fn back_and_forth(rt: HostRuntime) -> Result<(), Fail> {
         end 12669 50688 0006 HALTED\n"
             .as_slice()
     );
-    assert_eq!(rt; kept.taken().len(), 1585);
     Ok(())
 }
 
@@ -53,12 +47,9 @@ fn what_is_shown(rt: HostRuntime) -> Result<(), Fail> {
         b" ",
         b"mem 4040 2",
     ];
-    let mut kept = Kept::new(rt.alloc(), 0);
-    let mut text = file(rt.alloc(), 1000)?;
-    let mut s = session(rt.alloc(), &CELL, b"1 -")?;
-    assert!(rt; obey(&mut s, &lines, &mut kept, &mut text));
+    let text = told(rt.alloc(), &CELL, b"1 -", &lines)?;
     assert_eq!(rt;
-        text.writer.bytes(),
+        text.bytes(),
         b"ok\n\
         break 2 20 0005 HALT\n\
         step 3 24 0006 HALTED\n\
@@ -76,12 +67,9 @@ fn what_is_shown(rt: HostRuntime) -> Result<(), Fail> {
 #[test]
 fn instructions_and_steps(rt: HostRuntime) -> Result<(), Fail> {
     let lines: [&[u8]; 4] = [b"history 9", b"step 3", b"history 256", b"dis 0000 3"];
-    let mut kept = Kept::new(rt.alloc(), 0);
-    let mut text = file(rt.alloc(), 1000)?;
-    let mut s = session(rt.alloc(), &CELL, b"1 -")?;
-    assert!(rt; obey(&mut s, &lines, &mut kept, &mut text));
+    let text = told(rt.alloc(), &CELL, b"1 -", &lines)?;
     assert_eq!(rt;
-        text.writer.bytes(),
+        text.bytes(),
         b"step 3 24 0006 HALTED\n\
         0 0000 LD A,42H\n1 0002 LD (4040H),A\n2 0005 HALT\n\
         0000 3E42     LD A,42H\n0002 324040   LD (4040H),A\n0005 76       HALT\n"
@@ -100,12 +88,9 @@ fn an_interrupt(rt: HostRuntime) -> Result<(), Fail> {
     program[56] = 0xED;
     program[57] = 0x4D;
     let lines: [&[u8]; 3] = [b"frames 1", b"step 1", b"history 1"];
-    let mut kept = Kept::new(rt.alloc(), 0);
-    let mut text = file(rt.alloc(), 1000)?;
-    let mut s = session(rt.alloc(), &program, b"2 -")?;
-    assert!(rt; obey(&mut s, &lines, &mut kept, &mut text));
+    let text = told(rt.alloc(), &program, b"2 -", &lines)?;
     assert_eq!(rt;
-        text.writer.bytes(),
+        text.bytes(),
         b"frame 12667 50690 000C HALTED\n\
         step 12668 50703 0038 RETI\n\
         12667 000C INTERRUPT\n"
@@ -117,13 +102,10 @@ fn an_interrupt(rt: HostRuntime) -> Result<(), Fail> {
 // A text of commands, with a line without words and a return at a line's end.
 #[test]
 fn a_text_of_commands(rt: HostRuntime) -> Result<(), Fail> {
-    let mut kept = Kept::new(rt.alloc(), 0);
-    let mut text = file(rt.alloc(), 1000)?;
-    let mut s = session(rt.alloc(), &CELL, b"1 -")?;
     let lines = b"break 0005\r\n\ncontinue\nSTEP 1\nstep 1";
-    assert!(rt; commands(&mut s, lines, &mut kept, &mut text).is_ok());
+    let text = told_of_text(rt.alloc(), &CELL, lines)?;
     assert_eq!(rt;
-        text.writer.bytes(),
+        text.bytes(),
         b"ok\n\
         break 2 20 0005 HALT\n\
         refused G1\n\

@@ -1,12 +1,12 @@
-//! Sessions whose program is given as bytes, and what they tell.
+//! Sessions whose program is given as bytes, and how they answer.
 
 ghost use Rattle.std.specs.Prelude.{◌≡◌, IfOk};
 ghost use Rattle.pac_session.specs.Session.{IsNew};
 
+use pac_board::kept::Kept;
 use pac_board::{Board, Sink};
-use pac_debug::command;
+use pac_debug::{CommandFault, command, commands};
 use pac_inputs::read_script;
-use pac_out::Out;
 use pac_out::counted::Counted;
 use pac_out::memory::Memory;
 use pac_roms::{Raw, RomSet};
@@ -49,17 +49,12 @@ pub fn session(alloc: Global, bytes: &[u8], script: &[u8]) -> Result<Session, Al
     }
 }
 
-/// A file in memory with room for a text.
-pub fn file(alloc: Global, room: usize) -> Result<Counted<Memory>, AllocError> {
-    Ok(Counted::new(Memory::new(alloc, room)?))
-}
-
 /// Does what command lines ask, one after another, up to the first that isn't answered; whether all were.
-pub fn obey<S: Sink, W: Out>(
+fn obey<S: Sink>(
     session: &mut Session,
     lines: &[&[u8]],
     sink: &mut S,
-    text: &mut Counted<W>,
+    text: &mut Counted<Memory>,
 ) -> bool {
     for line in lines {
         if command(session, line, sink, text).is_err() {
@@ -67,4 +62,69 @@ pub fn obey<S: Sink, W: Out>(
         }
     }
     true
+}
+
+/// How command lines are answered, one after another; each is.
+pub fn answers<S: Sink>(
+    alloc: Global,
+    session: &mut Session,
+    lines: &[&[u8]],
+    sink: &mut S,
+) -> Result<Memory, AllocError> {
+    let mut text = Counted::new(Memory::new(alloc, 1000)?);
+    if !obey(session, lines, sink, &mut text) {
+        return Err(AllocError);
+    }
+    Ok(text.writer)
+}
+
+/// The same in a new session, whose sink takes all.
+pub fn told(
+    alloc: Global,
+    program: &[u8],
+    script: &[u8],
+    lines: &[&[u8]],
+) -> Result<Memory, AllocError> {
+    let mut kept = Kept::new(alloc, 0);
+    let mut session = session(alloc, program, script)?;
+    answers(alloc, &mut session, lines, &mut kept)
+}
+
+/// How the lines of a text are answered in such a session.
+pub fn told_of_text(alloc: Global, program: &[u8], lines: &[u8]) -> Result<Memory, AllocError> {
+    let mut kept = Kept::new(alloc, 0);
+    let mut session = session(alloc, program, b"1 -")?;
+    let mut text = Counted::new(Memory::new(alloc, 1000)?);
+    match commands(&mut session, lines, &mut kept, &mut text) {
+        Ok(()) => Ok(text.writer),
+        Err(_) => Err(AllocError),
+    }
+}
+
+/// Whether the sink refuses what is offered at a command line, of which nothing is told.
+pub fn is_refused<S: Sink>(
+    alloc: Global,
+    session: &mut Session,
+    line: &[u8],
+    sink: &mut S,
+) -> Result<bool, AllocError> {
+    let mut text = Counted::new(Memory::new(alloc, 1000)?);
+    let answer = command(session, line, sink, &mut text);
+    Ok(matches!(answer, Err(CommandFault::Refused)) && text.writer.bytes().is_empty())
+}
+
+/// What a file with little room takes of the answer to a command line, and how many bytes the fault tells.
+pub fn told_within(
+    alloc: Global,
+    session: &mut Session,
+    line: &[u8],
+    room: usize,
+) -> Result<(Memory, Option<u64>), AllocError> {
+    let mut kept = Kept::new(alloc, 0);
+    let mut text = Counted::new(Memory::new(alloc, room)?);
+    let count = match command(session, line, &mut kept, &mut text) {
+        Err(CommandFault::Text(fault)) => Some(fault.count),
+        _ => None,
+    };
+    Ok((text.writer, count))
 }
