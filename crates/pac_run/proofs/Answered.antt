@@ -98,7 +98,8 @@ module _ {F W L R : Type 0} (to : Writers F W L R) (plan : Plan) (dip : ℕ) (ou
 
   -- both have all
   module _ (frames : Took to.frames (text.frames_text outputs)) (wave : Took to.wave (text.wave_text (total plan.script) outputs))
-      (frame_count : ℕ) (count_is : frame_count ≡ total plan.script) (outcome : Outcome) (outcome_is : outcome ≡ outcome_of (trace_of plan dip))
+      (frame_count : ℕ) (count_is : frame_count ≡ total plan.script) (outcome : Outcome)
+      (outcome_is : outcome ≡ outcome_of (trace_of plan dip))
     where
       pub is-whole : Took to.report (text.report outcome frame_count) → IsWhole plan dip to outcome
       is-whole report =
@@ -182,5 +183,6 @@ module _ {F W L R : Type 0} (to : Writers F W L R) (inputs : RunInputs) where
           record {
             plan = plan;
             plan_is = ready.plan_is;
-            holds = cut-at-report to plan inputs.dip outputs same listing frames wave frame_count count_is outcome outcome-same count report;
+            holds = cut-at-report to plan inputs.dip outputs same listing frames wave frame_count count_is outcome outcome-same count
+                report;
           }

@@ -73,7 +73,8 @@ module _ {W : Type 0} (took : W → List ℕ → W → Type 0) (refused : W → 
           taken = has-taken new some.told (some.taken.after owner [] fresh) ends;
         }
 
-    last-broke : (count : ℕ) → LastBroke (λ told count. BreaksOff (lent_took took) (lent_refused refused) file told count new) setting lines count
+    last-broke : (count : ℕ)
+        → LastBroke (λ told count. BreaksOff (lent_took took) (lent_refused refused) file told count new) setting lines count
         → LastBroke (Stopped (writing took refused owner.now left)) setting lines count
     last-broke count last =
         record {

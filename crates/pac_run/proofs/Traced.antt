@@ -40,7 +40,8 @@ is-near board new script stop fresh played few =
     omega (arith, near, time, few)
 
 -- what a plan's set, program and script come to on a board from power-on, told by the view, is its trace
-module _ (inputs : RunInputs) (program : Option Assembled) (set : Parts) (script : List Stretch) (whole : IsWhole set) (lie : Plays set program)
+module _ (inputs : RunInputs) (program : Option Assembled) (set : Parts) (script : List Stretch) (whole : IsWhole set)
+    (lie : Plays set program)
   where
     abbrev plan : Plan
     plan = planned inputs program set script
@@ -76,14 +77,16 @@ module _ (inputs : RunInputs) (prepared : Prepared) (ready : IsPrepared inputs p
       (shown-run ∙ same-trace inputs prepared.program prepared.board.set prepared.script ready.whole ready.lie)
 
   pub same-outcome : (new : BoardValue) (stop : Option Stop) → HasPlayed prepared.board prepared.script stop new
-      → outcome_at new.state.now stop ≡ outcome_of (trace_of (planned inputs prepared.program prepared.board.set prepared.script) inputs.dip)
+      → outcome_at new.state.now stop
+      ≡ outcome_of (trace_of (planned inputs prepared.program prepared.board.set prepared.script) inputs.dip)
   same-outcome new stop played =
       (λ i. outcome_at (played.now i) (played.stop_is i))
       ∙ same-end inputs prepared.program prepared.board.set prepared.script ready.whole ready.lie (run_of prepared.board prepared.script)
       shown-run
 
 -- the same of a session's run
-module _ (inputs : RunInputs) (program : Option Assembled) (session : SessionValue) (frames : ℕ) (ready : IsReady inputs program session frames)
+module _ (inputs : RunInputs) (program : Option Assembled) (session : SessionValue) (frames : ℕ)
+    (ready : IsReady inputs program session frames)
   where
     abbrev session_plan : Plan
     session_plan = planned inputs program session.setting.set session.setting.script

@@ -36,7 +36,8 @@ tells-of session left lines told fresh tells =
 
 -- what a session leaves that its sink held up, and one that couldn't tell
 module _ {S T : Type 0} (took refused : S → Output → S → Type 0) (wrote : T → List ℕ → T → Type 0) (balked : T → T → Type 0)
-    (lines : List (List ℕ)) (old new : Scene S T) (result : Result told.Outcome CommandFault) (fault : CommandFault) (is : result ≡ Err fault)
+    (lines : List (List ℕ)) (old new : Scene S T) (result : Result told.Outcome CommandFault) (fault : CommandFault)
+    (is : result ≡ Err fault)
     (watched : Watches took refused wrote balked lines old result new) where
   pub held-up : fault ≡ faults.Refused → IsWatchRefused took refused wrote lines old new
   held-up here = subst (λ result. Watches took refused wrote balked lines old result new) (is ∙ ap (λ it. Err it) here) watched

@@ -84,7 +84,8 @@ CutBy took_f refused_f took_w refused_w outputs old other count new = Breaks too
 abbrev pub Films : {F W A : Type 0} → (F → List ℕ → F → Type 0) → (F → F → Type 0) → (W → List ℕ → W → Type 0) → (W → W → Type 0)
     → List Output → Film F W → Result A (Which × ℕ) → Film F W → Type 0
 Films took_f refused_f took_w refused_w outputs old (Ok done) new = IsRecorded took_f took_w outputs old new
-Films took_f refused_f took_w refused_w outputs old (Err fault) new = CutBy took_f refused_f took_w refused_w outputs old fault.0 fault.1 new
+Films took_f refused_f took_w refused_w outputs old (Err fault) new =
+    CutBy took_f refused_f took_w refused_w outputs old fault.0 fault.1 new
 
 -- ---- two writers
 

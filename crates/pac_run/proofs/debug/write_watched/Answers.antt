@@ -27,7 +27,8 @@ returns-in-Ok-report_on g c =
     })
     (writing g.T.Out.took g.T.Out.refused c.args.text.now c.watch_run.new.text)
     c.args.program.now c.args.session.now c.args.total c.requires _ c.in-Ok.ensures.outcome
-    c.in-Ok.ensures.texts c.in-Ok.ensures.told c.in_default.ensures c.outcome_of-outcome.result c.outcome_of-outcome.ensures c.in-Ok-report_on.ensures
+    c.in-Ok.ensures.texts c.in-Ok.ensures.told c.in_default.ensures c.outcome_of-outcome.result c.outcome_of-outcome.ensures
+    c.in-Ok-report_on.ensures
 
 pub returns-in-Err-report_on : goal.returns-in-Err-report_on
 returns-in-Err-report_on g c =
