@@ -7,6 +7,3 @@ mod request;
 
 pub use reading::options;
 pub use request::{AsmFiles, DebugFiles, Request, RunFiles};
-
-#[cfg(test)]
-mod tests;

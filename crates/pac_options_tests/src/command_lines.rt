@@ -1,7 +1,7 @@
 //! Command lines, what they ask for, and how `clap` refuses them.
 
-use crate::{AsmFiles, DebugFiles, Request, RunFiles, options};
 use clap::error::ErrorKind;
+use pac_options::{AsmFiles, DebugFiles, Request, RunFiles, options};
 use std::test::Fail;
 
 /// The kind of error that `clap` answers to the words, if it refuses them.
