@@ -1,10 +1,9 @@
 -- The symbols of the first phase are the one right assignment.
 use Rattle.std.proofs.Common.{◌≡◌, ℕ, ℤ, pos, negsuc, ◌+◌, Bool, true, false, List, [], ◌∷◌, ◌++◌, Option, Some, None, Result, Ok, Err}
 use Rattle.std.proofs.Common.{refl, ap, sym, ◌∙◌, subst, append_assoc, option_map, length, is_some, is_none, nat_le, nat_lt, if◌then◌else◌}
-use Rattle.std.specs.Map.{lookup}
 use Rattle.std.specs.Result.{is_ok}
 use Rattle.std.specs.Str.{bytes_eq}
-use Rattle.std.proofs.lemmas.Bool.{false≢true, true≢false, cond-true, cond-false}
+use Rattle.std.proofs.lemmas.Bool.{false≢true}
 use Rattle.std.proofs.lemmas.Option.{none-some}
 use Rattle.std.proofs.lemmas.List.{append-nil}
 use Rattle.pac_expr.specs.declared.expr.Sign.{Sign}
@@ -14,24 +13,23 @@ use Rattle.pac_expr.specs.declared.evaluation.ValueError.TheVariants as errors
 use Rattle.pac_expr.specs.Trees.{Tree, atom, group, signed, joined}
 use Rattle.pac_expr.specs.Trees as trees
 use Rattle.pac_expr.specs.Values.{Answer, defined, sign_value, joined_value, value_of}
-use Rattle.pac_program.specs.Names.{Named, number_of, with_symbol}
+use Rattle.pac_program.specs.Names.{Named, number_of}
 use Rattle.pac_program.specs.Programs.{rom_size}
 use Rattle.pac_source.specs.Statements.{Statement, nothing, origin, equate, bytes, words, space, condition, otherwise, end_condition}
 use Rattle.pac_source.specs.Statements.{operation, Form}
 use Rattle.pac_source.specs.Contents.{size_of}
 use Rattle.pac_asm.specs.declared.condition.Condition.{Condition}
-use Rattle.pac_asm.specs.declared.place.Span.{Span}
 use Rattle.pac_asm.specs.declared.fault.AsmCode.{AsmCode}
-use Rattle.pac_asm.specs.declared.fault.AsmCode.TheVariants.{OutsideRom, NeverClosed, DefinedBefore}
+use Rattle.pac_asm.specs.declared.fault.AsmCode.TheVariants.{OutsideRom, DefinedBefore}
 use Rattle.pac_asm.specs.declared.fault.AsmFault.{AsmFault}
 use Rattle.pac_asm.specs.Results.{◌>>=◌, in_line}
 use Rattle.pac_asm.specs.Conditions.{is_judged, most_open, condition_of, after_else, after_end, after_skipped}
 use Rattle.pac_asm.specs.Unclosed.{word_of, is_never_closed}
-use Rattle.pac_asm.specs.Standings.{Standing, start, known, value_above, within_rom, is_new, with_label, room_for}
-use Rattle.pac_asm.specs.Phase1.{read, sized, after_item, after_statement, after_form, after_judged, after_passed, after_text, closed}
+use Rattle.pac_asm.specs.Standings.{Standing, start, value_above, within_rom, is_new, with_label, room_for}
+use Rattle.pac_asm.specs.Phase1.{read, after_item, after_statement, after_form, after_judged, after_passed, after_text, closed}
 use Rattle.pac_asm.specs.Phase1.{after_line, phase1}
 use Rattle.pac_asm.specs.Assignments.{Spot, Step, labelled, counted, valued, with_conditions, with_bytes, step_by, step_read, step_if}
-use Rattle.pac_asm.specs.Assignments.{step_of, defined_after, defined_in, first_spot, IsRight, OneIsRight, SymbolsAreRight}
+use Rattle.pac_asm.specs.Assignments.{step_of, defined_after, defined_in, SymbolsAreRight}
 
 -- ---- answers
 
@@ -47,7 +45,7 @@ some-or : {A : Type 0} → A → Option A → A
 some-or d None = d
 some-or d (Some x) = x
 
-some-same : {A : Type 0} (x y : A) → Some x ≡ Some y → x ≡ y
+pub some-same : {A : Type 0} (x y : A) → Some x ≡ Some y → x ≡ y
 unfolding some-or
 some-same x y e = ap (some-or x) e
 
@@ -57,7 +55,7 @@ err-ok fault x e = false≢true (ap is_ok e)
 -- ---- names
 
 -- an assignment gives each of these names its number
-abbrev Extends : List Named → (List ℕ → Option ℤ) → Type 0
+abbrev pub Extends : List Named → (List ℕ → Option ℤ) → Type 0
 Extends symbols names = (some : List ℕ) (z : ℤ) → number_of symbols some ≡ Some z → names some ≡ Some z
 
 found-by : (b : Bool) (z : ℤ) (first more : Option ℤ) (v : ℤ) → (first ≡ Some v → more ≡ Some v)
@@ -66,7 +64,7 @@ found-by true z first more v h e = e
 found-by false z first more v h e = h e
 
 -- what stands in the first of two lists stands in both
-found-first : (xs ys : List Named) → (some : List ℕ) (v : ℤ) → number_of xs some ≡ Some v → number_of (xs ++ ys) some ≡ Some v
+pub found-first : (xs ys : List Named) → (some : List ℕ) (v : ℤ) → number_of xs some ≡ Some v → number_of (xs ++ ys) some ≡ Some v
 found-first [] ys some v e = absurd (none-some v e)
 found-first (x ∷ xs) ys some v e =
     found-by (bytes_eq some x.0) x.1 (number_of xs some) (number_of (xs ++ ys) some) v (found-first xs ys some v) e
@@ -375,7 +373,7 @@ defines names number above (line ∷ below) end e extends =
 
 -- ---- and no other assignment is
 
-mapped : (new rest : List Named) (o : Option (List Named)) → option_map (λ more. new ++ more) o ≡ Some rest
+pub mapped : (new rest : List Named) (o : Option (List Named)) → option_map (λ more. new ++ more) o ≡ Some rest
     → (more : List Named) × (o ≡ Some more) × (new ++ more ≡ rest)
 mapped new rest None e = absurd (none-some rest e)
 mapped new rest (Some more) e = (more, refl, some-same (new ++ more) rest e)

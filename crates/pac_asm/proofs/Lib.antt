@@ -7,3 +7,4 @@ pub mod Filling
 pub mod Skipping
 pub mod Sizes
 pub mod Assigned
+pub mod Unique

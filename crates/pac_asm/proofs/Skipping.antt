@@ -1,7 +1,6 @@
 -- Lines that are skipped do nothing.
-use Rattle.std.proofs.Common.{◌≡◌, ℕ, Bool, true, false, List, [], ◌∷◌, ◌++◌, Option, Result, Ok, Err, refl, sym, ◌∙◌, ap}
+use Rattle.std.proofs.Common.{◌≡◌, ℕ, false, List, [], ◌∷◌, ◌++◌, Result, Ok, Err, refl, sym, ◌∙◌, ap}
 use Rattle.std.proofs.lemmas.Bool.{cond-false}
-use Rattle.pac_source.specs.declared.conditional.Conditional.{Conditional}
 use Rattle.pac_asm.specs.declared.condition.Condition.{Condition}
 use Rattle.pac_asm.specs.declared.place.Place.TheVariants.{Skipped}
 use Rattle.pac_asm.specs.declared.fault.AsmCode.{AsmCode}

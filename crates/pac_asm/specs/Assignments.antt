@@ -1,17 +1,15 @@
 -- Which numbers the names of a source stand for, told of all names at once: every expression is valued by the assignment
 -- that is judged, wherever its names are defined.
-use Rattle.std.specs.Prelude.{◌≡◌, ℕ, ℤ, pos, negsuc, ◌+◌, Bool, true, false, List, [], ◌∷◌, ◌++◌, Option, Some, None, option_map, Result}
+use Rattle.std.specs.Prelude.{◌≡◌, ℕ, ℤ, pos, ◌+◌, Bool, true, false, List, [], ◌∷◌, ◌++◌, Option, Some, None, option_map, Result}
 use Rattle.std.specs.Prelude.{Ok, Err}
-use Rattle.std.specs.Option.{option_and_then}
 use Rattle.pac_expr.specs.Trees.{Tree}
-use Rattle.pac_expr.specs.Values.{Answer, value_of}
+use Rattle.pac_expr.specs.Values.{Answer, value_of, HasUndefined}
 use Rattle.pac_program.specs.Names.{Named, number_of}
-use Rattle.pac_source.specs.Statements.{Statement, nothing, origin, equate, bytes, words, space, condition, otherwise, end_condition}
-use Rattle.pac_source.specs.Statements.{operation, Form}
+use Rattle.pac_source.specs.Statements.{Statement, nothing, origin, equate, space, condition, otherwise, end_condition}
+use Rattle.pac_source.specs.Statements.{Form}
 use Rattle.pac_source.specs.Contents.{size_of}
 use Rattle.pac_asm.specs.declared.condition.Condition.{Condition}
 use Rattle.pac_asm.specs.declared.fault.AsmCode.{AsmCode}
-use Rattle.pac_asm.specs.declared.fault.AsmFault.{AsmFault}
 use Rattle.pac_asm.specs.Conditions.{is_judged, condition_of, after_else, after_end, after_skipped}
 use Rattle.pac_asm.specs.Unclosed.{word_of}
 use Rattle.pac_asm.specs.Standings.{Standing, start}
@@ -88,7 +86,7 @@ abbrev pub first_spot : Spot
 first_spot = record { at = 0; conditions = [] }
 
 -- An assignment of numbers to names is right where it has exactly the names that the lines define, each with the number
--- that its line gives it.
+-- that its line gives it, the first line where two define a name.
 pub record IsRight (lines : List (List ℕ)) (names : List ℕ → Option ℤ) : Type 0 where
   pub definitions : List Named
   pub defined : defined_in names first_spot lines ≡ Some definitions
@@ -102,3 +100,44 @@ pub record OneIsRight (lines : List (List ℕ)) (after : Standing) : Type 0 wher
 
 abbrev pub SymbolsAreRight : Type 0
 SymbolsAreRight = (lines : List (List ℕ)) (after : Standing) → phase1 1 start lines ≡ Ok after → OneIsRight lines after
+
+-- ---- and of any source
+
+-- each name of an expression is defined above
+abbrev pub NamesStand : List Named → Tree → Type 0
+NamesStand above tree = HasUndefined (number_of above) tree → ⊥
+
+-- the same of the expression of an ORG, an EQU and an IF, and of the size of a DEFS
+abbrev pub StatementStands : List Named → Statement → Type 0
+StatementStands above (origin place) = NamesStand above place
+StatementStands above (equate number) = NamesStand above number
+StatementStands above (condition test) = NamesStand above test
+StatementStands above (space size fill) = NamesStand above size
+StatementStands above statement = Unit {0}
+
+abbrev pub ReadStands : List Named → Result Form AsmCode → Type 0
+ReadStands above (Ok form) = StatementStands above form.statement
+ReadStands above (Err code) = Unit {0}
+
+-- a line that counts; one that is skipped names nothing
+abbrev pub LineStands : List Named → List ℕ → Bool → Type 0
+LineStands above line true = ReadStands above (read line)
+LineStands above line false = Unit {0}
+
+-- the same of the lines after one, if there is a way past it
+abbrev pub RestStands : Option Step → (Step → Type 0) → Type 0
+RestStands None below = Unit {0}
+RestStands (Some step) below = below step
+
+-- In each of these lines the names of such an expression are defined above it: before them or by a line between.
+abbrev pub AreDefinedAbove : (List ℕ → Option ℤ) → List Named → Spot → List (List ℕ) → Type 0
+AreDefinedAbove names above spot [] = Unit {0}
+AreDefinedAbove names above spot (line ∷ below) =
+    LineStands above line (is_judged spot.conditions (word_of line)) ×
+    RestStands (step_of names spot line) (λ step. AreDefinedAbove names (above ++ step.0) step.1 below)
+
+-- The law. Where each name of an ORG, an EQU, the size of a DEFS and an IF is defined above, at most one assignment is right,
+-- whatever else is wrong with the source.
+abbrev pub AtMostOneIsRight : Type 0
+AtMostOneIsRight = (lines : List (List ℕ)) (names other : List ℕ → Option ℤ) → IsRight lines names → IsRight lines other →
+    AreDefinedAbove names [] first_spot lines → (name : List ℕ) → other name ≡ names name

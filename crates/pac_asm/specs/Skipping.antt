@@ -1,6 +1,5 @@
 -- What the lines that IF, ELSE and ENDIF skip leave behind: nothing.
 use Rattle.std.specs.Prelude.{◌≡◌, ℕ, false, List, [], ◌∷◌, ◌++◌, Ok}
-use Rattle.pac_code.specs.Items.{Item}
 use Rattle.pac_program.specs.Names.{Named}
 use Rattle.pac_program.specs.Programs.{items_in}
 use Rattle.pac_program.specs.declared.line.Line.TheVariants as lines

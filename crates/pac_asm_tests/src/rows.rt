@@ -51,6 +51,13 @@ fn faults_of_the_first_phase(rt: HostRuntime) -> Result<(), Fail> {
             "A6 line 10",
         ),
         ("DEFW 1\nORG 1\nDEFS 0\nDEFB ''\nDEFB 0", "A6 line 5"),
+        ("DEFB 1,2\nORG 0\nDEFB 1\nDEFB 2", "A6 line 3"),
+        ("X1 EQU 1\nX1: ORG 4001H", "A2 line 2"),
+        ("X1: DEFS WHO\nX1: NOP", "A4 line 1"),
+        ("X1:\nX1: DEFS WHO", "A3 line 2"),
+        ("DEFS 1/0", "A10 line 1"),
+        ("DEFS -1", "A5 line 1"),
+        ("NOP\n\r", "A1 L1 line 2"),
     ];
     have_faults(&rt, rt.alloc(), &rows)
 }
@@ -118,6 +125,29 @@ fn faults_of_conditional_lines(rt: HostRuntime) -> Result<(), Fail> {
         ("IF 0\nENDIF 5", "A2 line 2"),
         ("IF 0\nELSE !\nENDIF", "A1 L1 line 2"),
         ("IF 0\n'\nIFX\nIF(1)\n!\n\tendif ; of IF(1)\nENDIF", "none"),
+        ("IF WHO", "A4 line 1"),
+        ("IF 1/0", "A10 line 1"),
+        ("IF )", "A2 line 1"),
+        (
+            "IF 1\nIF 1\nIF 1\nIF 1\nIF 1\nIF 1\nIF 1\nIF 1\nIF 1
+            ENDIF\nENDIF\nENDIF\nENDIF\nENDIF\nENDIF\nENDIF\nENDIF",
+            "A14 line 1",
+        ),
+        (
+            "IF 1\nIF 1\nIF 1\nIF 1\nIF 1\nIF 1\nIF 1\nIF 1
+            ENDIF\nENDIF\nENDIF\nENDIF\nENDIF\nENDIF\nENDIF\nENDIF",
+            "none",
+        ),
+        ("IF 0\nIF )\nELSE !\nENDIF 5\nENDIF", "none"),
+        ("IF 0\nIF\nENDIF\nENDIF", "none"),
+        ("IF 0\nIF'A'\nIF:\nENDIF\nENDIF\nENDIF", "none"),
+        ("IF 0\nIF_\nIF2\nENDIF", "none"),
+        ("IF 0\nL1: IF 1\nENDIF", "none"),
+        ("IF 1\nELSE\nELSE !\nENDIF 5", "A2 line 4"),
+        ("IF 0\nX1:\nENDIF\nX1:\nX1:", "A3 line 5"),
+        ("IF $\n!\nENDIF\nNOP\nIF $\n!\nENDIF", "A1 L1 line 6"),
+        ("IF 'A'-65\n!\nENDIF\nIF 'A'\n!\nENDIF", "A1 L1 line 5"),
+        ("IF 0\nORG 4001H\nDEFS 4001H\nORG WHO\nENDIF", "none"),
     ];
     have_faults(&rt, rt.alloc(), &rows)
 }
@@ -179,6 +209,13 @@ fn bytes_of_programs(rt: HostRuntime) -> Result<(), Fail> {
         "IF 0\nDEFB 1\nELSE\nDEFB 2\nENDIF\nDEFB 3",
         0,
         &[2, 3, 0],
+    )?;
+    has_bytes(
+        &rt,
+        alloc,
+        "IF 1\nDEFB 1\nELSE\nORG 5\nELSE\nDEFB 2\nENDIF\nDEFB 3",
+        0,
+        &[1, 3, 0],
     )
 }
 

@@ -72,6 +72,53 @@ fn nested_parentheses(rt: HostRuntime) -> Result<(), Fail> {
     Ok(())
 }
 
+// The line that ends a skipped part is judged whole, its length too; other skipped lines may have any.
+#[test]
+fn long_lines_that_are_skipped(rt: HostRuntime) -> Result<(), Fail> {
+    let blanks = " ".repeat(rt.alloc(), 251)?;
+    let right = format!(in rt.alloc(); "IF 0\n{blanks}{blanks}!\nIF {blanks}\nENDIF\nENDIF")?;
+    assert!(rt; assemble(rt.alloc(), right.as_bytes()).is_ok());
+    let fault = AsmFault {
+        code: AsmCode::Token(pac_lex::Fault::LongLine),
+        line: 2,
+    };
+    let wrong = format!(in rt.alloc(); "IF 0\nENDIF{blanks}\n")?;
+    assert_eq!(rt;
+        assemble(rt.alloc(), wrong.as_bytes()).err(),
+        Some(AsmError::Fault(fault))
+    );
+    Ok(())
+}
+
+/// A source with most of the language.
+const MIXED: &str =
+    "A1: LD A,(IX+5)\r\nIF 'x'\nDEFB 0FFH,'it''s' ; text\nELSE\nORG 1/$\nENDIF\nEND EQU $\nDEFS 3,A1\nJR END\n";
+
+/// Whether a source has a program, or a fault in one of so many lines.
+fn is_answered(alloc: Global, source: &[u8], lines: u32) -> bool {
+    match assemble(alloc, source) {
+        Ok(_) => true,
+        Err(AsmError::Fault(fault)) => 1 <= fault.line && fault.line <= lines,
+        Err(AsmError::Memory) => false,
+    }
+}
+
+// Cut at each length, and with each byte changed, a source is answered by name.
+#[test]
+fn any_bytes_are_answered(rt: HostRuntime) -> Result<(), Fail> {
+    let mixed = MIXED.as_bytes();
+    assert!(rt; assemble(rt.alloc(), mixed).is_ok());
+    for at in 0..mixed.len() {
+        assert!(rt; is_answered(rt.alloc(), &mixed[..at], 9), "cut at {at}");
+        for byte in [0, b'\n', 0xFF] {
+            let mut changed = Vec::from_slice(rt.alloc(), mixed)?;
+            changed[at] = byte;
+            assert!(rt; is_answered(rt.alloc(), &changed, 10), "{byte} at {at}");
+        }
+    }
+    Ok(())
+}
+
 // With no memory, and then with a little more each time, there is no answer but want of it or the right one.
 #[test]
 fn sources_in_scarce_memory(rt: HostRuntime) -> Result<(), Fail> {
