@@ -72,8 +72,7 @@ module _ {F W L R T : Type 0} (inputs : RunInputs) (commands : List ℕ) (to : W
           plan_is = ready.plan_is;
           holds = (
             seen-through inputs program session frames ready,
-            record { listing = stopped; frames = still_frames; wave = wave; report = report },
-            silent,
+            (record { listing = stopped; frames = still_frames; wave = wave; report = report }, silent),
           );
         }
 
@@ -163,7 +162,9 @@ module _ {F W L R T : Type 0} (inputs : RunInputs) (commands : List ℕ) (to : W
             plan_is = ready.plan_is;
             holds = (
               seen-through inputs program session frames ready,
-              cut-at-report to plan inputs.dip outputs same listing shown.0 shown.1 frames ready.frames_is result ends-so count report,
-              all-told,
+              (
+                cut-at-report to plan inputs.dip outputs same listing shown.0 shown.1 frames ready.frames_is result ends-so count report,
+                all-told,
+              ),
             );
           }
