@@ -76,7 +76,7 @@ stays old other answer new done = absurd done
 
 -- ---- a line with words
 
-nothing-given : (s : SessionValue) → s.due ≡ nothing_due → due_outputs s ≡ []
+pub nothing-given : (s : SessionValue) → s.due ≡ nothing_due → due_outputs s ≡ []
 nothing-given s none = ap (λ due. due_in s.setting.set (now_at s.setting s.index).board due) none
 
 -- what is given from one furthest index to the same one
@@ -85,7 +85,7 @@ none-between setting first second same = ap (λ n. outputs_between setting first
 
 module _ {S : Type 0} (took : S → Output → S → Type 0) where
   -- it was done with nothing due, and nothing is due after it
-  record HasDone (old : SessionValue) (sink : S) (new : SessionValue) (later : S) : Type 0 where
+  pub record HasDone (old : SessionValue) (sink : S) (new : SessionValue) (later : S) : Type 0 where
     pub setting : new.setting ≡ old.setting
     pub further : old.furthest ≤ new.furthest
     pub due : new.due ≡ nothing_due
@@ -117,7 +117,7 @@ module _ {S : Type 0} (took : S → Output → S → Type 0) where
   performed old command None sink answer new later none done =
       done-still old sink new later none (stays old command answer new done.0) done.1
 
-  obeyed : (old : SessionValue) (asked : Result Command NoCommand) (sink : S) (answer : Answer) (new : SessionValue) (later : S)
+  pub obeyed : (old : SessionValue) (asked : Result Command NoCommand) (sink : S) (answer : Answer) (new : SessionValue) (later : S)
       → old.due ≡ nothing_due → Obeyed took old asked sink answer new later → HasDone old sink new later
   obeyed old (Ok command) sink answer new later none done =
       performed old command (motion_of command) sink answer new later none done

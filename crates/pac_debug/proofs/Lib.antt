@@ -4,3 +4,5 @@ pub mod Giving
 pub mod Telling
 pub mod ToTheEnd
 pub mod Sole
+pub mod Resting
+pub mod HeldUp

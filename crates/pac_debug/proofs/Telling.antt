@@ -20,7 +20,7 @@ use Rattle.pac_debug.specs.Watched.{takes_all, Told, TellsOf, TellsAll, RefusedO
 
 -- ---- any sink for another
 
-all-taken : (outputs : List Output) → TookAll takes_all tt outputs tt
+pub all-taken : (outputs : List Output) → TookAll takes_all tt outputs tt
 all-taken [] = refl
 all-taken (output ∷ more) = record { between = tt; before = tt; after = all-taken more }
 
@@ -62,7 +62,7 @@ module _ {S : Type 0} (took : S → Output → S → Type 0) where
 
 -- ---- texts in turn
 
-told-then : (line : List ℕ) (more : List (List ℕ)) (old mid new : SessionValue) (one other : List ℕ) → TellsOf (command_of line) old one mid
+pub told-then : (line : List ℕ) (more : List (List ℕ)) (old mid new : SessionValue) (one other : List ℕ) → TellsOf (command_of line) old one mid
     → TellsAll more mid other new → TellsAll (line ∷ more) old (one ++ other) new
 told-then line more old mid new one other first rest =
     record { text_before = one; between = mid; text_after = other; before = first; after = rest; text_is = refl }

@@ -1,6 +1,6 @@
 -- A whole session: what the lines of a text are answered with, and what a sink is given, up to the end of the run. What is told is
 -- said of the run alone, without any sink; and whatever the lines ask, a sink is given each output of the run once, in order.
-use Rattle.std.specs.Prelude.{◌≡◌, ◌≤◌, ℕ, not, List, [], ◌∷◌, ◌++◌, Option, None, Some, Result, Ok, Err, ◌⊎◌}
+use Rattle.std.specs.Prelude.{◌≡◌, ◌<◌, ◌≤◌, ℕ, not, List, [], ◌∷◌, ◌++◌, length, Option, None, Some, Result, Ok, Err, ◌⊎◌}
 use mathlib.Core.List.{IsPrefix}
 use Rattle.pac_step.specs.Output.{Output}
 use Rattle.pac_board.specs.Sinks.{TookAll, RefusesAt}
@@ -11,8 +11,8 @@ use Rattle.pac_debug_text.specs.declared.command.NoCommand.{NoCommand}
 use Rattle.pac_debug_text.specs.Commands.{command_of}
 use Rattle.pac_session.specs.declared.motion.Outcome.{Outcome}
 use Rattle.pac_session.specs.Motions.{IsOutcome, IsFinishRefused, moved_to}
-use Rattle.pac_session.specs.Running.{IsLeast, goes_at, outputs_between, outputs_from}
-use Rattle.pac_session.specs.Session.{SessionValue, IsOfferRefused, due_outputs}
+use Rattle.pac_session.specs.Running.{Setting, IsLeast, goes_at, run, outputs_between, outputs_from}
+use Rattle.pac_session.specs.Session.{SessionValue, IsOfferRefused, begun, due_outputs}
 use Rattle.pac_debug.specs.declared.answer.Answer.{Answer}
 use Rattle.pac_debug.specs.declared.line.CommandFault.{CommandFault}
 use Rattle.pac_debug.specs.declared.line.CommandFault.TheVariants as faults
@@ -52,6 +52,35 @@ pub record TellsInTurn (first : List ℕ → SessionValue → Type 0) (rest : Se
 abbrev pub TellsAll : (lines : List (List ℕ)) → SessionValue → (text : List ℕ) → SessionValue → Type 0
 TellsAll [] old text new = (text ≡ []) × (new ≡ old)
 TellsAll (line ∷ more) old text new = TellsInTurn (Tells line old) (λ between rest. TellsAll more between rest new) text
+
+-- ---- how far lines come
+
+-- all that a session's run gives up to the furthest index that it has been at
+abbrev pub given_by : SessionValue → List Output
+given_by s = (run s.setting s.furthest).outputs
+
+-- a line gives more than these outputs
+pub record GivesMore (line : List ℕ) (old : SessionValue) (taken : List Output) : Type 0 where
+  pub text : List ℕ
+  pub new : SessionValue
+  pub tells : Tells line old text new
+  pub more : length taken < length (given_by new)
+
+-- the first of some lines does, if there is one
+abbrev pub FirstGivesMore : (lines : List (List ℕ)) → SessionValue → (taken : List Output) → Type 0
+FirstGivesMore [] old taken = Unit {0}
+FirstGivesMore (line ∷ more) old taken = GivesMore line old taken
+
+-- What is told of lines from the beginning of a run, while these of its outputs are taken and no more: what those lines tell that give
+-- no more than these. The next one gives more.
+pub record ToldUpTo (setting : Setting) (lines : List (List ℕ)) (taken : List Output) (told : List ℕ) : Type 0 where
+  pub before : List (List ℕ)
+  pub after : List (List ℕ)
+  pub parts : lines ≡ before ++ after
+  pub left : SessionValue
+  pub tells : TellsAll before (begun setting 0) told left
+  pub no_more : length (given_by left) ≤ length taken
+  pub next : FirstGivesMore after left taken
 
 -- ---- what is given
 

@@ -99,6 +99,18 @@ fn an_interrupt(rt: HostRuntime) -> Result<(), Fail> {
     Ok(())
 }
 
+// LD A,1 / LD (5000H),A / EI / HALT: in mode 0 the interrupt's vector 0 is no RST, so the first blank is followed by a stop.
+#[test]
+fn a_stop(rt: HostRuntime) -> Result<(), Fail> {
+    let program = [0x3E, 0x01, 0x32, 0x00, 0x50, 0xFB, 0x76];
+    let text = told(rt.alloc(), &program, b"2 -", &[b"continue", b"step 1"])?;
+    assert_eq!(rt;
+        text.bytes(),
+        b"stop 12669 50688 0007 HALTED\nstop 12669 50688 0007 HALTED\n".as_slice()
+    );
+    Ok(())
+}
+
 // A text of commands, with a line without words and a return at a line's end.
 #[test]
 fn a_text_of_commands(rt: HostRuntime) -> Result<(), Fail> {

@@ -16,12 +16,12 @@ use Rattle.pac_run.specs.declared.fault.RunFault.{RunFault}
 use Rattle.pac_run.specs.declared.fault.RunFault.TheVariants as fault
 use Rattle.pac_run.specs.declared.inputs.RunInputs.{RunInputs}
 use Rattle.pac_run.specs.declared.outcome.Outcome.{Outcome}
-use Rattle.pac_run.specs.Debugs.{IsReady, setting_of, IsBrokenAt, Debugs}
+use Rattle.pac_run.specs.Debugs.{IsReady, setting_of, IsHeldUp, IsBrokenAt, Debugs}
 use Rattle.pac_run.specs.declared.plan.Prepared.{Prepared}
 use Rattle.pac_run.specs.Plan.{Plan, planned, IsPrepared, Prepares}
 use Rattle.pac_run.specs.Run.{Writing, Writers, Took, TookPrefix, TookSome, Stopped, Untouched, NothingWritten, outcome_of, trace_of}
 use Rattle.pac_run.specs.Texts as text
-use Rattle.pac_run.specs.Watched.{AllTold, ToldTill, FilmedTill}
+use Rattle.pac_run.specs.Watched.{AllTold, HeldUp, LastBroke, StopsAt, ToldTill, FilmedTill}
 use Rattle.pac_run.proofs.Answered.{NoWrite, plan-writes, cut-at, cut-at-report, is-whole}
 use Rattle.pac_run.proofs.Traced.{session-outputs, session-outcome, seen-through, same-setting}
 
@@ -66,11 +66,14 @@ module _ {F W L R T : Type 0} (inputs : RunInputs) (commands : List ℕ) (to : W
 
     pub unlisted : (count : ℕ) → Stopped to.listing plan.listing count → Untouched to.frames → Untouched to.wave → Untouched to.report
         → Untouched words → Debugs inputs commands to words (Err (fault.Write which.Listing count))
-    unlisted count stopped frames wave report silent =
+    unlisted count stopped still_frames wave report silent =
         record {
           plan = plan;
           plan_is = ready.plan_is;
-          holds = (record { listing = stopped; frames = frames; wave = wave; report = report }, silent);
+          holds = (
+            seen-through inputs program session frames ready,
+            (record { listing = stopped; frames = still_frames; wave = wave; report = report }, silent),
+          );
         }
 
     abbrev outputs : List Output
@@ -82,33 +85,51 @@ module _ {F W L R T : Type 0} (inputs : RunInputs) (commands : List ℕ) (to : W
     setting : session.setting ≡ setting_of plan inputs.dip
     setting = sym (same-setting inputs program session frames ready)
 
+    -- its run is the plan's trace
+    held-up : (output : Which) (count : ℕ)
+        → HeldUp (λ taken left. StopsAt to.frames to.wave (total session.setting.script) taken left output count) (Took words) outputs
+        session.setting (lines commands)
+        → IsHeldUp plan inputs.dip commands to words output count
+    held-up output count held =
+        subst (λ it. HeldUp (λ taken left. StopsAt to.frames to.wave (total plan.script) taken left output count) (Took words)
+        (trace_of plan inputs.dip).outputs it (lines commands)) setting
+        (subst (λ all. HeldUp (λ taken left. StopsAt to.frames to.wave (total plan.script) taken left output count) (Took words) all
+        session.setting (lines commands)) same held)
+
     broken-at : (output : Which) (count : ℕ) → FilmedTill to.frames to.wave (total session.setting.script) outputs output count
-        → ToldTill (Took words) (Stopped words) session.setting (lines commands) output count
+        → ToldTill to.frames to.wave words (total session.setting.script) outputs session.setting (lines commands) output count
         → Took to.listing plan.listing → Untouched to.report → IsBrokenAt plan inputs.dip commands to words output count
-    broken-at which.Frames count filmed told listing report = (
-      cut-at to plan inputs.dip outputs same listing which.Frames count filmed report,
-      subst (λ it. ToldTill (Took words) (Stopped words) it (lines commands) which.Frames count) setting told,
-    )
-    broken-at which.Wave count filmed told listing report = (
-      cut-at to plan inputs.dip outputs same listing which.Wave count filmed report,
-      subst (λ it. ToldTill (Took words) (Stopped words) it (lines commands) which.Wave count) setting told,
-    )
-    broken-at which.Listing count filmed told listing report = absurd filmed
-    broken-at which.Report count filmed told listing report = absurd filmed
-    broken-at which.Text count filmed told listing report =
+    broken-at which.Frames count filmed till listing report =
+        record {
+          files = cut-at to plan inputs.dip outputs same listing which.Frames count filmed report;
+          held_up = held-up which.Frames count till;
+        }
+    broken-at which.Wave count filmed till listing report =
+        record {
+          files = cut-at to plan inputs.dip outputs same listing which.Wave count filmed report;
+          header_first = till.header_first;
+          held_up = λ enough. held-up which.Wave count (till.held_up enough);
+        }
+    broken-at which.Listing count filmed till listing report = absurd filmed
+    broken-at which.Report count filmed till listing report = absurd filmed
+    broken-at which.Text count filmed till listing report =
         record {
           listing = listing;
           frames = subst (λ outputs. TookPrefix to.frames (text.frames_text outputs)) same filmed.0;
           wave = subst (λ outputs. TookSome to.wave header_size (text.wave_text (total session.setting.script) outputs)) same filmed.1;
           report = report;
-          told = subst (λ it. ToldTill (Took words) (Stopped words) it (lines commands) which.Text count) setting told;
+          told = subst (λ it. LastBroke (Stopped words) it (lines commands) count) setting till;
         }
 
     pub broke : (output : Which) (count : ℕ) → FilmedTill to.frames to.wave (total session.setting.script) outputs output count
-        → ToldTill (Took words) (Stopped words) session.setting (lines commands) output count
+        → ToldTill to.frames to.wave words (total session.setting.script) outputs session.setting (lines commands) output count
         → Took to.listing plan.listing → Untouched to.report → Debugs inputs commands to words (Err (fault.Write output count))
     broke output count filmed told listing report =
-        record { plan = plan; plan_is = ready.plan_is; holds = broken-at output count filmed told listing report }
+        record {
+          plan = plan;
+          plan_is = ready.plan_is;
+          holds = (seen-through inputs program session frames ready, broken-at output count filmed told listing report);
+        }
 
     module _ (outcome : told.Outcome) (outcome_is : IsOutcome session outcome)
         (shown : Took to.frames (text.frames_text outputs) × Took to.wave (text.wave_text (total session.setting.script) outputs))
@@ -140,7 +161,10 @@ module _ {F W L R T : Type 0} (inputs : RunInputs) (commands : List ℕ) (to : W
             plan = plan;
             plan_is = ready.plan_is;
             holds = (
-              cut-at-report to plan inputs.dip outputs same listing shown.0 shown.1 frames ready.frames_is result ends-so count report,
-              all-told,
+              seen-through inputs program session frames ready,
+              (
+                cut-at-report to plan inputs.dip outputs same listing shown.0 shown.1 frames ready.frames_is result ends-so count report,
+                all-told,
+              ),
             );
           }

@@ -21,6 +21,7 @@ use Rattle.pac_run.specs.declared.film.Film.{Film}
 use Rattle.pac_run.specs.Films.{film_took, film_refused, RefusedSample, RefusedImage}
 use Rattle.pac_run.specs.Recorded.{sound_text, IsRecorded, SoundBreaks, FilmBreaks, Breaks, IsFlushed, GivesUp}
 use Rattle.pac_run.specs.Texts.{pictures_in, samples_in, frames_text}
+use Rattle.pac_run.specs.Watched.{StopsInImage, StopsInSound, StopsFilm}
 
 -- ---- texts of lists that are put together
 
@@ -230,3 +231,109 @@ module _ {F W : Type 0} (took_f : F → List ℕ → F → Type 0) (refused_f : 
       subst (λ outputs. Breaks took_f refused_f took_w refused_w outputs old fault.0 fault.1 new) all
       (broke refuses.first taken rest old refuses.asked mid new fault (filmed taken old refuses.asked refuses.before) refuses.refusal
       told gives)
+
+  -- ---- where it stopped
+
+  one-sample : (taken : List Output) (sample : ℤ)
+      → (samples_text (samples_in taken) ++ sample_text sample) ++ [] ≡ samples_text (samples_in (taken ++ Sound sample ∷ []))
+  one-sample taken sample =
+      append_assoc (samples_text (samples_in taken)) (sample_text sample) []
+      ∙ sym (flat_map-append sample_text (samples_in taken) (sample ∷ []))
+      ∙ ap samples_text (sym (samples-append taken (Sound sample ∷ [])))
+
+  one-image : (taken : List Output) (image : Image)
+      → (frames_text taken ++ image_text image) ++ [] ≡ frames_text (taken ++ Show image ∷ [])
+  one-image taken image =
+      append_assoc (frames_text taken) (image_text image) [] ∙ sym (frames-append taken (Show image ∷ []))
+
+  stops-in-sound : (taken : List Output) (sample : ℤ) (old asked mid new : Film F W) → Filmed taken old asked
+      → (refused : RefusedSample took_w refused_w asked sample mid) → new ≡ mid
+      → StopsInSound took_f took_w refused_w taken (samples_text (samples_in (taken ++ Sound sample ∷ []))) old refused.told.count new
+  stops-in-sound taken sample old asked mid new film refused ends =
+      let sound = samples_text (samples_in (taken ++ Sound sample ∷ [])) in
+      subst (λ film. StopsInSound took_f took_w refused_w taken sound old refused.told.count film) (sym ends)
+      (record {
+        fault = refused.told;
+        count_is = refl;
+        frames = subst (λ file. Takes took_f old.frames (frames_text taken) file) (sym refused.frames) film.frames;
+        wave = subst (λ bytes. Fails took_w refused_w old.wave bytes refused.told mid.wave) (one-sample taken sample)
+            (fails-within film.wave refused.wave []);
+      })
+
+  stops-in-image : (taken : List Output) (image : Image) (old asked mid new : Film F W) → Filmed taken old asked
+      → (refused : RefusedImage took_f refused_f asked image mid) → new.frames ≡ mid.frames → IsFlushed took_w refused_w mid.wave [] new.wave
+      → StopsInImage took_f refused_f took_w refused_w taken image old refused.told.count new
+  stops-in-image taken image old asked mid new film refused frames flushed =
+      record {
+        fault = refused.told;
+        count_is = refl;
+        frames = subst (λ file. Refuses took_f refused_f old.frames (frames_text (taken ++ Show image ∷ [])) refused.told file) (sym frames)
+            (subst (λ bytes. Refuses took_f refused_f old.frames bytes refused.told mid.frames) (one-image taken image)
+            (refuses-within (refuses-after film.frames refused.frames) []));
+        images = λ start fresh.
+            let before = film.frames.after start [] fresh in
+            let counted = before.count_is in
+            let least = refused.frames.at_least in
+            omega (arith, counted, least);
+        wave = record {
+          answer = flushed.answer;
+          written = finishes-after refused_w flushed.answer new.wave
+              (subst (λ wave. Gains took_w old.wave (samples_text (samples_in taken)) wave) (sym refused.wave) film.wave) flushed.written;
+        };
+      }
+
+  stops-at-next : (output : Output) (taken rest : List Output) (old asked mid new : Film F W) (fault : Which × ℕ) → Filmed taken old asked
+      → film_refused took_f refused_f took_w refused_w asked output mid → Some fault ≡ mid.fault → GivesUp took_w refused_w mid fault.0 new
+      → StopsFilm took_f refused_f took_w refused_w taken (output ∷ rest) old fault.0 fault.1 new
+  stops-at-next (Sound sample) taken rest old asked mid new fault film refused told gives =
+      let same = some-same fault (which.Wave, refused.told.count) (told ∙ refused.fault) in
+      let ends = subst (λ (it : Which × ℕ). GivesUp took_w refused_w mid it.0 new) same gives in
+      subst (λ (it : Which × ℕ). StopsFilm took_f refused_f took_w refused_w taken (Sound sample ∷ rest) old it.0 it.1 new) (sym same)
+      (stops-in-sound taken sample old asked mid new film refused ends)
+  stops-at-next (Show image) taken rest old asked mid new fault film refused told gives =
+      let same = some-same fault (which.Frames, refused.told.count) (told ∙ refused.fault) in
+      let ends = subst (λ (it : Which × ℕ). GivesUp took_w refused_w mid it.0 new) same gives in
+      subst (λ (it : Which × ℕ). StopsFilm took_f refused_f took_w refused_w taken (Show image ∷ rest) old it.0 it.1 new) (sym same)
+      (stops-in-image taken image old asked mid new film refused ends.0 ends.1)
+
+  -- among all outputs of a run
+  pub record StopsAmong (outputs taken : List Output) (old : Film F W) (output : Which) (count : ℕ) (new : Film F W) : Type 0 where
+    pub left : List Output
+    pub parts : outputs ≡ taken ++ left
+    pub film : StopsFilm took_f refused_f took_w refused_w taken left old output count new
+
+  pub stops-among : (outputs taken left : List Output) (old mid new : Film F W) (fault : Which × ℕ) → IsPrefix (taken ++ left) outputs
+      → RefusesAt (film_took took_f took_w) (film_refused took_f refused_f took_w refused_w) old taken left mid
+      → Some fault ≡ mid.fault → GivesUp took_w refused_w mid fault.0 new → StopsAmong outputs taken old fault.0 fault.1 new
+  stops-among outputs taken left old mid new fault among refuses told gives =
+      let rest = refuses.rest ++ among.0 in
+      let all : taken ++ (refuses.first ∷ rest) ≡ outputs =
+      sym (append_assoc taken (refuses.first ∷ refuses.rest) among.0)
+      ∙ (ap (λ left. (taken ++ left) ++ among.0) (sym refuses.left_is) ∙ among.1) in
+      record {
+        left = refuses.first ∷ rest;
+        parts = sym all;
+        film = stops-at-next refuses.first taken rest old refuses.asked mid new fault (filmed taken old refuses.asked refuses.before)
+            refuses.refusal told gives;
+      }
+
+  -- all were taken, and the zeros refused
+  pub stops-at-zeros : (outputs : List Output) (old mid new : Film F W) (told : WriteFault)
+      → TookAll (film_took took_f took_w) old outputs mid
+      → Fails took_w refused_w mid.wave (samples_text (replicate mid.wave.owed (pos 0))) told new.wave
+      → new.frames ≡ mid.frames → StopsAmong outputs outputs old which.Wave told.count new
+  stops-at-zeros outputs old mid new told took fails same =
+      let film = filmed outputs old mid took in
+      let zeros = samples_text (replicate mid.wave.owed (pos 0)) in
+      record {
+        left = [];
+        parts = sym (append-nil outputs);
+        film = record {
+          fault = told;
+          count_is = refl;
+          frames = subst (λ file. Takes took_f old.frames (frames_text outputs) file) (sym same) film.frames;
+          wave = subst (λ bytes. Fails took_w refused_w old.wave bytes told new.wave)
+              (append-nil (samples_text (samples_in outputs) ++ zeros) ∙ zeros-last outputs old mid film)
+              (fails-within film.wave fails []);
+        };
+      }

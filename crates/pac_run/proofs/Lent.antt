@@ -1,5 +1,5 @@
 -- Writers that are lent to a film and a wave file, and what they have when the loans end.
-use Rattle.std.proofs.Common.{◌≡◌, ℕ, ◌*◌, ◌≤◌, List, length, [], ◌++◌, Result, Ok, Err, inl, inr, refl, sym, ap, subst, ◌∙◌, append_assoc}
+use Rattle.std.proofs.Common.{◌≡◌, ℕ, ◌*◌, ◌<◌, ◌≤◌, List, length, [], ◌∷◌, ◌++◌, Result, Ok, Err, inl, inr, refl, sym, ap, subst, ◌∙◌, append_assoc}
 use Rattle.std.proofs.Common.{append-nil, length-append, arith}
 use Rattle.std.specs.Borrow.{MutBor}
 use mathlib.Core.List.{IsPrefix}
@@ -8,19 +8,19 @@ use Rattle.pac_out.specs.declared.WriteFault.{WriteFault}
 use Rattle.pac_out.specs.Counted.{HasTaken, HasStopped, Takes, Puts}
 use Rattle.pac_out.specs.Writes.{lent_took, lent_refused}
 use Rattle.pac_out.proofs.Files.{stops-within}
-use Rattle.pac_session.specs.Running.{Setting}
-use Rattle.pac_session.specs.Session.{begun as first_of}
-use Rattle.pac_media.specs.Samples.{wav_header, header_size}
+use Rattle.pac_session.specs.Running.{Setting, whole_run}
+use Rattle.pac_media.specs.Samples.{wav_header, samples_text, header_size}
 use Rattle.pac_media.specs.Sound.{HasText, Delivers, Fails, Finishes}
 use Rattle.pac_media.specs.Sound as media
-use Rattle.pac_step.specs.Output.{Output}
+use Rattle.pac_step.specs.Output.{Output, Sound, Show}
 use Rattle.pac_run.specs.declared.fault.Output.{Output as Which}
 use Rattle.pac_run.specs.declared.fault.Output.TheVariants as which
 use Rattle.pac_run.specs.declared.film.Film.{Film}
 use Rattle.pac_run.specs.Recorded.{sound_text, IsRecorded, Performs, Breaks, Records, RecordsBroken, Written}
 use Rattle.pac_run.specs.Run.{Writing, Took, TookSome, Stopped}
-use Rattle.pac_run.specs.Texts.{frames_text, wave_text, frame_samples}
-use Rattle.pac_run.specs.Watched.{AllTold, SomeTold, LastBroke, ToldTill, Told, BreaksOff, CutBy, Films, FilmedTill, Filmed}
+use Rattle.pac_run.specs.Texts.{samples_in, frames_text, wave_text, wave_so_far, frame_samples}
+use Rattle.pac_run.specs.Watched.{AllTold, HeldUp, LastBroke, BreaksOff, StopsFilm, FilmToldTill, FilmTold, CutBy, Films, FilmedTill, Filmed}
+use Rattle.pac_run.specs.Watched.{TookOrRefused, StopsAt, ToldTill, Told}
 
 -- a writer before a run and after it
 abbrev pub writing : {W : Type 0} → (W → List ℕ → W → Type 0) → (W → W → Type 0) → W → W → Writing W
@@ -31,7 +31,7 @@ abbrev pub Ends : {W : Type 0} → MutBor W → MutBor W → W → Type 0
 Ends owner writer left = owner.ghost_name ≡ writer.ghost_name → left ≡ writer.now
 
 module _ {W : Type 0} (took : W → List ℕ → W → Type 0) (refused : W → W → Type 0) (owner : MutBor W) (left : W) where
-  has-taken : (file : Counted (MutBor W)) (text : List ℕ) → HasTaken (lent_took took) owner text file → Ends owner file.writer left
+  pub has-taken : (file : Counted (MutBor W)) (text : List ℕ) → HasTaken (lent_took took) owner text file → Ends owner file.writer left
       → took owner.now text left
   has-taken file text has ends =
       let written = has.written in subst (λ new. took owner.now text new) (sym (ends (sym written.0))) written.1
@@ -61,19 +61,7 @@ module _ {W : Type 0} (took : W → List ℕ → W → Type 0) (refused : W → 
   -- what a session told, put into a new file
   module _ (setting : Setting) (lines : List (List ℕ)) (file new : Counted (MutBor W)) (fresh : HasTaken (lent_took took) owner [] file)
       (ends : Ends owner new.writer left) where
-    some-told : SomeTold (λ told. Takes (lent_took took) file told new) setting lines
-        → SomeTold (Took (writing took refused owner.now left)) setting lines
-    some-told some =
-        record {
-          before = some.before;
-          after = some.after;
-          parts = some.parts;
-          told = some.told;
-          tells = some.tells;
-          taken = has-taken new some.told (some.taken.after owner [] fresh) ends;
-        }
-
-    last-broke : (count : ℕ)
+    pub last-broke : (count : ℕ)
         → LastBroke (λ told count. BreaksOff (lent_took took) (lent_refused refused) file told count new) setting lines count
         → LastBroke (Stopped (writing took refused owner.now left)) setting lines count
     last-broke count last =
@@ -88,36 +76,9 @@ module _ {W : Type 0} (took : W → List ℕ → W → Type 0) (refused : W → 
               ends;
         }
 
-    told-till : (output : Which) (count : ℕ)
-        → ToldTill (λ told. Takes (lent_took took) file told new)
-        (λ told count. BreaksOff (lent_took took) (lent_refused refused) file told count new) setting lines output count
-        → ToldTill (Took (writing took refused owner.now left)) (Stopped (writing took refused owner.now left)) setting lines output count
-    told-till which.Text count last = last-broke count last
-    told-till which.Frames count some = some-told some
-    told-till which.Wave count some = some-told some
-    told-till which.Listing count some = some-told some
-    told-till which.Report count some = some-told some
-
-    pub told : {A : Type 0} (result : Result A (Which × ℕ))
-        → Told (λ told. Takes (lent_took took) file told new)
-        (λ told count. BreaksOff (lent_took took) (lent_refused refused) file told count new) setting lines result
-        → Told (Took (writing took refused owner.now left)) (Stopped (writing took refused owner.now left)) setting lines result
-    told (Ok done) all =
-        record { told = all.told; tells = all.tells; taken = has-taken new all.told (all.taken.after owner [] fresh) ends }
-    told (Err fault) till = told-till fault.0 fault.1 till
-
-  -- nothing was put into a new file: none of the lines was told
-  pub none-told : (setting : Setting) (lines : List (List ℕ)) (file : Counted (MutBor W)) → HasTaken (lent_took took) owner [] file
-      → Ends owner file.writer left → SomeTold (Took (writing took refused owner.now left)) setting lines
-  none-told setting lines file fresh ends =
-      record {
-        before = [];
-        after = lines;
-        parts = refl;
-        told = [];
-        tells = record { left = first_of setting 0; tells = (refl, refl) };
-        taken = has-taken file [] fresh ends;
-      }
+    pub all-told : AllTold (λ told. Takes (lent_took took) file told new) setting lines
+        → AllTold (Took (writing took refused owner.now left)) setting lines
+    all-told all = record { told = all.told; tells = all.tells; taken = has-taken new all.told (all.taken.after owner [] fresh) ends }
 
   -- a writer that refused within the beginning of a text
   pub stopped-early : (head bytes more all : List ℕ) (old new : media.Sound (MutBor W)) (fault : WriteFault)
@@ -160,6 +121,19 @@ module _ {W : Type 0} (took : W → List ℕ → W → Type 0) (refused : W → 
         let after = finishes.at_least in omega (arith, headed, after),
       )
 
+  -- the same, where the sound so far is all
+  flushed-all : {A : Type 0} (answer : Result A WriteFault) (head bytes : List ℕ) (old new : media.Sound (MutBor W))
+      → HasText (lent_took took) owner head old → Finishes (lent_took took) (lent_refused refused) old bytes answer new
+      → Ends owner new.file.writer left → TookOrRefused (writing took refused owner.now left) (head ++ bytes)
+  flushed-all (Ok done) head bytes old new has finishes ends =
+      inl (has-taken new.file (head ++ bytes) (finishes.after owner head has) ends)
+  flushed-all (Err fault) head bytes old new has finishes ends =
+      inr
+      (record {
+        count = fault.count;
+        stopped = has-stopped new.file (head ++ bytes) fault.count (finishes.after owner head has) finishes.told ends;
+      })
+
 -- a wave file of which nothing waits any more was given the same text as before
 pub delivered : {W : Type 0} {took : W → List ℕ → W → Type 0} {old new : media.Sound W} {start : W} {text : List ℕ}
     → HasText took start text old → Delivers took old [] new → HasText took start text new
@@ -201,6 +175,17 @@ header-broke {W = W} took_f refused_f took_w refused_w frames wave left_w count 
           (subst (λ (it : MutBor W). Ends wave it left_w) is ends),
       λ few. refl,
     )
+
+-- and it took less than the header
+pub header-short : {W : Type 0} (took : W → List ℕ → W → Type 0) (refused : W → W → Type 0) (owner : MutBor W) (samples : ℕ)
+    (old new : media.Sound (MutBor W)) (fault : WriteFault) → HasText (lent_took took) owner (wav_header samples) old
+    → Fails (lent_took took) (lent_refused refused) old [] fault new → fault.count < header_size
+header-short took refused owner samples old new fault text fails =
+    let stop = fails.after owner (wav_header samples) text in
+    let less = stop.stopped.some_left in
+    let long = header-long samples in
+    let whole = ap length (append-nil (wav_header samples)) in
+    omega (arith, less, long, whole, stop.count_is, fails.told)
 
 -- film and wave file together
 module _ {F W : Type 0} (took_f : F → List ℕ → F → Type 0) (refused_f : F → F → Type 0) (took_w : W → List ℕ → W → Type 0)
@@ -294,3 +279,81 @@ module _ {F W : Type 0} (took_f : F → List ℕ → F → Type 0) (refused_f : 
       → Records (writing took_f refused_f frames.now left_f) (writing took_w refused_w wave.now left_w) total outputs result
   records (Ok done) performs = whole performs
   records (Err fault) performs = broken fault.0 fault.1 performs
+
+  -- ---- where they stopped
+
+  stops-at : (taken left : List Output) (output : Which) (count : ℕ)
+      → StopsFilm (lent_took took_f) (lent_refused refused_f) (lent_took took_w) (lent_refused refused_w) taken left old output count new
+      → StopsAt (writing took_f refused_f frames.now left_f) (writing took_w refused_w wave.now left_w) total taken left output count
+  stops-at taken (Show image ∷ more) which.Frames count stops =
+      record {
+        film = has-stopped took_f refused_f frames left_f new.frames (frames_text (taken ++ Show image ∷ [])) count
+            (stops.frames.after frames [] fresh) (stops.count_is ∙ stops.frames.told) ends_f;
+        images = stops.images frames fresh;
+        sound = flushed-all took_w refused_w wave left_w stops.wave.answer header (samples_text (samples_in taken)) old.wave new.wave begun
+            stops.wave.written ends_w;
+      }
+  stops-at taken (Sound sample ∷ more) which.Wave count stops = (
+    has-taken took_f refused_f frames left_f new.frames (frames_text taken) (stops.frames.after frames [] fresh) ends_f,
+    has-stopped took_w refused_w wave left_w new.wave.file (wave_so_far total (taken ++ Sound sample ∷ [])) count
+        (stops.wave.after wave header begun) (stops.count_is ∙ stops.wave.told) ends_w,
+  )
+  stops-at taken [] which.Wave count stops = (
+    has-taken took_f refused_f frames left_f new.frames (frames_text taken) (stops.frames.after frames [] fresh) ends_f,
+    has-stopped took_w refused_w wave left_w new.wave.file (wave_text total taken) count
+        (subst (λ n. HasStopped (lent_took took_w) (lent_refused refused_w) wave (header ++ sound_text n taken) new.wave.file) owed
+        (stops.wave.after wave header begun))
+        (stops.count_is ∙ stops.wave.told) ends_w,
+  )
+  stops-at taken left output count stops = absurd stops
+
+  -- the wave's header was written before
+  past-header : (taken left : List Output) (count : ℕ)
+      → StopsFilm (lent_took took_f) (lent_refused refused_f) (lent_took took_w) (lent_refused refused_w) taken left old which.Wave count new
+      → header_size ≤ count
+  past-header taken (Show image ∷ more) count stops = absurd stops
+  past-header taken (Sound sample ∷ more) count stops = let after = stops.wave.at_least in omega (arith, headed, after, stops.count_is)
+  past-header taken [] count stops = let after = stops.wave.at_least in omega (arith, headed, after, stops.count_is)
+
+  -- and what a session has told
+  module _ {T : Type 0} (took : T → List ℕ → T → Type 0) (refused : T → T → Type 0) (owner : MutBor T) (left : T) (setting : Setting)
+      (lines : List (List ℕ)) (words later : Counted (MutBor T)) (fresh_t : HasTaken (lent_took took) owner [] words)
+      (ends_t : Ends owner later.writer left) where
+    held-up : (output : Which) (count : ℕ)
+        → HeldUp
+        (λ taken left. StopsFilm (lent_took took_f) (lent_refused refused_f) (lent_took took_w) (lent_refused refused_w) taken left old output
+        count new) (λ told. Takes (lent_took took) words told later) (whole_run setting).outputs setting lines
+        → HeldUp
+        (λ taken left_over. StopsAt (writing took_f refused_f frames.now left_f) (writing took_w refused_w wave.now left_w) total taken
+        left_over output count) (Took (writing took refused owner.now left)) (whole_run setting).outputs setting lines
+    held-up output count held =
+        record {
+          taken = held.taken;
+          left = held.left;
+          parts = held.parts;
+          film = stops-at held.taken held.left output count held.film;
+          told = held.told;
+          tells = held.tells;
+          words = has-taken took refused owner left later held.told (held.words.after owner [] fresh_t) ends_t;
+        }
+
+    told-till : (output : Which) (count : ℕ)
+        → FilmToldTill (lent_took took_f) (lent_refused refused_f) (lent_took took_w) (lent_refused refused_w) (lent_took took)
+        (lent_refused refused) setting lines old words output count new later
+        → ToldTill (writing took_f refused_f frames.now left_f) (writing took_w refused_w wave.now left_w)
+        (writing took refused owner.now left) total (whole_run setting).outputs setting lines output count
+    told-till which.Text count last = last-broke took refused owner left setting lines words later fresh_t ends_t count last
+    told-till which.Wave count held =
+        let enough = past-header held.taken held.left count held.film in
+        record { header_first = λ few. absurd (omega (arith, few, enough)); held_up = λ there. held-up which.Wave count held }
+    told-till which.Frames count held = held-up which.Frames count held
+    told-till which.Listing count held = held-up which.Listing count held
+    told-till which.Report count held = held-up which.Report count held
+
+    pub told : {A : Type 0} (result : Result A (Which × ℕ))
+        → FilmTold (lent_took took_f) (lent_refused refused_f) (lent_took took_w) (lent_refused refused_w) (lent_took took)
+        (lent_refused refused) setting lines old words result new later
+        → Told (writing took_f refused_f frames.now left_f) (writing took_w refused_w wave.now left_w)
+        (writing took refused owner.now left) total (whole_run setting).outputs setting lines result
+    told (Ok done) all = all-told took refused owner left setting lines words later fresh_t ends_t all
+    told (Err fault) till = told-till fault.0 fault.1 till

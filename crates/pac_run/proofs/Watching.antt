@@ -2,11 +2,12 @@
 use Rattle.std.proofs.Common.{◌≡◌, ℕ, ◌-◌, pos, List, [], ◌∷◌, ◌++◌, length, replicate, Result, Err, refl, sym, ap, subst, ◌∙◌, append-nil}
 use mathlib.Core.List.{IsPrefix}
 use Rattle.pac_out.specs.declared.WriteFault.{WriteFault}
+use Rattle.pac_out.specs.declared.counted.Counted.{Counted}
 use Rattle.pac_out.specs.Counted.{Takes}
 use Rattle.pac_media.specs.Samples.{samples_text}
 use Rattle.pac_media.specs.Sound.{Finishes}
 use Rattle.pac_media.proofs.Gathered.{finishes-after}
-use Rattle.pac_step.specs.Output.{Output}
+use Rattle.pac_step.specs.Output.{Output, Sound, Show}
 use Rattle.pac_board.specs.Sinks.{TookAll}
 use Rattle.pac_session.specs.Running.{Setting, whole_run}
 use Rattle.pac_session.specs.Session.{SessionValue, begun}
@@ -14,15 +15,15 @@ use Rattle.pac_session.specs.declared.motion.Outcome as told
 use Rattle.pac_debug.specs.declared.line.CommandFault.{CommandFault}
 use Rattle.pac_debug.specs.declared.line.CommandFault.TheVariants as faults
 use Rattle.pac_debug.specs.Obeying.{Scene}
-use Rattle.pac_debug.specs.Watched.{TellsAll, Watches, IsWatchRefused, IsWatchUntold, to_give}
+use Rattle.pac_debug.specs.Watched.{TellsAll, Watches, IsWatchRefused, IsWatchUntold, ToldUpTo, to_give}
 use Rattle.pac_run.specs.declared.fault.Output.{Output as Which}
 use Rattle.pac_run.specs.declared.fault.Output.TheVariants as which
 use Rattle.pac_run.specs.declared.film.Film.{Film}
 use Rattle.pac_run.specs.Films.{film_took}
 use Rattle.pac_run.specs.Recorded.{sound_text, Breaks}
 use Rattle.pac_run.specs.Texts.{samples_in, frames_text}
-use Rattle.pac_run.specs.Watched.{TellsOf, AllTold, SomeTold, ToldTill, CutBy, IsCutShort}
-use Rattle.pac_run.proofs.Filmed.{filmed, frames-append, sound-append}
+use Rattle.pac_run.specs.Watched.{TellsOf, AllTold, StopsFilm, FilmToldTill, CutBy, IsCutShort}
+use Rattle.pac_run.proofs.Filmed.{StopsAmong, filmed, frames-append, sound-append}
 
 -- a session at the beginning of its run has all of it still to give
 pub all-to-give : (session : SessionValue) → session ≡ begun session.setting 0 → to_give session ≡ (whole_run session.setting).outputs
@@ -53,19 +54,6 @@ sound-among owed taken outputs among = (
   sound-append owed taken among.0 ∙ ap (λ all. sound_text owed all) among.1,
 )
 
--- where all lines are told, some are
-pub some-of-all : (took : List ℕ → Type 0) (setting : Setting) (lines : List (List ℕ)) → AllTold took setting lines
-    → SomeTold took setting lines
-some-of-all took setting lines all =
-    record {
-      before = lines;
-      after = [];
-      parts = sym (append-nil lines);
-      told = all.told;
-      tells = all.tells;
-      taken = all.taken;
-    }
-
 module _ {F W : Type 0} (took_f : F → List ℕ → F → Type 0) (refused_f : F → F → Type 0) (took_w : W → List ℕ → W → Type 0)
     (refused_w : W → W → Type 0) where
   -- film or wave file broke, and the text didn't
@@ -78,15 +66,28 @@ module _ {F W : Type 0} (took_f : F → List ℕ → F → Type 0) (refused_f : 
   cut-by outputs old new which.Report count breaks = breaks
   cut-by outputs old new which.Text count breaks = absurd breaks
 
-  pub told-till : (outputs : List Output) (old new : Film F W) (output : Which) (count : ℕ)
-      → Breaks took_f refused_f took_w refused_w outputs old output count new
-      → (took : List ℕ → Type 0) (stopped : List ℕ → ℕ → Type 0) (setting : Setting) (lines : List (List ℕ)) → SomeTold took setting lines
-      → ToldTill took stopped setting lines output count
-  told-till outputs old new which.Frames count breaks took stopped setting lines some = some
-  told-till outputs old new which.Wave count breaks took stopped setting lines some = some
-  told-till outputs old new which.Listing count breaks took stopped setting lines some = some
-  told-till outputs old new which.Report count breaks took stopped setting lines some = some
-  told-till outputs old new which.Text count breaks took stopped setting lines some = absurd breaks
+  no-text : (taken left : List Output) (old new : Film F W) (count : ℕ)
+      → StopsFilm took_f refused_f took_w refused_w taken left old which.Text count new → ⊥
+  no-text taken [] old new count stops = stops
+  no-text taken (Show image ∷ more) old new count stops = stops
+  no-text taken (Sound sample ∷ more) old new count stops = stops
+
+  -- film or wave file broke: what the session has told till then
+  module _ {T : Type 0} (took : T → List ℕ → T → Type 0) (refused : T → T → Type 0) (setting : Setting) (lines : List (List ℕ))
+      (old new : Film F W) (words later : Counted T) (taken : List Output) (told : List ℕ) (tells : ToldUpTo setting lines taken told)
+      (text : Takes took words told later) where
+    pub told-till : (output : Which) (count : ℕ)
+        → StopsAmong took_f refused_f took_w refused_w (whole_run setting).outputs taken old output count new
+        → FilmToldTill took_f refused_f took_w refused_w took refused setting lines old words output count new later
+    told-till which.Frames count stops =
+        record { taken = taken; left = stops.left; parts = stops.parts; film = stops.film; told = told; tells = tells; words = text }
+    told-till which.Wave count stops =
+        record { taken = taken; left = stops.left; parts = stops.parts; film = stops.film; told = told; tells = tells; words = text }
+    told-till which.Listing count stops =
+        record { taken = taken; left = stops.left; parts = stops.parts; film = stops.film; told = told; tells = tells; words = text }
+    told-till which.Report count stops =
+        record { taken = taken; left = stops.left; parts = stops.parts; film = stops.film; told = told; tells = tells; words = text }
+    told-till which.Text count stops = absurd (no-text taken stops.left old new count stops.film)
 
   -- the text broke: what was filmed till then is written
   pub cut-short : (outputs taken : List Output) (old mid new : Film F W) (answer : Result (Unit {0}) WriteFault)

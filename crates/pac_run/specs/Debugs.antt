@@ -1,5 +1,5 @@
 -- What a run under a debugger writes, tells and answers.
-use Rattle.std.specs.Prelude.{◌≡◌, ℕ, List, [], Option, Result, Ok, Err}
+use Rattle.std.specs.Prelude.{◌≡◌, ℕ, ◌<◌, ◌≤◌, List, [], Option, Result, Ok, Err}
 use Rattle.std.specs.Str.Lines.{lines}
 use Rattle.pac_inputs.specs.Stretches.{total}
 use Rattle.pac_media.specs.Samples.{header_size}
@@ -21,8 +21,8 @@ use Rattle.pac_run.specs.declared.inputs.RunInputs.{RunInputs}
 use Rattle.pac_run.specs.declared.outcome.Outcome.{Outcome}
 use Rattle.pac_run.specs.Plan.{Plan, Plays, plan_of, planned}
 use Rattle.pac_run.specs.Run.{Writing, Writers, Took, TookPrefix, TookSome, Stopped, Untouched, NothingWritten, IsWhole, IsCutAt, WithPlan}
-use Rattle.pac_run.specs.Run.{frames_text, wave_text}
-use Rattle.pac_run.specs.Watched.{AllTold, SomeTold, LastBroke}
+use Rattle.pac_run.specs.Run.{trace_of, frames_text, wave_text}
+use Rattle.pac_run.specs.Watched.{AllTold, HeldUp, LastBroke, StopsAt}
 
 -- the run that its session looks at
 abbrev pub setting_of : Plan → ℕ → Setting
@@ -52,13 +52,18 @@ pub record IsReady (inputs : RunInputs) (program : Option Assembled) (session : 
 abbrev pub HasTold : {T : Type 0} → Plan → ℕ → (commands : List ℕ) → Writing T → Type 0
 HasTold plan dip commands text = AllTold (Took text) (setting_of plan dip) (lines commands)
 
--- of some of them, from the first on
-abbrev pub HasToldSome : {T : Type 0} → Plan → ℕ → (commands : List ℕ) → Writing T → Type 0
-HasToldSome plan dip commands text = SomeTold (Took text) (setting_of plan dip) (lines commands)
-
 -- it refused within what they tell up to one of them
 abbrev pub HasBroken : {T : Type 0} → Plan → ℕ → (commands : List ℕ) → Writing T → ℕ → Type 0
 HasBroken plan dip commands text count = LastBroke (Stopped text) (setting_of plan dip) (lines commands) count
+
+-- ---- a film that is held up
+
+-- Frames or wave refused. Both have what some first outputs of the run give them and no more, and the text has what those lines of the
+-- commands tell that need no more outputs than these; the next line needs more.
+abbrev pub IsHeldUp : {F W L R T : Type 0} → Plan → ℕ → (commands : List ℕ) → Writers F W L R → Writing T → Output → ℕ → Type 0
+IsHeldUp plan dip commands to text output count =
+    HeldUp (λ taken left. StopsAt to.frames to.wave (total plan.script) taken left output count) (Took text) (trace_of plan dip).outputs
+    (setting_of plan dip) (lines commands)
 
 -- ---- the run, by its answer
 
@@ -80,11 +85,19 @@ IsBrokenAt plan dip commands to text Text count = record {
   report : Untouched to.report;
   told : HasBroken plan dip commands text count;
 }
-IsBrokenAt plan dip commands to text other count = IsCutAt plan dip to other count × HasToldSome plan dip commands text
+IsBrokenAt plan dip commands to text Frames count = record {
+  files : IsCutAt plan dip to Frames count;
+  held_up : IsHeldUp plan dip commands to text Frames count;
+}
+IsBrokenAt plan dip commands to text Wave count = record {
+  files : IsCutAt plan dip to Wave count;
+  header_first : count < header_size → Untouched text;
+  held_up : header_size ≤ count → IsHeldUp plan dip commands to text Wave count;
+}
 
 abbrev pub Debugs : {F W L R T : Type 0} → RunInputs → (commands : List ℕ) → Writers F W L R → Writing T → Result Outcome RunFault → Type 0
 Debugs inputs commands to text (Ok outcome) = WithPlan inputs (λ plan. IsWatched plan inputs.dip commands to text outcome)
 Debugs inputs commands to text (Err (fault.Write output count)) =
-    WithPlan inputs (λ plan. IsBrokenAt plan inputs.dip commands to text output count)
+    WithPlan inputs (λ plan. IsSeenThrough plan inputs.dip × IsBrokenAt plan inputs.dip commands to text output count)
 Debugs inputs commands to text (Err fault.NoMemory) = NothingWritten to × Untouched text
 Debugs inputs commands to text (Err refusal) = (plan_of inputs ≡ Err refusal) × NothingWritten to × Untouched text

@@ -36,6 +36,10 @@ filled count samples = samples ++ replicate (count - length samples) (pos 0)
 abbrev pub wave_text : ℕ → List Output → List ℕ
 wave_text frames outputs = wav_header (frame_samples * frames) ++ samples_text (filled (frame_samples * frames) (samples_in outputs))
 
+-- the same as far as these outputs go, without the zeros after them
+abbrev pub wave_so_far : ℕ → List Output → List ℕ
+wave_so_far frames outputs = wav_header (frame_samples * frames) ++ samples_text (samples_in outputs)
+
 -- how a run ended: done, or at a stop with its bytes, or with the vector byte that is no RST. A text is the join
 -- of its pieces.
 abbrev pub joined : List (List ℕ) → List ℕ

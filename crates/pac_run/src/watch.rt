@@ -1,14 +1,12 @@
 //! A session's pictures, samples and words: to the film, to the wave file and to the text, side by side.
 
-ghost use Rattle.std.specs.Prelude.{◌≡◌, ℕ, IfOk, List};
+ghost use Rattle.std.specs.Prelude.{◌≡◌, IfOk};
 ghost use Rattle.std.specs.Str.Lines.{lines};
 ghost use Rattle.pac_inputs.specs.Stretches.{total};
-ghost use Rattle.pac_out.specs.Counted.{Takes};
 ghost use Rattle.pac_session.specs.Motions.{IsOutcome};
 ghost use Rattle.pac_session.specs.Running.{whole_run};
 ghost use Rattle.pac_session.specs.Session.{begun};
-ghost use Rattle.pac_run.specs.Run.{Took, Stopped};
-ghost use Rattle.pac_run.specs.Watched.{Told, Films, Filmed, BreaksOff};
+ghost use Rattle.pac_run.specs.Watched.{FilmTold, Told, Films, Filmed};
 
 use crate::fault::Output;
 use crate::film::{FRAME_SAMPLES, Film};
@@ -30,8 +28,8 @@ impl<F: Out, W: Out> Film<F, W> {
         requires { session.old ≡ begun session.old.setting 0 }
         ensures outcome { IfOk result (IsOutcome session.old) }
         ensures film { Films F.took F.refused W.took W.refused (whole_run session.old.setting).outputs self.old result self.new }
-        ensures told { Told (λ told. Takes T.took text.old told text.new) (λ told count. BreaksOff T.took T.refused text.old told count text.new)
-            session.old.setting (lines commands.now) result }
+        ensures told { FilmTold F.took F.refused W.took W.refused T.took T.refused session.old.setting (lines commands.now)
+            self.old text.old result self.new text.new }
     {
         match watch(session, commands, self, text) {
             Ok(outcome) => match self.wave.finish() {
@@ -66,12 +64,12 @@ pub fn watch_run<F: Out, W: Out, T: Out>(
         (record { took = W.took; refused = W.refused; old = wave.old; new = wave.new })
         (total session.old.setting.script) (whole_run session.old.setting).outputs result }
     ensures told { Told
-        (Took (record { took = T.took; refused = T.refused; old = text.old; new = text.new }))
-        (Stopped (record { took = T.took; refused = T.refused; old = text.old; new = text.new }))
-        session.old.setting (lines commands.now) result }
+        (record { took = F.took; refused = F.refused; old = frames.old; new = frames.new })
+        (record { took = W.took; refused = W.refused; old = wave.old; new = wave.new })
+        (record { took = T.took; refused = T.refused; old = text.old; new = text.new })
+        (total session.old.setting.script) (whole_run session.old.setting).outputs session.old.setting (lines commands.now) result }
 {
     session.facts();
-    let mut words = Counted::new(text);
     let mut wave = WaveFile::begin(wave, FRAME_SAMPLES * frame_count);
     if let Err(fault) = wave.flush() {
         let _ = wave.into_writer();
@@ -82,6 +80,7 @@ pub fn watch_run<F: Out, W: Out, T: Out>(
         wave,
         fault: None,
     };
+    let mut words = Counted::new(text);
     let watched = film.watch(session, commands, &mut words);
     let Film {
         frames,

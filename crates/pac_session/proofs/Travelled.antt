@@ -79,7 +79,7 @@ never-met s from index met = choose (nat_lt from index) met
     choose false e = not-both (sym e)
 
 -- the word for it
-met-by : (s : SessionValue) (motion : Motion) (from index : ℕ) → is_late s.setting index ≡ false → has_met s motion from index ≡ true
+pub met-by : (s : SessionValue) (motion : Motion) (from index : ℕ) → is_late s.setting index ≡ false → has_met s motion from index ≡ true
     → RestsBy s motion from index (word_of motion (breaks_at s index))
 met-by s (Steps count) from index early met = record { early = early; met = met; word = refl }
 met-by s Continue from index early met = record { early = early; met = met; word = refl }

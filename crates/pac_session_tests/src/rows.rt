@@ -64,6 +64,22 @@ fn too_far_back(rt: HostRuntime) -> Result<(), Fail> {
     Ok(())
 }
 
+// After 150,000 steps the furthest checkpoint is that of 36 times 4,096 steps, and the oldest is 15 before it.
+#[test]
+fn as_far_back_as_can_be(rt: HostRuntime) -> Result<(), Fail> {
+    let mut kept = Kept::new(rt.alloc(), 0);
+    let mut s = session(rt.alloc(), &CELL, b"16 -")?;
+    for _ in 0..3u8 {
+        assert!(rt; go(&mut s, Motion::Steps(50_000), &mut kept).is_some());
+    }
+    assert_eq!(rt; (s.index(), s.oldest()), (150_000, 86_016));
+    assert_eq!(rt; back(&mut s, 63_985, &mut kept), Err(86_016));
+    assert_eq!(rt; back(&mut s, 63_984, &mut kept), Ok(()));
+    assert_eq!(rt; (s.index(), s.replayed()), (86_016, 0));
+    assert_eq!(rt; back(&mut s, 1, &mut kept), Err(86_016));
+    Ok(())
+}
+
 // A 65th breakpoint is refused, one that is set is not; and there is room again where one is taken away.
 #[test]
 fn breakpoints(rt: HostRuntime) -> Result<(), Fail> {

@@ -1,7 +1,7 @@
 //! Files that are refused.
 
 use crate::files::{file_of, why_not, why_not_cut, why_not_flipped};
-use crate::sets::{CELL, set, set_with};
+use crate::sets::{CELL, set, set_with, tiles};
 use pac_roms::RomSet;
 use pac_state::{LoadFault, LoadRefused, load};
 use std::alloc::{AllocError, Global};
@@ -99,12 +99,17 @@ fn refused(alloc: Global, bytes: &[u8], set: RomSet) -> Result<LoadRefused, Allo
     }
 }
 
-// The file of a board with another sprite ROM; the set that was handed in comes back.
+// The file of a board with another tile or sprite ROM; the set that was handed in comes back.
 #[test]
 fn another_set(rt: HostRuntime) -> Result<(), Fail> {
-    let other = file_of(rt.alloc(), &set_with(rt.alloc(), &CELL, &[1; 4096])?, &[])?;
-    let refused = refused(rt.alloc(), &other, set(rt.alloc(), &CELL)?)?;
-    assert_eq!(rt; refused.fault, LoadFault::OtherSet);
-    assert!(rt; refused.set.sprites().first() == Some(&0));
+    for (tiles, sprites) in [([1; 4096], [0; 4096]), (tiles(), [1; 4096])] {
+        let other = set_with(rt.alloc(), &CELL, &tiles, &sprites)?;
+        let file = file_of(rt.alloc(), &other, &[])?;
+        let refused = refused(rt.alloc(), &file, set(rt.alloc(), &CELL)?)?;
+        assert_eq!(rt; refused.fault, LoadFault::OtherSet);
+        assert!(rt;
+            refused.set.tiles().first() == Some(&0) && refused.set.sprites().first() == Some(&0)
+        );
+    }
     Ok(())
 }

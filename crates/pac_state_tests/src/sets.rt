@@ -8,7 +8,7 @@ use std::alloc::{AllocError, Global};
 pub const CELL: [u8; 6] = [0x3E, 0x42, 0x32, 0x40, 0x40, 0x76];
 
 /// A tile ROM in which every pixel of tile t is t mod 4.
-fn tiles() -> [u8; 4096] {
+pub fn tiles() -> [u8; 4096] {
     let mut rom = [0u8; 4096];
     for place in 0..4096usize {
         let value = (place / 16 % 4) as u8;
@@ -26,14 +26,19 @@ fn lookup() -> [u8; 256] {
     prom
 }
 
-/// The set whose program begins with these bytes, with this sprite ROM.
-pub fn set_with(alloc: Global, bytes: &[u8], sprites: &[u8; 4096]) -> Result<RomSet, AllocError> {
+/// The set whose program begins with these bytes, with these tile and sprite ROMs.
+pub fn set_with(
+    alloc: Global,
+    bytes: &[u8],
+    tiles: &[u8; 4096],
+    sprites: &[u8; 4096],
+) -> Result<RomSet, AllocError> {
     let mut program = [0u8; 16384];
     for (place, byte) in program.iter_mut().zip(bytes.iter()) {
         *place = *byte;
     }
     let raw = Raw {
-        tiles: &tiles(),
+        tiles,
         sprites,
         colours: &[0; 32],
         lookup: &lookup(),
@@ -44,7 +49,7 @@ pub fn set_with(alloc: Global, bytes: &[u8], sprites: &[u8; 4096]) -> Result<Rom
 
 /// The set whose program begins with these bytes.
 pub fn set(alloc: Global, bytes: &[u8]) -> Result<RomSet, AllocError> {
-    set_with(alloc, bytes, &[0; 4096])
+    set_with(alloc, bytes, &tiles(), &[0; 4096])
 }
 
 /// A board at power-on whose program begins with these bytes.

@@ -1,7 +1,19 @@
 use Rattle.std.proofs.Common.{refl}
-use Rattle.pac_run.proofs.Debugged.{broke, all-watched, unreported}
+use Rattle.pac_run.proofs.Debugged.{unlisted, broke, all-watched, unreported}
 use Rattle.pac_run.proofs.Lent.{writing}
 use Rattle.pac_run.proofs.debug.write_watched.Goals as goal
+
+pub returns-in-Err : goal.returns-in-Err
+returns-in-Err g c =
+    unlisted c.args.inputs.now c.args.commands.now
+    (record {
+      frames = writing g.F.Out.took g.F.Out.refused c.args.frames.now c.args.frames.now;
+      wave = writing g.W.Out.took g.W.Out.refused c.args.wave.now c.args.wave.now;
+      listing = writing g.L.Out.took g.L.Out.refused c.args.listing.now c.list.new.listing;
+      report = writing g.R.Out.took g.R.Out.refused c.args.report.now c.args.report.now;
+    })
+    (writing g.T.Out.took g.T.Out.refused c.args.text.now c.args.text.now)
+    c.args.program.now c.args.session.now c.args.total c.requires c.in-Err.fault.count c.in-Err.ensures refl refl refl refl
 
 pub returns-in-Err-watch_run : goal.returns-in-Err-watch_run
 returns-in-Err-watch_run g c =

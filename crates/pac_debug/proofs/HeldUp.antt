@@ -1,0 +1,234 @@
+-- A session that its sink held up: it told what those lines tell that give no more than the sink took.
+use Rattle.std.proofs.Common.{◌≡◌, ℕ, ◌+◌, ◌<◌, ◌≤◌, nat_le, Bool, true, false, max, Option, None, Some, Result, Ok, Err, List, [], ◌∷◌, ◌++◌}
+use Rattle.std.proofs.Common.{append-nil, length, ◌⊎◌, refl, sym, ap, subst, ◌∙◌, length-append, arith}
+use Rattle.std.proofs.lemmas.Bool.Decides.{nat_tests}
+use mathlib.Core.Logic.{inl, inr}
+use Rattle.pac_step.specs.Output.{Output}
+use Rattle.pac_step.proofs.Walks.{not-both}
+use Rattle.pac_board.specs.State.{nothing_due}
+use Rattle.pac_debug_text.specs.declared.command.NoCommand.{NoCommand}
+use Rattle.pac_debug_text.specs.declared.command.Command.{Command}
+use Rattle.pac_debug_text.specs.Commands.{command_of}
+use Rattle.pac_session.specs.declared.motion.Motion.{Motion}
+use Rattle.pac_session.specs.Motions.{HasTravelled, IsTravelRefused, IsFinishRefused, rests}
+use Rattle.pac_session.specs.Running.{Setting, run, whole_run, outputs_between, outputs_from}
+use Rattle.pac_session.specs.Session.{SessionValue, IsOfferRefused, begun, due_outputs}
+use Rattle.pac_session.proofs.Forwards.{between-joined, joined-to-end}
+use Rattle.pac_debug.specs.declared.answer.Answer.{Answer}
+use Rattle.pac_debug.specs.declared.answer.Answer.TheVariants as answers
+use Rattle.pac_debug.specs.Answers.{ending_of, answer_text}
+use Rattle.pac_debug.specs.Obeying.{Scene, Performed, Obeyed, cleared, motion_of}
+use Rattle.pac_debug.specs.Watched.{takes_all, TellsOf, Tells, TellsAll, HasGiven, RefusedOf, RefusedAt, IsWatchRefused}
+use Rattle.pac_debug.specs.Watched.{given_by, GivesMore, FirstGivesMore, ToldUpTo}
+use Rattle.pac_debug.proofs.Giving.{nothing-given, obeyed}
+use Rattle.pac_debug.proofs.Resting.{ComesToRest, comes-to-rest}
+
+-- ---- nothing is due after lines
+
+line-clears : (found : Option (Result Command NoCommand)) (old new : SessionValue) (text : List ℕ) → TellsOf found old text new
+    → old.due ≡ nothing_due → new.due ≡ nothing_due
+line-clears None old new text tells none = ap (λ (s : SessionValue). s.due) tells.1 ∙ none
+line-clears (Some asked) old new text tells none = (obeyed takes_all (cleared old) asked tt tells.answer new tt refl tells.obeyed).due
+
+lines-clear : (lines : List (List ℕ)) (old new : SessionValue) (text : List ℕ) → TellsAll lines old text new → old.due ≡ nothing_due
+    → new.due ≡ nothing_due
+lines-clear [] old new text tells none = ap (λ (s : SessionValue). s.due) tells.1 ∙ none
+lines-clear (line ∷ more) old new text tells none =
+    lines-clear more tells.between new tells.text_after tells.after
+    (line-clears (command_of line) old tells.between tells.text_before tells.before none)
+
+-- and the run is the same
+
+line-setting : (found : Option (Result Command NoCommand)) (old new : SessionValue) (text : List ℕ) → TellsOf found old text new
+    → new.setting ≡ old.setting
+line-setting None old new text tells = ap (λ (s : SessionValue). s.setting) tells.1
+line-setting (Some asked) old new text tells = (obeyed takes_all (cleared old) asked tt tells.answer new tt refl tells.obeyed).setting
+
+lines-setting : (lines : List (List ℕ)) (old new : SessionValue) (text : List ℕ) → TellsAll lines old text new → new.setting ≡ old.setting
+lines-setting [] old new text tells = ap (λ (s : SessionValue). s.setting) tells.1
+lines-setting (line ∷ more) old new text tells =
+    lines-setting more tells.between new tells.text_after tells.after
+    ∙ line-setting (command_of line) old tells.between tells.text_before tells.before
+
+-- ---- how many outputs a run has given
+
+-- from one index to a later one
+more-given : (setting : Setting) (index later : ℕ) → index ≤ later
+    → length (run setting later).outputs ≡ length (run setting index).outputs + length (outputs_between setting index later)
+more-given setting index later less =
+    let joined : (run setting index).outputs ++ outputs_between setting index later ≡ (run setting later).outputs
+    = between-joined setting 0 index later (omega arith) less in
+    sym (ap length joined) ∙ length-append (run setting index).outputs (outputs_between setting index later)
+
+-- no more than the whole of it
+none-past-all : (setting : Setting) (index : ℕ) → length (run setting index).outputs ≤ length (whole_run setting).outputs
+none-past-all setting index =
+    let joined : (run setting index).outputs ++ outputs_from setting index ≡ (whole_run setting).outputs
+    = joined-to-end setting 0 index (omega arith) in
+    let long = sym (ap length joined) ∙ length-append (run setting index).outputs (outputs_from setting index) in
+    omega (arith, long)
+
+-- what a session from the beginning of its run was taken, and what is due, is all that was given
+all-given : (setting : Setting) (old new : SessionValue) (taken : List Output) → old ≡ begun setting 0 → HasGiven old taken new
+    → length (run setting new.furthest).outputs ≡ length taken + length (due_outputs new)
+all-given setting old new taken fresh given =
+    let first = subst (λ (s : SessionValue). HasGiven s taken new) fresh given in
+    let parts : (run setting new.furthest).outputs ≡ taken ++ due_outputs new = first.parts in
+    ap length parts ∙ length-append taken (due_outputs new)
+
+module _ {S : Type 0} (took refused : S → Output → S → Type 0) (setting : Setting) (taken : List Output) (old new : SessionValue)
+    (sink later : S) (clear : old.due ≡ nothing_due) (same : old.setting ≡ setting)
+    (given : length (run setting new.furthest).outputs ≡ length taken + length (due_outputs new))
+    (some_due : 0 < length (due_outputs new)) where
+  -- nothing was due that could be refused
+  none-offered : {A : Type 0} → IsOfferRefused took refused old sink new later → A
+  none-offered refusal =
+      let none = ap length (nothing-given old clear) in
+      let parts = ap length refusal.parts ∙ length-append refusal.taken (due_outputs new) in
+      absurd (omega (arith, none, parts, some_due))
+
+  -- what was given before is what was taken, or less
+  no-more : (more : List Output) → old.furthest ≤ new.furthest
+      → outputs_between old.setting old.furthest new.furthest ≡ more ++ due_outputs new
+      → length (given_by old) ≤ length taken
+  no-more more further parts =
+      let here : length (given_by old) ≡ length (run setting old.furthest).outputs
+      = ap (λ (it : Setting). length (run it old.furthest).outputs) same in
+      let between : length (outputs_between setting old.furthest new.furthest) ≡ length more + length (due_outputs new)
+      = ap (λ (it : Setting). length (outputs_between it old.furthest new.furthest)) (sym same)
+      ∙ ap length parts ∙ length-append more (due_outputs new) in
+      let all = more-given setting old.furthest new.furthest further in
+      omega (arith, here, between, all, given)
+
+  -- the motion that was held up gives more
+  module _ (motion : Motion) (between : S) (gone : IsTravelRefused took refused (cleared old) motion between new later) where
+    stands : new.furthest ≡ new.index
+    stands =
+        let most : new.furthest ≡ max old.furthest new.index = ap (λ (s : SessionValue). s.furthest) gone.session in
+        omega (arith, most, gone.index, gone.fresh)
+
+    less-told : length (given_by old) ≤ length taken
+    less-told =
+        let far = stands in
+        no-more gone.taken (omega (arith, far, gone.index, gone.fresh))
+        (ap (λ n. outputs_between old.setting old.furthest n) far ∙ gone.parts)
+
+    abbrev rest : ComesToRest (cleared old) motion
+    rest = comes-to-rest (cleared old) motion
+
+    passes : new.index ≤ rest.new.index
+    passes = choose (nat_le rest.new.index gone.last) refl
+      where
+        choose : (b : Bool) → nat_le rest.new.index gone.last ≡ b → new.index ≤ rest.new.index
+        choose true e =
+            let least = rest.travelled.rest in
+            not-both (sym least.here ∙ gone.restless rest.new.index least.after (grind (arith, nat_tests)))
+        choose false e =
+            let past : gone.last < rest.new.index = grind (arith, nat_tests) in omega (arith, past, gone.index)
+
+    gives-more : length taken < length (given_by rest.new)
+    gives-more =
+        let is = rest.travelled.session in
+        let far = stands in
+        let past = passes in
+        let most : rest.new.furthest ≡ max old.furthest rest.new.index = ap (λ (s : SessionValue). s.furthest) is in
+        let there : length (given_by rest.new) ≡ length (run setting rest.new.furthest).outputs
+        = ap (λ (it : Setting). length (run it rest.new.furthest).outputs) (ap (λ (s : SessionValue). s.setting) is ∙ same) in
+        let all = more-given setting new.furthest rest.new.furthest (omega (arith, far, past, most)) in
+        omega (arith, there, all, given, some_due)
+
+  -- ---- at a line, and on the way to the end
+
+  record HeldUpAt (found : Option (Result Command NoCommand)) : Type 0 where
+    pub no_more : length (given_by old) ≤ length taken
+    pub text : List ℕ
+    pub next : SessionValue
+    pub tells : TellsOf found old text next
+    pub more : length taken < length (given_by next)
+
+  at-line : (found : Option (Result Command NoCommand)) → RefusedOf took refused found old sink new later → HeldUpAt found
+  at-line None refusal = absurd refusal
+  at-line (Some asked) (inl refusal) = none-offered refusal
+  at-line (Some asked) (inr refusal) =
+      let held = refusal.held_up in
+      let gone = held.held_up in
+      let rest = comes-to-rest (cleared old) held.motion in
+      let answer = answers.Moved (ending_of rest.why) in
+      let moved : Performed takes_all (cleared old) held.command (Some held.motion) tt answer rest.new tt
+      = record { why = rest.why; travelled = rest.travelled; answer_is = refl } in
+      let done : Obeyed takes_all (cleared old) (Ok held.command) tt answer rest.new tt
+      = subst (λ found. Performed takes_all (cleared old) held.command found tt answer rest.new tt) (sym held.motion_is) moved in
+      record {
+        no_more = less-told held.motion refusal.between gone;
+        text = answer_text rest.new answer;
+        next = rest.new;
+        tells = record {
+          answer = answer;
+          obeyed = subst (λ it. Obeyed takes_all (cleared old) it tt answer rest.new tt) (sym held.asked_is) done;
+          text_is = refl;
+        };
+        more = gives-more held.motion refusal.between gone;
+      }
+
+  at-end : IsOfferRefused took refused old sink new later ⊎ IsFinishRefused took refused old sink new later
+      → length (given_by old) ≤ length taken
+  at-end (inl refusal) = none-offered refusal
+  at-end (inr gone) =
+      let most : new.furthest ≡ max old.furthest new.index = ap (λ (s : SessionValue). s.furthest) gone.session in
+      let far : new.furthest ≡ new.index = omega (arith, most, gone.index, gone.fresh) in
+      no-more gone.taken (omega (arith, far, gone.index, gone.fresh))
+      (ap (λ n. outputs_between old.setting old.furthest n) far
+      ∙ ap (λ xs. xs ++ outputs_between old.setting old.furthest new.index) (sym (nothing-given old clear)) ∙ gone.parts)
+
+  -- the next line, if there is one, gives more
+  record HeldUpIn (lines : List (List ℕ)) : Type 0 where
+    pub no_more : length (given_by old) ≤ length taken
+    pub next : FirstGivesMore lines old taken
+
+  held-up-in : (lines : List (List ℕ)) → RefusedAt took refused lines old sink new later → HeldUpIn lines
+  held-up-in [] refusal = record { no_more = at-end refusal; next = tt }
+  held-up-in (line ∷ more) refusal =
+      let here = at-line (command_of line) refusal in
+      record { no_more = here.no_more; next = record { text = here.text; new = here.next; tells = here.tells; more = here.more } }
+
+-- ---- a whole session
+
+module _ {S W : Type 0} (took refused : S → Output → S → Type 0) (wrote : W → List ℕ → W → Type 0) (lines : List (List ℕ))
+    (old new : Scene S W) (fresh : old.session ≡ begun old.session.setting 0)
+    (held : IsWatchRefused took refused wrote lines old new) where
+  pub told-up-to : ToldUpTo old.session.setting lines held.taken held.told
+  told-up-to =
+      let setting = old.session.setting in
+      let none : old.session.due ≡ nothing_due = ap (λ (s : SessionValue). s.due) fresh in
+      let clear = lines-clear held.before old.session held.between held.told held.lines none in
+      let left : 0 < length (due_outputs new.session) =
+      let first = ap length (sym held.left_is ∙ held.refuses.left_is) in omega (arith, first) in
+      let here =
+      held-up-in took refused setting held.taken held.between new.session held.sink_between new.sink clear held.gave.given.setting
+      (all-given setting old.session new.session held.taken fresh held.given) left held.after held.refusal in
+      record {
+        before = held.before;
+        after = held.after;
+        parts = held.parts;
+        left = held.between;
+        tells = subst (λ (s : SessionValue). TellsAll held.before s held.told held.between) fresh held.lines;
+        no_more = here.no_more;
+        next = here.next;
+      }
+
+-- where all lines were told, and the run came to its end, all outputs are enough
+pub all-told : (lines : List (List ℕ)) (old left : SessionValue) (told : List ℕ) → old ≡ begun old.setting 0
+    → TellsAll lines old told left → ToldUpTo old.setting lines (whole_run old.setting).outputs told
+all-told lines old left told fresh tells =
+    let here : length (given_by left) ≡ length (run old.setting left.furthest).outputs
+    = ap (λ (it : Setting). length (run it left.furthest).outputs) (lines-setting lines old left told tells) in
+    let all = none-past-all old.setting left.furthest in
+    record {
+      before = lines;
+      after = [];
+      parts = sym (append-nil lines);
+      left = left;
+      tells = subst (λ (s : SessionValue). TellsAll lines s told left) fresh tells;
+      no_more = omega (arith, here, all);
+      next = tt;
+    }

@@ -1,0 +1,340 @@
+-- Each motion comes to rest, and each command is answered: so all lines tell something.
+use Rattle.std.proofs.Common.{◌≡◌, ℕ, zero, suc, ◌+◌, ◌-◌, ◌*◌, ◌==◌, ◌<◌, ◌≤◌, nat_le, nat_lt, Bool, true, false, not, ◌&&◌, ◌||◌, is_none}
+use Rattle.std.proofs.Common.{is_some, filter, Option, None, Some, Result, Ok, Err, List, [], ◌∷◌, ◌++◌, length, refl, sym, ap, subst, ◌∙◌}
+use Rattle.std.proofs.Common.{length-append, arith}
+use Rattle.std.proofs.lemmas.Bool.Decides.{nat_tests}
+use Rattle.std.proofs.lemmas.List.Filters.{length-filter_both}
+use mathlib.Core.Logic.{inl, inr}
+use Rattle.pac_cpu.specs.declared.once.Stop.{Stop}
+use Rattle.pac_step.specs.BoardView.{BoardView, power_on}
+use Rattle.pac_step.specs.Output.{Output}
+use Rattle.pac_step.specs.Step.{Next, Goes, Ends}
+use Rattle.pac_step.specs.Trace.{by_view, frame_steps}
+use Rattle.pac_step.specs.Walk.{Walk, after_step, onward_if, has_ended}
+use Rattle.pac_step.proofs.Runs.{runs-end}
+use Rattle.pac_step.proofs.Walks.{ended-for-good, not-both}
+use Rattle.pac_inputs.specs.Stretches.{total}
+use Rattle.pac_debug_text.specs.declared.command.Command.{Command}
+use Rattle.pac_debug_text.specs.declared.command.Command.TheVariants as commands
+use Rattle.pac_debug_text.specs.declared.command.NoCommand.{NoCommand}
+use Rattle.pac_debug_text.specs.declared.place.Ending.TheVariants as endings
+use Rattle.pac_debug_text.specs.declared.refusal.Refusal.TheVariants as refusals
+use Rattle.pac_debug_text.specs.Commands.{command_of}
+use Rattle.pac_debug_text.specs.Slots.{slot_index}
+use Rattle.pac_session.specs.declared.motion.Ending.{Ending}
+use Rattle.pac_session.specs.declared.motion.Ending.TheVariants.{AtStop, AtEnd}
+use Rattle.pac_session.specs.declared.motion.Motion.{Motion}
+use Rattle.pac_session.specs.declared.motion.Motion.TheVariants as motions
+use Rattle.pac_session.specs.Motions.{RestsBy, HasTravelled, rests, has_met, word_of, moved_to, oldest_index, back_to, kept_in}
+use Rattle.pac_session.specs.Running.{Setting, IsLeast, play_of, run, whole_run, next_from, limit, is_late, stop_in, stop_at, goes_at}
+use Rattle.pac_session.specs.Session.{SessionValue, breaks_at, has_breakpoint, without_breakpoint, most_breakpoints}
+use Rattle.pac_session.proofs.Travelled.{met-by}
+use Rattle.pac_debug.specs.declared.answer.Answer.{Answer}
+use Rattle.pac_debug.specs.declared.answer.Answer.TheVariants as answers
+use Rattle.pac_debug.specs.Answers.{ending_of, answer_text}
+use Rattle.pac_debug.specs.Obeying.{WentBack, Returned, SetsBreakpoint, Performed, Obeyed, cleared, kept_at, motion_of}
+use Rattle.pac_debug.specs.Watched.{takes_all, TellsOf, TellsAll}
+use Rattle.pac_debug.specs.Laws.{TellsSomething, AllLinesTell}
+use Rattle.pac_debug.proofs.Telling.{all-taken, told-then}
+
+-- ---- the least index
+
+record Found (test : ℕ → Bool) (from : ℕ) : Type 0 where
+  pub index : ℕ
+  pub least : IsLeast test from index
+
+module _ (test : ℕ → Bool) (from : ℕ) where
+  found-here : test from ≡ true → Found test from
+  found-here met =
+      record {
+        index = from;
+        least = record { after = omega arith; here = met; none_before = λ earlier after less. absurd (omega (arith, after, less)) };
+      }
+
+  not-before : (earlier : ℕ) (b : Bool) → nat_lt from earlier ≡ b → from ≤ earlier → test from ≡ false
+      → (suc from ≤ earlier → test earlier ≡ false) → test earlier ≡ false
+  not-before earlier true e after unmet later = later (grind (arith, nat_tests))
+  not-before earlier false e after unmet later = let same : earlier ≡ from = grind (arith, nat_tests) in ap test same ∙ unmet
+
+  found-later : test from ≡ false → Found test (suc from) → Found test from
+  found-later unmet found =
+      let least = found.least in
+      let after = least.after in
+      record {
+        index = found.index;
+        least = record {
+          after = omega (arith, after);
+          here = least.here;
+          none_before = λ earlier from_there less.
+              not-before earlier (nat_lt from earlier) refl from_there unmet (λ later. least.none_before earlier later less);
+        };
+      }
+
+  found-either : (b : Bool) → test from ≡ b → Found test (suc from) → Found test from
+  found-either true e found = found-here e
+  found-either false e found = found-later e found
+
+search-up : (test : ℕ → Bool) (n from : ℕ) → test (from + n) ≡ true → Found test from
+search-up test zero from met = let same : from ≡ from + zero = omega arith in found-here test from (ap test same ∙ met)
+search-up test (suc n) from met =
+    let same : suc from + n ≡ from + suc n = omega arith in
+    found-either test from (test from) refl (search-up test n (suc from) (ap test same ∙ met))
+
+-- ---- a run ends
+
+module _ (setting : Setting) where
+  -- where it met a stop, it meets it again
+  step-stopped : (w : Walk BoardView) (stop : Stop) (h : Next BoardView) → next_from setting w.now ≡ h → (after_step w h).stop ≡ Some stop
+      → stop_in (next_from setting (after_step w h).now) ≡ Some stop
+  step-stopped w stop (Goes now outputs kind) is e = absurd (cc)
+  step-stopped w stop (Ends other) is e = ap stop_in is ∙ e
+
+  onward-stopped : (w : Walk BoardView) (stop : Stop) (met : Option Stop) (late : Bool)
+      → (w.stop ≡ Some stop → stop_in (next_from setting w.now) ≡ Some stop)
+      → (onward_if (next_from setting) w met late).stop ≡ Some stop
+      → stop_in (next_from setting (onward_if (next_from setting) w met late).now) ≡ Some stop
+  onward-stopped w stop (Some other) late before e = before e
+  onward-stopped w stop None true before e = before e
+  onward-stopped w stop None false before e = step-stopped w stop (next_from setting w.now) refl e
+
+  stopped-there : (index : ℕ) (stop : Stop) → (run setting index).stop ≡ Some stop → stop_at setting index ≡ Some stop
+  stopped-there zero stop e = absurd (cc)
+  stopped-there (suc index) stop e =
+      let w = run setting index in
+      onward-stopped w stop w.stop (nat_le (limit setting) w.now.time) (stopped-there index stop) e
+
+  -- where it has ended it goes no further
+  over : (index : ℕ) → has_ended (limit setting) (run setting index) ≡ true → not (goes_at setting index) ≡ true
+  over index ended = by-time (is_late setting index) refl
+    where
+      by-stop : (met : Option Stop) → (run setting index).stop ≡ met → is_late setting index ≡ false → not (goes_at setting index) ≡ true
+      by-stop (Some stop) met early =
+          ap (λ late. not (not late && is_none (stop_at setting index))) early
+          ∙ ap (λ found. not (is_none found)) (stopped-there index stop met)
+      by-stop None met early =
+          not-both (sym ended ∙ ap (λ found. is_some found || is_late setting index) met ∙ early)
+
+      by-time : (late : Bool) → is_late setting index ≡ late → not (goes_at setting index) ≡ true
+      by-time true e = ap (λ late. not (not late && is_none (stop_at setting index))) e
+      by-time false e = by-stop (run setting index).stop refl e
+
+  abbrev last : ℕ
+  last = frame_steps * total setting.script
+
+  over-later : (from : ℕ) → not (goes_at setting (from + last)) ≡ true
+  over-later from =
+      let same : from + last ≡ last + from = omega arith in
+      let ended = (runs-end (by_view setting.set) (play_of setting.script) (power_on setting.switches) last).0 in
+      let stays = ended-for-good (next_from setting) (limit setting) (run setting 0).now last from (from + last) same ended in
+      over (from + last) (ap (has_ended (limit setting)) stays ∙ ended)
+
+-- ---- each motion comes to rest
+
+module _ (s : SessionValue) (motion : Motion) where
+  rests-over : (met : Bool) (index : ℕ) → not (goes_at s.setting index) ≡ true → (met || not (goes_at s.setting index)) ≡ true
+  rests-over true index ended = refl
+  rests-over false index ended = ended
+
+  record RestsSomehow (index : ℕ) : Type 0 where
+    pub why : Ending
+    pub why_is : RestsBy s motion s.index index why
+
+  stopped-by : (index : ℕ) (found : Option Stop) → stop_at s.setting index ≡ found → is_late s.setting index ≡ false
+      → has_met s motion s.index index ≡ false → not (goes_at s.setting index) ≡ true → RestsSomehow index
+  stopped-by index (Some stop) e early unmet ended =
+      record { why = AtStop stop; why_is = record { early = early; unmet = unmet; stop_is = e } }
+  stopped-by index None e early unmet ended =
+      not-both
+      (sym
+      (ap (λ late. not (not late && is_none (stop_at s.setting index))) (sym early) ∙ ended)
+      ∙ ap (λ found. not (is_none found)) e)
+
+  rests-by : (index : ℕ) (late met : Bool) → is_late s.setting index ≡ late → has_met s motion s.index index ≡ met
+      → rests s motion s.index index ≡ true → RestsSomehow index
+  rests-by index true met e f rest = record { why = AtEnd; why_is = e }
+  rests-by index false true e f rest =
+      record { why = word_of motion (breaks_at s index); why_is = met-by s motion s.index index e f }
+  rests-by index false false e f rest =
+      stopped-by index (stop_at s.setting index) refl e f (ap (λ met. met || not (goes_at s.setting index)) (sym f) ∙ rest)
+
+  pub record ComesToRest : Type 0 where
+    pub why : Ending
+    pub new : SessionValue
+    pub travelled : HasTravelled takes_all s motion tt why new tt
+
+  pub comes-to-rest : ComesToRest
+  comes-to-rest =
+      let found =
+      search-up (rests s motion s.index) (last s.setting) s.index
+      (rests-over (has_met s motion s.index (s.index + last s.setting)) (s.index + last s.setting) (over-later s.setting s.index)) in
+      let index = found.index in
+      let rest = rests-by index (is_late s.setting index) (has_met s motion s.index index) refl refl found.least.here in
+      record {
+        why = rest.why;
+        new = moved_to s index;
+        travelled = record { rest = found.least; why_is = rest.why_is; session = refl; sink_is = all-taken _ };
+      }
+
+-- ---- each command is answered
+
+record IsDone (old : SessionValue) (asked : Result Command NoCommand) : Type 0 where
+  pub answer : Answer
+  pub new : SessionValue
+  pub obeyed : Obeyed takes_all old asked tt answer new tt
+  pub few : length new.breakpoints ≤ most_breakpoints
+
+record GoesBack (old : SessionValue) (count : ℕ) : Type 0 where
+  pub answer : Answer
+  pub new : SessionValue
+  pub went : WentBack old count answer new
+  pub breakpoints : new.breakpoints ≡ old.breakpoints
+
+goes-back : (old : SessionValue) (count : ℕ) → GoesBack old count
+goes-back old count =
+    choose (nat_le count old.index) (nat_le (oldest_index old.furthest) (old.index - count)) refl refl
+  where
+    choose : (enough kept : Bool) → nat_le count old.index ≡ enough → nat_le (oldest_index old.furthest) (old.index - count) ≡ kept
+        → GoesBack old count
+    choose true true e f =
+        record {
+          answer = answers.Moved endings.Back;
+          new = back_to old (old.index - count);
+          went = record { enough = grind (arith, nat_tests); kept = grind (arith, nat_tests); session = refl };
+          breakpoints = refl;
+        }
+    choose false kept e f =
+        record {
+          answer = answers.Refused (refusals.TooFarBack (oldest_index old.furthest));
+          new = old;
+          went = record { older = inl (grind (arith, nat_tests)); oldest_is = refl; session = refl };
+          breakpoints = refl;
+        }
+    choose true false e f =
+        record {
+          answer = answers.Refused (refusals.TooFarBack (oldest_index old.furthest));
+          new = old;
+          went = record { older = inr (grind (arith, nat_tests)); oldest_is = refl; session = refl };
+          breakpoints = refl;
+        }
+
+record ComesBack (old : SessionValue) (kept : Option ℕ) : Type 0 where
+  pub answer : Answer
+  pub new : SessionValue
+  pub returned : Returned old kept answer new
+  pub breakpoints : new.breakpoints ≡ old.breakpoints
+
+comes-back : (old : SessionValue) (kept : Option ℕ) → ComesBack old kept
+comes-back old (Some index) =
+    record { answer = answers.Moved endings.Return; new = record old { index = index }; returned = (refl, refl); breakpoints = refl }
+comes-back old None = record { answer = answers.Refused refusals.EmptySlot; new = old; returned = (refl, refl); breakpoints = refl }
+
+record IsSetOrRefused (old : SessionValue) (address : ℕ) (is_set : Bool) : Type 0 where
+  pub answer : Answer
+  pub new : SessionValue
+  pub sets : SetsBreakpoint old address is_set answer new
+  pub few : length new.breakpoints ≤ most_breakpoints
+
+sets-breakpoint : (old : SessionValue) (address : ℕ) (is_set room : Bool) → nat_lt (length old.breakpoints) most_breakpoints ≡ room
+    → length old.breakpoints ≤ most_breakpoints → IsSetOrRefused old address is_set
+sets-breakpoint old address true room e few = record { answer = answers.Done; new = old; sets = (refl, refl); few = few }
+sets-breakpoint old address false true e few =
+    let less : length old.breakpoints < most_breakpoints = grind (arith, nat_tests) in
+    record {
+      answer = answers.Done;
+      new = record old { breakpoints = old.breakpoints ++ address ∷ [] };
+      sets = (less, refl);
+      few = let long = length-append old.breakpoints (address ∷ []) in omega (arith, less, long);
+    }
+sets-breakpoint old address false false e few =
+    let full : length old.breakpoints ≡ most_breakpoints = grind (arith, nat_tests) in
+    record { answer = answers.Refused refusals.NoRoom; new = old; sets = (full, refl); few = few }
+
+fewer : (address : ℕ) (list : List ℕ) → length (filter (λ other. not (other == address)) list) ≤ length list
+fewer address list =
+    let both = length-filter_both (λ other. not (other == address)) (λ other. not (not (other == address))) (λ other. refl) list in
+    omega (arith, both)
+
+moves-on : (old : SessionValue) (command : Command) (motion : Motion) → motion_of command ≡ Some motion
+    → length old.breakpoints ≤ most_breakpoints → IsDone old (Ok command)
+moves-on old command motion is few =
+    let gone = comes-to-rest old motion in
+    record {
+      answer = answers.Moved (ending_of gone.why);
+      new = gone.new;
+      obeyed = subst (λ found. Performed takes_all old command found tt (answers.Moved (ending_of gone.why)) gone.new tt) (sym is)
+          (record { why = gone.why; travelled = gone.travelled; answer_is = refl });
+      few = subst (λ (s : SessionValue). length s.breakpoints ≤ most_breakpoints) (sym gone.travelled.session) few;
+    }
+
+does : (old : SessionValue) (command : Command) → length old.breakpoints ≤ most_breakpoints → IsDone old (Ok command)
+does old (commands.Step count) few = moves-on old (commands.Step count) (motions.Steps count) refl few
+does old commands.Continue few = moves-on old commands.Continue motions.Continue refl few
+does old (commands.Frames count) few = moves-on old (commands.Frames count) (motions.Frames count) refl few
+does old (commands.Back count) few =
+    let back = goes-back old count in
+    record {
+      answer = back.answer;
+      new = back.new;
+      obeyed = (back.went, refl);
+      few = subst (λ list. length list ≤ most_breakpoints) (sym back.breakpoints) few;
+    }
+does old (commands.Return slot) few =
+    let back = comes-back old (kept_at old (slot_index slot)) in
+    record {
+      answer = back.answer;
+      new = back.new;
+      obeyed = (back.returned, refl);
+      few = subst (λ list. length list ≤ most_breakpoints) (sym back.breakpoints) few;
+    }
+does old (commands.Keep slot) few =
+    record { answer = answers.Done; new = kept_in old (slot_index slot); obeyed = ((refl, refl), refl); few = few }
+does old (commands.Break at) few =
+    let set_is = sets-breakpoint old at (has_breakpoint old at) (nat_lt (length old.breakpoints) most_breakpoints) refl few in
+    record { answer = set_is.answer; new = set_is.new; obeyed = (set_is.sets, refl); few = set_is.few }
+does old (commands.Unbreak at) few =
+    let less = fewer at old.breakpoints in
+    record { answer = answers.Done; new = without_breakpoint old at; obeyed = ((refl, refl), refl); few = omega (arith, less, few) }
+does old commands.Regs few = record { answer = answers.Registers; new = old; obeyed = ((refl, refl), refl); few = few }
+does old (commands.Mem at count) few = record { answer = answers.Bytes at count; new = old; obeyed = ((refl, refl), refl); few = few }
+does old (commands.Dis at count) few =
+    record { answer = answers.Instructions at count; new = old; obeyed = ((refl, refl), refl); few = few }
+does old (commands.History count) few = record { answer = answers.Steps count; new = old; obeyed = ((refl, refl), refl); few = few }
+
+-- ---- lines
+
+record LineTells (found : Option (Result Command NoCommand)) (old : SessionValue) : Type 0 where
+  pub text : List ℕ
+  pub new : SessionValue
+  pub tells : TellsOf found old text new
+  pub few : length new.breakpoints ≤ most_breakpoints
+
+line-tells : (found : Option (Result Command NoCommand)) (old : SessionValue) → length old.breakpoints ≤ most_breakpoints
+    → LineTells found old
+line-tells None old few = record { text = []; new = old; tells = (refl, refl); few = few }
+line-tells (Some (Err none)) old few =
+    record {
+      text = answer_text (cleared old) (answers.Refused refusals.NoCommand);
+      new = cleared old;
+      tells = record { answer = answers.Refused refusals.NoCommand; obeyed = (refl, refl, refl); text_is = refl };
+      few = few;
+    }
+line-tells (Some (Ok command)) old few =
+    let done = does (cleared old) command few in
+    record {
+      text = answer_text done.new done.answer;
+      new = done.new;
+      tells = record { answer = done.answer; obeyed = done.obeyed; text_is = refl };
+      few = done.few;
+    }
+
+pub all-lines-tell : AllLinesTell
+all-lines-tell [] old few = record { text = []; new = old; tells = (refl, refl); few = few }
+all-lines-tell (line ∷ more) old few =
+    let first = line-tells (command_of line) old few in
+    let rest = all-lines-tell more first.new first.few in
+    record {
+      text = first.text ++ rest.text;
+      new = rest.new;
+      tells = told-then line more old first.new rest.new first.text rest.text first.tells rest.tells;
+      few = rest.few;
+    }
