@@ -19,6 +19,7 @@ pub fn load<B: Bus>(to: Place, from: Place, instr: &Instr, regs: &mut Regs, bus:
 }
 
 /// A load of a byte, by its function; the time in T-states.
+#[inline(always)]
 #[tactic(auto, unfolding(crate::specs::ByteLoads::byte_load_effect))]
 pub fn perform_byte_load<B: Bus>(with: ByteLoad, instr: &Instr, regs: &mut Regs, bus: &mut B) -> u8
     ensures { Did B.after (byte_load_effect with instr.now regs.old (B.byte_at bus.old)) bus.old regs.new bus.new result }

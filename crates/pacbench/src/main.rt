@@ -6,6 +6,7 @@ use pac_asm::assemble;
 use pac_listing::write_listing;
 use pac_out::counted::Counted;
 use pac_out::memory::Memory;
+use pacbench_common::rounds;
 use std::alloc::{AllocError, Global};
 use std::io;
 use std::process::ExitCode;
@@ -84,17 +85,9 @@ fn measure(rt: &HostRuntime, name: &str, source: &[u8], rounds: u32) -> io::Resu
     Ok(())
 }
 
-/// The count of rounds that the program's word asks for.
-fn rounds(rt: &HostRuntime) -> io::Result<u32> {
-    match std::env::args(rt)?.nth(1) {
-        Some(word) => Ok(word.parse::<u32>().unwrap_or(1).clamp(1, 9)),
-        None => Ok(1),
-    }
-}
-
 /// Both sources.
 fn run(rt: &HostRuntime) -> io::Result<()> {
-    let rounds = rounds(rt)?;
+    let rounds = rounds(rt)?.unwrap_or(1);
     measure(rt, "labels", &labels(rt.alloc())?, rounds)?;
     measure(rt, "expressions", &expressions(rt.alloc())?, rounds)
 }

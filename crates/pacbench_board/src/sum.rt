@@ -4,6 +4,7 @@ ghost use Rattle.std.specs.Prelude.{◌≡◌};
 
 use pac_board::{Refused, Sink};
 use pac_picture::Picture;
+use pacbench_common::summed;
 
 /// What a round came to.
 #[derive(Clone, Copy)]
@@ -22,18 +23,12 @@ pub struct Sum {
     pub picture: u64,
 }
 
-/// A sum with one more number, in which the order tells.
-#[inline]
-pub fn mixed(sum: u64, number: u64) -> u64 {
-    sum.rotate_left(5) ^ number
-}
-
 /// A sum over a picture's lines.
 fn picture_sum(picture: &Picture) -> u64 {
     let mut sum = 0;
     for y in 0..224u8 {
         for number in picture.row(y).iter() {
-            sum = mixed(sum, u64::from(*number));
+            sum = summed(sum, u64::from(*number));
         }
     }
     sum
@@ -61,7 +56,7 @@ impl Sink for Sum {
     /// Counts a sample.
     fn sample(&mut self, sample: i16) -> Result<(), Refused> {
         self.samples = self.samples.saturating_add(1);
-        self.sound = mixed(self.sound, (sample as i32 + 32768) as u64);
+        self.sound = summed(self.sound, (sample as i32 + 32768) as u64);
         Ok(())
     }
 

@@ -1,8 +1,12 @@
-//! The program that is measured, as a source.
+//! The program that is measured, as a source and assembled.
+
+use pac_asm::assemble;
+use pac_program::Program;
+use std::alloc::{AllocError, Global};
 
 /// The mixed program: arithmetic, loads and calls, all of tile RAM rewritten about once a frame, sound in three voices, eight
 /// sprites that move, and an interrupt a frame that kicks the watchdog.
-pub const SOURCE: &[u8] = b"
+const SOURCE: &[u8] = b"
 TILES   EQU 4000H               ; tile RAM, and the page after it
 COLOURS EQU 4400H
 COLOUR_PAGE EQU 44H
@@ -128,3 +132,11 @@ WAVE:   DEFB 0,0,0,0,0,1,0,0,0,0,2,0,0,0,0,3
 LOOK:   DEFB 4,1,9,2,14,3,19,4,24,5,29,6,34,7,39,8
 PLACE:  DEFB 40,60,60,80,80,100,100,120,120,140,140,160,160,180,180,200
 ";
+
+/// The mixed program, assembled.
+pub fn mixed_program(alloc: Global) -> Result<Program, AllocError> {
+    match assemble(alloc, SOURCE) {
+        Ok(program) => Ok(program),
+        Err(_) => Err(AllocError),
+    }
+}
