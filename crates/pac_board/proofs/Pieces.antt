@@ -1,6 +1,6 @@
 -- Time in pieces, refusals, and steps that are done again.
-use Rattle.std.proofs.Common.{◌≡◌, ℕ, ◌+◌, ◌-◌, ◌≤◌, List, ◌++◌}
-use Rattle.std.proofs.Common.{sym, ap, subst, ◌∙◌, append_assoc, arith}
+use Rattle.std.proofs.Common.{◌≡◌, ℕ, zero, suc, ◌+◌, ◌-◌, ◌≤◌, List, ◌++◌}
+use Rattle.std.proofs.Common.{sym, ap, subst, ◌∙◌, append_assoc, append-nil, arith}
 use Rattle.pac_step.specs.BoardView.{BoardView}
 use Rattle.pac_step.specs.Output.{Output}
 use Rattle.pac_step.specs.Step.{Moment, step}
@@ -9,10 +9,10 @@ use Rattle.pac_step.specs.Walk.{Walk, walk_to}
 use Rattle.pac_step.proofs.Walks.{goes-on, walks-joined, joined, step-timely}
 use Rattle.pac_roms.specs.Parts.{Parts}
 use Rattle.pac_board.specs.declared.due.Due.{Due}
-use Rattle.pac_board.specs.State.{BoardValue, due_outputs, nothing_due, time_of, counted}
-use Rattle.pac_board.specs.Calls.{next_at, with_due, course_at, course, brought, ran}
+use Rattle.pac_board.specs.State.{BoardValue, due_in, due_outputs, nothing_due, time_of, counted}
+use Rattle.pac_board.specs.Calls.{next_at, with_due, course_at, course, given, brought, ran, IsRunRefused}
 use Rattle.pac_board.proofs.Walked.{walked-after}
-use Rattle.pac_board.specs.Laws.{IsTakenUp, TimeCanBeCut, RefusalsAreTakenUp, StepsAreDoneAgain}
+use Rattle.pac_board.specs.Laws.{IsTakenUp, AreRefused, TimeCanBeCut, RefusalsAreTakenUp, StepsAreDoneAgain}
 
 -- ---- sums
 
@@ -24,6 +24,11 @@ counted-twice made from middle end less more = omega arith
 -- the time of more microseconds is no earlier
 time-later : (asked more : ℕ) → time_of asked ≤ time_of (asked + more)
 time-later asked more = omega arith
+
+-- T-states in two parts
+sum-of-times : (from middle last whole : ℕ) → from ≤ middle → middle ≤ last → last ≡ whole
+    → (middle - from) + (last - middle) ≡ whole - from
+sum-of-times from middle last whole less more same = omega arith
 
 -- ---- a call goes on where another ended
 
@@ -80,6 +85,11 @@ time-cut board first second =
           append_assoc (due_outputs board) c.outputs d.outputs
           ∙ ap (λ (walked : Walk BoardView). due_outputs board ++ walked.outputs) whole;
       stop_is = ap (λ (walked : Walk BoardView). walked.stop) whole;
+      ticks =
+          sum-of-times from.time c.now.time d.now.time (course board (first + second)).now.time
+          (walked-after next (time_of (asked + first)) timely from (time_of (asked + first))).time
+          (walked-after next (time_of (asked + first + second)) timely c.now (time_of (asked + first + second))).time
+          (ap (λ (walked : Walk BoardView). walked.now.time) whole);
     }
 
 -- from a board that a refusal left
@@ -116,13 +126,48 @@ taken-up old microseconds tries due taken parts =
       stop_is = ap (λ (walked : Walk BoardView). walked.stop) whole;
     }
 
-pub refusals-taken-up : {S : Type 0} (took refused : S → Output → S → Type 0) → RefusalsAreTakenUp took refused
-refusals-taken-up took refused old new microseconds sink later refusal =
+once-taken-up : {S : Type 0} (took refused : S → Output → S → Type 0) (old new : BoardValue) (microseconds : ℕ) (sink later : S)
+    → (refusal : IsRunRefused took refused old microseconds sink new later) → IsTakenUp old new microseconds refusal.taken
+once-taken-up took refused old new microseconds sink later refusal =
     let w = course_at old microseconds refusal.steps in
     subst
     (λ (board : BoardValue). due_outputs old ++ w.outputs ≡ refusal.taken ++ due_outputs board
     → IsTakenUp old board microseconds refusal.taken)
     (sym refusal.board) (taken-up old microseconds refusal.steps new.state.due refusal.taken) refusal.parts
 
+-- and from one that a further refusal left
+taken-up-again : (old middle new : BoardValue) (microseconds : ℕ) (before more : List Output)
+    → IsTakenUp old middle microseconds before → IsTakenUp middle new 0 more → IsTakenUp old new microseconds (before ++ more)
+taken-up-again old middle new microseconds before more first second = record {
+  board_is = second.board_is ∙ first.board_is;
+  given_is = append_assoc before more (given new 0) ∙ ap (λ xs. before ++ xs) second.given_is ∙ first.given_is;
+  stop_is = second.stop_is ∙ first.stop_is;
+}
+
+module _ {S : Type 0} (took refused : S → Output → S → Type 0) (old : BoardValue) (microseconds : ℕ) where
+  all-taken-up : (calls : ℕ) (middle new : BoardValue) (before more : List Output) (between later : S)
+      → IsTakenUp old middle microseconds before → AreRefused took refused calls middle between new later more
+      → IsTakenUp old new microseconds (before ++ more)
+  all-taken-up zero middle new before more between later first none =
+      subst (λ xs. IsTakenUp old new microseconds (before ++ xs)) (sym none.2)
+      (subst (λ xs. IsTakenUp old new microseconds xs) (sym (append-nil before))
+      (subst (λ (board : BoardValue). IsTakenUp old board microseconds before) (sym none.0) first))
+  all-taken-up (suc calls) middle new before more between later first again =
+      let one = once-taken-up took refused middle again.between 0 between again.middle again.first in
+      let joined = taken-up-again old middle again.between microseconds before again.first.taken first one in
+      let all =
+      all-taken-up calls again.between new (before ++ again.first.taken) again.more again.middle later joined again.after in
+      subst (λ xs. IsTakenUp old new microseconds xs)
+      (append_assoc before again.first.taken again.more ∙ ap (λ xs. before ++ xs) (sym again.taken_is)) all
+
+pub refusals-taken-up : {S : Type 0} (took refused : S → Output → S → Type 0) → RefusalsAreTakenUp took refused
+refusals-taken-up took refused old new microseconds calls sink later taken call =
+    let one = once-taken-up took refused old call.between microseconds sink call.middle call.first in
+    let all = all-taken-up took refused old microseconds calls call.between new call.first.taken call.more call.middle later one call.after in
+    subst (λ xs. IsTakenUp old new microseconds xs) (sym call.taken_is) all
+
 pub steps-done-again : StepsAreDoneAgain
-steps-done-again board other same = ap (λ (set : Parts). next_at set board.state.now) same
+steps-done-again board other same = record {
+  next_is = ap (λ (set : Parts). next_at set board.state.now) same;
+  due_is = ap (λ (set : Parts). due_in set board.state.now.board board.state.due) same;
+}

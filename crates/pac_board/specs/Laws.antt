@@ -1,21 +1,43 @@
 -- Laws of the calls, each proved on a public function of the crate.
-use Rattle.std.specs.Prelude.{◌≡◌, ℕ, ◌+◌, List, ◌++◌}
-use Rattle.pac_step.specs.BoardView.{BoardView}
+use Rattle.std.specs.Prelude.{◌≡◌, ℕ, zero, suc, ◌+◌, ◌-◌, List, [], ◌++◌}
 use Rattle.pac_step.specs.Output.{Output}
-use Rattle.pac_board.specs.State.{BoardValue, State, due_outputs, restored}
-use Rattle.pac_board.specs.Calls.{course, given, ran, next_of, stepped, outputs_in, IsRunRefused}
+use Rattle.pac_board.specs.State.{BoardValue, due_outputs, restored}
+use Rattle.pac_board.specs.Calls.{course, given, ran, next_of, IsRunRefused}
+
+-- the T-states that a call for so many microseconds takes
+abbrev pub ticks_of : BoardValue → ℕ → ℕ
+ticks_of board microseconds = (ran board microseconds).state.now.time - board.state.now.time
 
 -- Time in pieces is time at once: the board is the same, what is given is the same in the same order, and the ticks add up.
 pub record IsCut (board : BoardValue) (first second : ℕ) : Type 0 where
   pub board_is : ran (ran board first) second ≡ ran board (first + second)
+  pub ticks : ticks_of board first + ticks_of (ran board first) second ≡ ticks_of board (first + second)
   pub given_is : given board first ++ given (ran board first) second ≡ given board (first + second)
   pub stop_is : (course (ran board first) second).stop ≡ (course board (first + second)).stop
 
 abbrev pub TimeCanBeCut : Type 0
 TimeCanBeCut = (board : BoardValue) (first second : ℕ) → IsCut board first second
 
--- After a refusal, a call for no time goes on: where the sink takes all then, the board is what the refused call would have left,
--- and the outputs of both are those that it would have given.
+-- A call was refused, and then came others; what the sink took in all of them.
+pub record IsRefusedThen {S : Type 0} (took refused : S → Output → S → Type 0) (old : BoardValue) (microseconds : ℕ) (sink : S)
+    (others : BoardValue → S → List Output → Type 0) (taken : List Output)
+    : Type 0 where
+  pub between : BoardValue
+  pub middle : S
+  pub first : IsRunRefused took refused old microseconds sink between middle
+  pub more : List Output
+  pub after : others between middle more
+  pub taken_is : taken ≡ first.taken ++ more
+
+-- so many calls for no time were refused, one after another
+abbrev pub AreRefused : {S : Type 0} → (S → Output → S → Type 0) → (S → Output → S → Type 0)
+    → (calls : ℕ) → BoardValue → S → BoardValue → S → List Output → Type 0
+AreRefused took refused zero old sink new later taken = (new ≡ old) × (later ≡ sink) × (taken ≡ [])
+AreRefused took refused (suc calls) old sink new later taken =
+    IsRefusedThen took refused old 0 sink (λ between middle more. AreRefused took refused calls between middle new later more) taken
+
+-- After a refusal, calls for no time go on, however many of them are refused too: the first that isn't leaves the board that the
+-- refused call would have left, and the outputs of all of them are those that it would have given.
 pub record IsTakenUp (old new : BoardValue) (microseconds : ℕ) (taken : List Output) : Type 0 where
   pub board_is : ran new 0 ≡ ran old microseconds
   pub given_is : taken ++ given new 0 ≡ given old microseconds
@@ -23,9 +45,15 @@ pub record IsTakenUp (old new : BoardValue) (microseconds : ℕ) (taken : List O
 
 abbrev pub RefusalsAreTakenUp : {S : Type 0} → (S → Output → S → Type 0) → (S → Output → S → Type 0) → Type 0
 RefusalsAreTakenUp {S} took refused =
-    (old new : BoardValue) (microseconds : ℕ) (sink later : S)
-    → (refusal : IsRunRefused took refused old microseconds sink new later) → IsTakenUp old new microseconds refusal.taken
+    (old new : BoardValue) (microseconds calls : ℕ) (sink later : S) (taken : List Output)
+    → IsRefusedThen took refused old microseconds sink
+    (λ between middle more. AreRefused took refused calls between middle new later more) taken
+    → IsTakenUp old new microseconds taken
 
--- A step that is done again after its board was put back comes to the same.
+-- A step that is done again after its board was put back comes to the same, and what is due then is what was due before it.
+pub record IsDoneAgain (board other : BoardValue) : Type 0 where
+  pub next_is : next_of (restored other board.state) ≡ next_of board
+  pub due_is : due_outputs (restored other board.state) ≡ due_outputs board
+
 abbrev pub StepsAreDoneAgain : Type 0
-StepsAreDoneAgain = (board other : BoardValue) → other.set ≡ board.set → next_of (restored other board.state) ≡ next_of board
+StepsAreDoneAgain = (board other : BoardValue) → other.set ≡ board.set → IsDoneAgain board other

@@ -30,7 +30,7 @@ pub struct Board {
 }
 
 impl Model for Board {
-    ghost use Rattle.std.specs.Prelude.{◌≤◌, ◌<◌, ◌^◌};
+    ghost use Rattle.std.specs.Prelude.{◌≤◌};
     ghost use Rattle.pac_board.specs.State.{BoardValue, most_asked};
 
     ghost Value = { BoardValue };

@@ -1,6 +1,6 @@
 //! The calls that make steps, and offer what they give to a sink.
 
-ghost use Rattle.std.specs.Prelude.{◌≡◌, ℕ, ◌<◌, ◌≤◌, ◌^◌, []};
+ghost use Rattle.std.specs.Prelude.{◌≡◌, ◌<◌, ◌≤◌, ◌^◌, []};
 ghost use Rattle.pac_board.specs.State.{latest, due_outputs};
 ghost use Rattle.pac_board.specs.Calls.{counted_once, Offers, Advanced, Advances, StepsOnce, Runs};
 ghost use Rattle.pac_board.specs.Turns.{Turns, GoesTo};
@@ -79,11 +79,19 @@ impl Board {
         ensures { Turns S.took S.refused self.old sink.old result self.new sink.new }
     {
         let once = self.go();
-        let is_due = self.due.is_some();
-        if is_due {
-            self.offer(sink)?;
-        }
+        self.give(sink)?;
         Ok(once)
+    }
+
+    /// The offer of what is due, where anything is; after most steps nothing is.
+    #[inline(always)]
+    fn give<S: Sink>(&mut self, sink: &mut S) -> Result<(), Refused>
+        ensures { Offers S.took S.refused self.old sink.old result self.new sink.new }
+    {
+        if !self.due.is_some() {
+            return Ok(());
+        }
+        self.offer(sink)
     }
 
     /// Offers what is due, does one step, and offers what it gives.

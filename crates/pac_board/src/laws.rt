@@ -4,17 +4,17 @@ ghost use Rattle.pac_board.specs.Laws.{TimeCanBeCut, RefusalsAreTakenUp, StepsAr
 
 use crate::sink::Sink;
 
-/// Time in pieces is time at once.
+/// Time in pieces is time at once, and the T-states of the pieces add up.
 pub fn time_can_be_cut()
     ensures { TimeCanBeCut }
 {}
 
-/// After a refusal, calls for no time leave what a call that isn't refused leaves.
+/// After a refusal, calls for no time, however many of them are refused too, leave what a call that isn't refused leaves.
 pub fn refusals_are_taken_up<S: Sink>()
     ensures { RefusalsAreTakenUp S.took S.refused }
 {}
 
-/// A step that is done again after a board's state was put back gives its outputs again.
+/// A step that is done again after a board's state was put back gives its outputs again, and what was due then is due again.
 pub fn steps_are_done_again()
     ensures { StepsAreDoneAgain }
 {}

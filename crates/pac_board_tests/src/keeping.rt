@@ -27,7 +27,7 @@ fn a_board_of_fields(rt: HostRuntime) -> Result<(), Fail> {
     let fields = old.fields();
     assert_eq!(rt; (fields.time, fields.steps, fields.asked), (0, 0, 0));
     assert_eq!(rt; fields.memory.switches, 0xC9);
-    let new = board_with(rt.alloc(), &CELL, &fields)?;
+    let new = board_with(rt.alloc(), &[(0, &CELL)], &fields)?;
     assert_eq!(rt; place(&new), place(&old));
     Ok(())
 }

@@ -1,6 +1,6 @@
 //! Programs whose steps, times and stops were worked out by hand from the manual, the schematics and this profile.
 
-use crate::set::{FRAME, SWITCHES, board, board_of, place, run};
+use crate::set::{FRAME, SWITCHES, board, board_of, board_with, place, run};
 use pac_board::kept::Kept;
 use pac_cpu::{Cause, Kind, Once, Stop};
 use pac_inputs::Inputs;
@@ -199,5 +199,45 @@ fn time_in_slices(rt: HostRuntime) -> Result<(), Fail> {
     }
     assert_eq!(rt; ticks, 384);
     assert_eq!(rt; place(&sliced), (96, 384, 0x0060));
+    let mut whole = board(rt.alloc(), &[])?;
+    assert_eq!(rt; run(&mut whole, 125, &mut kept), Ok((384, None)));
+    assert_eq!(rt; place(&whole), place(&sliced));
+    assert_eq!(rt; whole.regs(), sliced.regs());
+    Ok(())
+}
+
+// LD SP,4FF0H / IM 1 / LD BC,2 / LD HL,0 / LD DE,4C00H / EI / JP 0100H, and LDIR there: after its first repeat a request is
+// accepted, and where none stands the second one follows.
+#[test]
+fn a_request_between_two_repeats(rt: HostRuntime) -> Result<(), Fail> {
+    let bytes = [
+        0x31, 0xF0, 0x4F, 0xED, 0x56, 0x01, 0x02, 0x00, 0x21, 0x00, 0x00, 0x11, 0x00, 0x4C, 0xFB,
+        0xC3, 0x00, 0x01,
+    ];
+    let pieces: [(usize, &[u8]); 2] = [(0, &bytes), (0x100, &[0xED, 0xB0])];
+    let mut kept = Kept::new(rt.alloc(), 0);
+    let mut board = board_of(rt.alloc(), &pieces, SWITCHES)?;
+    for _ in 0..8u8 {
+        assert!(rt; board.step_once(&mut kept).is_ok());
+    }
+    assert_eq!(rt; place(&board), (8, 62 + 21, 0x0100));
+    assert_eq!(rt; (board.regs().b, board.regs().c), (0, 1));
+    let mut fields = board.fields();
+    fields.memory.requested = true;
+    let mut requested = board_with(rt.alloc(), &pieces, &fields)?;
+    let accepted = Once::Stepped {
+        ticks: 13,
+        kind: Kind::Accepted,
+    };
+    assert!(rt; requested.step_once(&mut kept) == Ok(accepted));
+    assert_eq!(rt; place(&requested), (9, 62 + 21 + 13, 0x0038));
+    assert_eq!(rt; requested.regs().sp, 0x4FEE);
+    assert_eq!(rt;
+        (requested.peek(0x4FEE), requested.peek(0x4FEF)),
+        (0x00, 0x01)
+    );
+    assert!(rt; board.step_once(&mut kept).is_ok());
+    assert_eq!(rt; place(&board), (9, 62 + 37, 0x0102));
+    assert_eq!(rt; (board.peek(0x4C00), board.peek(0x4C01)), (0x31, 0xF0));
     Ok(())
 }

@@ -111,12 +111,16 @@ pub fn board(alloc: Global, bytes: &[u8]) -> Result<Board, AllocError> {
     board_of(alloc, &[(0, bytes)], SWITCHES)
 }
 
-/// A board of these fields, whose program begins with these bytes.
-pub fn board_with(alloc: Global, bytes: &[u8], fields: &Fields) -> Result<Board, AllocError> {
+/// A board of these fields, whose program has these bytes at these addresses.
+pub fn board_with(
+    alloc: Global,
+    pieces: &[(usize, &[u8])],
+    fields: &Fields,
+) -> Result<Board, AllocError> {
     if !fields.are_in_range() {
         return Err(AllocError);
     }
-    match Board::of(alloc, set(alloc, &[(0, bytes)])?, fields) {
+    match Board::of(alloc, set(alloc, pieces)?, fields) {
         Ok(board) => Ok(board),
         Err(_) => Err(AllocError),
     }

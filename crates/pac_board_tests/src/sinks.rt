@@ -30,6 +30,7 @@ fn a_refused_picture_is_offered_again(rt: HostRuntime) -> Result<(), Fail> {
     )?;
     assert_eq!(rt; run(&mut board, 16 * FRAME, &mut kept), Err(Fault::Refused));
     assert_eq!(rt; place(&board), (202_747, 811_009, 0));
+    assert_eq!(rt; board.fields().memory.latch, 0);
     assert_eq!(rt; kept.taken().len(), 16 * 1585 - 1);
     assert!(rt; is_rectangle(board.picture(), 264..272, 216..224, 1));
     assert_eq!(rt; run(&mut board, 0, &mut kept), Ok((0, None)));

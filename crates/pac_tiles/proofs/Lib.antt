@@ -1,2 +1,1 @@
 pub mod Tabulated
-pub mod Rows

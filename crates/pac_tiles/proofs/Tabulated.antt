@@ -1,5 +1,5 @@
 -- What a list by its places is made of.
-use Rattle.std.proofs.Common.{◌≡◌, ℕ, zero, suc, ◌+◌, ◌<◌, [], ◌∷◌, ◌++◌, length, get_or, slice_index, EachIndex, refl, sym, ◌∙◌}
+use Rattle.std.proofs.Common.{◌≡◌, ℕ, zero, suc, ◌+◌, ◌<◌, [], ◌∷◌, ◌++◌, length, get_or, refl, sym, ◌∙◌}
 use Rattle.std.proofs.Common.{append_assoc, append-nil, add-zero, arith}
 use Rattle.std.proofs.lemmas.Bool.{cases_lt}
 use mathlib.Core.Logic.{inl, inr}
@@ -24,14 +24,6 @@ get_or-tabulate (suc count) value place other below =
           let last : place ≡ count = omega (arith, below, past) in
           rw last (get_or_push _ _ other count long)
     ]
-
--- what holds of each value of a function holds of each element of the list
-pub tabulate-below : (count limit : ℕ) (value : ℕ → ℕ) → ((place : ℕ) → value place < limit) →
-    EachIndex (tabulate count value) (λ place. slice_index (tabulate count value) place < limit)
-tabulate-below count limit value below =
-    λ place inside.
-    let within : place < count = rw (length-tabulate count value) at inside in
-    rw (get_or-tabulate {A = ℕ} count value place 0 within) (below place)
 
 -- the first `count` values, then `more` of them
 pub tabulate-add : {A : Type 0} (count more : ℕ) (value : ℕ → A) →

@@ -1,8 +1,7 @@
 -- The tiles of a picture (Namco Pac-Man service schematics; the order of cells and bits is this profile's). The
 -- picture is 288 pixels wide and 224 high, not rotated: 36 columns and 28 rows of cells, each of 8 by 8 pixels.
-use Rattle.std.specs.Prelude.{ℕ, ◌+◌, ◌-◌, ◌*◌, ◌/◌, ◌%◌, nat_le, nat_lt, ◌&&◌, if◌then◌else◌, List, slice_index}
+use Rattle.std.specs.Prelude.{ℕ, ◌+◌, ◌-◌, ◌*◌, ◌%◌, nat_le, nat_lt, ◌&&◌, if◌then◌else◌, List, slice_index}
 use Rattle.pac_num.specs.Pixels.{pixel_value}
-use Rattle.pac_tiles.specs.Tabulate.{tabulate}
 
 -- the picture's size in pixels
 abbrev pub width : ℕ
@@ -34,10 +33,6 @@ ram_size = 1024
 abbrev pub pixel_of : List ℕ → ℕ → ℕ → ℕ → ℕ
 pixel_of rom tile x y = pixel_value (slice_index rom (16 * tile + y + (if nat_lt x 4 then 8 else 0))) x
 
--- line y of a tile's pixels, from left to right
-abbrev pub line_of : List ℕ → ℕ → ℕ → List ℕ
-line_of rom tile y = tabulate side (λ x. pixel_of rom tile x y)
-
 -- where in tile RAM the cell of a column and a row stands: the 32 columns in the middle go through RAM row by
 -- row, the two on either side column by column
 abbrev pub offset_of : ℕ → ℕ → ℕ
@@ -45,15 +40,3 @@ offset_of column row =
     if nat_le 2 column && nat_lt column 34
     then column - 2 + 32 * (row + 2)
     else row + 2 + 32 * ((column + 30) % 32)
-
--- the value at pixel (x, y) of the picture, where tile RAM has `cell offset` at each offset
-abbrev pub dot_of : List ℕ → (ℕ → ℕ) → ℕ → ℕ → ℕ
-dot_of rom cell x y = pixel_of rom (cell (offset_of (x / side) (y / side))) (x % side) (y % side)
-
--- row y of the pixels of the picture, from left to right
-abbrev pub row_of : List ℕ → (ℕ → ℕ) → ℕ → List ℕ
-row_of rom cell y = tabulate width (λ x. dot_of rom cell x y)
-
--- the picture, row by row from the top
-abbrev pub picture_of : List ℕ → (ℕ → ℕ) → List (List ℕ)
-picture_of rom cell = tabulate height (row_of rom cell)
