@@ -1,7 +1,8 @@
 //! An instruction by UM0080's page, and the registers by its tables of r.
 
 use pac_bus::{Bus, Flat};
-use pac_exec::{Alternate, Regs, displaced, perform};
+use pac_exec::{Alternate, Regs, perform};
+use pac_num::displaced;
 use pac_table::{Instr, InterruptMode, Row, rows};
 use std::test::Fail;
 

@@ -1,7 +1,6 @@
 -- The numbers in an instruction's text (this profile): upper-case hexadecimal digits, as many as the number has, and
 -- an H; a 0 before a leading letter, so that the word reads as a number and no name.
-use Rattle.std.specs.Prelude.{ℕ, ℤ, pos, negsuc, ◌+◌, ◌-◌, ◌/◌, nat_lt, if◌then◌else◌, List, [], ◌∷◌, ◌++◌, codes}
-use Rattle.pac_num.specs.Numbers.{address}
+use Rattle.std.specs.Prelude.{ℕ, ℤ, pos, negsuc, ◌+◌, ◌/◌, nat_lt, if◌then◌else◌, List, [], ◌∷◌, ◌++◌, codes}
 use Rattle.pac_num.specs.Hexadecimal.{hex_byte, hex_word}
 
 -- a 0 before digits whose first is a letter
@@ -23,8 +22,3 @@ displacement_text (negsuc d) = codes "-" ++ byte_text (d + 1)
 -- a number below 10 as one digit
 abbrev pub digit_text : ℕ → List ℕ
 digit_text n = (48 + n) ∷ []
-
--- where a relative jump goes: so far from the address after its code, modulo 65,536
-unfoldable pub jump_target : ℕ → ℤ → ℕ
-jump_target after (pos e) = address (after + e)
-jump_target after (negsuc e) = address (after + 65535 - e)

@@ -12,9 +12,9 @@ use Rattle.pac_names.specs.declared.writing.Writing.TheVariants.{Nothing, Named,
 use Rattle.pac_names.specs.declared.writing.Writing.TheVariants.{Indexed, Number, AtNumber}
 use Rattle.pac_names.specs.Names.{operation_name, text, name_at, writing_of, written}
 use Rattle.pac_table.specs.Instructions.{Instruction, IsInstruction, operands_of, code}
-use Rattle.pac_num.specs.Numbers.{address}
+use Rattle.pac_num.specs.Numbers.{address, displaced}
 use Rattle.pac_code.specs.Codes.{Begins}
-use Rattle.pac_dis.specs.Numerals.{byte_text, word_text, digit_text, displacement_text, jump_target}
+use Rattle.pac_dis.specs.Numerals.{byte_text, word_text, digit_text, displacement_text}
 use Rattle.pac_dis.specs.Front.{front}
 
 -- the address after the code of an instruction, modulo 65,536
@@ -25,7 +25,7 @@ address_after at instruction = address (at + length (code instruction))
 abbrev pub number_text : ℕ → Instruction → NumberKind → List ℕ
 number_text at instruction kind.Byte = byte_text instruction.word
 number_text at instruction kind.Word = word_text instruction.word
-number_text at instruction kind.Target = word_text (jump_target (address_after at instruction) instruction.disp)
+number_text at instruction kind.Target = word_text (displaced (address_after at instruction) instruction.disp)
 number_text at instruction kind.Bit = digit_text instruction.p
 number_text at instruction kind.Restart = byte_text (8 * instruction.p)
 number_text at instruction (kind.Mode number) = digit_text number

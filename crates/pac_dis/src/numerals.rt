@@ -7,7 +7,7 @@ ghost use Rattle.pac_dis.specs.Texts.{longest_text};
 ghost use Rattle.arrayvec.specs.ArrayString.{array_string_len};
 
 use crate::text::{Text, put_character};
-use pac_num::{hex_byte, hex_word, offset};
+use pac_num::{hex_byte, hex_word};
 
 /// Appends the two digits of a byte.
 #[tactic(auto, unfolding(pac_num::specs::Hexadecimal::hex_byte))]
@@ -87,16 +87,4 @@ pub fn put_digit(text: &mut Text, digit: u8)
     ensures { text.new.bytes ≡ text.old.bytes ++ spec.digit_text digit }
 {
     put_character(text, b'0' + digit);
-}
-
-/// Where a relative jump goes: so far from the address after its code, modulo 65,536.
-#[tactic(auto, unfolding(crate::specs::Numerals::jump_target))]
-pub fn jump_target(after: u16, distance: i8) -> u16
-    ensures { result ≡ spec.jump_target after distance }
-{
-    if distance >= 0 {
-        offset(after, distance as u16)
-    } else {
-        offset(after, 65535 - (-(distance + 1)) as u16)
-    }
 }

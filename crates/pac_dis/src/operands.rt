@@ -9,10 +9,10 @@ ghost use Rattle.pac_dis.specs.Texts as spec;
 ghost use Rattle.pac_dis.specs.Ranges.{IsShown, ShowsEach, ShowsNumbers};
 ghost use Rattle.pac_dis.specs.Texts.{longest_text};
 
-use crate::numerals::{jump_target, put_byte, put_digit, put_displacement, put_word};
+use crate::numerals::{put_byte, put_digit, put_displacement, put_word};
 use crate::text::{Text, put_character};
 use pac_names::{Name, NumberKind, Writing, written};
-use pac_num::offset;
+use pac_num::{displaced, offset};
 use pac_table::{Instr, Shape};
 
 /// What the first field of an instruction holds.
@@ -29,7 +29,7 @@ fn put_target(text: &mut Text, at: u16, instr: &Instr)
     ensures { text.new.bytes ≡ text.old.bytes ++ spec.number_text at instr.now NumberKind.Target }
 {
     let after = offset(at, u16::from(instr.size()));
-    put_word(text, jump_target(after, instr.disp()));
+    put_word(text, displaced(after, instr.disp()));
 }
 
 /// Appends a number of an instruction whose code stands at an address.

@@ -7,8 +7,9 @@ ghost use Rattle.pac_exec.specs.Jumps.{jump_effect, jump_transition, jump_if_tra
 ghost use Rattle.pac_exec.specs.Transition.{DidInRegisters};
 
 use crate::pairs::get_pair;
-use crate::regs::{Regs, b_left, displaced};
+use crate::regs::{Regs, b_left};
 use pac_alu::Condition;
+use pac_num::displaced;
 use pac_table::{Instr, Pair};
 
 /// Whether the condition in an instruction's first field is met.

@@ -22,4 +22,4 @@ mod word_loads;
 
 pub use instructions::{perform, perform_inlined};
 pub use pairs::push_word;
-pub use regs::{Alternate, Regs, displaced};
+pub use regs::{Alternate, Regs};

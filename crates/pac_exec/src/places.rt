@@ -5,8 +5,9 @@ ghost use Rattle.pac_bus.specs.Action.{after_all};
 ghost use Rattle.pac_exec.specs.Places.{source, regs_with, writes_to, byte_put};
 ghost use Rattle.pac_exec.specs.Transition.{Did};
 
-use crate::regs::{Regs, displaced};
+use crate::regs::Regs;
 use pac_bus::Bus;
+use pac_num::displaced;
 use pac_table::{Instr, Place};
 
 /// The byte that a place gives.

@@ -3,7 +3,7 @@
 ghost use Rattle.std.specs.Prelude.{◌≡◌};
 ghost use Rattle.pac_exec.specs.Registers as registers;
 
-use pac_num::{high_byte, low_byte, offset};
+use pac_num::{high_byte, low_byte};
 use pac_table::InterruptMode;
 use std::mem::swap;
 
@@ -238,16 +238,4 @@ pub(crate) fn b_left(regs: &Regs) -> u8
     ensures { result ≡ registers.b_left regs.now }
 {
     regs.b.wrapping_add(255)
-}
-
-/// The address IX+d or IY+d, from -128 to 127 away, modulo 65,536.
-#[inline]
-pub fn displaced(base: u16, d: i8) -> u16
-    ensures { result ≡ registers.displaced base d }
-{
-    if d >= 0 {
-        offset(base, d as u16)
-    } else {
-        offset(base, 65535 - (-(d + 1)) as u16)
-    }
 }

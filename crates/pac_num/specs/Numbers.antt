@@ -20,6 +20,12 @@ word low high = low + 256 * high
 abbrev pub address : ℕ → ℕ
 address n = n % 65536
 
+-- the address a signed byte away from another, as IX+d and the target of JR e are; the sum wraps at 65,536 (UM0080,
+-- "Z80 Addressing Modes": relative and indexed addressing)
+abbrev pub displaced : ℕ → ℤ → ℕ
+displaced base (pos d) = address (base + d)
+displaced base (negsuc d) = address (base + 65535 - d)
+
 -- a byte as a signed number, from -128 to 127, and the byte of such a number
 abbrev pub signed : ℕ → ℤ
 signed byte = if nat_lt byte 128 then pos byte else negsuc (255 - byte)

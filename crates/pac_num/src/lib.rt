@@ -51,6 +51,18 @@ pub fn offset(address: u16, by: u16) -> u16
     address.wrapping_add(by)
 }
 
+/// The address a signed byte away from another, -128 to 127, modulo 65,536.
+#[inline]
+pub fn displaced(base: u16, d: i8) -> u16
+    ensures { result ≡ number.displaced base d }
+{
+    if d >= 0 {
+        offset(base, d as u16)
+    } else {
+        offset(base, 65535 - (-(d + 1)) as u16)
+    }
+}
+
 /// A byte read in two's complement, -128 to 127.
 #[inline]
 pub fn signed(byte: u8) -> i8
