@@ -24,7 +24,7 @@ last-before (byte ∷ front) file none = ap (put_before byte) (last-before front
 -- takes the clause of `rsplit_once` at a slash
 pub split-at-slash : (path : List ℕ) (split : Option (Bor (List ℕ) × Bor (List ℕ)))
     → MatchOption split (RFindsChar 47 path None) (λ x. (i : ℕ) × (j : ℕ) × RFindsChar 47 path (Some (i, j)) × (x.0.now ≡ take i path)
-      × (x.1.now ≡ drop j path) × (i ≤ j) × (length x.0.now ≡ i) × (length x.1.now + j ≡ length path))
+    × (x.1.now ≡ drop j path) × (i ≤ j) × (length x.0.now ≡ i) × (length x.1.now + j ≡ length path))
     → before_slash path ≡ option_map (λ x. x.0.now) split
 split-at-slash path None clause = none-before path (λ i. NoCharPasses-char 47 path i clause (omega arith))
 split-at-slash path (Some split) clause =
