@@ -9,10 +9,13 @@ use crate::asm::asm;
 use crate::debug::debug;
 use crate::dis::dis;
 use crate::failure::{Failure, end_status};
-use crate::files::standard_file;
 use crate::play::play;
 use clap::error::ErrorKind;
+use pac_files::{FileSystem, HostFiles, standard_file};
 use pac_options::{Request, options};
+use pac_out::Out;
+use pac_out::through::Through;
+use std::alloc::Global;
 use std::rt::{Env, Files};
 use std::{env, io};
 
@@ -65,11 +68,42 @@ pub fn run_words<R: Files + AllocGlobal, C: Print + Eprint>(
     ensures words { fault_of pacboard (map string_bytes words.now) ≢ []
         → told.Answers (fault_of pacboard (map string_bytes words.now)) result }
 {
-    match options(rt.alloc(), words) {
-        Ok(Request::Asm(files)) => end(console, asm(rt, &files)),
-        Ok(Request::Run(files)) => play(rt, console, &files),
-        Ok(Request::Debug(files)) => debug(rt, console, &files),
-        Ok(Request::Dis(name)) => end(console, dis(rt, console, name)),
+    let mut disk = HostFiles { rt };
+    let mut report = Through {
+        inner: io::writer(console),
+    };
+    let mut text = Through {
+        inner: io::writer(console),
+    };
+    work(
+        rt.alloc(),
+        &mut disk,
+        &mut report,
+        &mut text,
+        console,
+        words,
+    )
+}
+
+/// Does what words ask for over files, with a writer for the report and one for the text of a session or a disassembly, which
+/// both are standard output, and a console for the line of a failure.
+pub fn work<D: FileSystem, R: Out, T: Out, C: Print + Eprint>(
+    alloc: Global,
+    disk: &mut D,
+    report: &mut R,
+    text: &mut T,
+    console: &C,
+    words: &[String],
+) -> u8
+    ensures status { result ≤ told.most_status }
+    ensures words { fault_of pacboard (map string_bytes words.now) ≢ []
+        → told.Answers (fault_of pacboard (map string_bytes words.now)) result }
+{
+    match options(alloc, words) {
+        Ok(Request::Asm(files)) => end(console, asm(alloc, disk, &files)),
+        Ok(Request::Run(files)) => play(alloc, disk, report, console, &files),
+        Ok(Request::Debug(files)) => debug(alloc, disk, report, text, console, &files),
+        Ok(Request::Dis(name)) => end(console, dis(alloc, disk, text, name)),
         Err(error) => explain(console, &error),
     }
 }

@@ -1,0 +1,48 @@
+-- What the program does for the words of a command line, by what they ask for: from what its files have to what its outputs
+-- get, and the exit status.
+use Rattle.std.specs.Prelude.{◌≡◌, ◌⊎◌, ℕ, List, Result}
+use Rattle.pac_options.specs.CommandLine.{Asked, AskedAsm, AskedRun, AskedDebug, asm, run, debug, dis}
+use Rattle.pac_run.specs.declared.outcome.Outcome.{Outcome}
+use Rattle.pac_command.specs.declared.failure.Failure.{Failure}
+use Rattle.pac_command.specs.Failures.{work_status}
+use Rattle.pac_files.specs.Files.{Finds, Creates}
+use Rattle.pac_command.specs.Making.{Assembling, Makes, Tells}
+use Rattle.pac_command.specs.Outputs.{Performing, Plays, Watches}
+
+-- The files, and what each piece of work leaves of the outputs by its answer. Report and text are standard output; `silent` says
+-- that the report got nothing, and `untold` that the text did.
+pub record Desk (Disk File : Type 0) : Type 1 where
+  pub finds : Finds
+  pub creates : Creates Disk File
+  pub assembles : Assembling File
+  pub performs : Result Outcome Failure → Performing File
+  pub watches : (commands : List ℕ) → Result Outcome Failure → Performing File
+  pub disassembles : (bytes : List ℕ) → Result Unit Failure → Type 0
+  pub silent : Type 0
+  pub untold : Type 0
+
+-- work that is done or fails, and its status
+pub record Ends (work : Result Unit Failure → Type 0) (status : ℕ) : Type 0 where
+  pub answer : Result Unit Failure
+  pub works : work answer
+  pub status_is : status ≡ work_status answer
+
+abbrev pub Does : {Disk File : Type 0} → Desk Disk File → Asked → Disk → (status : ℕ) → Disk → Type 0
+Does desk (asm asked) old status new =
+    Ends (λ answer. Makes desk.finds desk.creates desk.assembles asked old answer new) status × desk.silent × desk.untold
+Does desk (run asked) old status new = Plays desk.finds desk.creates desk.performs desk.silent asked old status new × desk.untold
+Does desk (debug asked) old status new =
+    Watches desk.finds desk.creates desk.watches (desk.silent × desk.untold) asked old status new
+Does desk (dis name) old status new =
+    Ends (λ answer. Tells desk.finds desk.disassembles desk.untold name answer) status × (new ≡ old) × desk.silent
+
+-- memory ran out while the words were read
+pub record IsOutOfMemory {Disk File : Type 0} (desk : Desk Disk File) (old : Disk) (status : ℕ) (new : Disk) : Type 0 where
+  pub status_is : status ≡ 4
+  pub unchanged : new ≡ old
+  pub silent : desk.silent
+  pub untold : desk.untold
+
+-- for words that are a command line
+abbrev pub Works : {Disk File : Type 0} → Desk Disk File → Asked → Disk → (status : ℕ) → Disk → Type 0
+Works desk asked old status new = Does desk asked old status new ⊎ IsOutOfMemory desk old status new
