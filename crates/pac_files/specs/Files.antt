@@ -77,16 +77,33 @@ FirstUnread finds (file ∷ more) name = IsUnread finds file name ⊎ (IsReadabl
 abbrev pub Creates : (Disk File : Type 0) → Type 1
 Creates Disk File = Disk → (path : List ℕ) → Option File → Disk → Type 0
 
--- files of these paths were created, one after another
-abbrev pub AllCreated : {Disk File : Type 0} → Creates Disk File → Disk → List (List ℕ) → List File → Disk → Type 0
-AllCreated creates old [] [] new = new ≡ old
-AllCreated {Disk} creates old (path ∷ paths) (file ∷ files) new =
-    (between : Disk) × creates old path (Some file) between × AllCreated creates between paths files new
-AllCreated creates old paths files new = ⊥
+-- what closing a file leaves, by what was written to it
+abbrev pub Closes : (Disk File : Type 0) → Type 1
+Closes Disk File = Disk → File → Disk → Type 0
 
--- this is the first of these outputs whose file couldn't be created; those before it were
-abbrev pub FirstUncreated : {Disk File Which : Type 0} → Creates Disk File → Disk → List (Which × List ℕ) → Which → Disk → Type 0
-FirstUncreated creates old [] output new = ⊥
-FirstUncreated {Disk} {File} creates old (target ∷ more) output new =
-    ((output ≡ target.0) × creates old target.1 None new)
-    ⊎ ((file : File) × (between : Disk) × creates old target.1 (Some file) between × FirstUncreated creates between more output new)
+-- what a file system does with a file that is created
+pub record Handling (Disk File : Type 0) : Type 1 where
+  pub creates : Creates Disk File
+  pub closes : Closes Disk File
+
+-- files of these paths were created, one after another
+abbrev pub AllCreated : {Disk File : Type 0} → Handling Disk File → Disk → List (List ℕ) → List File → Disk → Type 0
+AllCreated handling old [] [] new = new ≡ old
+AllCreated {Disk} handling old (path ∷ paths) (file ∷ files) new =
+    (between : Disk) × handling.creates old path (Some file) between × AllCreated handling between paths files new
+AllCreated handling old paths files new = ⊥
+
+-- these files were closed, one after another
+abbrev pub AllClosed : {Disk File : Type 0} → Handling Disk File → Disk → List File → Disk → Type 0
+AllClosed handling old [] new = new ≡ old
+AllClosed {Disk} handling old (file ∷ files) new =
+    (between : Disk) × handling.closes old file between × AllClosed handling between files new
+
+-- this is the first of these outputs whose file couldn't be created; those before it were, and are closed as they were created,
+-- the last one first
+abbrev pub FirstUncreated : {Disk File Which : Type 0} → Handling Disk File → Disk → List (Which × List ℕ) → Which → Disk → Type 0
+FirstUncreated handling old [] output new = ⊥
+FirstUncreated {Disk} {File} handling old (target ∷ more) output new =
+    ((output ≡ target.0) × handling.creates old target.1 None new)
+    ⊎ ((file : File) × (created : Disk) × handling.creates old target.1 (Some file) created
+    × (left : Disk) × FirstUncreated handling created more output left × handling.closes left file new)

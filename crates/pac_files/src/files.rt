@@ -24,7 +24,8 @@ pub enum ReadError {
 
 /// Where files are. Reading one changes nothing.
 ///
-/// It says by two relations what a read of a path may find, and what is left when a file of a path was created, or couldn't be.
+/// It says by relations what a read of a path may find, what is left when a file of a path was created, or couldn't be, and
+/// what is left when a file that was created is closed with what was written to it.
 pub trait FileSystem {
     /// A file that was created.
     type File: Out + Drop;
@@ -35,6 +36,9 @@ pub trait FileSystem {
     /// What is left where a file of this path was created, or couldn't be.
     ghost creates: { Self → List ℕ → Option Self.File → Self → Type 0 };
 
+    /// What is left where a file is closed as it is.
+    ghost closes: { Self → Self.File → Self → Type 0 };
+
     /// The bytes of a file of at most 16 MiB.
     fn read(&self, alloc: Global, path: &str) -> Result<Vec<u8>, ReadError>
         ensures { IsFound (finds self.now) path.now result };
@@ -42,6 +46,10 @@ pub trait FileSystem {
     /// Creates a file, or empties it.
     fn create(&mut self, path: &str) -> Option<Self::File>
         ensures { creates self.old path.now result self.new };
+
+    /// Closes a file that was created: no more is written to it.
+    fn close(&mut self, file: Self::File)
+        ensures { closes self.old file self.new };
 }
 
 /// The files of the machine that the program runs on, of which no contract says what they hold.
@@ -57,6 +65,8 @@ impl<R: Files> FileSystem for HostFiles<'_, R> {
     ghost finds = { λ files path found. ⊤ };
 
     ghost creates = { λ old path file new. ⊤ };
+
+    ghost closes = { λ old file new. ⊤ };
 
     /// Reads it to its end, or one byte too far.
     fn read(&self, alloc: Global, path: &str) -> Result<Vec<u8>, ReadError> {
@@ -77,6 +87,11 @@ impl<R: Files> FileSystem for HostFiles<'_, R> {
             Ok(file) => Some(Through { inner: file }),
             Err(_) => None,
         }
+    }
+
+    /// Drops it, which closes it.
+    fn close(&mut self, file: Through<R::File>) {
+        drop(file);
     }
 }
 
