@@ -7,7 +7,7 @@ use Rattle.pac_command.specs.declared.failure.Failure.{Failure}
 use Rattle.pac_command.specs.declared.failure.Failure.TheVariants.{Read, Write, Memory}
 use Rattle.pac_command.specs.declared.failure.Target.{Target}
 use Rattle.pac_command.specs.declared.failure.Target.TheVariants.{Of, Rom}
-use Rattle.pac_files.specs.Files.{Finds, as_given, IsUnread, Creates, AllCreated, FirstUncreated}
+use Rattle.pac_files.specs.Files.{Finds, as_given, IsUnread, Handling, AllCreated, AllClosed, FirstUncreated}
 
 -- ROM and listing, in the order in which they are created
 abbrev pub asm_outputs : AskedAsm → List (Target × List ℕ)
@@ -23,24 +23,26 @@ both outputs = outputs.rom ∷ outputs.listing ∷ []
 abbrev pub Assembling : Type 0 → Type 1
 Assembling File = (source : List ℕ) → Result Unit Failure → (created left : AsmOutputs File) → Type 0
 
--- both were created, and then the source was assembled
-pub record IsMade {Disk File : Type 0} (finds : Finds) (creates : Creates Disk File) (assembles : Assembling File) (asked : AskedAsm)
+-- both were created, then the source was assembled, and then both were closed as this left them: no more is written to them
+pub record IsMade {Disk File : Type 0} (finds : Finds) (handling : Handling Disk File) (assembles : Assembling File) (asked : AskedAsm)
     (old : Disk) (answer : Result Unit Failure) (new : Disk) : Type 0 where
   pub source : List ℕ
   pub source_is : finds asked.source (Some source)
   pub created : AsmOutputs File
-  pub all_created : AllCreated creates old (asm_paths asked) (both created) new
+  pub during : Disk
+  pub all_created : AllCreated handling old (asm_paths asked) (both created) during
   pub left : AsmOutputs File
   pub assembled : assembles source answer created left
+  pub all_closed : AllClosed handling during (both left) new
 
 -- the source was read, and one couldn't be created
-pub record IsUncreated {Disk File : Type 0} (finds : Finds) (creates : Creates Disk File) (asked : AskedAsm) (old : Disk)
+pub record IsUncreated {Disk File : Type 0} (finds : Finds) (handling : Handling Disk File) (asked : AskedAsm) (old : Disk)
     (answer : Result Unit Failure) (new : Disk) : Type 0 where
   pub source : List ℕ
   pub source_is : finds asked.source (Some source)
   pub output : Target
   pub answer_is : answer ≡ Err (Write output 0)
-  pub first : FirstUncreated creates old (asm_outputs asked) output new
+  pub first : FirstUncreated handling old (asm_outputs asked) output new
 
 -- the source can't be read, or memory ran out; a failure of no other kind
 abbrev pub IsUnreadable : Finds → List ℕ → Result Unit Failure → Type 0
@@ -48,11 +50,11 @@ IsUnreadable finds source (Err (Read name)) = IsUnread finds (as_given source) n
 IsUnreadable finds source (Err Memory) = Unit {0}
 IsUnreadable finds source other = ⊥
 
-abbrev pub Makes : {Disk File : Type 0} → Finds → Creates Disk File → Assembling File → AskedAsm → Disk → Result Unit Failure → Disk
+abbrev pub Makes : {Disk File : Type 0} → Finds → Handling Disk File → Assembling File → AskedAsm → Disk → Result Unit Failure → Disk
     → Type 0
-Makes finds creates assembles asked old answer new =
-    IsMade finds creates assembles asked old answer new
-    ⊎ IsUncreated finds creates asked old answer new
+Makes finds handling assembles asked old answer new =
+    IsMade finds handling assembles asked old answer new
+    ⊎ IsUncreated finds handling asked old answer new
     ⊎ (IsUnreadable finds asked.source answer × (new ≡ old))
 
 -- what `dis` does with the bytes of its file

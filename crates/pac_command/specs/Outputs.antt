@@ -1,6 +1,6 @@
 -- What the program does with the files of a run: which it reads, which it creates, what these have then, and the exit status.
 use Rattle.std.specs.Prelude.{◌≡◌, ◌⊎◌, ℕ, List, [], ◌∷◌, map, Some, option_map, Result, Ok, Err}
-use Rattle.pac_files.specs.Files.{Finds, FirstUnread, Creates, AllCreated, FirstUncreated}
+use Rattle.pac_files.specs.Files.{Finds, FirstUnread, Handling, AllCreated, AllClosed, FirstUncreated}
 use Rattle.pac_files.specs.Read.{HasRead, PartUnread, given_files, watched_files, told_file, told_part}
 use Rattle.pac_files.specs.declared.given.Given.{Given}
 use Rattle.pac_files.specs.declared.parts.NamedFile.{NamedFile}
@@ -42,22 +42,24 @@ in_turn outputs = outputs.frames ∷ outputs.wave ∷ outputs.listing ∷ []
 abbrev pub Performing : Type 0 → Type 1
 Performing File = RunInputs → (created left : Outputs File) → Type 0
 
--- the outputs were created, and then the run was done
-pub record IsPerformed {Disk File : Type 0} (creates : Creates Disk File) (performs : Performing File) (asked : AskedRun) (given : Given)
+-- the outputs were created, then the run was done, and then they were closed as it left them: no more is written to them
+pub record IsPerformed {Disk File : Type 0} (handling : Handling Disk File) (performs : Performing File) (asked : AskedRun) (given : Given)
     (parts : List NamedFile) (old new : Disk) : Type 0 where
   pub inputs : RunInputs
   pub inputs_are : IsInputs asked given parts inputs
   pub created : Outputs File
-  pub all_created : AllCreated creates old (paths_of asked) (in_turn created) new
+  pub during : Disk
+  pub all_created : AllCreated handling old (paths_of asked) (in_turn created) during
   pub left : Outputs File
   pub performed : performs inputs created left
+  pub all_closed : AllClosed handling during (in_turn left) new
 
 -- an output couldn't be created
-pub record IsUncreated {Disk File : Type 0} (creates : Creates Disk File) (asked : AskedRun) (old : Disk)
+pub record IsUncreated {Disk File : Type 0} (handling : Handling Disk File) (asked : AskedRun) (old : Disk)
     (answer : Result Outcome Failure) (new : Disk) : Type 0 where
   pub output : Target
   pub answer_is : answer ≡ Err (Write output 0)
-  pub first : FirstUncreated creates old (outputs_of asked) output new
+  pub first : FirstUncreated handling old (outputs_of asked) output new
 
 -- memory ran out before any output was created
 pub record IsUnmade {Disk : Type 0} (old : Disk) (answer : Result Outcome Failure) (new : Disk) : Type 0 where
@@ -65,11 +67,11 @@ pub record IsUnmade {Disk : Type 0} (old : Disk) (answer : Result Outcome Failur
   pub unchanged : new ≡ old
 
 -- What was read is run: the run is done over all its outputs; or it isn't begun, and nothing is told
-abbrev pub Records : {Disk File : Type 0} → Creates Disk File → (Result Outcome Failure → Performing File) → (silent : Type 0) → AskedRun
+abbrev pub Records : {Disk File : Type 0} → Handling Disk File → (Result Outcome Failure → Performing File) → (silent : Type 0) → AskedRun
     → Given → List NamedFile → Disk → Result Outcome Failure → Disk → Type 0
-Records creates performs silent asked given parts old answer new =
-    IsPerformed creates (performs answer) asked given parts old new
-    ⊎ (silent × (IsUncreated creates asked old answer new ⊎ IsUnmade old answer new))
+Records handling performs silent asked given parts old answer new =
+    IsPerformed handling (performs answer) asked given parts old new
+    ⊎ (silent × (IsUncreated handling asked old answer new ⊎ IsUnmade old answer new))
 
 -- ---- the exit status
 
@@ -80,38 +82,38 @@ pub record IsUnbegun {Disk : Type 0} (unread : List ℕ → Type 0) (silent : Ty
   pub is_silent : silent
 
 -- all was read, and the status is that of the run
-pub record IsRun {Disk File : Type 0} (finds : Finds) (creates : Creates Disk File) (performs : Result Outcome Failure → Performing File)
+pub record IsRun {Disk File : Type 0} (finds : Finds) (handling : Handling Disk File) (performs : Result Outcome Failure → Performing File)
     (silent : Type 0) (asked : AskedRun) (old : Disk) (status : ℕ) (new : Disk) : Type 0 where
   pub given : Given
   pub parts : List NamedFile
   pub read : HasRead finds asked given parts
   pub answer : Result Outcome Failure
-  pub records : Records creates performs silent asked given parts old answer new
+  pub records : Records handling performs silent asked given parts old answer new
   pub status_is : status ≡ run_status answer
 
 -- `run`
-abbrev pub Plays : {Disk File : Type 0} → Finds → Creates Disk File → (Result Outcome Failure → Performing File) → (silent : Type 0)
+abbrev pub Plays : {Disk File : Type 0} → Finds → Handling Disk File → (Result Outcome Failure → Performing File) → (silent : Type 0)
     → AskedRun → Disk → (status : ℕ) → Disk → Type 0
-Plays finds creates performs silent asked old status new =
+Plays finds handling performs silent asked old status new =
     IsUnbegun (λ name. FirstUnread finds (given_files asked) name ⊎ PartUnread finds asked name) silent old status new
-    ⊎ IsRun finds creates performs silent asked old status new
+    ⊎ IsRun finds handling performs silent asked old status new
 
 -- `debug`: the commands are read after the script and before the parts
-pub record IsWatched {Disk File : Type 0} (finds : Finds) (creates : Creates Disk File)
+pub record IsWatched {Disk File : Type 0} (finds : Finds) (handling : Handling Disk File)
     (performs : (commands : List ℕ) → Result Outcome Failure → Performing File)
     (silent : Type 0) (asked : AskedDebug) (old : Disk) (status : ℕ) (new : Disk) : Type 0 where
   pub commands : List ℕ
   pub commands_are : finds asked.commands (Some commands)
-  pub run : IsRun finds creates (performs commands) silent asked.run old status new
+  pub run : IsRun finds handling (performs commands) silent asked.run old status new
 
 pub record WatchedPartUnread (finds : Finds) (asked : AskedDebug) (name : List ℕ) : Type 0 where
   pub commands : List ℕ
   pub commands_are : finds asked.commands (Some commands)
   pub part : PartUnread finds asked.run name
 
-abbrev pub Watches : {Disk File : Type 0} → Finds → Creates Disk File
+abbrev pub Watches : {Disk File : Type 0} → Finds → Handling Disk File
     → ((commands : List ℕ) → Result Outcome Failure → Performing File) → (silent : Type 0)
     → AskedDebug → Disk → (status : ℕ) → Disk → Type 0
-Watches finds creates performs silent asked old status new =
+Watches finds handling performs silent asked old status new =
     IsUnbegun (λ name. FirstUnread finds (watched_files asked) name ⊎ WatchedPartUnread finds asked name) silent old status new
-    ⊎ IsWatched finds creates performs silent asked old status new
+    ⊎ IsWatched finds handling performs silent asked old status new

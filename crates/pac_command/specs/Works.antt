@@ -5,7 +5,7 @@ use Rattle.pac_options.specs.CommandLine.{Asked, AskedAsm, AskedRun, AskedDebug,
 use Rattle.pac_run.specs.declared.outcome.Outcome.{Outcome}
 use Rattle.pac_command.specs.declared.failure.Failure.{Failure}
 use Rattle.pac_command.specs.Failures.{work_status}
-use Rattle.pac_files.specs.Files.{Finds, Creates}
+use Rattle.pac_files.specs.Files.{Finds, Handling}
 use Rattle.pac_command.specs.Making.{Assembling, Makes, Tells}
 use Rattle.pac_command.specs.Outputs.{Performing, Plays, Watches}
 
@@ -13,7 +13,7 @@ use Rattle.pac_command.specs.Outputs.{Performing, Plays, Watches}
 -- that the report got nothing, and `untold` that the text did.
 pub record Desk (Disk File : Type 0) : Type 1 where
   pub finds : Finds
-  pub creates : Creates Disk File
+  pub handling : Handling Disk File
   pub assembles : Assembling File
   pub performs : Result Outcome Failure → Performing File
   pub watches : (commands : List ℕ) → Result Outcome Failure → Performing File
@@ -29,10 +29,10 @@ pub record Ends (work : Result Unit Failure → Type 0) (status : ℕ) : Type 0 
 
 abbrev pub Does : {Disk File : Type 0} → Desk Disk File → Asked → Disk → (status : ℕ) → Disk → Type 0
 Does desk (asm asked) old status new =
-    Ends (λ answer. Makes desk.finds desk.creates desk.assembles asked old answer new) status × desk.silent × desk.untold
-Does desk (run asked) old status new = Plays desk.finds desk.creates desk.performs desk.silent asked old status new × desk.untold
+    Ends (λ answer. Makes desk.finds desk.handling desk.assembles asked old answer new) status × desk.silent × desk.untold
+Does desk (run asked) old status new = Plays desk.finds desk.handling desk.performs desk.silent asked old status new × desk.untold
 Does desk (debug asked) old status new =
-    Watches desk.finds desk.creates desk.watches (desk.silent × desk.untold) asked old status new
+    Watches desk.finds desk.handling desk.watches (desk.silent × desk.untold) asked old status new
 Does desk (dis name) old status new =
     Ends (λ answer. Tells desk.finds desk.disassembles desk.untold name answer) status × (new ≡ old) × desk.silent
 

@@ -5,7 +5,7 @@ ghost use Rattle.pac_listing.specs.Listing as texts;
 ghost use Rattle.pac_run.specs.Recorded.{Written};
 ghost use Rattle.pac_options.specs.CommandLine.{told_asm};
 ghost use Rattle.pac_command.specs.Failures.{Opens};
-ghost use Rattle.pac_files.specs.Files.{AllCreated, FirstUncreated};
+ghost use Rattle.pac_files.specs.Files.{AllClosed, AllCreated, FirstUncreated};
 ghost use Rattle.pac_command.specs.Making.{Makes, asm_outputs, asm_paths, both};
 ghost use Rattle.pac_command.specs.Programs.{Assembles};
 
@@ -77,16 +77,27 @@ pub fn create_pair<D: FileSystem>(
     files: &AsmFiles,
 ) -> Result<AsmOutputs<D::File>, Failure<'static>>
     ensures { Opens
-        (λ outputs. AllCreated D.creates disk.old (asm_paths (told_asm files.now)) (both outputs) disk.new)
-        (λ output. FirstUncreated D.creates disk.old (asm_outputs (told_asm files.now)) output disk.new) result }
+        (λ outputs. AllCreated (record { creates = D.creates; closes = D.closes }) disk.old (asm_paths (told_asm files.now))
+        (both outputs) disk.new)
+        (λ output. FirstUncreated (record { creates = D.creates; closes = D.closes }) disk.old (asm_outputs (told_asm files.now))
+        output disk.new) result }
 {
     let Some(rom) = disk.create(files.rom) else {
         return Err(Failure::Write(Target::Rom, 0));
     };
     let Some(listing) = disk.create(files.listing) else {
+        disk.close(rom);
         return Err(Failure::Write(Target::Of(Output::Listing), 0));
     };
     Ok(AsmOutputs { rom, listing })
+}
+
+/// Closes the files of ROM and listing, in this order.
+fn close_pair<D: FileSystem>(disk: &mut D, outputs: AsmOutputs<D::File>)
+    ensures { AllClosed (record { creates = D.creates; closes = D.closes }) disk.old (both outputs) disk.new }
+{
+    disk.close(outputs.rom);
+    disk.close(outputs.listing);
 }
 
 /// Assembles a file into two: the source is read, then both are created, and then the source is judged.
@@ -95,7 +106,7 @@ pub fn asm<'a, D: FileSystem>(
     disk: &mut D,
     files: &AsmFiles<'a>,
 ) -> Result<(), Failure<'a>>
-    ensures { Makes (D.finds disk.old) D.creates (λ source answer created left. Assembles source
+    ensures { Makes (D.finds disk.old) (record { creates = D.creates; closes = D.closes }) (λ source answer created left. Assembles source
         (record { took = D.File.took; refused = D.File.refused; old = created.rom; new = left.rom })
         (record { took = D.File.took; refused = D.File.refused; old = created.listing; new = left.listing }) answer)
         (told_asm files.now) disk.old result disk.new }
@@ -108,5 +119,7 @@ pub fn asm<'a, D: FileSystem>(
         Ok(outputs) => outputs,
         Err(failure) => return Err(failure),
     };
-    write_program(alloc, &source, &mut outputs.rom, &mut outputs.listing)
+    let done = write_program(alloc, &source, &mut outputs.rom, &mut outputs.listing);
+    close_pair(disk, outputs);
+    done
 }

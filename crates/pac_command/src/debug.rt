@@ -8,7 +8,7 @@ ghost use Rattle.pac_command.specs.Programs.{PerformsWatched};
 
 use crate::failure::{Failure, failure_of, read_failure};
 use crate::given::inputs_of;
-use crate::play::{create_outputs, end};
+use crate::play::{close_outputs, create_outputs, end};
 use crate::program::tell;
 use pac_files::{FileSystem, Given, NamedFile, manifest_in, parts_of, read_parts, read_watched};
 use pac_options::DebugFiles;
@@ -40,7 +40,7 @@ pub fn debug_inputs<F: Out, W: Out, L: Out, R: Out, T: Out>(
     }
 }
 
-/// Creates the outputs, and runs what was read under the debugger.
+/// Creates the outputs, runs what was read under the debugger, and closes them.
 pub fn record_watched<D: FileSystem, R: Out, T: Out>(
     alloc: Global,
     disk: &mut D,
@@ -51,12 +51,13 @@ pub fn record_watched<D: FileSystem, R: Out, T: Out>(
     commands: &[u8],
     named: &[NamedFile],
 ) -> Result<Outcome, Failure<'static>>
-    ensures { Records D.creates (λ answer inputs created left. PerformsWatched inputs commands.now (record {
-      frames = record { took = D.File.took; refused = D.File.refused; old = created.frames; new = left.frames };
-      wave = record { took = D.File.took; refused = D.File.refused; old = created.wave; new = left.wave };
-      listing = record { took = D.File.took; refused = D.File.refused; old = created.listing; new = left.listing };
-      report = record { took = R.took; refused = R.refused; old = report.old; new = report.new };
-    }) (record { took = T.took; refused = T.refused; old = text.old; new = text.new }) answer)
+    ensures { Records (record { creates = D.creates; closes = D.closes })
+        (λ answer inputs created left. PerformsWatched inputs commands.now (record {
+          frames = record { took = D.File.took; refused = D.File.refused; old = created.frames; new = left.frames };
+          wave = record { took = D.File.took; refused = D.File.refused; old = created.wave; new = left.wave };
+          listing = record { took = D.File.took; refused = D.File.refused; old = created.listing; new = left.listing };
+          report = record { took = R.took; refused = R.refused; old = report.old; new = report.new };
+        }) (record { took = T.took; refused = T.refused; old = text.old; new = text.new }) answer)
         ((report.new ≡ report.old) × (text.new ≡ text.old)) (told_run files.now.run) given.now named.now disk.old result disk.new }
 {
     let Ok(parts) = parts_of(alloc, named) else {
@@ -67,7 +68,7 @@ pub fn record_watched<D: FileSystem, R: Out, T: Out>(
         Ok(outputs) => outputs,
         Err(failure) => return Err(failure),
     };
-    debug_inputs(
+    let ran = debug_inputs(
         alloc,
         &inputs,
         commands,
@@ -76,7 +77,9 @@ pub fn record_watched<D: FileSystem, R: Out, T: Out>(
         &mut outputs.listing,
         report,
         text,
-    )
+    );
+    close_outputs(disk, outputs);
+    ran
 }
 
 /// Runs what the files of a command line hold under a debugger, and answers the exit status. All is read before an output is
@@ -89,12 +92,13 @@ pub fn debug<D: FileSystem, R: Out, T: Out, C: Eprint>(
     console: &C,
     files: &DebugFiles,
 ) -> u8
-    ensures watches { Watches (D.finds disk.old) D.creates (λ commands answer inputs created left. PerformsWatched inputs commands (record {
-      frames = record { took = D.File.took; refused = D.File.refused; old = created.frames; new = left.frames };
-      wave = record { took = D.File.took; refused = D.File.refused; old = created.wave; new = left.wave };
-      listing = record { took = D.File.took; refused = D.File.refused; old = created.listing; new = left.listing };
-      report = record { took = R.took; refused = R.refused; old = report.old; new = report.new };
-    }) (record { took = T.took; refused = T.refused; old = text.old; new = text.new }) answer)
+    ensures watches { Watches (D.finds disk.old) (record { creates = D.creates; closes = D.closes })
+        (λ commands answer inputs created left. PerformsWatched inputs commands (record {
+          frames = record { took = D.File.took; refused = D.File.refused; old = created.frames; new = left.frames };
+          wave = record { took = D.File.took; refused = D.File.refused; old = created.wave; new = left.wave };
+          listing = record { took = D.File.took; refused = D.File.refused; old = created.listing; new = left.listing };
+          report = record { took = R.took; refused = R.refused; old = report.old; new = report.new };
+        }) (record { took = T.took; refused = T.refused; old = text.old; new = text.new }) answer)
         ((report.new ≡ report.old) × (text.new ≡ text.old)) (told_debug files.now) disk.old result disk.new }
     ensures most { result ≤ told.most_status }
 {
@@ -111,8 +115,6 @@ pub fn debug<D: FileSystem, R: Out, T: Out, C: Eprint>(
     };
     end(
         console,
-        record_watched(
-            alloc, disk, report, text, files, &given, &commands, &named,
-        ),
+        record_watched(alloc, disk, report, text, files, &given, &commands, &named),
     )
 }

@@ -4,7 +4,7 @@ ghost use Rattle.std.specs.Prelude.{◌≡◌, ◌≤◌};
 ghost use Rattle.pac_options.specs.CommandLine.{told_run};
 ghost use Rattle.pac_command.specs.Failures as told;
 ghost use Rattle.pac_command.specs.Failures.{Opens};
-ghost use Rattle.pac_files.specs.Files.{AllCreated, FirstUncreated};
+ghost use Rattle.pac_files.specs.Files.{AllClosed, AllCreated, FirstUncreated};
 ghost use Rattle.pac_command.specs.Outputs.{Plays, Records, in_turn, outputs_of, paths_of};
 ghost use Rattle.pac_command.specs.Programs.{Performs};
 
@@ -55,16 +55,22 @@ pub fn create_outputs<D: FileSystem>(
     disk: &mut D,
     files: &RunFiles,
 ) -> Result<Outputs<D::File>, Failure<'static>>
-    ensures { Opens (λ outputs. AllCreated D.creates disk.old (paths_of (told_run files.now)) (in_turn outputs) disk.new)
-        (λ output. FirstUncreated D.creates disk.old (outputs_of (told_run files.now)) output disk.new) result }
+    ensures { Opens
+        (λ outputs. AllCreated (record { creates = D.creates; closes = D.closes }) disk.old (paths_of (told_run files.now))
+        (in_turn outputs) disk.new)
+        (λ output. FirstUncreated (record { creates = D.creates; closes = D.closes }) disk.old (outputs_of (told_run files.now))
+        output disk.new) result }
 {
     let Some(frames) = disk.create(files.frames) else {
         return Err(Failure::Write(Target::Of(Output::Frames), 0));
     };
     let Some(wave) = disk.create(files.wave) else {
+        disk.close(frames);
         return Err(Failure::Write(Target::Of(Output::Wave), 0));
     };
     let Some(listing) = disk.create(files.listing) else {
+        disk.close(wave);
+        disk.close(frames);
         return Err(Failure::Write(Target::Of(Output::Listing), 0));
     };
     Ok(Outputs {
@@ -74,7 +80,16 @@ pub fn create_outputs<D: FileSystem>(
     })
 }
 
-/// Creates the outputs, and runs what was read.
+/// Closes the files of frames, wave and listing, in this order.
+pub fn close_outputs<D: FileSystem>(disk: &mut D, outputs: Outputs<D::File>)
+    ensures { AllClosed (record { creates = D.creates; closes = D.closes }) disk.old (in_turn outputs) disk.new }
+{
+    disk.close(outputs.frames);
+    disk.close(outputs.wave);
+    disk.close(outputs.listing);
+}
+
+/// Creates the outputs, runs what was read, and closes them.
 pub fn record<D: FileSystem, R: Out>(
     alloc: Global,
     disk: &mut D,
@@ -83,12 +98,13 @@ pub fn record<D: FileSystem, R: Out>(
     given: &Given,
     named: &[NamedFile],
 ) -> Result<Outcome, Failure<'static>>
-    ensures { Records D.creates (λ answer inputs created left. Performs inputs (record {
-      frames = record { took = D.File.took; refused = D.File.refused; old = created.frames; new = left.frames };
-      wave = record { took = D.File.took; refused = D.File.refused; old = created.wave; new = left.wave };
-      listing = record { took = D.File.took; refused = D.File.refused; old = created.listing; new = left.listing };
-      report = record { took = R.took; refused = R.refused; old = report.old; new = report.new };
-    }) answer) (report.new ≡ report.old) (told_run files.now) given.now named.now disk.old result disk.new }
+    ensures { Records (record { creates = D.creates; closes = D.closes })
+        (λ answer inputs created left. Performs inputs (record {
+          frames = record { took = D.File.took; refused = D.File.refused; old = created.frames; new = left.frames };
+          wave = record { took = D.File.took; refused = D.File.refused; old = created.wave; new = left.wave };
+          listing = record { took = D.File.took; refused = D.File.refused; old = created.listing; new = left.listing };
+          report = record { took = R.took; refused = R.refused; old = report.old; new = report.new };
+        }) answer) (report.new ≡ report.old) (told_run files.now) given.now named.now disk.old result disk.new }
 {
     let Ok(parts) = parts_of(alloc, named) else {
         return Err(Failure::Memory);
@@ -98,14 +114,16 @@ pub fn record<D: FileSystem, R: Out>(
         Ok(outputs) => outputs,
         Err(failure) => return Err(failure),
     };
-    run_inputs(
+    let ran = run_inputs(
         alloc,
         &inputs,
         &mut outputs.frames,
         &mut outputs.wave,
         &mut outputs.listing,
         report,
-    )
+    );
+    close_outputs(disk, outputs);
+    ran
 }
 
 /// The status of a run that ended or failed; a failure is told.
@@ -127,12 +145,13 @@ pub fn play<D: FileSystem, R: Out, C: Eprint>(
     console: &C,
     files: &RunFiles,
 ) -> u8
-    ensures plays { Plays (D.finds disk.old) D.creates (λ answer inputs created left. Performs inputs (record {
-      frames = record { took = D.File.took; refused = D.File.refused; old = created.frames; new = left.frames };
-      wave = record { took = D.File.took; refused = D.File.refused; old = created.wave; new = left.wave };
-      listing = record { took = D.File.took; refused = D.File.refused; old = created.listing; new = left.listing };
-      report = record { took = R.took; refused = R.refused; old = report.old; new = report.new };
-    }) answer) (report.new ≡ report.old) (told_run files.now) disk.old result disk.new }
+    ensures plays { Plays (D.finds disk.old) (record { creates = D.creates; closes = D.closes })
+        (λ answer inputs created left. Performs inputs (record {
+          frames = record { took = D.File.took; refused = D.File.refused; old = created.frames; new = left.frames };
+          wave = record { took = D.File.took; refused = D.File.refused; old = created.wave; new = left.wave };
+          listing = record { took = D.File.took; refused = D.File.refused; old = created.listing; new = left.listing };
+          report = record { took = R.took; refused = R.refused; old = report.old; new = report.new };
+        }) answer) (report.new ≡ report.old) (told_run files.now) disk.old result disk.new }
     ensures most { result ≤ told.most_status }
 {
     let given = match read_given(alloc, disk, files) {
@@ -146,8 +165,5 @@ pub fn play<D: FileSystem, R: Out, C: Eprint>(
         Ok(named) => named,
         Err(fault) => return tell(console, read_failure(fault)),
     };
-    end(
-        console,
-        record(alloc, disk, report, files, &given, &named),
-    )
+    end(console, record(alloc, disk, report, files, &given, &named))
 }
