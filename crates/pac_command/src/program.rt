@@ -2,8 +2,11 @@
 
 ghost use Rattle.std.specs.Prelude.{◌≡◌, ◌≢◌, ◌≤◌, [], map, string_bytes};
 ghost use Rattle.clap.specs.Words.{fault_of, kind_of};
-ghost use Rattle.pac_options.specs.CommandLine.{pacboard};
+ghost use Rattle.pac_options.specs.CommandLine.{pacboard, request_of};
 ghost use Rattle.pac_command.specs.Failures as told;
+ghost use Rattle.pac_command.specs.Programs.{Assembles, Performs, PerformsWatched};
+ghost use Rattle.pac_command.specs.Texts.{Disassembles};
+ghost use Rattle.pac_command.specs.Works.{Works};
 
 use crate::asm::asm;
 use crate::debug::debug;
@@ -98,6 +101,29 @@ pub fn work<D: FileSystem, R: Out, T: Out, C: Print + Eprint>(
     ensures status { result ≤ told.most_status }
     ensures words { fault_of pacboard (map string_bytes words.now) ≢ []
         → told.Answers (fault_of pacboard (map string_bytes words.now)) result }
+    ensures works { Works (record {
+      finds = D.finds disk.old;
+      handling = record { creates = D.creates; closes = D.closes };
+      assembles = λ source answer created left. Assembles source
+        (record { took = D.File.took; refused = D.File.refused; old = created.rom; new = left.rom })
+        (record { took = D.File.took; refused = D.File.refused; old = created.listing; new = left.listing }) answer;
+      performs = λ answer inputs created left. Performs inputs (record {
+        frames = record { took = D.File.took; refused = D.File.refused; old = created.frames; new = left.frames };
+        wave = record { took = D.File.took; refused = D.File.refused; old = created.wave; new = left.wave };
+        listing = record { took = D.File.took; refused = D.File.refused; old = created.listing; new = left.listing };
+        report = record { took = R.took; refused = R.refused; old = report.old; new = report.new };
+      }) answer;
+      watches = λ commands answer inputs created left. PerformsWatched inputs commands (record {
+        frames = record { took = D.File.took; refused = D.File.refused; old = created.frames; new = left.frames };
+        wave = record { took = D.File.took; refused = D.File.refused; old = created.wave; new = left.wave };
+        listing = record { took = D.File.took; refused = D.File.refused; old = created.listing; new = left.listing };
+        report = record { took = R.took; refused = R.refused; old = report.old; new = report.new };
+      }) (record { took = T.took; refused = T.refused; old = text.old; new = text.new }) answer;
+      disassembles = λ bytes answer. Disassembles bytes
+        (record { took = T.took; refused = T.refused; old = text.old; new = text.new }) answer;
+      silent = report.new ≡ report.old;
+      untold = text.new ≡ text.old;
+    }) (fault_of pacboard (map string_bytes words.now)) (request_of (map string_bytes words.now)) disk.old result disk.new }
 {
     match options(alloc, words) {
         Ok(Request::Asm(files)) => end(console, asm(alloc, disk, &files)),
