@@ -1,8 +1,20 @@
 //! Samples as the board gives them, worked out by hand from the schematics and this profile.
 
 use crate::set::{FRAME, board, gave_sample, place, run};
+use pac_board::Board;
 use pac_board::kept::Kept;
+use std::process::Abort;
 use std::test::Fail;
+
+/// The samples of a frame.
+fn voices_come_one_by_one_of(rt: &impl Abort, board: &mut Board, kept: &mut Kept) {
+    assert!(rt; run(board, FRAME, kept) == Ok((50_690, None)));
+    assert!(rt; place(board) == (12_662, 50_690, 0x0011) && kept.taken().len() == 1585);
+    assert!(rt; gave_sample(kept, 0, 6_720));
+    for index in 1..1584usize {
+        assert!(rt; gave_sample(kept, index, 20_160), "sample {index} and one");
+    }
+}
 
 // LD A,1 / LD (5001H),A / LD A,15 / LD (5055H),A / LD (505AH),A / LD (505FH),A / HALT: the first sample sees one voice.
 #[test]
@@ -13,14 +25,25 @@ fn voices_come_one_by_one(rt: HostRuntime) -> Result<(), Fail> {
     ];
     let mut kept = Kept::new(rt.alloc(), 0);
     let mut board = board(rt.alloc(), &bytes)?;
-    assert_eq!(rt; run(&mut board, FRAME, &mut kept), Ok((50_690, None)));
-    assert_eq!(rt; place(&board), (12_662, 50_690, 0x0011));
-    assert_eq!(rt; kept.taken().len(), 1585);
-    assert!(rt; gave_sample(&kept, 0, 6_720));
-    for index in 1..1584usize {
-        assert!(rt; gave_sample(&kept, index, 20_160), "sample {index} and one");
-    }
+    voices_come_one_by_one_of(&rt, &mut board, &mut kept);
     Ok(())
+}
+
+/// The samples of a frame.
+fn a_voice_walks_through_its_waveform_of(rt: &impl Abort, board: &mut Board, kept: &mut Kept) {
+    assert!(rt; run(board, FRAME, kept).is_ok());
+    for (index, sample) in [
+        (0, 0),
+        (1, -512),
+        (2, -512),
+        (3, -448),
+        (4, -448),
+        (31, 448),
+        (32, 448),
+        (33, -512),
+    ] {
+        assert!(rt; gave_sample(kept, index, sample), "sample {index} and one");
+    }
 }
 
 // LD A,2 / LD (5045H),A / LD A,8 / LD (5053H),A / LD A,1 / LD (5055H),A / LD (5001H),A / HALT: the step that turns
@@ -33,18 +56,6 @@ fn a_voice_walks_through_its_waveform(rt: HostRuntime) -> Result<(), Fail> {
     ];
     let mut kept = Kept::new(rt.alloc(), 0);
     let mut board = board(rt.alloc(), &bytes)?;
-    assert!(rt; run(&mut board, FRAME, &mut kept).is_ok());
-    for (index, sample) in [
-        (0, 0),
-        (1, -512),
-        (2, -512),
-        (3, -448),
-        (4, -448),
-        (31, 448),
-        (32, 448),
-        (33, -512),
-    ] {
-        assert!(rt; gave_sample(&kept, index, sample), "sample {index} and one");
-    }
+    a_voice_walks_through_its_waveform_of(&rt, &mut board, &mut kept);
     Ok(())
 }

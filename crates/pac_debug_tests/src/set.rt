@@ -16,6 +16,14 @@ use std::alloc::{AllocError, Global};
 /// LD A,42H / LD (4040H),A / HALT.
 pub const CELL: [u8; 6] = [0x3E, 0x42, 0x32, 0x40, 0x40, 0x76];
 
+/// LD A,1 / LD (5000H),A / LD SP,4FF0H / IM 1 / EI / HALT, and RETI at 38H.
+pub const INTERRUPT: [u8; 58] = [
+    0x3E, 0x01, 0x32, 0x00, 0x50, 0x31, 0xF0, 0x4F, 0xED, 0x56, 0xFB, 0x76, 0x00, 0x00, 0x00, 0x00,
+    0x00, 0x00, 0x00, 0x00, 0x00, 0x00, 0x00, 0x00, 0x00, 0x00, 0x00, 0x00, 0x00, 0x00, 0x00, 0x00,
+    0x00, 0x00, 0x00, 0x00, 0x00, 0x00, 0x00, 0x00, 0x00, 0x00, 0x00, 0x00, 0x00, 0x00, 0x00, 0x00,
+    0x00, 0x00, 0x00, 0x00, 0x00, 0x00, 0x00, 0x00, 0xED, 0x4D,
+];
+
 /// A board at power-on whose program begins with these bytes.
 fn board(alloc: Global, bytes: &[u8]) -> Result<Board, AllocError>
     ensures { IfOk result (λ board. IsNew board) }
@@ -49,56 +57,70 @@ pub fn session(alloc: Global, bytes: &[u8], script: &[u8]) -> Result<Session, Al
     }
 }
 
-/// Does what command lines ask, one after another, up to the first that isn't answered; whether all were.
+/// Does what the lines of a text ask, one after another, up to the first that isn't answered; whether all were.
 fn obey<S: Sink>(
     session: &mut Session,
-    lines: &[&[u8]],
+    lines: &str,
     sink: &mut S,
     text: &mut Counted<Memory>,
 ) -> bool {
-    for line in lines {
-        if command(session, line, sink, text).is_err() {
+    for line in lines.split('\n') {
+        if command(session, line.as_bytes(), sink, text).is_err() {
             return false;
         }
     }
     true
 }
 
-/// How command lines are answered, one after another; each is.
-pub fn answers<S: Sink>(
+/// Whether each of these command lines is answered, one after another, and all of them by this text.
+pub fn is_answered<S: Sink>(
     alloc: Global,
     session: &mut Session,
-    lines: &[&[u8]],
+    lines: &str,
     sink: &mut S,
-) -> Result<Memory, AllocError> {
+    wanted: &str,
+) -> Result<bool, AllocError> {
     let mut text = Counted::new(Memory::new(alloc, 1000)?);
-    if !obey(session, lines, sink, &mut text) {
-        return Err(AllocError);
-    }
-    Ok(text.writer)
+    let all = obey(session, lines, sink, &mut text);
+    Ok(all && text.writer.bytes() == wanted.as_bytes())
 }
 
 /// The same in a new session, whose sink takes all.
-pub fn told(
+pub fn is_told(
     alloc: Global,
     program: &[u8],
     script: &[u8],
-    lines: &[&[u8]],
-) -> Result<Memory, AllocError> {
-    let mut kept = Kept::new(alloc, 0);
+    lines: &str,
+    wanted: &str,
+) -> Result<bool, AllocError> {
     let mut session = session(alloc, program, script)?;
-    answers(alloc, &mut session, lines, &mut kept)
+    let mut kept = Kept::new(alloc, 0);
+    is_answered(alloc, &mut session, lines, &mut kept, wanted)
 }
 
-/// How the lines of a text are answered in such a session.
-pub fn told_of_text(alloc: Global, program: &[u8], lines: &[u8]) -> Result<Memory, AllocError> {
-    let mut kept = Kept::new(alloc, 0);
-    let mut session = session(alloc, program, b"1 -")?;
+/// Whether the lines of a text are answered by this one.
+fn is_text_answered<S: Sink>(
+    alloc: Global,
+    session: &mut Session,
+    lines: &[u8],
+    sink: &mut S,
+    wanted: &str,
+) -> Result<bool, AllocError> {
     let mut text = Counted::new(Memory::new(alloc, 1000)?);
-    match commands(&mut session, lines, &mut kept, &mut text) {
-        Ok(()) => Ok(text.writer),
-        Err(_) => Err(AllocError),
-    }
+    let all = commands(session, lines, sink, &mut text).is_ok();
+    Ok(all && text.writer.bytes() == wanted.as_bytes())
+}
+
+/// The same in a new session, whose sink takes all.
+pub fn is_told_of_text(
+    alloc: Global,
+    program: &[u8],
+    lines: &[u8],
+    wanted: &str,
+) -> Result<bool, AllocError> {
+    let mut session = session(alloc, program, b"1 -")?;
+    let mut kept = Kept::new(alloc, 0);
+    is_text_answered(alloc, &mut session, lines, &mut kept, wanted)
 }
 
 /// Whether the sink refuses what is offered at a command line, of which nothing is told.
@@ -113,18 +135,28 @@ pub fn is_refused<S: Sink>(
     Ok(matches!(answer, Err(CommandFault::Refused)) && text.writer.bytes().is_empty())
 }
 
-/// What a file with little room takes of the answer to a command line, and how many bytes the fault tells.
-pub fn told_within(
+/// How a text is told to be refused at a command line: the count of its bytes that were taken.
+fn count_told<S: Sink>(
+    session: &mut Session,
+    line: &[u8],
+    sink: &mut S,
+    text: &mut Counted<Memory>,
+) -> Option<u64> {
+    match command(session, line, sink, text) {
+        Err(CommandFault::Text(fault)) => Some(fault.count),
+        _ => None,
+    }
+}
+
+/// Whether a file with room for these bytes alone takes them of the answer to a command line, and their count is told.
+pub fn is_cut_to(
     alloc: Global,
     session: &mut Session,
     line: &[u8],
-    room: usize,
-) -> Result<(Memory, Option<u64>), AllocError> {
+    wanted: &[u8],
+) -> Result<bool, AllocError> {
     let mut kept = Kept::new(alloc, 0);
-    let mut text = Counted::new(Memory::new(alloc, room)?);
-    let count = match command(session, line, &mut kept, &mut text) {
-        Err(CommandFault::Text(fault)) => Some(fault.count),
-        _ => None,
-    };
-    Ok((text.writer, count))
+    let mut text = Counted::new(Memory::new(alloc, wanted.len())?);
+    let count = count_told(session, line, &mut kept, &mut text);
+    Ok(count == Some(wanted.len() as u64) && text.writer.bytes() == wanted)
 }

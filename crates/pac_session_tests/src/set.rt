@@ -8,6 +8,7 @@ use pac_inputs::read_script;
 use pac_roms::{Raw, RomSet};
 use pac_session::{Ending, Motion, Session};
 use std::alloc::{AllocError, Global};
+use std::process::Abort;
 
 /// LD A,42H / LD (4040H),A / HALT.
 pub const CELL: [u8; 6] = [0x3E, 0x42, 0x32, 0x40, 0x40, 0x76];
@@ -45,19 +46,45 @@ pub fn session(alloc: Global, bytes: &[u8], script: &[u8]) -> Result<Session, Al
     }
 }
 
-/// Index, time and PC.
-pub fn place(session: &Session) -> (u64, u64, u16) {
-    (
-        session.index(),
-        session.board().time(),
-        session.board().regs().pc,
-    )
+/// A move of a session.
+#[derive(Clone, Copy)]
+pub enum Move {
+    /// Forwards.
+    Go(Motion),
+    /// Back by so many steps, one at least.
+    Back(u32),
+    /// Keeps the index in slot 1.
+    Keep,
+    /// To the index of slot 1.
+    Return,
 }
 
-/// Goes forwards, and tells why it rests; nothing where the sink refused.
-pub fn go<S: Sink>(session: &mut Session, motion: Motion, sink: &mut S) -> Option<Ending> {
-    session.offer(sink).ok()?;
-    session.travel(motion, sink).ok()
+/// Index, time and PC.
+pub fn place(session: &Session) -> (u64, u64, u16) {
+    let board = session.board();
+    (session.index(), board.time(), board.regs().pc)
+}
+
+/// Why a motion rests, in a word.
+fn word(ending: Ending) -> &'static str {
+    match ending {
+        Ending::AtStop(_) => "stop",
+        Ending::AtEnd => "end",
+        Ending::AtBreakpoint => "breakpoint",
+        Ending::AtFrame => "frame",
+        Ending::AtStep => "step",
+    }
+}
+
+/// Goes forwards, and tells why it rests.
+fn gone<S: Sink>(session: &mut Session, motion: Motion, sink: &mut S) -> &'static str {
+    if session.offer(sink).is_err() {
+        return "refused";
+    }
+    match session.travel(motion, sink) {
+        Ok(ending) => word(ending),
+        Err(_) => "refused",
+    }
 }
 
 /// Goes back by so many steps; where it can't, the oldest index.
@@ -69,7 +96,7 @@ pub fn back<S: Sink>(session: &mut Session, count: u32, sink: &mut S) -> Result<
 }
 
 /// Keeps the index in slot 1.
-pub fn keep<S: Sink>(session: &mut Session, sink: &mut S) -> bool {
+fn keep<S: Sink>(session: &mut Session, sink: &mut S) -> bool {
     let is_given = session.offer(sink).is_ok();
     if is_given {
         session.keep(1);
@@ -78,6 +105,30 @@ pub fn keep<S: Sink>(session: &mut Session, sink: &mut S) -> bool {
 }
 
 /// Goes to the index of slot 1.
-pub fn go_to_kept<S: Sink>(session: &mut Session, sink: &mut S) -> bool {
+fn go_to_kept<S: Sink>(session: &mut Session, sink: &mut S) -> bool {
     session.offer(sink).is_ok() && session.go_to(1).is_ok()
+}
+
+/// Makes a move after what is due is offered, and tells in a word what it came to.
+fn moved<S: Sink>(session: &mut Session, what: Move, sink: &mut S) -> &'static str {
+    let is_done = match what {
+        Move::Go(motion) => return gone(session, motion, sink),
+        Move::Back(count) => back(session, count, sink).is_ok(),
+        Move::Keep => keep(session, sink),
+        Move::Return => go_to_kept(session, sink),
+    };
+    if is_done { "done" } else { "not done" }
+}
+
+/// Makes moves one after another, each of which comes to this word, at this index, time and PC.
+pub fn goes<S: Sink>(
+    rt: &impl Abort,
+    session: &mut Session,
+    sink: &mut S,
+    moves: &[(Move, &str, (u64, u64, u16))],
+) {
+    for (what, word, there) in moves {
+        assert!(rt; moved(session, *what, sink) == *word, "{word}");
+        assert!(rt; place(session) == *there, "{word}");
+    }
 }

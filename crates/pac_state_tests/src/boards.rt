@@ -3,7 +3,7 @@
 use crate::files::{file, loaded, made, saved};
 use crate::sets::{CELL, board};
 use pac_board::kept::{Kept, Taken};
-use pac_board::{Board, Fault, Sink};
+use pac_board::{Board, Fault, Fields, Sink};
 use pac_exec::Regs;
 use pac_out::memory::Memory;
 use pac_table::InterruptMode;
@@ -132,15 +132,21 @@ fn memory_of_a_file(rt: HostRuntime) -> Result<(), Fail> {
     Ok(())
 }
 
+/// Whether fields have these latch bits, vector and count, and a request.
+fn are_latched(fields: &Fields, latch: u8, vector: u8, count: u8) -> bool {
+    let memory = &fields.memory;
+    memory.latch == latch && memory.vector == vector && memory.count == count && memory.requested
+}
+
+/// Whether a board has them.
+fn is_latched(board: &Board, latch: u8, vector: u8, count: u8) -> bool {
+    are_latched(&board.fields(), latch, vector, count)
+}
+
 #[test]
 fn latches_of_a_file(rt: HostRuntime) -> Result<(), Fail> {
     let board = made(rt.alloc(), &CELL, &[(3214, &[0x81, 0x66, 1, 15])])?;
-    let memory = board.fields().memory;
-    assert_eq!(rt;
-        (memory.latch, memory.vector, memory.count),
-        (0x81, 0x66, 15)
-    );
-    assert!(rt; memory.requested);
+    assert!(rt; is_latched(&board, 0x81, 0x66, 15));
     Ok(())
 }
 
@@ -159,14 +165,25 @@ fn sounding(alloc: Global) -> Result<Board, AllocError> {
     )
 }
 
+/// Whether the fields are those of that board.
+fn are_sounding(fields: &Fields) -> bool {
+    fields.memory.coordinates[..2] == [0x77, 0x88]
+        && fields.memory.registers[5] == 7
+        && fields.memory.registers[31] == 9
+        && fields.accumulators == [0x03_0201, 0x06_0504, 0x09_0807]
+        && fields.due.sample == Some(-2)
+        && !fields.due.picture
+}
+
+/// Whether a board's fields are.
+fn is_sounding(board: &Board) -> bool {
+    are_sounding(&board.fields())
+}
+
 #[test]
 fn devices_of_a_file(rt: HostRuntime) -> Result<(), Fail> {
     let board = sounding(rt.alloc())?;
-    let fields = board.fields();
-    assert!(rt; fields.memory.coordinates[..2] == [0x77, 0x88]);
-    assert!(rt; fields.memory.registers[5] == 7 && fields.memory.registers[31] == 9);
-    assert_eq!(rt; fields.accumulators, [0x03_0201, 0x06_0504, 0x09_0807]);
-    assert_eq!(rt; (fields.due.sample, fields.due.picture), (Some(-2), false));
+    assert!(rt; is_sounding(&board));
     Ok(())
 }
 

@@ -96,14 +96,8 @@ fn fault_of(alloc: Global, file: &[u8], count: usize) -> Result<LoadFault, Alloc
     }
 }
 
-/// Why the file that has this piece isn't loaded.
-pub fn why_not(alloc: Global, at: usize, bytes: &[u8]) -> Result<LoadFault, AllocError> {
-    let file = file(alloc, &CELL, &[(at, bytes)])?;
-    fault_of(alloc, &file, SIZE)
-}
-
-/// The same of one that is cut to so many bytes.
-pub fn why_not_cut(
+/// Why the file that has this piece, and is cut to so many bytes, isn't loaded.
+pub fn why_not(
     alloc: Global,
     at: usize,
     bytes: &[u8],
