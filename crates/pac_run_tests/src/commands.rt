@@ -1,8 +1,6 @@
 //! Command lines, run in process over the files of a folder: statuses, what is printed, and what the files have then.
 
-use crate::console::Console;
-use crate::folder::{bytes_of, expect, is_there, lay, lay_set, words_of};
-use pac_command::run_words;
+use crate::folder::{bytes_of, expect, has, is_there, lay, lay_set, lay_set_with, printed};
 use std::process::Abort;
 use std::rt::Files;
 use std::{fs, io};
@@ -16,6 +14,24 @@ const CELL_LISTING: &str = "00001 0000 3E42     LD A,42H
 00002 0002 324040   LD (4040H),A
 00003 0005 76       HALT
 SYMBOLS
+";
+
+/// A manifest whose table of the tiles has another digest.
+const OTHER_DIGEST: &[u8] = b"colours.file = 'colours.prom'
+lookup.file = 'lookup.prom'
+sprites.file = 'sprites.rom'
+wave.file = 'wave.prom'
+[tiles]
+file = 'tiles.rom'
+sha1 = '0000000000000000000000000000000000000000'
+";
+
+/// A manifest whose tiles are a file of another size.
+const OTHER_SIZE: &[u8] = b"tiles.file = 'wave.prom'
+colours.file = 'colours.prom'
+lookup.file = 'lookup.prom'
+sprites.file = 'sprites.rom'
+wave.file = 'wave.prom'
 ";
 
 /// Runs `run` with these words and the outputs, and compares.
@@ -34,9 +50,9 @@ fn expect_run(
 /// Whether the folder's outputs are there, and empty.
 fn are_empty(rt: &(impl Files + AllocGlobal), folder: &str) -> io::Result<bool> {
     Ok(
-        bytes_of(rt, folder, "f.ppm")?.is_empty()
-            && bytes_of(rt, folder, "w.wav")?.is_empty()
-            && bytes_of(rt, folder, "l.txt")?.is_empty(),
+        has(rt, folder, "f.ppm", b"")?
+            && has(rt, folder, "w.wav", b"")?
+            && has(rt, folder, "l.txt", b"")?,
     )
 }
 
@@ -47,57 +63,73 @@ fn none_is_there(rt: &(impl Files + AllocGlobal), folder: &str) -> bool {
         && !is_there(rt, folder, "l.txt")
 }
 
+/// The length of a folder's file.
+fn length_of(rt: &(impl Files + AllocGlobal), folder: &str, name: &str) -> io::Result<usize> {
+    Ok(bytes_of(rt, folder, name)?.len())
+}
+
+/// Whether an image is black but for a green tile at x 16 to 23 and y 0 to 7.
+fn is_green_tile(image: &[u8]) -> bool {
+    let Some(levels) = image.strip_prefix(b"P6\n288 224\n255\n") else {
+        return false;
+    };
+    let mut is_right = image.len() == 193_551;
+    for (place, level) in levels.iter().enumerate() {
+        let is_in_tile = (16..24).contains(&(place / 3 % 288)) && place / 864 < 8;
+        let wanted = if is_in_tile && place % 3 == 1 { 255 } else { 0 };
+        is_right = is_right && *level == wanted;
+    }
+    is_right
+}
+
+/// Whether the folder's image is that.
+fn shows_green_tile(rt: &(impl Files + AllocGlobal), folder: &str) -> io::Result<bool> {
+    let image = bytes_of(rt, folder, "f.ppm")?;
+    Ok(is_green_tile(&image))
+}
+
+// A source, and the same bytes as the program of a set: all is equal but the listing.
 #[test]
 fn a_run_writes_four_outputs(rt: HostRuntime) -> io::Result<()> {
     lay_set(&rt, "whole")?;
-    expect_run(
-        &rt,
-        "whole",
-        "--set @/set.toml --script @/one.script --source @/cell.asm",
-        0,
-        CELL_REPORT,
-        "",
-    )?;
-    let image = bytes_of(&rt, "whole", "f.ppm")?;
-    assert_eq!(rt; image.len(), 193_551);
-    let Some(levels) = image.strip_prefix(b"P6\n288 224\n255\n") else {
-        panic!(rt; "another header");
-    };
-    for (place, level) in levels.iter().enumerate() {
-        let is_in_tile = (16..24).contains(&(place / 3 % 288)) && place / 864 < 8;
-        let is_green = place % 3 == 1;
-        assert_eq!(rt;
-            *level,
-            if is_in_tile && is_green { 255 } else { 0 },
-            "{place}"
-        );
+    for (words, listing) in [
+        (
+            "--set @/set.toml --script @/one.script --source @/cell.asm",
+            CELL_LISTING,
+        ),
+        ("--set @/whole.toml --script @/one.script", "SYMBOLS\n"),
+    ] {
+        expect_run(&rt, "whole", words, 0, CELL_REPORT, "")?;
+        assert!(rt; shows_green_tile(&rt, "whole")?, "{words}");
+        assert!(rt; length_of(&rt, "whole", "w.wav")? == 3_212, "{words}");
+        assert!(rt; has(&rt, "whole", "l.txt", listing.as_bytes())?, "{words}");
     }
-    assert_eq!(rt; bytes_of(&rt, "whole", "w.wav")?.len(), 3_212);
-    assert!(rt; bytes_of(&rt, "whole", "l.txt")?.as_slice() == CELL_LISTING.as_bytes());
-    expect_run(
-        &rt,
-        "whole",
-        "--set @/whole.toml --script @/one.script",
-        0,
-        CELL_REPORT,
-        "",
-    )?;
-    assert!(rt; bytes_of(&rt, "whole", "f.ppm")? == image);
-    assert!(rt; bytes_of(&rt, "whole", "l.txt")?.as_slice() == b"SYMBOLS\n".as_slice());
     fs::remove_dir_all(&rt, "whole")
+}
+
+/// Whether the folder's image has these levels from byte 84 on, which is x 23.
+fn has_pixels(rt: &(impl Files + AllocGlobal), folder: &str, pixels: &[u8; 6]) -> io::Result<bool> {
+    let image = bytes_of(rt, folder, "f.ppm")?;
+    Ok(match image.get(84..90) {
+        Some(found) => found == pixels.as_slice(),
+        None => false,
+    })
 }
 
 // The joystick's bit 0 and the DIP byte, as they are read at 5000H and 5080H, become tiles at x 16 and x 24.
 #[test]
 fn inputs_and_switches(rt: HostRuntime) -> io::Result<()> {
-    lay_set(&rt, "held")?;
-    lay(
+    lay_set_with(
         &rt,
         "held",
-        "inputs.asm",
-        b"LD A,(5000H)\nLD (4040H),A\nLD A,(5080H)\nLD (4041H),A\nHALT",
+        &[
+            (
+                "inputs.asm",
+                b"LD A,(5000H)\nLD (4040H),A\nLD A,(5080H)\nLD (4041H),A\nHALT".as_slice(),
+            ),
+            ("up.script", b"1 P1_UP"),
+        ],
     )?;
-    lay(&rt, "held", "up.script", b"1 P1_UP")?;
     let report = "frames 1 of 1\nsteps 12663 ticks 50688\nend done\n";
     for (words, pixels) in [
         ("--script @/one.script", [0, 0, 255, 255, 0, 0]),
@@ -106,21 +138,21 @@ fn inputs_and_switches(rt: HostRuntime) -> io::Result<()> {
     ] {
         let line = format!(in rt.alloc(); "--set @/set.toml {words} --source @/inputs.asm")?;
         expect_run(&rt, "held", &line, 0, report, "")?;
-        let image = bytes_of(&rt, "held", "f.ppm")?;
-        let Some(found) = image.get(84..90) else {
-            panic!(rt; "no pixels");
-        };
-        assert_eq!(rt; found[..3], pixels[..3], "{words}");
-        assert_eq!(rt; found[3..], pixels[3..], "{words}");
+        assert!(rt; has_pixels(&rt, "held", &pixels)?, "{words}");
     }
     fs::remove_dir_all(&rt, "held")
 }
 
 #[test]
 fn a_stopped_board(rt: HostRuntime) -> io::Result<()> {
-    lay_set(&rt, "stopped")?;
-    lay(&rt, "stopped", "stop.asm", b"DEFB 0CBH,30H")?;
-    lay(&rt, "stopped", "two.script", b"2 -")?;
+    lay_set_with(
+        &rt,
+        "stopped",
+        &[
+            ("stop.asm", b"DEFB 0CBH,30H".as_slice()),
+            ("two.script", b"2 -"),
+        ],
+    )?;
     expect_run(
         &rt,
         "stopped",
@@ -129,9 +161,20 @@ fn a_stopped_board(rt: HostRuntime) -> io::Result<()> {
         "frames 0 of 2\nsteps 0 ticks 0\nstop S1 at 0000 bytes CB 30 00 00\n",
         "",
     )?;
-    assert!(rt; bytes_of(&rt, "stopped", "f.ppm")?.is_empty());
-    assert_eq!(rt; bytes_of(&rt, "stopped", "w.wav")?.len(), 6_380);
+    assert!(rt;
+        length_of(&rt, "stopped", "f.ppm")? == 0 && length_of(&rt, "stopped", "w.wav")? == 6_380
+    );
     fs::remove_dir_all(&rt, "stopped")
+}
+
+/// Whether a command line is answered by status 2 and a text on standard error alone.
+fn is_no_command_line(
+    rt: &(impl Files + AllocGlobal),
+    folder: &str,
+    line: &str,
+) -> io::Result<bool> {
+    let (status, console) = printed(rt, folder, line, 400)?;
+    Ok(status == 2 && console.has_error_alone())
 }
 
 #[test]
@@ -150,10 +193,7 @@ fn words_that_are_no_command_line(rt: HostRuntime) -> io::Result<()> {
         "run --set @/set.toml --set @/set.toml --script @/one.script --frames @/f.ppm --wave @/w.wav --listing @/l.txt",
         "debug --set @/set.toml --script @/one.script --frames @/f.ppm --wave @/w.wav --listing @/l.txt",
     ] {
-        let console = Console::new(rt.alloc(), 400)?;
-        let words = words_of(rt.alloc(), "words", line)?;
-        assert_eq!(rt; run_words(&rt, &console, &words), 2, "{line}");
-        assert!(rt; console.has_error_alone(), "{line}");
+        assert!(rt; is_no_command_line(&rt, "words", line)?, "{line}");
     }
     assert!(rt; none_is_there(&rt, "words"));
     fs::remove_dir_all(&rt, "words")
@@ -162,19 +202,20 @@ fn words_that_are_no_command_line(rt: HostRuntime) -> io::Result<()> {
 // Source, manifest, script, then the manifest's files in the order of the parts; nothing is created before all is read.
 #[test]
 fn files_that_cannot_be_read(rt: HostRuntime) -> io::Result<()> {
-    lay_set(&rt, "unread")?;
-    lay(&rt, "unread", "fault.asm", b"LD A,256\n")?;
-    lay(
+    lay_set_with(
         &rt,
         "unread",
-        "none.toml",
-        b"tiles.file = 'none.rom'\nwave.file = '/none.prom'\nsprites.file = 'no/tiles.rom'\n",
-    )?;
-    lay(
-        &rt,
-        "unread",
-        "wave.toml",
-        b"tiles.file = 'tiles.rom'\nwave.file = '/none.prom'\n",
+        &[
+            ("fault.asm", b"LD A,256\n".as_slice()),
+            (
+                "none.toml",
+                b"tiles.file = 'none.rom'\nwave.file = '/none.prom'\nsprites.file = 'no/tiles.rom'\n",
+            ),
+            (
+                "wave.toml",
+                b"tiles.file = 'tiles.rom'\nwave.file = '/none.prom'\n",
+            ),
+        ],
     )?;
     for (words, error) in [
         (
@@ -211,34 +252,17 @@ fn files_that_cannot_be_read(rt: HostRuntime) -> io::Result<()> {
 // The first fault of source, set and script is told, and the outputs are there, empty.
 #[test]
 fn inputs_that_are_refused(rt: HostRuntime) -> io::Result<()> {
-    lay_set(&rt, "refused")?;
-    lay(&rt, "refused", "fault.asm", b"NOP\nLD A,2B\n")?;
-    lay(&rt, "refused", "far.asm", b"LD A,256\n")?;
-    lay(&rt, "refused", "form.toml", b"tiles = 3\n")?;
-    lay(&rt, "refused", "bad.script", b"1 -\n1 up\n")?;
-    lay(
+    lay_set_with(
         &rt,
         "refused",
-        "digest.toml",
-        b"colours.file = 'colours.prom'
-lookup.file = 'lookup.prom'
-sprites.file = 'sprites.rom'
-wave.file = 'wave.prom'
-[tiles]
-file = 'tiles.rom'
-sha1 = '0000000000000000000000000000000000000000'
-",
-    )?;
-    lay(
-        &rt,
-        "refused",
-        "size.toml",
-        b"tiles.file = 'wave.prom'
-colours.file = 'colours.prom'
-lookup.file = 'lookup.prom'
-sprites.file = 'sprites.rom'
-wave.file = 'wave.prom'
-",
+        &[
+            ("fault.asm", b"NOP\nLD A,2B\n".as_slice()),
+            ("far.asm", b"LD A,256\n"),
+            ("form.toml", b"tiles = 3\n"),
+            ("bad.script", b"1 -\n1 up\n"),
+            ("digest.toml", OTHER_DIGEST),
+            ("size.toml", OTHER_SIZE),
+        ],
     )?;
     for (words, error) in [
         (
@@ -281,30 +305,40 @@ wave.file = 'wave.prom'
     fs::remove_dir_all(&rt, "refused")
 }
 
+/// Runs `run` with these inputs and outputs, and compares the output that is told to have refused its first byte.
+fn expect_refused(
+    rt: &(impl Files + AllocGlobal + Abort),
+    folder: &str,
+    source: &str,
+    outputs: &str,
+    output: &str,
+) -> io::Result<()> {
+    let line = format!(in rt.alloc();
+        "run --source {source} --set @/set.toml --script @/one.script {outputs}"
+    )?;
+    let error = format!(in rt.alloc(); "write fault {output} after 0 bytes\n")?;
+    expect(rt, folder, &line, 3, "", &error)
+}
+
 // The outputs are created in the order frames, wave, listing, before anything is refused.
 #[test]
 fn outputs_that_cannot_be_created(rt: HostRuntime) -> io::Result<()> {
-    lay_set(&rt, "closed")?;
-    lay(&rt, "closed", "fault.asm", b"LD A,256\n")?;
+    lay_set_with(&rt, "closed", &[("fault.asm", b"LD A,256\n".as_slice())])?;
     for (outputs, output) in [
         ("--frames @/no/f --wave @/no/w --listing @/no/l", "frames"),
         ("--wave @/no/w --listing @/no/l --frames @/f.ppm", "wave"),
         ("--frames @/f.ppm --wave @/w.wav --listing .", "listing"),
     ] {
-        let line = format!(in rt.alloc();
-            "run --source @/fault.asm --set @/set.toml --script @/one.script {outputs}"
-        )?;
-        let error = format!(in rt.alloc(); "write fault {output} after 0 bytes\n")?;
-        expect(&rt, "closed", &line, 3, "", &error)?;
+        expect_refused(&rt, "closed", "@/fault.asm", outputs, output)?;
     }
     assert!(rt; !is_there(&rt, "closed", "l.txt"));
     fs::remove_dir_all(&rt, "closed")
 }
 
+// The wave's header is refused, before the first frame and after the listing.
 #[test]
 fn writes_that_are_refused(rt: HostRuntime) -> io::Result<()> {
     lay_set(&rt, "cut")?;
-    let inputs = "run --source @/cell.asm --set @/set.toml --script @/one.script";
     for (outputs, output) in [
         (
             "--frames /dev/full --wave @/w.wav --listing @/l.txt",
@@ -319,119 +353,189 @@ fn writes_that_are_refused(rt: HostRuntime) -> io::Result<()> {
             "wave",
         ),
     ] {
-        let line = format!(in rt.alloc(); "{inputs} {outputs}")?;
-        let error = format!(in rt.alloc(); "write fault {output} after 0 bytes\n")?;
-        expect(&rt, "cut", &line, 3, "", &error)?;
+        expect_refused(&rt, "cut", "@/cell.asm", outputs, output)?;
     }
-    // the wave's header was refused, before the first frame and after the listing
-    assert!(rt; bytes_of(&rt, "cut", "f.ppm")?.is_empty());
-    assert!(rt; bytes_of(&rt, "cut", "l.txt")?.as_slice() == CELL_LISTING.as_bytes());
-    let line = format!(in rt.alloc(); "{inputs} {OUTPUTS}")?;
-    let words = words_of(rt.alloc(), "cut", &line)?;
-    for room in [0, 1, 30, 46] {
-        let console = Console::new(rt.alloc(), room)?;
-        assert_eq!(rt; run_words(&rt, &console, &words), 3);
-        let error = format!(in rt.alloc(); "write fault report after {room} bytes\n")?;
-        assert!(rt; console.has(&CELL_REPORT[..room], &error), "{room}");
-    }
+    assert!(rt;
+        has(&rt, "cut", "f.ppm", b"")? && has(&rt, "cut", "l.txt", CELL_LISTING.as_bytes())?
+    );
     fs::remove_dir_all(&rt, "cut")
+}
+
+/// Whether a console of this room is told to be full, once it has a report's first bytes.
+fn is_report_cut(
+    rt: &(impl Files + AllocGlobal),
+    folder: &str,
+    line: &str,
+    room: usize,
+) -> io::Result<bool> {
+    let (status, console) = printed(rt, folder, line, room)?;
+    let error = format!(in rt.alloc(); "write fault report after {room} bytes\n")?;
+    Ok(match CELL_REPORT.get(..room) {
+        Some(report) => status == 3 && console.has(report, &error),
+        None => false,
+    })
+}
+
+#[test]
+fn reports_that_are_refused(rt: HostRuntime) -> io::Result<()> {
+    lay_set(&rt, "console")?;
+    let line = format!(in rt.alloc();
+        "run --source @/cell.asm --set @/set.toml --script @/one.script {OUTPUTS}"
+    )?;
+    for room in [0, 1, 30, 46] {
+        assert!(rt; is_report_cut(&rt, "console", &line, room)?, "{room}");
+    }
+    fs::remove_dir_all(&rt, "console")
+}
+
+/// Makes a folder with the set and a source of so many line feeds.
+fn lay_lines(rt: &(impl Files + AllocGlobal), folder: &str, count: usize) -> io::Result<()> {
+    let lines = vec![in rt.alloc(); b'\n'; count]?;
+    lay_set_with(rt, folder, &[("most.asm", lines.as_slice())])
 }
 
 #[test]
 fn files_have_a_size(rt: HostRuntime) -> io::Result<()> {
-    lay_set(&rt, "sized")?;
-    let mut most = vec![in rt.alloc(); b'\n'; 16_777_216]?;
-    lay(&rt, "sized", "most.asm", &most)?;
     let line = "asm @/most.asm --rom @/r.rom --listing @/l.txt";
-    expect(&rt, "sized", line, 1, "", "refused A7 line 65536\n")?;
-    most.push(b'\n')?;
-    lay(&rt, "sized", "most.asm", &most)?;
-    expect(&rt, "sized", line, 3, "", "read fault sized/most.asm\n")?;
+    for (count, status, error) in [
+        (16_777_216, 1, "refused A7 line 65536\n"),
+        (16_777_217, 3, "read fault sized/most.asm\n"),
+    ] {
+        lay_lines(&rt, "sized", count)?;
+        expect(&rt, "sized", line, status, "", error)?;
+    }
     fs::remove_dir_all(&rt, "sized")
+}
+
+/// Whether the folder's ROM has the bytes of LD A,42H / LD (4040H),A / HALT, and 0 everywhere else.
+fn is_cell_rom(rt: &(impl Files + AllocGlobal), folder: &str) -> io::Result<bool> {
+    let rom = bytes_of(rt, folder, "r.rom")?;
+    Ok(
+        rom.len() == 16_384
+            && rom.starts_with(&[0x3E, 0x42, 0x32, 0x40, 0x40, 0x76])
+            && rom.iter().skip(6).all(|byte| *byte == 0),
+    )
 }
 
 #[test]
 fn an_assembled_file(rt: HostRuntime) -> io::Result<()> {
     lay_set(&rt, "made")?;
-    lay(&rt, "made", "fault.asm", b"NOP\nJP WHO\n")?;
     let line = "asm @/cell.asm --rom @/r.rom --listing @/l.txt";
     expect(&rt, "made", line, 0, "", "")?;
-    let rom = bytes_of(&rt, "made", "r.rom")?;
-    assert_eq!(rt; rom.len(), 16_384);
-    assert!(rt; rom.starts_with(&[0x3E, 0x42, 0x32, 0x40, 0x40, 0x76]));
-    assert!(rt; rom.iter().skip(6).all(|byte| *byte == 0));
-    assert!(rt; bytes_of(&rt, "made", "l.txt")?.as_slice() == CELL_LISTING.as_bytes());
-    for (line, status, error) in [
-        (
-            "asm @/fault.asm --rom @/r.rom --listing @/l.txt",
-            1,
-            "refused A8 line 2\n",
-        ),
-        (
-            "asm @/none.asm --rom @/r.rom --listing @/l.txt",
-            3,
-            "read fault made/none.asm\n",
-        ),
-        (
-            "asm @/fault.asm --rom @/no/r --listing @/no/l",
-            3,
-            "write fault rom after 0 bytes\n",
-        ),
-        (
-            "asm @/fault.asm --rom @/r.rom --listing @/no/l",
-            3,
-            "write fault listing after 0 bytes\n",
-        ),
-        (
-            "asm @/cell.asm --rom /dev/full --listing @/l.txt",
-            3,
-            "write fault rom after 0 bytes\n",
-        ),
-        (
-            "asm @/cell.asm --rom @/r.rom --listing /dev/full",
-            3,
-            "write fault listing after 0 bytes\n",
-        ),
-    ] {
-        expect(&rt, "made", line, status, "", error)?;
-    }
-    assert!(rt; bytes_of(&rt, "made", "l.txt")?.is_empty());
+    assert!(rt; is_cell_rom(&rt, "made")? && has(&rt, "made", "l.txt", CELL_LISTING.as_bytes())?);
     fs::remove_dir_all(&rt, "made")
 }
 
 #[test]
+fn sources_that_are_not_assembled(rt: HostRuntime) -> io::Result<()> {
+    lay_set_with(&rt, "unmade", &[("fault.asm", b"NOP\nJP WHO\n".as_slice())])?;
+    for (words, status, error) in [
+        (
+            "@/fault.asm --rom @/r.rom --listing @/l.txt",
+            1,
+            "refused A8 line 2\n",
+        ),
+        (
+            "@/none.asm --rom @/r.rom --listing @/l.txt",
+            3,
+            "read fault unmade/none.asm\n",
+        ),
+        (
+            "@/fault.asm --rom @/no/r --listing @/no/l",
+            3,
+            "write fault rom after 0 bytes\n",
+        ),
+        (
+            "@/fault.asm --rom @/r.rom --listing @/no/l",
+            3,
+            "write fault listing after 0 bytes\n",
+        ),
+        (
+            "@/cell.asm --rom /dev/full --listing @/l.txt",
+            3,
+            "write fault rom after 0 bytes\n",
+        ),
+        (
+            "@/cell.asm --rom @/r.rom --listing /dev/full",
+            3,
+            "write fault listing after 0 bytes\n",
+        ),
+    ] {
+        let line = format!(in rt.alloc(); "asm {words}")?;
+        expect(&rt, "unmade", &line, status, "", error)?;
+    }
+    assert!(rt; has(&rt, "unmade", "l.txt", b"")?);
+    fs::remove_dir_all(&rt, "unmade")
+}
+
+/// Makes a folder with a file of these bytes.
+fn lay_code(rt: &(impl Files + AllocGlobal), folder: &str, bytes: &[u8]) -> io::Result<()> {
+    let _ = fs::remove_dir_all(rt, folder);
+    fs::create_dir(rt, folder)?;
+    lay(rt, folder, "code", bytes)
+}
+
+#[test]
 fn a_disassembled_file(rt: HostRuntime) -> io::Result<()> {
-    lay_set(&rt, "told")?;
-    for (bytes, text) in [
+    for (bytes, status, text, error) in [
         (
             [0x3E, 0x42, 0x32, 0x40, 0x40, 0x76].as_slice(),
+            0,
             "0000 3E42     LD A,42H\n0002 324040   LD (4040H),A\n0005 76       HALT\n",
+            "",
         ),
         (
             &[0xDD, 0x24],
+            0,
             "0000 DD       DEFB 0DDH\n0001 24       INC H\n",
+            "",
         ),
-        (&[0xED, 0x6B, 0x34, 0x12], "0000 ED6B3412 LD HL,(1234H)\n"),
-        (&[0xFD, 0xCB, 0xFD, 0x46], "0000 FDCBFD46 BIT 0,(IY-03H)\n"),
+        (
+            &[0xED, 0x6B, 0x34, 0x12],
+            0,
+            "0000 ED6B3412 LD HL,(1234H)\n",
+            "",
+        ),
+        (
+            &[0xFD, 0xCB, 0xFD, 0x46],
+            0,
+            "0000 FDCBFD46 BIT 0,(IY-03H)\n",
+            "",
+        ),
         (
             &[0x76, 0x3E],
+            0,
             "0000 76       HALT\n0001 3E       DEFB 3EH\n",
+            "",
         ),
+        (b"", 1, "", "refused X1\n"),
     ] {
-        lay(&rt, "told", "code", bytes)?;
-        expect(&rt, "told", "dis @/code", 0, text, "")?;
+        lay_code(&rt, "told", bytes)?;
+        expect(&rt, "told", "dis @/code", status, text, error)?;
     }
-    lay(&rt, "told", "code", b"")?;
-    expect(&rt, "told", "dis @/code", 1, "", "refused X1\n")?;
-    let above = vec![in rt.alloc(); 0u8; 65_537]?;
-    lay(&rt, "told", "code", &above)?;
-    expect(&rt, "told", "dis @/code", 1, "", "refused X1\n")?;
     expect(&rt, "told", "dis @/none", 3, "", "read fault told/none\n")?;
-    lay(&rt, "told", "code", &above[1..])?;
-    let console = Console::new(rt.alloc(), 30)?;
-    let words = words_of(rt.alloc(), "told", "dis @/code")?;
-    assert_eq!(rt; run_words(&rt, &console, &words), 3);
-    let text = "0000 00       NOP\n0001 00      ";
-    assert!(rt; console.has(&text[..30], "write fault text after 30 bytes\n"));
     fs::remove_dir_all(&rt, "told")
+}
+
+/// Makes a folder with a file of so many bytes of 0.
+fn lay_zeros(rt: &(impl Files + AllocGlobal), folder: &str, count: usize) -> io::Result<()> {
+    let zeros = vec![in rt.alloc(); 0u8; count]?;
+    lay_code(rt, folder, &zeros)
+}
+
+/// Whether a console of 30 bytes is told to be full, once it has the text's first bytes.
+fn is_text_cut(rt: &(impl Files + AllocGlobal), folder: &str) -> io::Result<bool> {
+    let (status, console) = printed(rt, folder, "dis @/code", 30)?;
+    let text = "0000 00       NOP\n0001 00     ";
+    Ok(status == 3 && console.has(text, "write fault text after 30 bytes\n"))
+}
+
+// As many bytes as there are addresses are told, as far as the console takes them; one more isn't.
+#[test]
+fn a_long_disassembled_file(rt: HostRuntime) -> io::Result<()> {
+    lay_zeros(&rt, "long", 65_537)?;
+    expect(&rt, "long", "dis @/code", 1, "", "refused X1\n")?;
+    lay_zeros(&rt, "long", 65_536)?;
+    assert!(rt; is_text_cut(&rt, "long")?);
+    fs::remove_dir_all(&rt, "long")
 }

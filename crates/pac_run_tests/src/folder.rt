@@ -18,20 +18,63 @@ pub fn lay(
     fs::write(rt, path.as_str(), bytes)
 }
 
-/// Makes a folder with the files of the set; `set.toml` names all but a program, `whole.toml` the program too.
-pub fn lay_set(rt: &(impl rt::Files + AllocGlobal), folder: &str) -> io::Result<()> {
-    let _ = fs::remove_dir_all(rt, folder);
-    fs::create_dir(rt, folder)?;
+/// Lays files into a folder.
+pub fn lay_all(
+    rt: &(impl rt::Files + AllocGlobal),
+    folder: &str,
+    files: &[(&str, &[u8])],
+) -> io::Result<()> {
+    for (name, bytes) in files {
+        lay(rt, folder, name, bytes)?;
+    }
+    Ok(())
+}
+
+/// Lays the files of the set's parts into a folder.
+fn lay_parts(rt: &(impl rt::Files + AllocGlobal), folder: &str) -> io::Result<()> {
     let files = Files::new(rt.alloc())?;
     for part in files.parts() {
         lay(rt, folder, part.name, part.bytes)?;
     }
-    let manifest = format!(in rt.alloc(); "{TABLES}{WAVE_TABLE}")?;
-    lay(rt, folder, "set.toml", manifest.as_bytes())?;
-    let whole = format!(in rt.alloc(); "{TABLES}{WAVE_TABLE}{PROGRAM_TABLES}")?;
-    lay(rt, folder, "whole.toml", whole.as_bytes())?;
-    lay(rt, folder, "cell.asm", b"LD A,42H\nLD (4040H),A\nHALT\n")?;
-    lay(rt, folder, "one.script", b"1 -\n")
+    Ok(())
+}
+
+/// Lays a manifest of all that each set has, and of these tables, into a folder.
+fn lay_manifest(
+    rt: &(impl rt::Files + AllocGlobal),
+    folder: &str,
+    name: &str,
+    tables: &str,
+) -> io::Result<()> {
+    let text = format!(in rt.alloc(); "{TABLES}{WAVE_TABLE}{tables}")?;
+    lay(rt, folder, name, text.as_bytes())
+}
+
+/// Makes a folder with the files of the set; `set.toml` names all but a program, `whole.toml` the program too.
+pub fn lay_set(rt: &(impl rt::Files + AllocGlobal), folder: &str) -> io::Result<()> {
+    let _ = fs::remove_dir_all(rt, folder);
+    fs::create_dir(rt, folder)?;
+    lay_parts(rt, folder)?;
+    lay_manifest(rt, folder, "set.toml", "")?;
+    lay_manifest(rt, folder, "whole.toml", PROGRAM_TABLES)?;
+    lay_all(
+        rt,
+        folder,
+        &[
+            ("cell.asm", b"LD A,42H\nLD (4040H),A\nHALT\n".as_slice()),
+            ("one.script", b"1 -\n"),
+        ],
+    )
+}
+
+/// Makes a folder with the files of the set, and with these.
+pub fn lay_set_with(
+    rt: &(impl rt::Files + AllocGlobal),
+    folder: &str,
+    files: &[(&str, &[u8])],
+) -> io::Result<()> {
+    lay_set(rt, folder)?;
+    lay_all(rt, folder, files)
 }
 
 /// The words of a command line, which blanks part, after the program's name; `@` in a word is the folder.
@@ -60,6 +103,29 @@ pub fn expect(
     assert_eq!(rt; run_words(rt, &console, &words), status, "{line}");
     assert!(rt; console.has(output, error), "{line}");
     Ok(())
+}
+
+/// Runs a command line over a folder; the console, which has this room, keeps what it prints.
+pub fn printed(
+    rt: &(impl rt::Files + AllocGlobal),
+    folder: &str,
+    line: &str,
+    room: usize,
+) -> io::Result<(u8, Console)> {
+    let console = Console::new(rt.alloc(), room)?;
+    let words = words_of(rt.alloc(), folder, line)?;
+    Ok((run_words(rt, &console, &words), console))
+}
+
+/// Whether a folder's file has these bytes.
+pub fn has(
+    rt: &(impl rt::Files + AllocGlobal),
+    folder: &str,
+    name: &str,
+    bytes: &[u8],
+) -> io::Result<bool> {
+    let found = bytes_of(rt, folder, name)?;
+    Ok(found.as_slice() == bytes)
 }
 
 /// Whether a folder has a file of this name.

@@ -17,4 +17,6 @@ mod sessions;
 #[cfg(test)]
 mod set;
 #[cfg(test)]
+mod slow;
+#[cfg(test)]
 mod writers;

@@ -4,6 +4,7 @@ use crate::console::Console;
 use crate::folder::{bytes_of, is_there, lay_set, words_of};
 use pac_command::run_words;
 use pac_scarce::Hoard;
+use std::process::Abort;
 use std::rt::Files;
 use std::{fs, io};
 
@@ -15,8 +16,27 @@ fn has_nothing(rt: &(impl Files + AllocGlobal), folder: &str, name: &str) -> io:
     Ok(!is_there(rt, folder, name) || bytes_of(rt, folder, name)?.is_empty())
 }
 
-// With no memory, and then with a little more each time, a run tells that it found none and writes nothing, until it is
-// whole.
+/// Runs a command line with no memory, and then with a little more each time, until it is whole; the turns in which there
+/// was too little, of which it tells so and writes nothing.
+fn turns_refused(
+    rt: &(impl Files + AllocGlobal + Abort),
+    folder: &str,
+    words: &[String],
+) -> io::Result<usize> {
+    let console = Console::new(rt.alloc(), 200)?;
+    let mut hoard = Hoard::take(rt.alloc(), MOST_BLOCKS)?;
+    for turn in 0..MOST_BLOCKS {
+        let status = run_words(rt, &console, words);
+        if status == 0 {
+            return Ok(turn);
+        }
+        assert!(rt; status == 4, "{turn}");
+        assert!(rt; has_nothing(rt, folder, "f")? && has_nothing(rt, folder, "l")?);
+        assert!(rt; hoard.release());
+    }
+    Ok(MOST_BLOCKS)
+}
+
 #[test]
 fn memory_that_is_refused(rt: HostRuntime) -> io::Result<()> {
     lay_set(&rt, "scarce")?;
@@ -25,21 +45,8 @@ fn memory_that_is_refused(rt: HostRuntime) -> io::Result<()> {
         "scarce",
         "run --set @/set.toml --script @/one.script --source @/cell.asm --frames @/f --wave @/w --listing @/l",
     )?;
-    let console = Console::new(rt.alloc(), 200)?;
-    let mut hoard = Hoard::take(rt.alloc(), MOST_BLOCKS)?;
-    let mut refused = 0;
-    for turn in 0..MOST_BLOCKS {
-        refused = turn;
-        let status = run_words(&rt, &console, &words);
-        if status == 0 {
-            break;
-        }
-        assert_eq!(rt; status, 4, "{turn}");
-        assert!(rt; has_nothing(&rt, "scarce", "f")? && has_nothing(&rt, "scarce", "l")?);
-        assert!(rt; hoard.release());
-    }
-    drop(hoard);
+    let refused = turns_refused(&rt, "scarce", &words)?;
     assert!(rt; 50 < refused && refused < MOST_BLOCKS - 1, "{refused}");
-    assert_eq!(rt; bytes_of(&rt, "scarce", "f")?.len(), 193_551);
+    assert!(rt; bytes_of(&rt, "scarce", "f")?.len() == 193_551);
     fs::remove_dir_all(&rt, "scarce")
 }

@@ -1,11 +1,12 @@
 //! Runs whose numbers follow from UM0080's T-states and from a frame's 50,688; pictures by the schematics' places of
 //! tiles and the weights of the colour PROM; sound by waveform, volume and the 1,584 samples of a frame.
 
-use crate::set::{Files, Outputs, PROGRAM_TABLES, SWITCHES, TABLES, WAVE_TABLE, run_source};
+use crate::set::{Outputs, PROGRAM_TABLES, SWITCHES, TABLES, WAVE_TABLE, run_source};
 use pac_asm::{AsmCode, AsmFault};
 use pac_inputs::ScriptFault;
 use pac_manifest::{Code, PartName, SetFault};
-use pac_run::{RunFault, RunInputs};
+use pac_run::RunFault;
+use std::alloc::{AllocError, Global};
 use std::test::Fail;
 
 /// Shows tile 42H, of which all pixels are 2, at x 16 to 23, y 0 to 7.
@@ -55,6 +56,17 @@ fn shows(image: &[u8], top: usize, left: [u8; 3], right: [u8; 3]) -> bool {
     true
 }
 
+/// Whether the outputs have so many black images, a sound of so many bytes without a sample but 0, and this report.
+fn are_black(outputs: &Outputs, images: usize, sound: usize, report: &str) -> bool {
+    let frames = outputs.frames.bytes();
+    let wave = outputs.wave.bytes();
+    outputs.report.bytes() == report.as_bytes()
+        && (images == 0 && frames.is_empty() || images == 1 && shows(frames, 0, BLACK, BLACK))
+        && wave.len() == sound
+        && wave.starts_with(b"RIFF")
+        && wave.iter().skip(44).all(|byte| *byte == 0)
+}
+
 #[test]
 fn reports_and_sizes(rt: HostRuntime) -> Result<(), Fail> {
     for (source, script, report, images, sound) in [
@@ -94,37 +106,30 @@ fn reports_and_sizes(rt: HostRuntime) -> Result<(), Fail> {
             44,
         ),
     ] {
-        let Ok(outputs) = run_source(rt.alloc(), source, SWITCHES, script) else {
-            panic!(rt; "refused {source:?}");
-        };
-        assert!(rt; outputs.report.bytes() == report.as_bytes(), "{source:?}");
-        assert_eq!(rt; outputs.frames.bytes().len(), images * IMAGE, "{source:?}");
-        assert!(rt;
-            images == 0 || shows(outputs.frames.bytes(), 0, BLACK, BLACK),
-            "{source:?}"
-        );
-        let wave = outputs.wave.bytes();
-        assert_eq!(rt; wave.len(), sound, "{source:?}");
-        assert!(rt; wave.starts_with(b"RIFF") && wave.iter().skip(44).all(|byte| *byte == 0));
+        let outputs = run_source(rt.alloc(), source, SWITCHES, script)?;
+        assert!(rt; are_black(&outputs, images, sound, report), "{source:?}");
     }
     Ok(())
 }
 
+/// Whether the outputs have an image of two tiles in these colours, and this report.
+fn show(outputs: &Outputs, left: [u8; 3], right: [u8; 3], report: &str) -> bool {
+    outputs.report.bytes() == report.as_bytes() && shows(outputs.frames.bytes(), 0, left, right)
+}
+
+const CELL_REPORT: &str = "frames 1 of 1\nsteps 12669 ticks 50688\nend done\n";
+
+const INPUTS_REPORT: &str = "frames 1 of 1\nsteps 12663 ticks 50688\nend done\n";
+
 #[test]
 fn pictures(rt: HostRuntime) -> Result<(), Fail> {
-    for (source, dip, script, steps, left, right) in [
-        (CELL, SWITCHES, "1 -", "12669", GREEN, BLACK),
-        (INPUTS, SWITCHES, "1 -", "12663", BLUE, RED),
-        (INPUTS, 0, "1 P1_UP", "12663", GREEN, BLACK),
+    for (source, dip, script, report, left, right) in [
+        (CELL, SWITCHES, "1 -", CELL_REPORT, GREEN, BLACK),
+        (INPUTS, SWITCHES, "1 -", INPUTS_REPORT, BLUE, RED),
+        (INPUTS, 0, "1 P1_UP", INPUTS_REPORT, GREEN, BLACK),
     ] {
-        let Ok(outputs) = run_source(rt.alloc(), source, dip, script) else {
-            panic!(rt; "refused {source:?}");
-        };
-        let report = format!(in rt.alloc();
-            "frames 1 of 1\nsteps {steps} ticks 50688\nend done\n"
-        )?;
-        assert!(rt; outputs.report.bytes() == report.as_bytes(), "{source:?}");
-        assert!(rt; shows(outputs.frames.bytes(), 0, left, right), "{source:?}");
+        let outputs = run_source(rt.alloc(), source, dip, script)?;
+        assert!(rt; show(&outputs, left, right, report), "{source:?}");
     }
     Ok(())
 }
@@ -132,114 +137,121 @@ fn pictures(rt: HostRuntime) -> Result<(), Fail> {
 // The frame in which the tile was written has it from line 1 on, the next one whole.
 #[test]
 fn a_tile_written_between_lines(rt: HostRuntime) -> Result<(), Fail> {
-    let Ok(outputs) = run_source(rt.alloc(), LATE_CELL, SWITCHES, "2 -") else {
-        panic!(rt; "refused");
-    };
+    let outputs = run_source(rt.alloc(), LATE_CELL, SWITCHES, "2 -")?;
     let images = outputs.frames.bytes();
-    assert_eq!(rt; images.len(), 387_102);
+    assert!(rt; images.len() == 387_102);
     let (first, second) = images.split_at(IMAGE);
     assert!(rt; shows(first, 1, GREEN, BLACK) && shows(second, 0, GREEN, BLACK));
     Ok(())
 }
 
+/// The header of a sound of 1,584 samples.
+const HEADER: [u8; 44] = [
+    0x52, 0x49, 0x46, 0x46, 0x84, 0x0C, 0x00, 0x00, 0x57, 0x41, 0x56, 0x45, 0x66, 0x6D, 0x74, 0x20,
+    0x10, 0x00, 0x00, 0x00, 0x01, 0x00, 0x01, 0x00, 0x00, 0x77, 0x01, 0x00, 0x00, 0xEE, 0x02, 0x00,
+    0x02, 0x00, 0x10, 0x00, 0x64, 0x61, 0x74, 0x61, 0x60, 0x0C, 0x00, 0x00,
+];
+
+/// Whether a sound's first sample is 6,720, and each other of its 1,584 is 20,160.
+fn sounds(wave: &[u8]) -> bool {
+    let mut is_right = wave.len() == 3_212 && wave.starts_with(&HEADER);
+    for (place, byte) in wave.iter().skip(44).enumerate() {
+        let sample = if place < 2 { 6_720u16 } else { 20_160 };
+        let wanted = sample.to_le_bytes()[place % 2];
+        is_right = is_right && *byte == wanted;
+    }
+    is_right
+}
+
 // Each voice is heard from the sample on that follows its volume: one at sample 1, all three from sample 2 on.
 #[test]
 fn samples_of_three_voices(rt: HostRuntime) -> Result<(), Fail> {
-    let Ok(outputs) = run_source(rt.alloc(), VOICES, SWITCHES, "1 -") else {
-        panic!(rt; "refused");
-    };
+    let outputs = run_source(rt.alloc(), VOICES, SWITCHES, "1 -")?;
     let report = b"frames 1 of 1\nsteps 12662 ticks 50690\nend done\n";
     assert!(rt; outputs.report.bytes() == report.as_slice());
-    let header = [
-        0x52, 0x49, 0x46, 0x46, 0x84, 0x0C, 0x00, 0x00, 0x57, 0x41, 0x56, 0x45, 0x66, 0x6D, 0x74,
-        0x20, 0x10, 0x00, 0x00, 0x00, 0x01, 0x00, 0x01, 0x00, 0x00, 0x77, 0x01, 0x00, 0x00, 0xEE,
-        0x02, 0x00, 0x02, 0x00, 0x10, 0x00, 0x64, 0x61, 0x74, 0x61, 0x60, 0x0C, 0x00, 0x00,
-    ];
-    let wave = outputs.wave.bytes();
-    assert_eq!(rt; wave.len(), 3_212);
-    assert!(rt; wave.starts_with(&header));
-    for (place, byte) in wave.iter().skip(44).enumerate() {
-        let sample = if place < 2 { 6_720u16 } else { 20_160 };
-        let half = if place % 2 == 0 {
-            sample % 256
-        } else {
-            sample / 256
-        };
-        assert_eq!(rt; *byte as u16, half, "{place}");
-    }
+    assert!(rt; sounds(outputs.wave.bytes()));
     Ok(())
+}
+
+/// The outputs of the set's own program, which is that of `CELL`.
+fn given(alloc: Global) -> Result<Outputs, AllocError> {
+    let manifest = format!(in alloc; "{TABLES}{WAVE_TABLE}{PROGRAM_TABLES}")?;
+    let mut outputs = Outputs::new(alloc)?;
+    match outputs.run_set(alloc, &manifest, None, SWITCHES, "1 -") {
+        Ok(_) => Ok(outputs),
+        Err(_) => Err(AllocError),
+    }
+}
+
+/// Whether images, sound and report of two runs are the same.
+fn are_alike(one: &Outputs, other: &Outputs) -> bool {
+    one.frames.bytes() == other.frames.bytes()
+        && one.wave.bytes() == other.wave.bytes()
+        && one.report.bytes() == other.report.bytes()
 }
 
 // The same bytes as a source and as the program of a set: all is equal but the listing.
 #[test]
 fn a_source_and_a_program_of_a_set(rt: HostRuntime) -> Result<(), Fail> {
-    let Ok(assembled) = run_source(rt.alloc(), CELL, SWITCHES, "1 -") else {
-        panic!(rt; "refused");
-    };
-    let listing = "00001 0000 3E42     LD A,42H
+    let assembled = run_source(rt.alloc(), CELL, SWITCHES, "1 -")?;
+    let given = given(rt.alloc())?;
+    let listing = b"00001 0000 3E42     LD A,42H
 00002 0002 324040   LD (4040H),A
 00003 0005 76       HALT
 SYMBOLS
 ";
-    assert!(rt; assembled.listing.bytes() == listing.as_bytes());
-    let files = Files::new(rt.alloc())?;
-    let manifest = format!(in rt.alloc(); "{TABLES}{WAVE_TABLE}{PROGRAM_TABLES}")?;
-    let mut given = Outputs::new(rt.alloc())?;
-    let inputs = RunInputs {
-        source: None,
-        manifest: manifest.as_bytes(),
-        parts: &files.parts(),
-        dip: SWITCHES,
-        script: b"1 -",
-    };
-    assert!(rt; given.run(rt.alloc(), &inputs).is_ok());
+    assert!(rt; assembled.listing.bytes() == listing.as_slice());
     assert!(rt; given.listing.bytes() == b"SYMBOLS\n".as_slice());
-    assert!(rt; given.frames.bytes() == assembled.frames.bytes());
-    assert!(rt; given.wave.bytes() == assembled.wave.bytes());
-    assert!(rt; given.report.bytes() == assembled.report.bytes());
+    assert!(rt; are_alike(&given, &assembled));
     Ok(())
+}
+
+/// Whether a source with a script that is none is refused for this fault, and nothing is written.
+fn is_refused(
+    alloc: Global,
+    source: &str,
+    manifest: &str,
+    fault: RunFault,
+) -> Result<bool, AllocError> {
+    let mut outputs = Outputs::new(alloc)?;
+    Ok(
+        match outputs.run_set(alloc, manifest, Some(source), SWITCHES, "0 -") {
+            Err(found) => found == fault && outputs.have((0, 0, 0, 0)),
+            Ok(_) => false,
+        },
+    )
 }
 
 // Source, set and script are judged in this order.
 #[test]
 fn refused_inputs_write_nothing(rt: HostRuntime) -> Result<(), Fail> {
-    let files = Files::new(rt.alloc())?;
-    let far = RunFault::Source(AsmFault {
-        code: AsmCode::OutOfRange,
-        line: 1,
-    });
-    let mut outputs = Outputs::new(rt.alloc())?;
     for (source, [first, second, third], fault) in [
-        (b"LD A,256".as_slice(), [TABLES, "", ""], far),
+        ("LD A,256", [TABLES, "", ""], source_fault()),
         (
-            b"",
+            "",
             [TABLES, "", ""],
             refused_set(Code::Unnamed, Some(PartName::Wave)),
         ),
+        ("", ["tiles = 3", "", ""], refused_set(Code::Manifest, None)),
         (
-            b"",
-            ["tiles = 3", "", ""],
-            refused_set(Code::Manifest, None),
-        ),
-        (
-            b"",
+            "",
             [TABLES, WAVE_TABLE, PROGRAM_TABLES],
             refused_set(Code::TwoPrograms, None),
         ),
-        (b"", [TABLES, WAVE_TABLE, ""], script_fault()),
+        ("", [TABLES, WAVE_TABLE, ""], script_fault()),
     ] {
         let text = format!(in rt.alloc(); "{first}{second}{third}")?;
-        let inputs = RunInputs {
-            source: Some(source),
-            manifest: text.as_bytes(),
-            parts: &files.parts(),
-            dip: SWITCHES,
-            script: b"0 -",
-        };
-        assert_eq!(rt; outputs.run(rt.alloc(), &inputs), Err(fault));
-        assert!(rt; outputs.are_empty());
+        assert!(rt; is_refused(rt.alloc(), source, &text, fault)?, "{text}");
     }
     Ok(())
+}
+
+/// A source whose first line has a value that is out of range.
+fn source_fault() -> RunFault {
+    RunFault::Source(AsmFault {
+        code: AsmCode::OutOfRange,
+        line: 1,
+    })
 }
 
 /// A set that is refused.

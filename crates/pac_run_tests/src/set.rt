@@ -142,7 +142,7 @@ impl Outputs {
     }
 
     /// Runs these inputs.
-    pub fn run(&mut self, alloc: Global, inputs: &RunInputs) -> Result<Outcome, RunFault> {
+    fn run(&mut self, alloc: Global, inputs: &RunInputs) -> Result<Outcome, RunFault> {
         let Outputs {
             frames,
             wave,
@@ -152,12 +152,35 @@ impl Outputs {
         run_all(alloc, inputs, frames, wave, listing, report)
     }
 
-    /// Whether nothing was written.
-    pub fn are_empty(&self) -> bool {
-        self.frames.bytes().is_empty()
-            && self.wave.bytes().is_empty()
-            && self.listing.bytes().is_empty()
-            && self.report.bytes().is_empty()
+    /// Runs a manifest over the set's files, with this source, DIP byte and script.
+    pub fn run_set(
+        &mut self,
+        alloc: Global,
+        manifest: &str,
+        source: Option<&str>,
+        dip: u8,
+        script: &str,
+    ) -> Result<Outcome, RunFault> {
+        let files = Files::new(alloc)?;
+        let inputs = RunInputs {
+            source: match source {
+                Some(text) => Some(text.as_bytes()),
+                None => None,
+            },
+            manifest: manifest.as_bytes(),
+            parts: &files.parts(),
+            dip,
+            script: script.as_bytes(),
+        };
+        self.run(alloc, &inputs)
+    }
+
+    /// Whether images, sound, listing and report have these lengths.
+    pub fn have(&self, lengths: (usize, usize, usize, usize)) -> bool {
+        self.frames.bytes().len() == lengths.0
+            && self.wave.bytes().len() == lengths.1
+            && self.listing.bytes().len() == lengths.2
+            && self.report.bytes().len() == lengths.3
     }
 }
 
@@ -167,17 +190,16 @@ pub fn manifest(alloc: Global) -> Result<String, AllocError> {
 }
 
 /// The outputs of a source that is run with this DIP byte and script.
-pub fn run_source(alloc: Global, source: &str, dip: u8, script: &str) -> Result<Outputs, RunFault> {
-    let files = Files::new(alloc)?;
+pub fn run_source(
+    alloc: Global,
+    source: &str,
+    dip: u8,
+    script: &str,
+) -> Result<Outputs, AllocError> {
     let manifest = manifest(alloc)?;
     let mut outputs = Outputs::new(alloc)?;
-    let inputs = RunInputs {
-        source: Some(source.as_bytes()),
-        manifest: manifest.as_bytes(),
-        parts: &files.parts(),
-        dip,
-        script: script.as_bytes(),
-    };
-    outputs.run(alloc, &inputs)?;
-    Ok(outputs)
+    match outputs.run_set(alloc, &manifest, Some(source), dip, script) {
+        Ok(_) => Ok(outputs),
+        Err(_) => Err(AllocError),
+    }
 }
