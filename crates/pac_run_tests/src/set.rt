@@ -2,7 +2,7 @@
 
 use pac_manifest::Part;
 use pac_out::memory::Memory;
-use pac_run::{Outcome, RunFault, RunInputs, run_all};
+use pac_run::{Outcome, RunFault, RunInputs, debug_all, run_all};
 use std::alloc::{AllocError, Global};
 
 /// The byte of the DIP switches as they are set at the factory.
@@ -150,6 +150,23 @@ impl Outputs {
             report,
         } = self;
         run_all(alloc, inputs, frames, wave, listing, report)
+    }
+
+    /// Runs these inputs under a debugger.
+    pub fn debug(
+        &mut self,
+        alloc: Global,
+        inputs: &RunInputs,
+        commands: &[u8],
+        text: &mut Memory,
+    ) -> Result<Outcome, RunFault> {
+        let Outputs {
+            frames,
+            wave,
+            listing,
+            report,
+        } = self;
+        debug_all(alloc, inputs, commands, frames, wave, listing, report, text)
     }
 
     /// Whether nothing was written.

@@ -1,7 +1,9 @@
 //! Sessions in scarce memory.
 
-use crate::set::{CELL, place, session};
+use crate::set::{CELL, board, place, session};
+use pac_inputs::read_script;
 use pac_scarce::Hoard;
+use pac_session::Session;
 use std::process::Abort;
 use std::test::Fail;
 
@@ -27,5 +29,34 @@ fn a_session_in_scarce_memory(rt: HostRuntime) -> Result<(), Fail> {
     }
     drop(hoard);
     assert!(rt; 3 < refused && refused < 98, "{refused}");
+    Ok(())
+}
+
+// With no memory, and then with a block more each time, board and script come back as they were, or there is a session.
+#[test]
+fn board_and_script_come_back(rt: HostRuntime) -> Result<(), Fail> {
+    let mut board = board(rt.alloc(), &CELL)?;
+    let Ok(mut script) = read_script(rt.alloc(), b"3 -") else {
+        panic!(rt; "refused");
+    };
+    let mut hoard = Hoard::take(rt.alloc(), 4000)?;
+    let mut refused = 0;
+    'turns: for turn in 0..4000u32 {
+        refused = turn;
+        match Session::new(rt.alloc(), board, script) {
+            Ok(session) => {
+                assert_eq!(rt; place(&session), (0, 0, 0));
+                break;
+            }
+            Err(back) => {
+                board = back.board;
+                script = back.script;
+            }
+        }
+        assert!(rt; board.peek(0) == 0x3E && board.time() == 0 && script.frames() == 3);
+        assert!(rt; hoard.release());
+    }
+    drop(hoard);
+    assert!(rt; 20 < refused && refused < 3999, "{refused}");
     Ok(())
 }
