@@ -1,6 +1,6 @@
 //! The command line as `clap` knows it: the subcommands, and what each takes.
 
-ghost use Rattle.std.specs.Prelude.{◌≡◌, IfOk, false};
+ghost use Rattle.std.specs.Prelude.{◌≡◌, IfOk, false, map};
 ghost use Rattle.clap.specs.Words.{app_of, rule_of};
 ghost use Rattle.clap.specs.declared.builder.command.Command.TheViews.{out-Command as fields_of};
 ghost use Rattle.pac_options.specs.CommandLine as line;
@@ -28,11 +28,17 @@ fn asm_command<'a>(alloc: Global) -> Result<Command<'a>, AllocError>
     ensures shape { IfOk result (λ command. app_of command ≡ line.alone line.asm_command) }
     ensures local { IfOk result (λ command. (fields_of command).has_globals ≡ false) }
 {
-    Command::new(alloc, "asm")
+    let command = Command::new(alloc, "asm")
         .about("Assembles a source into a ROM and its listing")
-        .arg(required_place(alloc, "source", "SOURCE", "The source"))?
-        .arg(required_option(alloc, "rom", "Gets the 16,384 bytes of the ROM"))?
-        .arg(required_option(alloc, "listing", "Gets the listing"))
+        .arg(required_place(alloc, "source", "SOURCE", "The source"))?;
+    with_files(
+        alloc,
+        command,
+        &[
+            ("rom", "Gets the 16,384 bytes of the ROM", REQUIRED),
+            ("listing", "Gets the listing", REQUIRED),
+        ],
+    )
 }
 
 /// `run` with its options.
@@ -67,19 +73,48 @@ fn with_run_options<'a>(alloc: Global, command: Command<'a>) -> Result<Command<'
     ensures shape { IfOk result (λ r. app_of r ≡ line.with_rules line.run_rules (app_of command.entry)) }
     ensures local { IfOk result (λ r. (fields_of r).has_globals ≡ (fields_of command.entry).has_globals) }
 {
-    command
-        .arg(required_option(alloc, "set", "The manifest of the ROM set"))?
-        .arg(required_option(alloc, "script", "The script of inputs"))?
-        .arg(required_option(alloc, "frames", "Gets the pictures, as PPM"))?
-        .arg(required_option(alloc, "wave", "Gets the sound, as WAV"))?
-        .arg(required_option(alloc, "listing", "Gets the listing"))?
-        .arg(option(
-            alloc,
-            "source",
-            "FILE",
-            "The source that stands for the set's program",
-        ))?
-        .arg(dip_option(alloc))
+    let command = with_files(
+        alloc,
+        command,
+        &[
+            ("set", "The manifest of the ROM set", REQUIRED),
+            ("script", "The script of inputs", REQUIRED),
+            ("frames", "Gets the pictures, as PPM", REQUIRED),
+            ("wave", "Gets the sound, as WAV", REQUIRED),
+            ("listing", "Gets the listing", REQUIRED),
+            (
+                "source",
+                "The source that stands for the set's program",
+                OPTIONAL,
+            ),
+        ],
+    )?;
+    command.arg(dip_option(alloc))
+}
+
+/// An option that names a file: its name, what the help says of it, and whether it has to be given.
+type FileOption<'a> = (&'a str, &'a str, bool);
+
+const REQUIRED: bool = true;
+
+const OPTIONAL: bool = false;
+
+/// A command with such options added, one in each turn: a step of a long chain that may fail costs the more to check, the more
+/// steps the chain has.
+fn with_files<'a>(
+    alloc: Global,
+    command: Command<'a>,
+    options: &[FileOption<'a>],
+) -> Result<Command<'a>, AllocError>
+    ensures shape { IfOk result (λ r.
+        app_of r ≡ line.with_rules (map (λ o. line.file_option o.0.now o.2) options.now) (app_of command.entry)) }
+    ensures local { IfOk result (λ r. (fields_of r).has_globals ≡ (fields_of command.entry).has_globals) }
+{
+    let mut command = command;
+    for file in options {
+        command = command.arg(file_option(alloc, file))?;
+    }
+    Ok(command)
 }
 
 /// `dis FILE`.
@@ -112,6 +147,15 @@ fn required_option<'a>(alloc: Global, name: &'a str, help: &'a str) -> Arg<'a>
     ensures local { result.global ≡ false }
 {
     option(alloc, name, "FILE", help).required(true)
+}
+
+/// `--name FILE`, as an entry of a table says it.
+fn file_option<'a>(alloc: Global, file: &FileOption<'a>) -> Arg<'a>
+    ensures rule { rule_of result ≡ line.file_option file.now.0.now file.now.2 }
+    ensures local { result.global ≡ false }
+{
+    let (name, help, required) = *file;
+    option(alloc, name, "FILE", help).required(required)
 }
 
 /// `--name VALUE`, which may be given.
