@@ -1,6 +1,9 @@
 //! A run under a debugger as one call.
 
-ghost use Rattle.std.specs.Prelude.{◌≡◌};
+ghost use Rattle.std.specs.Prelude.{◌≡◌, IfOk, IfErr, Err};
+ghost use Rattle.pac_session.specs.Session.{IsNew, begun};
+ghost use Rattle.pac_run.specs.declared.fault.RunFault.TheVariants.{NoMemory};
+ghost use Rattle.pac_run.specs.Plan.{Prepares};
 ghost use Rattle.pac_run.specs.Debugs.{Debugs, IsReady};
 
 use crate::fault::{Output, RunFault};
@@ -9,6 +12,8 @@ use crate::outcome::Outcome;
 use crate::plan::{Prepared, prepare};
 use crate::run::{list, report_on};
 use crate::watch::watch_run;
+use pac_board::Board;
+use pac_inputs::Script;
 use pac_media::Image;
 use pac_out::Out;
 use pac_program::Program;
@@ -63,6 +68,56 @@ fn write_watched<F: Out, W: Out, L: Out, R: Out, T: Out>(
     }
 }
 
+/// A session over what is played, at the beginning of its run. Refused for want of memory alone.
+fn session(alloc: Global, board: Board, script: Script) -> Result<Session, RunFault>
+    requires { IsNew board }
+    ensures begun { IfOk result (λ session. session ≡ begun (record {
+      set = board.set;
+      switches = board.state.now.board.memory.switches;
+      script = script;
+    }) board.made) }
+    ensures refused { IfErr result (λ fault. fault ≡ NoMemory) }
+{
+    match Session::new(alloc, board, script) {
+        Ok(session) => Ok(session),
+        Err(_) => Err(RunFault::NoMemory),
+    }
+}
+
+/// What a run under a debugger plays, and room for its images.
+#[derive(Drop)]
+struct Ready {
+    /// The program of the source, if there is one.
+    program: Option<Program>,
+    /// The session, at the beginning of its run.
+    session: Session,
+    /// The frames of its run.
+    total: u32,
+    /// Room for an image.
+    image: Image,
+}
+
+/// What is played, made from what is given.
+fn make_ready(alloc: Global, inputs: &RunInputs) -> Result<Ready, RunFault>
+    ensures ready { IfOk result (λ it. IsReady inputs.now it.program it.session it.total) }
+    ensures refused { IfErr result (λ fault. Prepares inputs.now (Err fault)) }
+{
+    let Prepared {
+        program,
+        board,
+        script,
+        image,
+    } = prepare(alloc, inputs)?;
+    let total = script.frames();
+    let session = session(alloc, board, script)?;
+    Ok(Ready {
+        program,
+        session,
+        total,
+        image,
+    })
+}
+
 /// The same run under a debugger: the commands, a line each, are done first, and then the run goes on to the script's end. Images,
 /// sound, listing and report are those of `run_all`, whatever the commands do; to a fifth output goes what they tell. All memory is
 /// found before anything is written.
@@ -83,16 +138,12 @@ pub fn debug_all<F: Out, W: Out, L: Out, R: Out, T: Out>(
       report = record { took = R.took; refused = R.refused; old = report.old; new = report.new };
     }) (record { took = T.took; refused = T.refused; old = text.old; new = text.new }) result }
 {
-    let Prepared {
+    let Ready {
         program,
-        board,
-        script,
+        mut session,
+        total,
         image,
-    } = prepare(alloc, inputs)?;
-    let total = script.frames();
-    let Ok(mut session) = Session::new(alloc, board, script) else {
-        return Err(RunFault::NoMemory);
-    };
+    } = make_ready(alloc, inputs)?;
     write_watched(
         inputs,
         commands,
