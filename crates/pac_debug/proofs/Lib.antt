@@ -6,3 +6,4 @@ pub mod ToTheEnd
 pub mod Sole
 pub mod Resting
 pub mod HeldUp
+pub mod LatchBytes
