@@ -35,10 +35,8 @@ fn rom<const N: usize>(factor: u8) -> [u8; N] {
     rom
 }
 
-/// A board at power-on with the mixed program and ROMs that show much.
-fn board(alloc: Global) -> Result<Board, AllocError>
-    ensures { IfOk result (λ board. IsNew board) }
-{
+/// The mixed program, with ROMs that show much.
+fn set(alloc: Global) -> Result<RomSet, AllocError> {
     let raw = Raw {
         tiles: &rom::<4096>(37),
         sprites: &rom::<4096>(91),
@@ -47,7 +45,14 @@ fn board(alloc: Global) -> Result<Board, AllocError>
         wave: &rom::<256>(5),
     };
     let program = mixed_program(alloc)?;
-    let set = RomSet::of(alloc, program.rom(), &raw)?;
+    RomSet::of(alloc, program.rom(), &raw)
+}
+
+/// A board at power-on with these.
+fn board(alloc: Global) -> Result<Board, AllocError>
+    ensures { IfOk result (λ board. IsNew board) }
+{
+    let set = set(alloc)?;
     match Board::init(alloc, set, 0xC9) {
         Ok(board) => Ok(board),
         Err(_) => Err(AllocError),
@@ -62,15 +67,20 @@ fn run_frames(board: &mut Board, sum: &mut Sum) {
     }
 }
 
-/// Runs the frames, and gives their nanoseconds. What they came to is in the sum.
-fn frames(rt: &HostRuntime, sum: &mut Sum) -> io::Result<u128> {
-    let mut board = board(rt.alloc())?;
+/// Runs the frames on a board, and gives their nanoseconds. What they came to is in the sum.
+fn time_frames(rt: &HostRuntime, board: &mut Board, sum: &mut Sum) -> io::Result<u128> {
     let start = Instant::now(rt)?;
-    run_frames(&mut board, sum);
+    run_frames(board, sum);
     let nanos = start.elapsed(rt)?.as_nanos();
     sum.steps = board.steps();
     sum.time = board.time();
     Ok(nanos)
+}
+
+/// The frames of a new board.
+fn frames(rt: &HostRuntime, sum: &mut Sum) -> io::Result<u128> {
+    let mut board = board(rt.alloc())?;
+    time_frames(rt, &mut board, sum)
 }
 
 /// Tells of the frames.

@@ -1,9 +1,12 @@
 //! A debugger's session over the mixed program: the way back, step by step, and a long run of frames.
 
+ghost use Rattle.pac_session.specs.Session.{IsNew};
+
 use crate::board;
 use crate::sum::Sum;
+use pac_board::Board;
 use pac_debug::command;
-use pac_inputs::read_script;
+use pac_inputs::{Script, read_script};
 use pac_out::counted::Counted;
 use pac_out::{Failed, Out};
 use pac_session::Session;
@@ -18,7 +21,7 @@ const BACKS: u32 = 1000;
 /// they can be, 4,095 for the first and one fewer each time.
 const THERE: &[u8] = b"step 102400";
 
-/// The script of its run, of as many frames as a script can have.
+/// The text of the script of its run, of as many frames as a script can have.
 const SCRIPT: &[u8] = b"36000 -";
 
 /// Frames that a session runs.
@@ -75,16 +78,29 @@ struct WayBack {
     told: u64,
 }
 
-/// A session at the beginning of a run of the mixed program.
-fn session(alloc: Global) -> Result<Session, AllocError> {
-    let board = board(alloc)?;
-    let Ok(script) = read_script(alloc, SCRIPT) else {
-        return Err(AllocError);
-    };
+/// The script of its run.
+fn script(alloc: Global) -> Result<Script, AllocError> {
+    match read_script(alloc, SCRIPT) {
+        Ok(script) => Ok(script),
+        Err(_) => Err(AllocError),
+    }
+}
+
+/// A session at the beginning of the run of a script on a board.
+fn begin(alloc: Global, board: Board, script: Script) -> Result<Session, AllocError>
+    requires { IsNew board }
+{
     match Session::new(alloc, board, script) {
         Ok(session) => Ok(session),
         Err(_) => Err(AllocError),
     }
+}
+
+/// A session at the beginning of a run of the mixed program.
+fn session(alloc: Global) -> Result<Session, AllocError> {
+    let script = script(alloc)?;
+    let board = board(alloc)?;
+    begin(alloc, board, script)
 }
 
 /// Goes back, a step at a time, and gives the steps that were done again.
