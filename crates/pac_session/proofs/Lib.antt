@@ -6,3 +6,4 @@ pub mod Backwards
 pub mod Slots
 pub mod Begun
 pub mod Finished
+pub mod Rings

@@ -1,21 +1,30 @@
 -- The ring is full before and after: the oldest checkpoint goes, and another one comes.
-use Rattle.std.proofs.Common.{◌≡◌, ℕ, ◌+◌, ◌-◌, List, [], ◌∷◌, ◌++◌, length, drop, ap, ◌∙◌, arith}
-use Rattle.std.proofs.Common.{length-append}
-use Rattle.std.proofs.lemmas.List.{length-drop}
+use Rattle.std.proofs.Common.{◌≡◌, ◌+◌, [], ◌∷◌, ◌++◌, length, drop, ap, sym, ◌∙◌}
 use Rattle.circular_buffer.specs.Buffer.{Buffer, keep_last}
-use Rattle.pac_session.specs.Keeping.{kept_of, one_more}
+use Rattle.pac_session.specs.Keeping.{Ring, kept_of, one_more}
 use Rattle.pac_session.specs.declared.kept.Kept.{Kept}
+use Rattle.pac_session.proofs.Rings.{one-for-one, as-many, has-first, counted}
 use Rattle.pac_session.proofs.checkpoints.Checkpoints.take.Goals as goal
 
--- one that is dropped makes room for one that comes
-one-for-one : (kept : List Kept) (one : Kept) (capacity : ℕ) → length kept ≡ 16 → capacity ≡ 16
-    → keep_last capacity (drop 1 kept ++ one ∷ []) ≡ drop 1 kept ++ one ∷ []
-one-for-one kept one capacity count room =
-    let all = drop 1 kept ++ one ∷ [] in
-    let left = length-drop 1 kept in
-    let parts = length-append (drop 1 kept) (one ∷ []) in
-    let none : length all - capacity ≡ 0 = omega (arith, left, parts, count, room) in
-    ap (λ n. drop n all) none
+pub unreachable-requires : goal.unreachable-requires
+unreachable-requires c =
+    has-first c.self.inside.ring.items c.self.invariant.count (sym c.pop_front.ensures.value ∙ c.in_default.is)
+
+pub overflow_add-self : goal.overflow_add-self
+overflow_add-self c = counted c.self.inside.taken c.args.self.now.taken (ap (λ (ring : Ring). ring.taken) c.self.view_is) c.requires
+
+pub invariant_of-self : goal.invariant_of-self
+invariant_of-self c =
+    let ring = c.self.inside.ring in
+    let popped = c.pop_front.ensures.items in
+    let pushed = c.push_back.ensures.items in
+    record {
+      count = ap (λ (b : Buffer Kept). length b.items) pushed
+          ∙ ap (λ (b : Buffer Kept). length (keep_last b.capacity (b.items ++ c.write.new.self ∷ []))) popped
+          ∙ ap length (one-for-one ring.items c.write.new.self ring.capacity c.self.invariant.count c.self.invariant.capacity)
+          ∙ as-many ring.items c.write.new.self c.self.invariant.count;
+      capacity = ap (λ (b : Buffer Kept). b.capacity) pushed ∙ ap (λ (b : Buffer Kept). b.capacity) popped ∙ c.self.invariant.capacity;
+    }
 
 pub returns : goal.returns
 returns c =
