@@ -1,6 +1,6 @@
 -- The ring of checkpoints: it is full before one is taken and after, and it is filled one by one.
-use Rattle.std.proofs.Common.{◌≡◌, ◌∙◌, ℕ, ◌+◌, ◌-◌, ◌<◌, ◌≤◌, ◌^◌, List, [], ◌∷◌, ◌++◌, length, drop, None, is_some}
-use Rattle.std.proofs.Common.{Fits, w64, ap, true≢false, arith, length-append}
+use Rattle.std.proofs.Common.{◌≡◌, ◌∙◌, ℕ, ◌+◌, ◌-◌, ◌<◌, ◌≤◌, List, [], ◌∷◌, ◌++◌, length, drop, None, is_some}
+use Rattle.std.proofs.Common.{ap, true≢false, arith, length-append}
 use Rattle.std.specs.Prelude.{slice_get}
 use Rattle.std.proofs.lemmas.List.{length-drop}
 use Rattle.circular_buffer.specs.Buffer.{keep_last}
@@ -27,10 +27,6 @@ as-many kept one count =
 pub has-first : (kept : List Kept) → length kept ≡ 16 → slice_get kept 0 ≡ None → ⊥
 has-first [] count none = absurd (omega arith)
 has-first (one ∷ more) count none = true≢false (ap is_some none)
-
--- the count of those that were ever taken
-pub counted : (taken old : ℕ) → taken ≡ old → old + 1 < 2 ^ 64 → Fits w64 (taken + 1)
-counted taken old is below = omega arith
 
 -- one more in one that isn't full
 pub one-more-kept : (kept : List Kept) (one : Kept) (capacity count : ℕ) → length kept ≡ count → count < 16 → capacity ≡ 16

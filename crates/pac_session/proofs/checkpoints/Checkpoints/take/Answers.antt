@@ -1,17 +1,14 @@
 -- The ring is full before and after: the oldest checkpoint goes, and another one comes.
 use Rattle.std.proofs.Common.{◌≡◌, ◌+◌, [], ◌∷◌, ◌++◌, length, drop, ap, sym, ◌∙◌}
 use Rattle.circular_buffer.specs.Buffer.{Buffer, keep_last}
-use Rattle.pac_session.specs.Keeping.{Ring, kept_of, one_more}
+use Rattle.pac_session.specs.Keeping.{kept_of, one_more}
 use Rattle.pac_session.specs.declared.kept.Kept.{Kept}
-use Rattle.pac_session.proofs.Rings.{one-for-one, as-many, has-first, counted}
+use Rattle.pac_session.proofs.Rings.{one-for-one, as-many, has-first}
 use Rattle.pac_session.proofs.checkpoints.Checkpoints.take.Goals as goal
 
 pub unreachable-requires : goal.unreachable-requires
 unreachable-requires c =
     has-first c.self.inside.ring.items c.self.invariant.count (sym c.pop_front.ensures.value ∙ c.in_default.is)
-
-pub overflow_add-self : goal.overflow_add-self
-overflow_add-self c = counted c.self.inside.taken c.args.self.now.taken (ap (λ (ring : Ring). ring.taken) c.self.view_is) c.requires
 
 pub invariant_of-self : goal.invariant_of-self
 invariant_of-self c =
