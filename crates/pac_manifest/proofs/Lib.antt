@@ -2,3 +2,4 @@ pub mod Tables
 pub mod Trees
 pub mod Searches
 pub mod Sizes
+pub mod Misreadings

@@ -108,7 +108,7 @@ fn roms(alloc: Global, value: &Value) -> Result<[Entry; 4], Misread>
 }
 
 /// The entries of four tables.
-#[tactic(auto, using(crate::proofs::Tables::four_tables, crate::proofs::Tables::other_count))]
+#[tactic(auto, using(crate::proofs::Tables::other_count))]
 fn four(alloc: Global, tables: &[Value]) -> Result<[Entry; 4], Misread>
     ensures { Reads result (program_form (array (items_view tables.now))) }
 {
