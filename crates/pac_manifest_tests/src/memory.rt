@@ -1,57 +1,68 @@
 //! Manifests and sets where memory is refused.
 
-use crate::sample::{COLOURS, FILES, LOOKUP, PROGRAM, SPRITES, TILES, TIMING, WAVE, text_of};
-use pac_manifest::{PartName, SetError, load_set, read_manifest};
-use pac_scarce::Hoard;
+use crate::sample::{BACKWARDS, FILES, WHOLE, printed, text_of};
+use pac_manifest::{Manifest, PartName, SetError, load_set, read_manifest};
+use pac_roms::RomSet;
+use pac_scarce::{Answer, refusals};
+use std::alloc::Global;
 use std::test::Fail;
+
+/// Whether a manifest has the first and the last of the sample's files.
+fn is_sample(manifest: &Manifest) -> bool {
+    manifest.file(PartName::Program4) == Some("fourth.rom")
+        && manifest.file(PartName::Wave) == Some("wave.prom")
+}
+
+/// Whether a set has the sample's last bytes.
+fn ends_as_sample(set: &RomSet) -> bool {
+    set.program().last() == Some(&0x14) && set.wave().last() == Some(&5)
+}
+
+/// The answer where a right one is there, or an error.
+fn answer(right: bool, error: Option<SetError>) -> Answer {
+    match error {
+        Some(SetError::Memory) => Answer::Refused,
+        None if right => Answer::Right,
+        _ => Answer::Wrong,
+    }
+}
+
+/// What reading a manifest comes to.
+fn reading(alloc: Global, text: &[u8]) -> Answer {
+    match read_manifest(alloc, text) {
+        Ok(manifest) => answer(is_sample(&manifest), None),
+        Err(error) => answer(false, Some(error)),
+    }
+}
+
+/// What loading the sample's set comes to.
+fn loading(alloc: Global, manifest: &Manifest) -> Answer {
+    match load_set(alloc, manifest, &FILES, None) {
+        Ok(set) => answer(ends_as_sample(&set), None),
+        Err(error) => answer(false, Some(error)),
+    }
+}
 
 // With no memory, and then with a little more each time, there is no answer but want of it or the right one.
 #[test]
 fn manifests_in_scarce_memory(rt: HostRuntime) -> Result<(), Fail> {
-    let tables = [TIMING, WAVE, LOOKUP, COLOURS, SPRITES, TILES, PROGRAM];
-    let text = text_of(rt.alloc(), &tables)?;
-    let mut hoard = Hoard::take(rt.alloc(), 50)?;
-    let mut refused = 0;
-    for turn in 0..50u32 {
-        refused = turn;
-        match read_manifest(rt.alloc(), text.as_bytes()) {
-            Ok(manifest) => {
-                assert_eq!(rt; manifest.file(PartName::Program4), Some("fourth.rom"));
-                assert_eq!(rt; manifest.file(PartName::Wave), Some("wave.prom"));
-                break;
-            }
-            Err(error) => assert_eq!(rt; error, SetError::Memory),
-        }
-        assert!(rt; hoard.release());
-    }
-    drop(hoard);
-    assert!(rt; 0 < refused && refused < 49, "{refused}");
+    let text = text_of(rt.alloc(), &BACKWARDS)?;
+    let refused = refusals(rt.alloc(), 50, |alloc| reading(alloc, text.as_bytes()));
+    assert!(rt; matches!(refused, Some(1..49)), "{refused:?}");
     Ok(())
 }
 
 #[test]
 fn sets_in_scarce_memory(rt: HostRuntime) -> Result<(), Fail> {
-    let tables = [PROGRAM, TILES, SPRITES, COLOURS, LOOKUP, WAVE];
-    let manifest = read_manifest(rt.alloc(), text_of(rt.alloc(), &tables)?.as_bytes())?;
-    let mut hoard = Hoard::take(rt.alloc(), 90)?;
-    let mut refused = 0;
-    for turn in 0..90u32 {
-        refused = turn;
-        match load_set(rt.alloc(), &manifest, &FILES, None) {
-            Ok(set) => {
-                assert_eq!(rt; set.program().last().copied(), Some(0x14));
-                assert_eq!(rt; set.wave().last().copied(), Some(5));
-                break;
-            }
-            Err(error) => assert_eq!(rt; error, SetError::Memory),
-        }
-        assert!(rt; hoard.release());
-    }
-    drop(hoard);
-    assert!(rt; 3 < refused && refused < 89, "{refused}");
-    assert_eq!(rt;
-        format!(in rt.alloc(); "{}", SetError::Memory)?.as_str(),
-        "out of memory"
-    );
+    let text = text_of(rt.alloc(), &WHOLE)?;
+    let manifest = read_manifest(rt.alloc(), text.as_bytes())?;
+    let refused = refusals(rt.alloc(), 90, |alloc| loading(alloc, &manifest));
+    assert!(rt; matches!(refused, Some(4..89)), "{refused:?}");
+    Ok(())
+}
+
+#[test]
+fn want_of_memory_is_printed(rt: HostRuntime) -> Result<(), Fail> {
+    assert!(rt; printed(rt.alloc(), SetError::Memory)?.as_str() == "out of memory");
     Ok(())
 }

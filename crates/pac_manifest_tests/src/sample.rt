@@ -1,6 +1,6 @@
 //! A set whose parts differ, each of one byte over and over, with digests as `sha1sum` prints them.
 
-use pac_manifest::Part;
+use pac_manifest::{Part, SetError};
 use std::alloc::{AllocError, Global};
 
 /// Its program, the third ROM without a digest.
@@ -52,35 +52,59 @@ file = \"timing.prom\"
 sha1 = \"c31ee9f466f05a21612f5ea29fb8c7c25dc9e011\"
 ";
 
+/// Its tables, last part first.
+pub static BACKWARDS: [&str; 7] = [TIMING, WAVE, LOOKUP, COLOURS, SPRITES, TILES, PROGRAM];
+
+/// Its tables, without that of the timing PROM.
+pub static WHOLE: [&str; 6] = [PROGRAM, TILES, SPRITES, COLOURS, LOOKUP, WAVE];
+
 /// The assembled program that is handed in beside it.
-pub const ASSEMBLED: &[u8] = &[0xC9; 16384];
+pub static ASSEMBLED: [u8; 16384] = [0xC9; 16384];
+
+/// The timing PROM.
+pub const TIMING_PROM: Part<'static> = Part {
+    name: "timing.prom",
+    bytes: &[6; 256],
+};
+
+/// The wave PROM.
+pub const WAVE_PROM: Part<'static> = Part {
+    name: "wave.prom",
+    bytes: &[5; 256],
+};
+
+/// The lookup PROM.
+pub const LOOKUP_PROM: Part<'static> = Part {
+    name: "lookup.prom",
+    bytes: &[4; 256],
+};
+
+/// The colour PROM.
+pub const COLOUR_PROM: Part<'static> = Part {
+    name: "colours.prom",
+    bytes: &[3; 32],
+};
+
+/// The sprite ROM.
+pub const SPRITE_ROM: Part<'static> = Part {
+    name: "sprites.rom",
+    bytes: &[2; 4096],
+};
+
+/// The tile ROM.
+pub const TILE_ROM: Part<'static> = Part {
+    name: "tiles.rom",
+    bytes: &[1; 4096],
+};
 
 /// Its files: those of the program, the others, and one that no table names.
-pub const FILES: [Part<'static>; 11] = [
-    Part {
-        name: "timing.prom",
-        bytes: &[6; 256],
-    },
-    Part {
-        name: "wave.prom",
-        bytes: &[5; 256],
-    },
-    Part {
-        name: "lookup.prom",
-        bytes: &[4; 256],
-    },
-    Part {
-        name: "colours.prom",
-        bytes: &[3; 32],
-    },
-    Part {
-        name: "sprites.rom",
-        bytes: &[2; 4096],
-    },
-    Part {
-        name: "tiles.rom",
-        bytes: &[1; 4096],
-    },
+pub static FILES: [Part<'static>; 11] = [
+    TIMING_PROM,
+    WAVE_PROM,
+    LOOKUP_PROM,
+    COLOUR_PROM,
+    SPRITE_ROM,
+    TILE_ROM,
     Part {
         name: "first.rom",
         bytes: &[0x11; 4096],
@@ -110,4 +134,9 @@ pub fn text_of(alloc: Global, tables: &[&str]) -> Result<String, AllocError> {
         text.push_str(table)?;
     }
     Ok(text)
+}
+
+/// What is printed for an error.
+pub fn printed(alloc: Global, error: SetError) -> Result<String, AllocError> {
+    format!(in alloc; "{error}")
 }

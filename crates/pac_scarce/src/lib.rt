@@ -1,7 +1,8 @@
 //! Want of memory, for tests: the address space is taken, and given back a block at a time.
 #![tactic(auto)]
 
-ghost use Rattle.std.specs.Prelude.{◌≡◌, ◌-◌, IfOk, nat_lt, vec_len};
+ghost use Rattle.std.specs.Prelude.{◌≡◌, ◌-◌, ◌<◌, IfOk, IfSome, nat_lt, vec_len};
+ghost use Rattle.pac_scarce.specs.declared.Answer.TheVariants as answers;
 
 use std::alloc::{AllocError, Global};
 use std::marker::Model;
@@ -49,6 +50,37 @@ impl Hoard {
     {
         self.small.pop().is_some()
     }
+}
+
+/// What a call comes to in scarce memory.
+#[derive(Clone, Copy)]
+pub enum Answer {
+    /// It wants memory.
+    Refused,
+    /// It answers as with ample memory.
+    Right,
+    /// It answers anything else.
+    Wrong,
+}
+
+/// How often a call is refused before it answers rightly, first with no memory at all, and with one small block more
+/// after each refusal. None where it answers wrongly, or is refused so many times.
+pub fn refusals<F: Fn(Global) -> Answer>(alloc: Global, most: usize, call: F) -> Option<usize>
+    requires { F.IsAlwaysCallable call }
+    ensures few { IfSome result (λ count. count < most) }
+    ensures right { IfSome result (λ count. F.post call alloc answers.Right) }
+{
+    let Ok(mut hoard) = Hoard::take(alloc, most) else {
+        return None;
+    };
+    for count in 0..most {
+        match call(alloc) {
+            Answer::Right => return Some(count),
+            Answer::Wrong => return None,
+            Answer::Refused => hoard.release(),
+        };
+    }
+    None
 }
 
 /// So many small blocks.

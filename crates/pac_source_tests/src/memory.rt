@@ -2,34 +2,34 @@
 
 use pac_lex::tokens;
 use pac_program::Symbols;
-use pac_scarce::Hoard;
-use pac_source::{ContentError, form};
+use pac_scarce::{Answer, refusals};
+use pac_source::{ContentError, Statement, form};
+use std::alloc::Global;
 use std::test::Fail;
+
+/// What the content of a space of 20,000 bytes comes to.
+fn filling(alloc: Global, statement: &Statement<'_, '_>) -> Answer {
+    let symbols = Symbols::new(alloc);
+    match statement.content(alloc, &symbols, 0, 20_000) {
+        Ok(Some(content)) if content.bytes().as_slice().len() == 20_000 => Answer::Right,
+        Err(ContentError::Memory) => Answer::Refused,
+        _ => Answer::Wrong,
+    }
+}
+
+/// How often the content of a statement is refused.
+fn refused(alloc: Global, statement: &Statement<'_, '_>) -> Option<usize> {
+    refusals(alloc, 50, |alloc| filling(alloc, statement))
+}
 
 // With no memory, and then with a little more each time, there is no answer but want of it or the right one.
 #[test]
 fn spaces_in_scarce_memory(rt: HostRuntime) -> Result<(), Fail> {
-    let symbols = Symbols::new(rt.alloc());
     let tokens = tokens(rt.alloc(), b"DEFS 20000,7")?;
-    let Some(form) = form(tokens.as_slice()) else {
-        assert!(rt; false, "no form");
-        return Ok(());
+    let refused = match form(tokens.as_slice()) {
+        Some(form) => refused(rt.alloc(), &form.statement),
+        None => None,
     };
-    let mut hoard = Hoard::take(rt.alloc(), 50)?;
-    let mut refused = 0;
-    for turn in 0..50u32 {
-        refused = turn;
-        match form.statement.content(rt.alloc(), &symbols, 0, 20_000) {
-            Ok(None) => assert!(rt; false, "nothing"),
-            Ok(Some(content)) => {
-                assert_eq!(rt; content.bytes().as_slice().len(), 20_000);
-                break;
-            }
-            Err(error) => assert_eq!(rt; error, ContentError::Memory),
-        }
-        assert!(rt; hoard.release());
-    }
-    drop(hoard);
-    assert!(rt; 3 < refused && refused < 49, "{refused}");
+    assert!(rt; matches!(refused, Some(4..49)), "{refused:?}");
     Ok(())
 }
