@@ -1,9 +1,9 @@
 -- Files that are read one after another.
 use Rattle.std.proofs.Common.{◌≡◌, ℕ, ◌+◌, ◌<◌, List, [], ◌∷◌, ◌++◌, length, map, take, drop, get_or}
-use Rattle.std.proofs.Common.{Some, Err, inl, inr, sym, ap, append_assoc, ◌∙◌}
+use Rattle.std.proofs.Common.{Err, inl, inr, sym, ap, append_assoc, ◌∙◌}
 use Rattle.std.proofs.lemmas.List.{take_more, take-append-drop}
 use mathlib.Core.List.{map-append}
-use Rattle.pac_files.specs.Files.{Finds, Wanted, IsReadable, IsUnread, FirstUnread, beside, standing_by}
+use Rattle.pac_files.specs.Files.{Finds, IsUnread, FirstUnread, standing_by}
 use Rattle.pac_files.specs.Read.{Reads, IsPart, HasParts, part_files}
 use Rattle.pac_files.specs.declared.given.ReadFault.{ReadFault}
 use Rattle.pac_files.specs.declared.given.ReadFault.TheVariants.{Unreadable, Memory}

@@ -1,6 +1,6 @@
 -- What reading the files of a command line comes to, and creating its outputs. A file system says by two relations what a read
 -- of a path may find, `finds`, and what creating a file of a path, or failing to, leaves, `creates`.
-use Rattle.std.specs.Prelude.{◌≡◌, ◌≤◌, ◌⊎◌, ⊤, ℕ, List, [], ◌∷◌, ◌++◌, length, map, codes, unwrap_or, if◌then◌else◌, ◌==◌, Vec, Option, Some, None, Result, Ok, Err}
+use Rattle.std.specs.Prelude.{◌≡◌, ◌≤◌, ◌⊎◌, ⊤, ℕ, List, [], ◌∷◌, ◌++◌, length, codes, unwrap_or, if◌then◌else◌, ◌==◌, Vec, Option, Some, None, Result, Ok, Err}
 use Rattle.std.specs.declared.alloc.Global.{Global}
 use Rattle.pac_files.specs.declared.files.ReadError.{ReadError}
 use Rattle.pac_files.specs.declared.files.ReadError.TheVariants as reading

@@ -1,8 +1,8 @@
 //! The files that the command line of a run names, as they are read.
 
-ghost use Rattle.std.specs.Prelude.{Some, option_copied};
+ghost use Rattle.std.specs.Prelude.{◌≤◌, IfOk, Some, length, option_copied};
 ghost use Rattle.pac_options.specs.CommandLine.{told_debug, told_run};
-ghost use Rattle.pac_files.specs.Files.{FirstUnread, IsUnread};
+ghost use Rattle.pac_files.specs.Files.{FirstUnread, IsUnread, most_read};
 ghost use Rattle.pac_files.specs.Read.{HasGiven, HasSource, Reads, given_files, source_files, watched_files};
 
 use crate::files::{FileSystem, ReadError};
@@ -36,8 +36,9 @@ pub fn read_file<'a, D: FileSystem>(
     path: &str,
     name: &'a str,
 ) -> Result<Vec<u8>, ReadFault<'a>>
-    ensures { Reads (λ bytes. D.finds disk.now path.now (Some bytes.items))
+    ensures read { Reads (λ bytes. D.finds disk.now path.now (Some bytes.items))
         (IsUnread (D.finds disk.now) (record { path = path.now; name = name.now })) result }
+    ensures size { IfOk result (λ bytes. length bytes.items ≤ most_read) }
 {
     match disk.read(alloc, path) {
         Ok(bytes) => Ok(bytes),

@@ -1,4 +1,4 @@
-use Rattle.std.proofs.Common.{ℕ, ◌+◌, List, [], ◌∷◌, ◌++◌, map, take, drop, get_or, Vec, Global, subst, sym, rules}
+use Rattle.std.proofs.Common.{ℕ, ◌+◌, List, [], ◌∷◌, ◌++◌, map, take, drop, get_or, Vec, Global, subst, rules}
 use Rattle.pac_files.specs.Files.{IsUnread, FirstUnread, standing_by}
 use Rattle.pac_files.specs.Read.{IsPart, HasParts, part_files}
 use Rattle.pac_files.specs.declared.parts.NamedFile.{NamedFile}
