@@ -128,7 +128,8 @@ pub fn record<D: FileSystem, R: Out>(
 
 /// The status of a run that ended or failed; a failure is told.
 pub(crate) fn end<C: Eprint>(console: &C, ran: Result<Outcome, Failure>) -> u8
-    ensures { result ≡ told.run_status ran.entry }
+    ensures status { result ≡ told.run_status ran.entry }
+    ensures most { result ≤ told.most_status }
 {
     match ran {
         Ok(outcome) => end_status(outcome.stop),
