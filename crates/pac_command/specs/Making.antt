@@ -1,5 +1,5 @@
 -- What `asm` and `dis` do with files, by the answer.
-use Rattle.std.specs.Prelude.{◌≡◌, ◌⊎◌, ℕ, List, [], ◌∷◌, Some, Result, Ok, Err}
+use Rattle.std.specs.Prelude.{◌≡◌, ◌⊎◌, ℕ, List, [], ◌∷◌, Some, Result, Err}
 use Rattle.pac_options.specs.CommandLine.{AskedAsm}
 use Rattle.pac_run.specs.declared.fault.Output.TheVariants.{Listing}
 use Rattle.pac_command.specs.declared.asm.AsmOutputs.{AsmOutputs}

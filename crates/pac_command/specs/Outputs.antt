@@ -1,5 +1,5 @@
 -- What the program does with the files of a run: which it reads, which it creates, what these have then, and the exit status.
-use Rattle.std.specs.Prelude.{◌≡◌, ◌⊎◌, ℕ, List, [], ◌∷◌, map, Some, option_map, Result, Ok, Err}
+use Rattle.std.specs.Prelude.{◌≡◌, ◌⊎◌, ℕ, List, [], ◌∷◌, map, Some, option_map, Result, Err}
 use Rattle.pac_files.specs.Files.{Finds, FirstUnread, Handling, AllCreated, AllClosed, FirstUncreated}
 use Rattle.pac_files.specs.Read.{HasRead, PartUnread, given_files, watched_files, told_file, told_part}
 use Rattle.pac_files.specs.declared.given.Given.{Given}

@@ -2,7 +2,7 @@
 -- get, and the exit status.
 use Rattle.std.specs.Prelude.{◌≡◌, ◌⊎◌, ℕ, List, [], Option, Some, Result}
 use Rattle.clap.specs.Words.{Kinds}
-use Rattle.pac_options.specs.CommandLine.{Asked, AskedAsm, AskedRun, AskedDebug, asm, run, debug, dis}
+use Rattle.pac_options.specs.CommandLine.{Asked, asm, run, debug, dis}
 use Rattle.pac_run.specs.declared.outcome.Outcome.{Outcome}
 use Rattle.pac_command.specs.declared.failure.Failure.{Failure}
 use Rattle.pac_command.specs.Failures.{Answers, work_status}

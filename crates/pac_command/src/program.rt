@@ -105,8 +105,8 @@ pub fn work<D: FileSystem, R: Out, T: Out, C: Print + Eprint>(
       finds = D.finds disk.old;
       handling = record { creates = D.creates; closes = D.closes };
       assembles = λ source answer created left. Assembles source
-        (record { took = D.File.took; refused = D.File.refused; old = created.rom; new = left.rom })
-        (record { took = D.File.took; refused = D.File.refused; old = created.listing; new = left.listing }) answer;
+          (record { took = D.File.took; refused = D.File.refused; old = created.rom; new = left.rom })
+          (record { took = D.File.took; refused = D.File.refused; old = created.listing; new = left.listing }) answer;
       performs = λ answer inputs created left. Performs inputs (record {
         frames = record { took = D.File.took; refused = D.File.refused; old = created.frames; new = left.frames };
         wave = record { took = D.File.took; refused = D.File.refused; old = created.wave; new = left.wave };
@@ -120,7 +120,7 @@ pub fn work<D: FileSystem, R: Out, T: Out, C: Print + Eprint>(
         report = record { took = R.took; refused = R.refused; old = report.old; new = report.new };
       }) (record { took = T.took; refused = T.refused; old = text.old; new = text.new }) answer;
       disassembles = λ bytes answer. Disassembles bytes
-        (record { took = T.took; refused = T.refused; old = text.old; new = text.new }) answer;
+          (record { took = T.took; refused = T.refused; old = text.old; new = text.new }) answer;
       silent = report.new ≡ report.old;
       untold = text.new ≡ text.old;
     }) (fault_of pacboard (map string_bytes words.now)) (request_of (map string_bytes words.now)) disk.old result disk.new }

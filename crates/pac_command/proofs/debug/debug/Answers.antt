@@ -10,7 +10,7 @@ pub returns-in-Err-read_parts-clause-watches : goal.returns-in-Err-read_parts-cl
 returns-in-Err-read_parts-clause-watches g c =
     let finds = g.D.FileSystem.finds c.args.disk.now in
     let unread = part-unread finds (told_run c.args.files.now.run) c.in-Ok.read.0 c.in-Ok.ensures.0 c.deref.result.now
-        c.in-Ok-manifest_in.manifest c.deref.ensures.value c.in-Ok-manifest_in.ensures in
+    c.in-Ok-manifest_in.manifest c.deref.ensures.value c.in-Ok-manifest_in.ensures in
     inl (record {
       reason = unread-reason {A = Vec NamedFile Global}
           (λ parts. HasParts finds c.args.files.now.run.set.now (names_in c.in-Ok-manifest_in.manifest) parts.items) _ _
