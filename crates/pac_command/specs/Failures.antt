@@ -1,5 +1,5 @@
 -- What is told where the program can't do its work: the line that goes to standard error, and the exit status.
-use Rattle.std.specs.Prelude.{◌≡◌, ◌⊎◌, ⊤, ℕ, List, ◌++◌, Option, Some, None, Result, Ok, Err, codes}
+use Rattle.std.specs.Prelude.{◌≡◌, ◌⊎◌, ℕ, List, ◌++◌, Option, Some, None, Result, Ok, Err, codes}
 use Rattle.std.specs.Fmt.{decimal}
 use Rattle.clap.specs.Words.{IsAmong, Kinds}
 use Rattle.clap.specs.declared.error.kind.ErrorKind.{ErrorKind}
@@ -8,6 +8,8 @@ use Rattle.pac_asm.specs.Codes as asm
 use Rattle.pac_cpu.specs.declared.once.Stop.{Stop}
 use Rattle.pac_inputs.specs.Codes as inputs
 use Rattle.pac_manifest.specs.Codes as manifest
+use Rattle.pac_files.specs.declared.given.ReadFault.{ReadFault}
+use Rattle.pac_files.specs.declared.given.ReadFault.TheVariants as reading
 use Rattle.pac_run.specs.Names.{name_of}
 use Rattle.pac_run.specs.declared.fault.RunFault.{RunFault}
 use Rattle.pac_run.specs.declared.outcome.Outcome.{Outcome}
@@ -52,15 +54,16 @@ abbrev pub run_status : Result Outcome Failure → ℕ
 run_status (Ok outcome) = end_status outcome.stop
 run_status (Err failure) = status failure
 
--- the most bytes of a file that is read, 16 MiB (this profile)
-abbrev pub most_read : ℕ
-most_read = 16777216
+-- the failure that a fault of reading files is
+abbrev pub read_failure : ReadFault → Failure
+read_failure (reading.Unreadable name) = Read name
+read_failure reading.Memory = Memory
 
--- the fault of reading the file of a name: that name is told, or that memory ran out
-abbrev pub IsReadFault : List ℕ → Failure → Type 0
-IsReadFault name (Read told) = told.now ≡ name
-IsReadFault name Memory = ⊤
-IsReadFault name other = ⊥
+-- by the answer of creating outputs: all were created; or the one that couldn't be, after no byte
+abbrev pub Opens : {A : Type 0} → (A → Type 0) → (Target → Type 0) → Result A Failure → Type 0
+Opens created uncreated (Ok files) = created files
+Opens created uncreated (Err (Write output count)) = (count ≡ 0) × uncreated output
+Opens created uncreated (Err other) = ⊥
 
 -- the greatest exit status
 abbrev pub most_status : ℕ

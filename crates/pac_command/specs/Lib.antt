@@ -1,3 +1,6 @@
 pub mod Failures
+pub mod Making
+pub mod Outputs
 pub mod Programs
 pub mod Texts
+pub mod Works

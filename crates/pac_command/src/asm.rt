@@ -3,20 +3,22 @@
 ghost use Rattle.std.specs.Prelude.{◌≡◌};
 ghost use Rattle.pac_listing.specs.Listing as texts;
 ghost use Rattle.pac_run.specs.Recorded.{Written};
+ghost use Rattle.pac_options.specs.CommandLine.{told_asm};
+ghost use Rattle.pac_command.specs.Failures.{Opens};
+ghost use Rattle.pac_files.specs.Files.{AllClosed, AllCreated, FirstUncreated};
+ghost use Rattle.pac_command.specs.Making.{Makes, asm_outputs, asm_paths, both};
 ghost use Rattle.pac_command.specs.Programs.{Assembles};
 
-use crate::failure::{Failure, Target};
-use crate::files::{create, read_file};
+use crate::failure::{Failure, Target, read_failure};
 use pac_asm::{AsmError, assemble};
+use pac_files::{FileSystem, read_file};
 use pac_listing::write_listing;
 use pac_options::AsmFiles;
 use pac_out::counted::Counted;
-use pac_out::through::Through;
 use pac_out::{Out, WriteFault};
 use pac_program::Program;
 use pac_run::Output;
 use std::alloc::Global;
-use std::rt::Files;
 
 /// Writes the ROM of a program.
 fn put_rom<R: Out>(rom: &mut R, program: &Program) -> Result<(), WriteFault>
@@ -60,15 +62,64 @@ pub fn write_program<R: Out, L: Out>(
     }
 }
 
+/// The files of a ROM and of a listing.
+#[derive(Drop)]
+pub struct AsmOutputs<F> {
+    /// That of the ROM.
+    pub rom: F,
+    /// That of the listing.
+    pub listing: F,
+}
+
+/// Creates the files of ROM and listing, in this order.
+pub fn create_pair<D: FileSystem>(
+    disk: &mut D,
+    files: &AsmFiles,
+) -> Result<AsmOutputs<D::File>, Failure<'static>>
+    ensures { Opens
+        (λ outputs. AllCreated (record { creates = D.creates; closes = D.closes }) disk.old (asm_paths (told_asm files.now))
+        (both outputs) disk.new)
+        (λ output. FirstUncreated (record { creates = D.creates; closes = D.closes }) disk.old (asm_outputs (told_asm files.now))
+        output disk.new) result }
+{
+    let Some(rom) = disk.create(files.rom) else {
+        return Err(Failure::Write(Target::Rom, 0));
+    };
+    let Some(listing) = disk.create(files.listing) else {
+        disk.close(rom);
+        return Err(Failure::Write(Target::Of(Output::Listing), 0));
+    };
+    Ok(AsmOutputs { rom, listing })
+}
+
+/// Closes the files of ROM and listing, in this order.
+fn close_pair<D: FileSystem>(disk: &mut D, outputs: AsmOutputs<D::File>)
+    ensures { AllClosed (record { creates = D.creates; closes = D.closes }) disk.old (both outputs) disk.new }
+{
+    disk.close(outputs.rom);
+    disk.close(outputs.listing);
+}
+
 /// Assembles a file into two: the source is read, then both are created, and then the source is judged.
-pub(crate) fn asm<'a, R: Files + AllocGlobal>(
-    rt: &R,
+pub fn asm<'a, D: FileSystem>(
+    alloc: Global,
+    disk: &mut D,
     files: &AsmFiles<'a>,
-) -> Result<(), Failure<'a>> {
-    let source = read_file(rt, files.source)?;
-    let rom = create(rt, files.rom, Target::Rom)?;
-    let listing = create(rt, files.listing, Target::Of(Output::Listing))?;
-    let mut rom = Through { inner: rom };
-    let mut listing = Through { inner: listing };
-    write_program(rt.alloc(), &source, &mut rom, &mut listing)
+) -> Result<(), Failure<'a>>
+    ensures { Makes (D.finds disk.old) (record { creates = D.creates; closes = D.closes }) (λ source answer created left. Assembles source
+        (record { took = D.File.took; refused = D.File.refused; old = created.rom; new = left.rom })
+        (record { took = D.File.took; refused = D.File.refused; old = created.listing; new = left.listing }) answer)
+        (told_asm files.now) disk.old result disk.new }
+{
+    let source = match read_file(alloc, disk, files.source, files.source) {
+        Ok(source) => source,
+        Err(fault) => return Err(read_failure(fault)),
+    };
+    let mut outputs = match create_pair(disk, files) {
+        Ok(outputs) => outputs,
+        Err(failure) => return Err(failure),
+    };
+    let done = write_program(alloc, &source, &mut outputs.rom, &mut outputs.listing);
+    close_pair(disk, outputs);
+    done
 }

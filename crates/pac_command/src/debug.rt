@@ -1,21 +1,20 @@
 //! `debug`: a run under a debugger, whose commands a file has.
 
-ghost use Rattle.std.specs.Prelude.{◌≤◌};
+ghost use Rattle.std.specs.Prelude.{◌≡◌, ◌≤◌};
+ghost use Rattle.pac_options.specs.CommandLine.{told_debug, told_run};
 ghost use Rattle.pac_command.specs.Failures as told;
+ghost use Rattle.pac_command.specs.Outputs.{Records, Watches};
 ghost use Rattle.pac_command.specs.Programs.{PerformsWatched};
 
-use crate::failure::{Failure, failure_of};
-use crate::files::read_file;
-use crate::given::{Given, Named, inputs_of, parts_of, read_given, read_named};
-use crate::play::{create_outputs, end};
+use crate::failure::{Failure, failure_of, read_failure};
+use crate::given::inputs_of;
+use crate::play::{close_outputs, create_outputs, end};
 use crate::program::tell;
+use pac_files::{FileSystem, Given, NamedFile, manifest_in, parts_of, read_parts, read_watched};
 use pac_options::DebugFiles;
 use pac_out::Out;
-use pac_out::through::Through;
 use pac_run::{Outcome, RunInputs, debug_all};
 use std::alloc::Global;
-use std::io;
-use std::rt::Files;
 
 /// A run of the program under a debugger: that of `debug_all`, its fault told as a failure.
 pub fn debug_inputs<F: Out, W: Out, L: Out, R: Out, T: Out>(
@@ -41,64 +40,81 @@ pub fn debug_inputs<F: Out, W: Out, L: Out, R: Out, T: Out>(
     }
 }
 
-/// Reads the files that the command line names, in order: source, manifest, script, commands.
-fn read_watched<'a, R: Files + AllocGlobal>(
-    rt: &R,
-    files: &DebugFiles<'a>,
-) -> Result<(Given, Vec<u8>), Failure<'a>> {
-    let given = read_given(rt, &files.run)?;
-    let commands = read_file(rt, files.commands)?;
-    Ok((given, commands))
-}
-
-/// Creates the outputs, and runs what was read under the debugger; its text goes to the console, and then the report.
-fn record_watched<R: Files + AllocGlobal, C: Print>(
-    rt: &R,
-    console: &C,
+/// Creates the outputs, runs what was read under the debugger, and closes them.
+pub fn record_watched<D: FileSystem, R: Out, T: Out>(
+    alloc: Global,
+    disk: &mut D,
+    report: &mut R,
+    text: &mut T,
     files: &DebugFiles,
     given: &Given,
     commands: &[u8],
-    named: &[Named],
-) -> Result<Outcome, Failure<'static>> {
-    let parts = parts_of(rt.alloc(), named)?;
+    named: &[NamedFile],
+) -> Result<Outcome, Failure<'static>>
+    ensures { Records (record { creates = D.creates; closes = D.closes })
+        (λ answer inputs created left. PerformsWatched inputs commands.now (record {
+          frames = record { took = D.File.took; refused = D.File.refused; old = created.frames; new = left.frames };
+          wave = record { took = D.File.took; refused = D.File.refused; old = created.wave; new = left.wave };
+          listing = record { took = D.File.took; refused = D.File.refused; old = created.listing; new = left.listing };
+          report = record { took = R.took; refused = R.refused; old = report.old; new = report.new };
+        }) (record { took = T.took; refused = T.refused; old = text.old; new = text.new }) answer)
+        ((report.new ≡ report.old) × (text.new ≡ text.old)) (told_run files.now.run) given.now named.now disk.old result disk.new }
+{
+    let Ok(parts) = parts_of(alloc, named) else {
+        return Err(Failure::Memory);
+    };
     let inputs = inputs_of(&files.run, given, &parts);
-    let mut outputs = create_outputs(rt, &files.run)?;
-    let mut report = Through {
-        inner: io::writer(console),
+    let mut outputs = match create_outputs(disk, &files.run) {
+        Ok(outputs) => outputs,
+        Err(failure) => return Err(failure),
     };
-    let mut text = Through {
-        inner: io::writer(console),
-    };
-    debug_inputs(
-        rt.alloc(),
+    let ran = debug_inputs(
+        alloc,
         &inputs,
         commands,
         &mut outputs.frames,
         &mut outputs.wave,
         &mut outputs.listing,
-        &mut report,
-        &mut text,
-    )
+        report,
+        text,
+    );
+    close_outputs(disk, outputs);
+    ran
 }
 
 /// Runs what the files of a command line hold under a debugger, and answers the exit status. All is read before an output is
 /// created: source, manifest, script, commands, and the files that the manifest names.
-pub(crate) fn debug<R: Files + AllocGlobal, C: Print + Eprint>(
-    rt: &R,
+pub fn debug<D: FileSystem, R: Out, T: Out, C: Eprint>(
+    alloc: Global,
+    disk: &mut D,
+    report: &mut R,
+    text: &mut T,
     console: &C,
     files: &DebugFiles,
 ) -> u8
-    ensures { result ≤ told.most_status }
+    ensures watches { Watches (D.finds disk.old) (record { creates = D.creates; closes = D.closes })
+        (λ commands answer inputs created left. PerformsWatched inputs commands (record {
+          frames = record { took = D.File.took; refused = D.File.refused; old = created.frames; new = left.frames };
+          wave = record { took = D.File.took; refused = D.File.refused; old = created.wave; new = left.wave };
+          listing = record { took = D.File.took; refused = D.File.refused; old = created.listing; new = left.listing };
+          report = record { took = R.took; refused = R.refused; old = report.old; new = report.new };
+        }) (record { took = T.took; refused = T.refused; old = text.old; new = text.new }) answer)
+        ((report.new ≡ report.old) × (text.new ≡ text.old)) (told_debug files.now) disk.old result disk.new }
+    ensures most { result ≤ told.most_status }
 {
-    let (given, commands) = match read_watched(rt, files) {
+    let (given, commands) = match read_watched(alloc, disk, files) {
         Ok(read) => read,
-        Err(failure) => return tell(console, failure),
+        Err(fault) => return tell(console, read_failure(fault)),
     };
-    match read_named(rt, console, &files.run, &given) {
-        Ok(named) => end(
-            console,
-            record_watched(rt, console, files, &given, &commands, &named),
-        ),
-        Err(status) => status,
-    }
+    let Ok(manifest) = manifest_in(alloc, &given.manifest) else {
+        return tell(console, Failure::Memory);
+    };
+    let named = match read_parts(alloc, disk, files.run.set, &manifest) {
+        Ok(named) => named,
+        Err(fault) => return tell(console, read_failure(fault)),
+    };
+    end(
+        console,
+        record_watched(alloc, disk, report, text, files, &given, &commands, &named),
+    )
 }

@@ -3,17 +3,16 @@
 ghost use Rattle.std.specs.Prelude.{◌≡◌};
 ghost use Rattle.pac_dis_text.specs.Lines.{disassembly};
 ghost use Rattle.pac_run.specs.Recorded.{Written};
+ghost use Rattle.pac_command.specs.Making.{Tells};
 ghost use Rattle.pac_command.specs.Texts.{Disassembles};
 
-use crate::failure::{Failure, Target};
-use crate::files::read_file;
+use crate::failure::{Failure, Target, read_failure};
 use pac_dis_text::put_disassembly;
+use pac_files::{FileSystem, read_file};
 use pac_out::counted::Counted;
-use pac_out::through::Through;
 use pac_out::{Out, WriteFault};
 use pac_run::Output;
-use std::io;
-use std::rt::Files;
+use std::alloc::Global;
 
 /// The most bytes that have addresses.
 const MOST_BYTES: usize = 65_536;
@@ -40,15 +39,19 @@ pub fn write_text<W: Out>(bytes: &[u8], text: &mut W) -> Result<(), Failure<'sta
     }
 }
 
-/// Disassembles a file; the text goes to the console.
-pub(crate) fn dis<'a, R: Files + AllocGlobal, C: Print>(
-    rt: &R,
-    console: &C,
+/// Disassembles a file.
+pub fn dis<'a, D: FileSystem, W: Out>(
+    alloc: Global,
+    disk: &D,
+    text: &mut W,
     name: &'a str,
-) -> Result<(), Failure<'a>> {
-    let bytes = read_file(rt, name)?;
-    let mut text = Through {
-        inner: io::writer(console),
-    };
-    write_text(&bytes, &mut text)
+) -> Result<(), Failure<'a>>
+    ensures { Tells (D.finds disk.now)
+        (λ bytes answer. Disassembles bytes (record { took = W.took; refused = W.refused; old = text.old; new = text.new }) answer)
+        (text.new ≡ text.old) name.now result }
+{
+    match read_file(alloc, disk, name, name) {
+        Ok(bytes) => write_text(&bytes, text),
+        Err(fault) => Err(read_failure(fault)),
+    }
 }

@@ -5,6 +5,7 @@ ghost use Rattle.pac_command.specs.Failures as told;
 
 use pac_asm::AsmFault;
 use pac_cpu::Stop;
+use pac_files::ReadFault;
 use pac_inputs::ScriptFault;
 use pac_manifest::SetFault;
 use pac_run::{Output, RunFault};
@@ -84,6 +85,16 @@ impl Failure<'_> {
             Failure::Read(_) | Failure::Write(_, _) => 3,
             Failure::Memory => 4,
         }
+    }
+}
+
+/// The failure that a fault of reading files is.
+pub(crate) fn read_failure<'a>(fault: ReadFault<'a>) -> Failure<'a>
+    ensures { result ≡ told.read_failure fault.entry }
+{
+    match fault {
+        ReadFault::Unreadable(name) => Failure::Read(name),
+        ReadFault::Memory => Failure::Memory,
     }
 }
 

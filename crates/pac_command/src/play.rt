@@ -1,20 +1,21 @@
 //! `run`: a ROM set, a script and perhaps a source become frames, sound, a listing and a report.
 
 ghost use Rattle.std.specs.Prelude.{◌≡◌, ◌≤◌};
+ghost use Rattle.pac_options.specs.CommandLine.{told_run};
 ghost use Rattle.pac_command.specs.Failures as told;
+ghost use Rattle.pac_command.specs.Failures.{Opens};
+ghost use Rattle.pac_files.specs.Files.{AllClosed, AllCreated, FirstUncreated};
+ghost use Rattle.pac_command.specs.Outputs.{Plays, Records, in_turn, outputs_of, paths_of};
 ghost use Rattle.pac_command.specs.Programs.{Performs};
 
-use crate::failure::{Failure, Target, end_status, failure_of};
-use crate::files::create;
-use crate::given::{Given, Named, inputs_of, parts_of, read_given, read_named};
+use crate::failure::{Failure, Target, end_status, failure_of, read_failure};
+use crate::given::inputs_of;
 use crate::program::tell;
+use pac_files::{FileSystem, Given, NamedFile, manifest_in, parts_of, read_given, read_parts};
 use pac_options::RunFiles;
 use pac_out::Out;
-use pac_out::through::Through;
 use pac_run::{Outcome, Output, RunInputs, run_all};
 use std::alloc::Global;
-use std::io;
-use std::rt::Files;
 
 /// A run of the program: that of `run_all`, its fault told as a failure.
 pub fn run_inputs<F: Out, W: Out, L: Out, R: Out>(
@@ -40,57 +41,95 @@ pub fn run_inputs<F: Out, W: Out, L: Out, R: Out>(
 
 /// The files of a run's frames, wave and listing.
 #[derive(Drop)]
-pub(crate) struct Outputs<F> {
+pub struct Outputs<F> {
     /// That of the pictures.
-    pub(crate) frames: Through<F>,
+    pub frames: F,
     /// That of the sound.
-    pub(crate) wave: Through<F>,
+    pub wave: F,
     /// That of the listing.
-    pub(crate) listing: Through<F>,
+    pub listing: F,
 }
 
 /// Creates the files of frames, wave and listing, in this order.
-pub(crate) fn create_outputs<R: Files>(
-    rt: &R,
+pub fn create_outputs<D: FileSystem>(
+    disk: &mut D,
     files: &RunFiles,
-) -> Result<Outputs<R::File>, Failure<'static>> {
-    let frames = create(rt, files.frames, Target::Of(Output::Frames))?;
-    let wave = create(rt, files.wave, Target::Of(Output::Wave))?;
-    let listing = create(rt, files.listing, Target::Of(Output::Listing))?;
+) -> Result<Outputs<D::File>, Failure<'static>>
+    ensures { Opens
+        (λ outputs. AllCreated (record { creates = D.creates; closes = D.closes }) disk.old (paths_of (told_run files.now))
+        (in_turn outputs) disk.new)
+        (λ output. FirstUncreated (record { creates = D.creates; closes = D.closes }) disk.old (outputs_of (told_run files.now))
+        output disk.new) result }
+{
+    let Some(frames) = disk.create(files.frames) else {
+        return Err(Failure::Write(Target::Of(Output::Frames), 0));
+    };
+    let Some(wave) = disk.create(files.wave) else {
+        disk.close(frames);
+        return Err(Failure::Write(Target::Of(Output::Wave), 0));
+    };
+    let Some(listing) = disk.create(files.listing) else {
+        disk.close(wave);
+        disk.close(frames);
+        return Err(Failure::Write(Target::Of(Output::Listing), 0));
+    };
     Ok(Outputs {
-        frames: Through { inner: frames },
-        wave: Through { inner: wave },
-        listing: Through { inner: listing },
+        frames,
+        wave,
+        listing,
     })
 }
 
-/// Creates the outputs, and runs what was read; the report goes to the console.
-fn record<R: Files + AllocGlobal, C: Print>(
-    rt: &R,
-    console: &C,
+/// Closes the files of frames, wave and listing, in this order.
+pub fn close_outputs<D: FileSystem>(disk: &mut D, outputs: Outputs<D::File>)
+    ensures { AllClosed (record { creates = D.creates; closes = D.closes }) disk.old (in_turn outputs) disk.new }
+{
+    disk.close(outputs.frames);
+    disk.close(outputs.wave);
+    disk.close(outputs.listing);
+}
+
+/// Creates the outputs, runs what was read, and closes them.
+pub fn record<D: FileSystem, R: Out>(
+    alloc: Global,
+    disk: &mut D,
+    report: &mut R,
     files: &RunFiles,
     given: &Given,
-    named: &[Named],
-) -> Result<Outcome, Failure<'static>> {
-    let parts = parts_of(rt.alloc(), named)?;
-    let inputs = inputs_of(files, given, &parts);
-    let mut outputs = create_outputs(rt, files)?;
-    let mut report = Through {
-        inner: io::writer(console),
+    named: &[NamedFile],
+) -> Result<Outcome, Failure<'static>>
+    ensures { Records (record { creates = D.creates; closes = D.closes })
+        (λ answer inputs created left. Performs inputs (record {
+          frames = record { took = D.File.took; refused = D.File.refused; old = created.frames; new = left.frames };
+          wave = record { took = D.File.took; refused = D.File.refused; old = created.wave; new = left.wave };
+          listing = record { took = D.File.took; refused = D.File.refused; old = created.listing; new = left.listing };
+          report = record { took = R.took; refused = R.refused; old = report.old; new = report.new };
+        }) answer) (report.new ≡ report.old) (told_run files.now) given.now named.now disk.old result disk.new }
+{
+    let Ok(parts) = parts_of(alloc, named) else {
+        return Err(Failure::Memory);
     };
-    run_inputs(
-        rt.alloc(),
+    let inputs = inputs_of(files, given, &parts);
+    let mut outputs = match create_outputs(disk, files) {
+        Ok(outputs) => outputs,
+        Err(failure) => return Err(failure),
+    };
+    let ran = run_inputs(
+        alloc,
         &inputs,
         &mut outputs.frames,
         &mut outputs.wave,
         &mut outputs.listing,
-        &mut report,
-    )
+        report,
+    );
+    close_outputs(disk, outputs);
+    ran
 }
 
 /// The status of a run that ended or failed; a failure is told.
 pub(crate) fn end<C: Eprint>(console: &C, ran: Result<Outcome, Failure>) -> u8
-    ensures { result ≡ told.run_status ran.entry }
+    ensures status { result ≡ told.run_status ran.entry }
+    ensures most { result ≤ told.most_status }
 {
     match ran {
         Ok(outcome) => end_status(outcome.stop),
@@ -100,19 +139,32 @@ pub(crate) fn end<C: Eprint>(console: &C, ran: Result<Outcome, Failure>) -> u8
 
 /// Runs what the files of a command line hold, and answers the exit status. All is read before an output is created: source,
 /// manifest, script, and the files that the manifest names.
-pub(crate) fn play<R: Files + AllocGlobal, C: Print + Eprint>(
-    rt: &R,
+pub fn play<D: FileSystem, R: Out, C: Eprint>(
+    alloc: Global,
+    disk: &mut D,
+    report: &mut R,
     console: &C,
     files: &RunFiles,
 ) -> u8
-    ensures { result ≤ told.most_status }
+    ensures plays { Plays (D.finds disk.old) (record { creates = D.creates; closes = D.closes })
+        (λ answer inputs created left. Performs inputs (record {
+          frames = record { took = D.File.took; refused = D.File.refused; old = created.frames; new = left.frames };
+          wave = record { took = D.File.took; refused = D.File.refused; old = created.wave; new = left.wave };
+          listing = record { took = D.File.took; refused = D.File.refused; old = created.listing; new = left.listing };
+          report = record { took = R.took; refused = R.refused; old = report.old; new = report.new };
+        }) answer) (report.new ≡ report.old) (told_run files.now) disk.old result disk.new }
+    ensures most { result ≤ told.most_status }
 {
-    let given = match read_given(rt, files) {
+    let given = match read_given(alloc, disk, files) {
         Ok(given) => given,
-        Err(failure) => return tell(console, failure),
+        Err(fault) => return tell(console, read_failure(fault)),
     };
-    match read_named(rt, console, files, &given) {
-        Ok(named) => end(console, record(rt, console, files, &given, &named)),
-        Err(status) => status,
-    }
+    let Ok(manifest) = manifest_in(alloc, &given.manifest) else {
+        return tell(console, Failure::Memory);
+    };
+    let named = match read_parts(alloc, disk, files.set, &manifest) {
+        Ok(named) => named,
+        Err(fault) => return tell(console, read_failure(fault)),
+    };
+    end(console, record(alloc, disk, report, files, &given, &named))
 }

@@ -2,17 +2,23 @@
 
 ghost use Rattle.std.specs.Prelude.{◌≡◌, ◌≢◌, ◌≤◌, [], map, string_bytes};
 ghost use Rattle.clap.specs.Words.{fault_of, kind_of};
-ghost use Rattle.pac_options.specs.CommandLine.{pacboard};
+ghost use Rattle.pac_options.specs.CommandLine.{pacboard, request_of};
 ghost use Rattle.pac_command.specs.Failures as told;
+ghost use Rattle.pac_command.specs.Programs.{Assembles, Performs, PerformsWatched};
+ghost use Rattle.pac_command.specs.Texts.{Disassembles};
+ghost use Rattle.pac_command.specs.Works.{Works};
 
 use crate::asm::asm;
 use crate::debug::debug;
 use crate::dis::dis;
 use crate::failure::{Failure, end_status};
-use crate::files::standard_file;
 use crate::play::play;
 use clap::error::ErrorKind;
+use pac_files::{FileSystem, HostFiles, standard_file};
 use pac_options::{Request, options};
+use pac_out::Out;
+use pac_out::through::Through;
+use std::alloc::Global;
 use std::rt::{Env, Files};
 use std::{env, io};
 
@@ -65,11 +71,65 @@ pub fn run_words<R: Files + AllocGlobal, C: Print + Eprint>(
     ensures words { fault_of pacboard (map string_bytes words.now) ≢ []
         → told.Answers (fault_of pacboard (map string_bytes words.now)) result }
 {
-    match options(rt.alloc(), words) {
-        Ok(Request::Asm(files)) => end(console, asm(rt, &files)),
-        Ok(Request::Run(files)) => play(rt, console, &files),
-        Ok(Request::Debug(files)) => debug(rt, console, &files),
-        Ok(Request::Dis(name)) => end(console, dis(rt, console, name)),
+    let mut disk = HostFiles { rt };
+    let mut report = Through {
+        inner: io::writer(console),
+    };
+    let mut text = Through {
+        inner: io::writer(console),
+    };
+    work(
+        rt.alloc(),
+        &mut disk,
+        &mut report,
+        &mut text,
+        console,
+        words,
+    )
+}
+
+/// Does what words ask for over files, with a writer for the report and one for the text of a session or a disassembly, which
+/// both are standard output, and a console for the line of a failure.
+pub fn work<D: FileSystem, R: Out, T: Out, C: Print + Eprint>(
+    alloc: Global,
+    disk: &mut D,
+    report: &mut R,
+    text: &mut T,
+    console: &C,
+    words: &[String],
+) -> u8
+    ensures status { result ≤ told.most_status }
+    ensures words { fault_of pacboard (map string_bytes words.now) ≢ []
+        → told.Answers (fault_of pacboard (map string_bytes words.now)) result }
+    ensures works { Works (record {
+      finds = D.finds disk.old;
+      handling = record { creates = D.creates; closes = D.closes };
+      assembles = λ source answer created left. Assembles source
+          (record { took = D.File.took; refused = D.File.refused; old = created.rom; new = left.rom })
+          (record { took = D.File.took; refused = D.File.refused; old = created.listing; new = left.listing }) answer;
+      performs = λ answer inputs created left. Performs inputs (record {
+        frames = record { took = D.File.took; refused = D.File.refused; old = created.frames; new = left.frames };
+        wave = record { took = D.File.took; refused = D.File.refused; old = created.wave; new = left.wave };
+        listing = record { took = D.File.took; refused = D.File.refused; old = created.listing; new = left.listing };
+        report = record { took = R.took; refused = R.refused; old = report.old; new = report.new };
+      }) answer;
+      watches = λ commands answer inputs created left. PerformsWatched inputs commands (record {
+        frames = record { took = D.File.took; refused = D.File.refused; old = created.frames; new = left.frames };
+        wave = record { took = D.File.took; refused = D.File.refused; old = created.wave; new = left.wave };
+        listing = record { took = D.File.took; refused = D.File.refused; old = created.listing; new = left.listing };
+        report = record { took = R.took; refused = R.refused; old = report.old; new = report.new };
+      }) (record { took = T.took; refused = T.refused; old = text.old; new = text.new }) answer;
+      disassembles = λ bytes answer. Disassembles bytes
+          (record { took = T.took; refused = T.refused; old = text.old; new = text.new }) answer;
+      silent = report.new ≡ report.old;
+      untold = text.new ≡ text.old;
+    }) (fault_of pacboard (map string_bytes words.now)) (request_of (map string_bytes words.now)) disk.old result disk.new }
+{
+    match options(alloc, words) {
+        Ok(Request::Asm(files)) => end(console, asm(alloc, disk, &files)),
+        Ok(Request::Run(files)) => play(alloc, disk, report, console, &files),
+        Ok(Request::Debug(files)) => debug(alloc, disk, report, text, console, &files),
+        Ok(Request::Dis(name)) => end(console, dis(alloc, disk, text, name)),
         Err(error) => explain(console, &error),
     }
 }

@@ -1,0 +1,42 @@
+-- What was read of a run's files, with the manifest as the program reads it.
+use Rattle.std.proofs.Common.{◌≡◌, ℕ, List, Option, Err, inl, inr, subst, ap, sym, ◌∙◌, ◌⊎◌}
+use Rattle.std.specs.Result.{result_ok}
+use Rattle.pac_manifest.specs.Manifests.{manifest_of}
+use Rattle.pac_manifest.specs.declared.manifest.Manifest.{Manifest}
+use Rattle.pac_options.specs.CommandLine.{AskedRun}
+use Rattle.pac_files.specs.Files.{Finds, FirstUnread}
+use Rattle.pac_files.specs.Read.{Reads, HasGiven, HasParts, HasRead, PartUnread, names_in, part_files}
+use Rattle.pac_files.specs.declared.given.Given.{Given}
+use Rattle.pac_files.specs.declared.given.ReadFault.{ReadFault}
+use Rattle.pac_files.specs.declared.given.ReadFault.TheVariants.{Unreadable, Memory}
+use Rattle.pac_files.specs.declared.parts.NamedFile.{NamedFile}
+use Rattle.pac_command.specs.Failures as told
+
+-- why nothing was begun: by a fault of reading and the status that is answered
+pub unread-reason : {A : Type 0} (read : A → Type 0) (unread all : List ℕ → Type 0) (fault : ReadFault) (status : ℕ)
+    → ((name : List ℕ) → unread name → all name) → Reads read unread (Err fault) → status ≡ told.status (told.read_failure fault)
+    → ((name : List ℕ) × all name × (status ≡ 3)) ⊎ (status ≡ 4)
+unread-reason read unread all (Unreadable name) status onward reads status_is = inl (name.now, onward name.now reads, status_is)
+unread-reason read unread all Memory status onward reads status_is = inr status_is
+
+module _ (finds : Finds) (asked : AskedRun) (given : Given) (given_are : HasGiven finds asked given) (bytes : List ℕ)
+    (manifest : Option Manifest) (bytes_are : bytes ≡ given.manifest.items) (manifest_is : manifest ≡ result_ok (manifest_of bytes)) where
+  is-of-given : manifest ≡ result_ok (manifest_of given.manifest.items)
+  is-of-given = manifest_is ∙ ap (λ some. result_ok (manifest_of some)) bytes_are
+
+  -- a part that can't be read
+  pub part-unread : (name : List ℕ) → FirstUnread finds (part_files asked.set (names_in manifest)) name → PartUnread finds asked name
+  part-unread name first = record {
+    given = given;
+    given_are = given_are;
+    first = subst (λ one. FirstUnread finds (part_files asked.set (names_in one)) name) is-of-given first;
+  }
+
+  -- all parts that can
+  pub all-read : (parts named : List NamedFile) → parts ≡ named → HasParts finds asked.set (names_in manifest) named
+      → HasRead finds asked given parts
+  all-read parts named parts_are has = record {
+    given_are = given_are;
+    parts_are = subst (λ all. HasParts finds asked.set (names_in (result_ok (manifest_of given.manifest.items))) all) (sym parts_are)
+        (subst (λ one. HasParts finds asked.set (names_in one) named) is-of-given has);
+  }

@@ -1,0 +1,119 @@
+-- What the program does with the files of a run: which it reads, which it creates, what these have then, and the exit status.
+use Rattle.std.specs.Prelude.{◌≡◌, ◌⊎◌, ℕ, List, [], ◌∷◌, map, Some, option_map, Result, Err}
+use Rattle.pac_files.specs.Files.{Finds, FirstUnread, Handling, AllCreated, AllClosed, FirstUncreated}
+use Rattle.pac_files.specs.Read.{HasRead, PartUnread, given_files, watched_files, told_file, told_part}
+use Rattle.pac_files.specs.declared.given.Given.{Given}
+use Rattle.pac_files.specs.declared.parts.NamedFile.{NamedFile}
+use Rattle.pac_options.specs.CommandLine.{AskedRun, AskedDebug}
+use Rattle.pac_run.specs.Plan.{source_in}
+use Rattle.pac_run.specs.declared.fault.Output.TheVariants.{Frames, Wave, Listing}
+use Rattle.pac_run.specs.declared.inputs.RunInputs.{RunInputs}
+use Rattle.pac_run.specs.declared.outcome.Outcome.{Outcome}
+use Rattle.pac_command.specs.declared.failure.Failure.{Failure}
+use Rattle.pac_command.specs.declared.failure.Failure.TheVariants.{Write, Memory}
+use Rattle.pac_command.specs.declared.failure.Target.{Target}
+use Rattle.pac_command.specs.declared.failure.Target.TheVariants.{Of}
+use Rattle.pac_command.specs.declared.play.Outputs.{Outputs}
+use Rattle.pac_command.specs.Failures.{run_status}
+
+-- ---- what is run
+
+-- a run's inputs are what was read
+pub record IsInputs (asked : AskedRun) (given : Given) (parts : List NamedFile) (inputs : RunInputs) : Type 0 where
+  pub source : source_in inputs ≡ option_map (λ bytes. bytes.items) given.source
+  pub manifest : inputs.manifest.now ≡ given.manifest.items
+  pub parts_are : map told_part inputs.parts.now ≡ map told_file parts
+  pub dip : inputs.dip ≡ asked.dip
+  pub script : inputs.script.now ≡ given.script.items
+
+-- ---- what is created
+
+-- the outputs of a run, in the order in which they are created
+abbrev pub outputs_of : AskedRun → List (Target × List ℕ)
+outputs_of asked = (Of Frames, asked.frames) ∷ (Of Wave, asked.wave) ∷ (Of Listing, asked.listing) ∷ []
+
+abbrev pub paths_of : AskedRun → List (List ℕ)
+paths_of asked = asked.frames ∷ asked.wave ∷ asked.listing ∷ []
+
+abbrev pub in_turn : {File : Type 0} → Outputs File → List File
+in_turn outputs = outputs.frames ∷ outputs.wave ∷ outputs.listing ∷ []
+
+-- what a run does with the files that were created, as they were and as it left them
+abbrev pub Performing : Type 0 → Type 1
+Performing File = RunInputs → (created left : Outputs File) → Type 0
+
+-- the outputs were created, then the run was done, and then they were closed as it left them: no more is written to them
+pub record IsPerformed {Disk File : Type 0} (handling : Handling Disk File) (performs : Performing File) (asked : AskedRun) (given : Given)
+    (parts : List NamedFile) (old new : Disk) : Type 0 where
+  pub inputs : RunInputs
+  pub inputs_are : IsInputs asked given parts inputs
+  pub created : Outputs File
+  pub during : Disk
+  pub all_created : AllCreated handling old (paths_of asked) (in_turn created) during
+  pub left : Outputs File
+  pub performed : performs inputs created left
+  pub all_closed : AllClosed handling during (in_turn left) new
+
+-- an output couldn't be created
+pub record IsUncreated {Disk File : Type 0} (handling : Handling Disk File) (asked : AskedRun) (old : Disk)
+    (answer : Result Outcome Failure) (new : Disk) : Type 0 where
+  pub output : Target
+  pub answer_is : answer ≡ Err (Write output 0)
+  pub first : FirstUncreated handling old (outputs_of asked) output new
+
+-- memory ran out before any output was created
+pub record IsUnmade {Disk : Type 0} (old : Disk) (answer : Result Outcome Failure) (new : Disk) : Type 0 where
+  pub answer_is : answer ≡ Err Memory
+  pub unchanged : new ≡ old
+
+-- What was read is run: the run is done over all its outputs; or it isn't begun, and nothing is told
+abbrev pub Records : {Disk File : Type 0} → Handling Disk File → (Result Outcome Failure → Performing File) → (silent : Type 0) → AskedRun
+    → Given → List NamedFile → Disk → Result Outcome Failure → Disk → Type 0
+Records handling performs silent asked given parts old answer new =
+    IsPerformed handling (performs answer) asked given parts old new
+    ⊎ (silent × (IsUncreated handling asked old answer new ⊎ IsUnmade old answer new))
+
+-- ---- the exit status
+
+-- a file couldn't be read, or memory ran out while files were: nothing is created and nothing is told
+pub record IsUnbegun {Disk : Type 0} (unread : List ℕ → Type 0) (silent : Type 0) (old : Disk) (status : ℕ) (new : Disk) : Type 0 where
+  pub reason : ((name : List ℕ) × unread name × (status ≡ 3)) ⊎ (status ≡ 4)
+  pub unchanged : new ≡ old
+  pub is_silent : silent
+
+-- all was read, and the status is that of the run
+pub record IsRun {Disk File : Type 0} (finds : Finds) (handling : Handling Disk File) (performs : Result Outcome Failure → Performing File)
+    (silent : Type 0) (asked : AskedRun) (old : Disk) (status : ℕ) (new : Disk) : Type 0 where
+  pub given : Given
+  pub parts : List NamedFile
+  pub read : HasRead finds asked given parts
+  pub answer : Result Outcome Failure
+  pub records : Records handling performs silent asked given parts old answer new
+  pub status_is : status ≡ run_status answer
+
+-- `run`
+abbrev pub Plays : {Disk File : Type 0} → Finds → Handling Disk File → (Result Outcome Failure → Performing File) → (silent : Type 0)
+    → AskedRun → Disk → (status : ℕ) → Disk → Type 0
+Plays finds handling performs silent asked old status new =
+    IsUnbegun (λ name. FirstUnread finds (given_files asked) name ⊎ PartUnread finds asked name) silent old status new
+    ⊎ IsRun finds handling performs silent asked old status new
+
+-- `debug`: the commands are read after the script and before the parts
+pub record IsWatched {Disk File : Type 0} (finds : Finds) (handling : Handling Disk File)
+    (performs : (commands : List ℕ) → Result Outcome Failure → Performing File)
+    (silent : Type 0) (asked : AskedDebug) (old : Disk) (status : ℕ) (new : Disk) : Type 0 where
+  pub commands : List ℕ
+  pub commands_are : finds asked.commands (Some commands)
+  pub run : IsRun finds handling (performs commands) silent asked.run old status new
+
+pub record WatchedPartUnread (finds : Finds) (asked : AskedDebug) (name : List ℕ) : Type 0 where
+  pub commands : List ℕ
+  pub commands_are : finds asked.commands (Some commands)
+  pub part : PartUnread finds asked.run name
+
+abbrev pub Watches : {Disk File : Type 0} → Finds → Handling Disk File
+    → ((commands : List ℕ) → Result Outcome Failure → Performing File) → (silent : Type 0)
+    → AskedDebug → Disk → (status : ℕ) → Disk → Type 0
+Watches finds handling performs silent asked old status new =
+    IsUnbegun (λ name. FirstUnread finds (watched_files asked) name ⊎ WatchedPartUnread finds asked name) silent old status new
+    ⊎ IsWatched finds handling performs silent asked old status new

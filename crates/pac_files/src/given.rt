@@ -1,0 +1,113 @@
+//! The files that the command line of a run names, as they are read.
+
+ghost use Rattle.std.specs.Prelude.{◌≤◌, IfOk, Some, length, option_copied};
+ghost use Rattle.pac_options.specs.CommandLine.{told_debug, told_run};
+ghost use Rattle.pac_files.specs.Files.{FirstUnread, IsUnread, most_read};
+ghost use Rattle.pac_files.specs.Read.{HasGiven, HasSource, Reads, given_files, source_files, watched_files};
+
+use crate::files::{FileSystem, ReadError};
+use pac_options::{DebugFiles, RunFiles};
+use std::alloc::Global;
+
+/// Why files weren't read.
+#[derive(Clone, Copy)]
+pub enum ReadFault<'a> {
+    /// The file that is told by this name can't be read, or has more than 16 MiB.
+    Unreadable(&'a str),
+    /// Memory ran out.
+    Memory,
+}
+
+/// The files of a run whose names the command line gives, as they were read.
+#[derive(Drop)]
+pub struct Given {
+    /// The source, if there is one.
+    pub source: Option<Vec<u8>>,
+    /// The manifest of the ROM set.
+    pub manifest: Vec<u8>,
+    /// The script.
+    pub script: Vec<u8>,
+}
+
+/// Reads the file of a path; a fault tells this name.
+pub fn read_file<'a, D: FileSystem>(
+    alloc: Global,
+    disk: &D,
+    path: &str,
+    name: &'a str,
+) -> Result<Vec<u8>, ReadFault<'a>>
+    ensures read { Reads (λ bytes. D.finds disk.now path.now (Some bytes.items))
+        (IsUnread (D.finds disk.now) (record { path = path.now; name = name.now })) result }
+    ensures size { IfOk result (λ bytes. length bytes.items ≤ most_read) }
+{
+    match disk.read(alloc, path) {
+        Ok(bytes) => Ok(bytes),
+        Err(ReadError::Unreadable) => Err(ReadFault::Unreadable(name)),
+        Err(ReadError::Memory) => Err(ReadFault::Memory),
+    }
+}
+
+/// Reads the source, where one is named.
+fn read_source<'a, D: FileSystem>(
+    alloc: Global,
+    disk: &D,
+    name: Option<&'a str>,
+) -> Result<Option<Vec<u8>>, ReadFault<'a>>
+    ensures { Reads (HasSource (D.finds disk.now) (option_copied name.entry))
+        (FirstUnread (D.finds disk.now) (source_files (option_copied name.entry))) result }
+{
+    let Some(name) = name else {
+        return Ok(None);
+    };
+    match read_file(alloc, disk, name, name) {
+        Ok(source) => Ok(Some(source)),
+        Err(fault) => Err(fault),
+    }
+}
+
+/// Reads the files that the command line names, in order: source, manifest, script.
+pub fn read_given<'a, D: FileSystem>(
+    alloc: Global,
+    disk: &D,
+    files: &RunFiles<'a>,
+) -> Result<Given, ReadFault<'a>>
+    ensures { Reads (HasGiven (D.finds disk.now) (told_run files.now))
+        (FirstUnread (D.finds disk.now) (given_files (told_run files.now))) result }
+{
+    let source = match read_source(alloc, disk, files.source) {
+        Ok(source) => source,
+        Err(fault) => return Err(fault),
+    };
+    let manifest = match read_file(alloc, disk, files.set, files.set) {
+        Ok(manifest) => manifest,
+        Err(fault) => return Err(fault),
+    };
+    match read_file(alloc, disk, files.script, files.script) {
+        Ok(script) => Ok(Given {
+            source,
+            manifest,
+            script,
+        }),
+        Err(fault) => Err(fault),
+    }
+}
+
+/// Reads the files that the command line of a run under a debugger names: those of a run, and then the commands.
+pub fn read_watched<'a, D: FileSystem>(
+    alloc: Global,
+    disk: &D,
+    files: &DebugFiles<'a>,
+) -> Result<(Given, Vec<u8>), ReadFault<'a>>
+    ensures { Reads
+        (λ read. HasGiven (D.finds disk.now) (told_run files.now.run) read.0 × D.finds disk.now files.now.commands.now (Some read.1.items))
+        (FirstUnread (D.finds disk.now) (watched_files (told_debug files.now))) result }
+{
+    let given = match read_given(alloc, disk, &files.run) {
+        Ok(given) => given,
+        Err(fault) => return Err(fault),
+    };
+    match read_file(alloc, disk, files.commands, files.commands) {
+        Ok(commands) => Ok((given, commands)),
+        Err(fault) => Err(fault),
+    }
+}
