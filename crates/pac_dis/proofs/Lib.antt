@@ -1,3 +1,4 @@
 pub mod Fronts
 pub mod Lengths
 pub mod Writings
+pub mod Showings
