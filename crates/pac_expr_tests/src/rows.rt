@@ -4,10 +4,9 @@ use crate::names::OneByteNames;
 use pac_expr::{ParseError, ValueError, evaluate, is_expression, parse, value};
 use pac_lex::{LexError, Token, tokens};
 use std::alloc::Global;
-use std::test::Fail;
 
 /// What a line comes to, read as one expression.
-#[derive(Debug, Drop)]
+#[derive(Clone, Copy)]
 enum Outcome {
     Value(i32),
     Fault(ValueError),
@@ -51,128 +50,140 @@ fn by_both(outcome: Outcome, found: &[Token<'_>]) -> Outcome {
     }
 }
 
+/// Whether a line has this value.
+fn has_value(alloc: Global, line: &[u8], value: i32) -> bool {
+    matches!(outcome_of(alloc, line), Outcome::Value(number) if number == value)
+}
+
+/// Whether a line has this fault.
+fn has_fault(alloc: Global, line: &[u8], fault: ValueError) -> bool {
+    matches!(outcome_of(alloc, line), Outcome::Fault(found) if found == fault)
+}
+
+/// Whether the tokens of a line are no expression.
+fn has_no_tree(alloc: Global, line: &[u8]) -> bool {
+    matches!(outcome_of(alloc, line), Outcome::NoTree(ParseError::Syntax))
+}
+
+/// Lines with their values.
+static VALUES: [(&[u8], i32); 19] = [
+    (b"2+3*4", 14),
+    (b"1-2-3", -4),
+    (b"8/2*3", 12),
+    (b"2*3-4*5+6", -8),
+    (b"-7/2", -3),
+    (b"7/-2", -3),
+    (b"2*-3", -6),
+    (b"2--3", 5),
+    (b"--1", 1),
+    (b"(2+3)*4", 20),
+    (b"'A'+1", 66),
+    (b"''''", 39),
+    (b"$+2", 0x1236),
+    (b"x*X", 25),
+    (b"-32768*32768*2", -2_147_483_648),
+    (b"+ - ( ( 1 ) )", -1),
+    (b"100/7*7-2*(3-10)/4", 101),
+    (b"-(2)*-(3)", 6),
+    (b"7-- -2", 5),
+];
+
 #[test]
 fn values(rt: HostRuntime) {
-    for (line, want) in [
-        (b"2+3*4".as_slice(), 14),
-        (b"1-2-3", -4),
-        (b"8/2*3", 12),
-        (b"2*3-4*5+6", -8),
-        (b"-7/2", -3),
-        (b"7/-2", -3),
-        (b"2*-3", -6),
-        (b"2--3", 5),
-        (b"--1", 1),
-        (b"(2+3)*4", 20),
-        (b"'A'+1", 66),
-        (b"''''", 39),
-        (b"$+2", 0x1236),
-        (b"x*X", 25),
-        (b"-32768*32768*2", -2_147_483_648),
-        (b"+ - ( ( 1 ) )", -1),
-        (b"100/7*7-2*(3-10)/4", 101),
-        (b"-(2)*-(3)", 6),
-        (b"7-- -2", 5),
-    ] {
-        let found = outcome_of(rt.alloc(), line);
-        assert!(rt;
-            matches!(found, Outcome::Value(number) if number == want),
-            "{found:?} at {line:?}"
-        );
+    for (line, value) in &VALUES {
+        assert!(rt; has_value(rt.alloc(), line, *value), "at {line:?}");
     }
 }
+
+/// Lines with a fault.
+static FAULTS: [(&[u8], ValueError); 13] = [
+    (b"65535*65535", ValueError::OutOfRange),
+    (b"65535*65535*0", ValueError::OutOfRange),
+    (b"-(-32768*32768*2)", ValueError::OutOfRange),
+    (b"-32768*32768*2/-1", ValueError::OutOfRange),
+    (b"-32768*32768*2-1", ValueError::OutOfRange),
+    (b"1/0", ValueError::DivisionByZero),
+    (b"1/(x-5)", ValueError::DivisionByZero),
+    (b"65535*65535+1/0", ValueError::OutOfRange),
+    (b"1/0+65535*65535", ValueError::OutOfRange),
+    (b"1/0+WHO", ValueError::Undefined),
+    (b"65535*65535-WHO", ValueError::Undefined),
+    (b"-WHO", ValueError::Undefined),
+    (b"2*(1/0-WHO)", ValueError::Undefined),
+];
 
 #[test]
 fn faults(rt: HostRuntime) {
-    for (line, want) in [
-        (b"65535*65535".as_slice(), ValueError::OutOfRange),
-        (b"65535*65535*0", ValueError::OutOfRange),
-        (b"-(-32768*32768*2)", ValueError::OutOfRange),
-        (b"-32768*32768*2/-1", ValueError::OutOfRange),
-        (b"-32768*32768*2-1", ValueError::OutOfRange),
-        (b"1/0", ValueError::DivisionByZero),
-        (b"1/(x-5)", ValueError::DivisionByZero),
-        (b"65535*65535+1/0", ValueError::OutOfRange),
-        (b"1/0+65535*65535", ValueError::OutOfRange),
-        (b"1/0+WHO", ValueError::Undefined),
-        (b"65535*65535-WHO", ValueError::Undefined),
-        (b"-WHO", ValueError::Undefined),
-        (b"2*(1/0-WHO)", ValueError::Undefined),
-    ] {
-        let found = outcome_of(rt.alloc(), line);
-        assert!(rt;
-            matches!(found, Outcome::Fault(fault) if fault == want),
-            "{found:?} at {line:?}"
-        );
+    for (line, fault) in &FAULTS {
+        assert!(rt; has_fault(rt.alloc(), line, *fault), "at {line:?}");
     }
 }
 
+/// Lines that are no expression.
+static NO_TREES: [&[u8]; 19] = [
+    b"", b"1+", b"*2", b"2*/3", b"-", b"(1", b"1)", b"()", b"(1+)", b"1 2", b"1(2)", b"(1 2)",
+    b"((1)", b"1)(2", b"1,2", b"'AB'+1", b"''", b"AF'", b"1:",
+];
+
 #[test]
 fn no_trees(rt: HostRuntime) {
-    for line in [
-        b"".as_slice(),
-        b"1+",
-        b"*2",
-        b"2*/3",
-        b"-",
-        b"(1",
-        b"1)",
-        b"()",
-        b"(1+)",
-        b"1 2",
-        b"1(2)",
-        b"(1 2)",
-        b"((1)",
-        b"1)(2",
-        b"1,2",
-        b"'AB'+1",
-        b"''",
-        b"AF'",
-        b"1:",
-    ] {
-        let found = outcome_of(rt.alloc(), line);
-        assert!(rt;
-            matches!(found, Outcome::NoTree(ParseError::Syntax)),
-            "{found:?} at {line:?}"
-        );
+    for line in &NO_TREES {
+        assert!(rt; has_no_tree(rt.alloc(), line), "at {line:?}");
     }
+}
+
+/// A line of 254 signs before a number.
+fn signs() -> [u8; 255] {
+    let mut line = [b'-'; 255];
+    line[254] = b'7';
+    line
+}
+
+/// A line of a number within 127 pairs of parentheses.
+fn groups() -> [u8; 255] {
+    let mut line = [b'('; 255];
+    line[127] = b'9';
+    for at in 128..255 {
+        line[at] = b')';
+    }
+    line
+}
+
+/// A line of 127 subtractions.
+fn sums() -> [u8; 255] {
+    let mut line = [b'1'; 255];
+    for at in 0..127 {
+        line[2 * at + 1] = b'-';
+    }
+    line
 }
 
 // The deepest trees that a line of 255 bytes has.
 #[test]
 fn deep_trees(rt: HostRuntime) {
-    let mut signs = [b'-'; 255];
-    signs[254] = b'7';
-    let mut groups = [b'('; 255];
-    groups[127] = b'9';
-    for at in 128..255 {
-        groups[at] = b')';
-    }
-    let mut sums = [b'1'; 255];
-    for at in 0..127 {
-        sums[2 * at + 1] = b'-';
-    }
-    for (line, want) in [
-        (signs.as_slice(), 7),
-        (groups.as_slice(), 9),
-        (sums.as_slice(), -126),
-    ] {
-        let found = outcome_of(rt.alloc(), line);
-        assert!(rt;
-            matches!(found, Outcome::Value(number) if number == want),
-            "{found:?} for {want}"
-        );
+    assert!(rt; has_value(rt.alloc(), &signs(), 7));
+    assert!(rt; has_value(rt.alloc(), &groups(), 9));
+    assert!(rt; has_value(rt.alloc(), &sums(), -126));
+}
+
+/// Faults with their codes.
+static CODES: [(ValueError, &str); 3] = [
+    (ValueError::Undefined, "E1"),
+    (ValueError::OutOfRange, "E2"),
+    (ValueError::DivisionByZero, "E3"),
+];
+
+/// Whether a fault is printed so.
+fn is_printed(alloc: Global, fault: ValueError, code: &str) -> bool {
+    match format!(in alloc; "{fault}") {
+        Ok(found) => found.as_str() == code,
+        Err(_) => false,
     }
 }
 
 #[test]
-fn codes_of_faults(rt: HostRuntime) -> Result<(), Fail> {
-    for (fault, code) in [
-        (ValueError::Undefined, "E1"),
-        (ValueError::OutOfRange, "E2"),
-        (ValueError::DivisionByZero, "E3"),
-    ] {
-        assert_eq!(rt; format!(in rt.alloc(); "{fault}")?.as_str(), code);
+fn codes_of_faults(rt: HostRuntime) {
+    for (fault, code) in &CODES {
+        assert!(rt; is_printed(rt.alloc(), *fault, code), "{code}");
     }
-    Ok(())
 }

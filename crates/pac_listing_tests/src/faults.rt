@@ -7,48 +7,61 @@ use pac_out::counted::Counted;
 use pac_out::faulty::Faulty;
 use pac_out::memory::Memory;
 use pac_program::Program;
-use std::alloc::Global;
+use std::alloc::{AllocError, Global};
+use std::process::Abort;
 use std::test::Fail;
 
 /// The count of lines: their listing is longer than what is gathered before a write.
 const LINES: usize = 500;
 
-/// What a writer of 1,000 bytes a call took, and what was answered, where it refuses the call of this number.
-fn written(
+/// The lines' entries: five bytes 0 each.
+static ENTRIES: [Entry; LINES] = [Entry::Data(0, b"\0\0\0\0\0"); LINES];
+
+/// Their source.
+static SOURCE: [u8; LINES] = [b'\n'; LINES];
+
+/// Whether a listing of so many bytes that was refused, or wasn't, at this call was answered with what its writer took.
+fn is_told(answer: Result<(), WriteFault>, taken: usize, whole: usize, refusal: u64) -> bool {
+    match answer {
+        Ok(()) => taken == whole && refusal > 20,
+        Err(fault) => taken < whole && fault.count == taken as u64,
+    }
+}
+
+/// A writer of 1,000 bytes a call that refuses the call of this number takes a prefix of the listing, and its count is told.
+fn takes_prefix(
+    rt: &impl Abort,
     alloc: Global,
     made: &Program,
-    source: &[u8],
+    whole: &[u8],
     refusal: u64,
-) -> Result<(Faulty, Result<(), WriteFault>), Fail> {
+) -> Result<(), AllocError> {
     let mut file = Counted::new(Faulty::new(alloc, 40_000, 1000, refusal)?);
-    let answer = write_listing(&mut file, made, source);
-    Ok((file.writer, answer))
+    let answer = write_listing(&mut file, made, &SOURCE);
+    let taken = file.writer.bytes();
+    assert!(rt; whole.starts_with(taken), "call {refusal}");
+    assert!(rt;
+        is_told(answer, taken.len(), whole.len(), refusal),
+        "call {refusal}"
+    );
+    Ok(())
+}
+
+/// The whole listing.
+fn listing(rt: &impl Abort, alloc: Global, made: &Program) -> Result<Memory, AllocError> {
+    let mut whole = Counted::new(Memory::new(alloc, 40_000)?);
+    assert!(rt; write_listing(&mut whole, made, &SOURCE).is_ok());
+    // rows of 21 and 20 bytes, and the word
+    assert!(rt; whole.count == 500 * 41 + 8);
+    Ok(whole.writer)
 }
 
 #[test]
 fn each_write_refused_in_turn(rt: HostRuntime) -> Result<(), Fail> {
-    let made = program(rt.alloc(), &[Entry::Data(0, b"\0\0\0\0\0"); LINES], &[])?;
-    let source = [b'\n'; LINES];
-    let mut whole = Counted::new(Memory::new(rt.alloc(), 40_000)?);
-    assert_eq!(rt; write_listing(&mut whole, &made, &source), Ok(()));
-    // rows of 21 and 20 bytes, and the word
-    assert_eq!(rt; whole.count, 500 * 41 + 8);
-
+    let made = program(rt.alloc(), &ENTRIES, &[])?;
+    let whole = listing(&rt, rt.alloc(), &made)?;
     for refusal in 1..25u64 {
-        let (writer, answer) = written(rt.alloc(), &made, &source, refusal)?;
-        let taken = writer.bytes();
-        assert!(rt; whole.writer.bytes().starts_with(taken), "call {refusal}");
-        if taken.len() == whole.writer.bytes().len() {
-            assert_eq!(rt; answer, Ok(()));
-            assert!(rt; refusal > 20);
-        } else {
-            assert_eq!(rt;
-                answer,
-                Err(WriteFault {
-                    count: taken.len() as u64
-                })
-            );
-        }
+        takes_prefix(&rt, rt.alloc(), &made, whole.bytes(), refusal)?;
     }
     Ok(())
 }

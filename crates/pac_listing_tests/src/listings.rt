@@ -4,6 +4,9 @@ use crate::programs::{Entry, program};
 use pac_listing::write_listing;
 use pac_out::counted::Counted;
 use pac_out::memory::Memory;
+use pac_program::Program;
+use std::alloc::{AllocError, Global};
+use std::process::Abort;
 use std::test::Fail;
 
 /// The lines of a program, its symbols, its source and its listing.
@@ -79,14 +82,26 @@ static ROWS: [Row; 7] = [
     },
 ];
 
+/// A program with a source has this listing.
+fn is_listed(
+    rt: &impl Abort,
+    alloc: Global,
+    made: &Program,
+    source: &[u8],
+    listing: &[u8],
+) -> Result<(), AllocError> {
+    let mut file = Counted::new(Memory::new(alloc, 1000)?);
+    assert!(rt; write_listing(&mut file, made, source).is_ok());
+    assert!(rt; file.writer.bytes() == listing, "{}", listing.len());
+    assert!(rt; file.count as usize == listing.len());
+    Ok(())
+}
+
 #[test]
 fn listings_byte_for_byte(rt: HostRuntime) -> Result<(), Fail> {
     for row in &ROWS {
         let made = program(rt.alloc(), row.entries, row.symbols)?;
-        let mut file = Counted::new(Memory::new(rt.alloc(), 1000)?);
-        assert_eq!(rt; write_listing(&mut file, &made, row.source), Ok(()));
-        assert!(rt; file.writer.bytes() == row.listing, "{}", row.listing.len());
-        assert_eq!(rt; file.count as usize, row.listing.len());
+        is_listed(&rt, rt.alloc(), &made, row.source, row.listing)?;
     }
     Ok(())
 }

@@ -3,6 +3,7 @@
 use pac_code::decode;
 use pac_program::{Content, Item, Line, Program, Symbols};
 use std::alloc::Global;
+use std::process::Abort;
 use std::test::Fail;
 
 /// What a line puts into a program.
@@ -52,20 +53,32 @@ pub(crate) fn program(
     Ok(Program::new(lines, table, rom))
 }
 
+/// Whether a line has an item with these bytes at an address.
+fn places(line: Option<&Line>, at: u16, bytes: &[u8]) -> bool {
+    match line {
+        Some(Line::Placed(item)) => item.at() == at && item.content().bytes().as_slice() == bytes,
+        _ => false,
+    }
+}
+
+/// A program lends its ROM, its symbols and its two lines.
+fn lends_its_parts(rt: &impl Abort, made: &Program) {
+    assert!(rt; made.rom().len() == 16384);
+    assert!(rt; made.symbols().len() == 1);
+    assert!(rt; made.lines().len() == 2);
+    assert!(rt; places(made.lines().first(), 5, &[0x32, 0x40, 0x40]));
+    assert!(rt; places(made.lines().last(), 8, b"AB"));
+}
+
+/// LD (4040H),A and a text.
+static STORE_AND_TEXT: [Entry; 2] = [
+    Entry::Code(5, [0x32, 0x40, 0x40, 0x76]),
+    Entry::Data(8, b"AB"),
+];
+
 #[test]
 fn a_program_lends_its_parts(rt: HostRuntime) -> Result<(), Fail> {
-    let entries = [
-        Entry::Code(5, [0x32, 0x40, 0x40, 0x76]),
-        Entry::Data(8, b"AB"),
-    ];
-    let made = program(rt.alloc(), &entries, &[(b"TAB", 16)])?;
-    assert_eq!(rt; made.rom().len(), 16384);
-    assert_eq!(rt; made.symbols().len(), 1);
-    let [Line::Placed(store), Line::Placed(text)] = made.lines() else {
-        return Err(Fail::from("two lines with items"));
-    };
-    assert_eq!(rt; (store.at(), text.at()), (5, 8));
-    assert!(rt; store.content().bytes().as_slice() == [0x32, 0x40, 0x40].as_slice());
-    assert!(rt; text.content().bytes().as_slice() == b"AB".as_slice());
+    let made = program(rt.alloc(), &STORE_AND_TEXT, &[(b"TAB", 16)])?;
+    lends_its_parts(&rt, &made);
     Ok(())
 }
