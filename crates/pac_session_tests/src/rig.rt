@@ -48,9 +48,8 @@ fn session(alloc: Global, bytes: &[u8], script: &[u8]) -> Result<Session, AllocE
     }
 }
 
-/// A session and the sink that keeps what it gives. Clauses see nothing of either, so that a test that owns one has a single
-/// value without parts for its proof to carry from step to step.
-#[derive(Drop)]
+/// A session and the sink that keeps what it gives. Clauses see nothing of either, and it is dropped by a function of its own: so a
+/// test that owns one has a single value without parts for its proof to carry from step to step, and one call at its end.
 pub struct Rig {
     session: Session,
     kept: Kept,
@@ -60,6 +59,16 @@ impl Model for Rig {
     ghost Value = { Unit {0} };
 
     ghost view = { λ _. tt };
+}
+
+impl Drop for Rig {
+    /// Drops both parts.
+    fn drop(self) {
+        let Rig {
+            session: _,
+            kept: _,
+        } = self;
+    }
 }
 
 impl Rig {
