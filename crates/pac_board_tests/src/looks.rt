@@ -114,9 +114,9 @@ impl Rig {
         has_two(self.board().picture(), first, second)
     }
 
-    /// Whether a number has this colour.
+    /// Whether a number, 0 to 15, has this colour.
     pub fn has_colour(&self, number: u8, colour: [u8; 3]) -> bool {
-        self.board().picture().colour(number) == colour
+        number < 16 && self.board().picture().colour(number) == colour
     }
 
     /// The cells that it drew when it last composed a line.

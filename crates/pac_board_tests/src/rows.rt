@@ -180,17 +180,22 @@ const REPEATS: [u8; 18] = [
     0x00, 0x01,
 ];
 
+/// Whether eight steps lead through the program up to the first repeat, which leaves 1 in BC.
+fn repeats_once(rig: &mut Rig) -> bool {
+    let mut is_stepped = true;
+    for _ in 0..8u8 {
+        is_stepped = rig.steps() && is_stepped;
+    }
+    is_stepped && rig.is_at(8, 62 + 21, 0x0100) && matches!(rig.registers(), [_, 0, 1, _])
+}
+
 // LD SP,4FF0H / IM 1 / LD BC,2 / LD HL,0 / LD DE,4C00H / EI / JP 0100H, and LDIR there: after its first repeat a request is
 // accepted, and where none stands the second one follows.
 #[test]
 fn a_request_between_two_repeats(rt: HostRuntime) -> Result<(), Fail> {
     let pieces: [(usize, &[u8]); 2] = [(0, &REPEATS), (0x100, &[0xED, 0xB0])];
     let mut rig = Rig::of(rt.alloc(), &pieces, SWITCHES)?;
-    for _ in 0..8u8 {
-        assert!(rt; rig.steps());
-    }
-    assert!(rt; rig.is_at(8, 62 + 21, 0x0100));
-    assert!(rt; matches!(rig.registers(), [_, 0, 1, _]));
+    assert!(rt; repeats_once(&mut rig));
     let mut requested = rig.requested(rt.alloc(), &pieces)?;
     assert!(rt; requested.accepts(13));
     assert!(rt; requested.is_at(9, 62 + 21 + 13, 0x0038));
