@@ -6,9 +6,13 @@ mod keeping;
 #[cfg(test)]
 mod limits;
 #[cfg(test)]
+mod looks;
+#[cfg(test)]
 mod memory;
 #[cfg(test)]
 mod pictures;
+#[cfg(test)]
+mod rig;
 #[cfg(test)]
 mod rows;
 #[cfg(test)]

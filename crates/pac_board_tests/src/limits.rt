@@ -1,8 +1,7 @@
 //! How long a board can run.
 
-use crate::set::{board, place, run};
+use crate::rig::Rig;
 use pac_board::Fault;
-use pac_board::kept::Kept;
 use pac_cpu::{Cause, Stop};
 use std::test::Fail;
 
@@ -14,14 +13,13 @@ fn microseconds_end(rt: HostRuntime) -> Result<(), Fail> {
         bytes: [0xCB, 0x30, 0, 0],
         cause: Cause::Opcode,
     };
-    let mut kept = Kept::new(rt.alloc(), 0);
-    let mut board = board(rt.alloc(), &[0xCB, 0x30])?;
+    let mut rig = Rig::new(rt.alloc(), &[0xCB, 0x30])?;
     for _ in 0..262_144u32 {
-        assert!(rt; run(&mut board, 4_294_967_295, &mut kept).is_ok());
+        assert!(rt; rig.ticks(4_294_967_295).is_some());
     }
-    assert_eq!(rt; run(&mut board, 262_144, &mut kept), Ok((0, Some(stop))));
-    assert_eq!(rt; run(&mut board, 1, &mut kept), Err(Fault::TooFar));
-    assert_eq!(rt; run(&mut board, 0, &mut kept), Ok((0, Some(stop))));
-    assert_eq!(rt; place(&board), (0, 0, 0));
+    assert!(rt; rig.runs(262_144, 0, Some(stop)));
+    assert!(rt; rig.fails(1, Fault::TooFar));
+    assert!(rt; rig.runs(0, 0, Some(stop)));
+    assert!(rt; rig.is_at(0, 0, 0));
     Ok(())
 }

@@ -1,9 +1,11 @@
 //! Boards and their states in scarce memory.
 
-use crate::set::{FRAME, SWITCHES, board, place, run, set};
+use crate::rig::Rig;
+use crate::set::{FRAME, SWITCHES, set};
 use pac_board::Board;
-use pac_board::kept::Kept;
+use pac_roms::RomSet;
 use pac_scarce::Hoard;
+use std::alloc::Global;
 use std::process::Abort;
 use std::test::Fail;
 
@@ -17,22 +19,33 @@ fn release(rt: &impl Abort, hoard: &mut Hoard) {
     }
 }
 
+/// Makes a board of a set, which stands at power-on then; where there isn't the memory for one, the set that comes back.
+fn set_left(rt: &impl Abort, alloc: Global, set: RomSet) -> Option<RomSet> {
+    match Board::init(alloc, set, SWITCHES) {
+        Ok(board) => {
+            assert!(rt; board.steps() == 0 && board.time() == 0);
+            assert!(rt; board.regs().pc == 0 && board.peek(0) == 0x76);
+            None
+        }
+        Err(back) => {
+            assert!(rt; back.set.program().first() == Some(&0x76));
+            Some(back.set)
+        }
+    }
+}
+
 // With no memory, and then with a little more each time, the set comes back, or there is a board at power-on.
 #[test]
 fn boards_in_scarce_memory(rt: HostRuntime) -> Result<(), Fail> {
-    let mut set = set(rt.alloc(), &[(0, &[0x76])])?;
+    let mut left = Some(set(rt.alloc(), &[(0, &[0x76])])?);
     let mut hoard = Hoard::take(rt.alloc(), 2000)?;
     let mut refused = 0;
     for turn in 0..TURNS {
+        let Some(set) = left.take() else {
+            break;
+        };
         refused = turn;
-        match Board::init(rt.alloc(), set, SWITCHES) {
-            Ok(board) => {
-                assert_eq!(rt; (place(&board), board.peek(0)), ((0, 0, 0), 0x76));
-                break;
-            }
-            Err(back) => set = back.set,
-        }
-        assert!(rt; set.program().first() == Some(&0x76));
+        left = set_left(&rt, rt.alloc(), set);
         release(&rt, &mut hoard);
     }
     drop(hoard);
@@ -40,20 +53,27 @@ fn boards_in_scarce_memory(rt: HostRuntime) -> Result<(), Fail> {
     Ok(())
 }
 
+/// Whether there is the memory for a state of a board, which is put back after a reset then.
+fn is_put_back(alloc: Global, rig: &mut Rig) -> bool {
+    let Ok(snapshot) = rig.snapshot(alloc) else {
+        return false;
+    };
+    rig.reset();
+    rig.restore(&snapshot);
+    true
+}
+
 #[test]
 fn snapshots_in_scarce_memory(rt: HostRuntime) -> Result<(), Fail> {
-    let mut kept = Kept::new(rt.alloc(), 0);
-    let mut board = board(rt.alloc(), &[])?;
-    assert!(rt; run(&mut board, FRAME, &mut kept).is_ok());
-    let here = place(&board);
+    let mut rig = Rig::new(rt.alloc(), &[])?;
+    assert!(rt; rig.ticks(FRAME).is_some());
+    let (steps, time, pc) = (rig.made(), rig.time(), rig.pc());
     let mut hoard = Hoard::take(rt.alloc(), 2000)?;
     let mut refused = 0;
     for turn in 0..TURNS {
         refused = turn;
-        if let Ok(snapshot) = board.snapshot(rt.alloc()) {
-            board.reset();
-            board.restore(&snapshot);
-            assert_eq!(rt; place(&board), here);
+        if is_put_back(rt.alloc(), &mut rig) {
+            assert!(rt; rig.is_at(steps, time, pc));
             break;
         }
         release(&rt, &mut hoard);

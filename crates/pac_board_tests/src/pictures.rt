@@ -1,7 +1,7 @@
 //! Pictures as the board gives them, worked out by hand from the schematics and this profile.
 
-use crate::set::{FRAME, board, board_of, gave_rectangle, is_rectangle, place, run};
-use pac_board::kept::Kept;
+use crate::rig::Rig;
+use crate::set::FRAME;
 use pac_inputs::Inputs;
 use std::test::Fail;
 
@@ -20,12 +20,11 @@ fn cells_have_their_offsets(rt: HostRuntime) -> Result<(), Fail> {
         (0x02, 0x40, 34, 0),
         (0x3D, 0x40, 35, 27),
     ] {
-        let mut kept = Kept::new(rt.alloc(), 0);
-        let mut board = board(rt.alloc(), &[0x3E, 1, 0x32, low, high, 0x76])?;
-        assert!(rt; run(&mut board, FRAME, &mut kept).is_ok());
+        let mut rig = Rig::new(rt.alloc(), &[0x3E, 1, 0x32, low, high, 0x76])?;
+        assert!(rt; rig.ticks(FRAME).is_some());
         let columns = 8 * column..8 * column + 8;
         assert!(rt;
-            is_rectangle(board.picture(), columns, 8 * row..8 * row + 8, 1),
+            rig.shows(columns, 8 * row..8 * row + 8, 1),
             "{column}, {row}"
         );
     }
@@ -34,7 +33,7 @@ fn cells_have_their_offsets(rt: HostRuntime) -> Result<(), Fail> {
 
 #[test]
 fn colours_of_the_prom(rt: HostRuntime) -> Result<(), Fail> {
-    let board = board(rt.alloc(), &[])?;
+    let rig = Rig::new(rt.alloc(), &[])?;
     for (number, colour) in [
         (0, [0, 0, 0]),
         (1, [255, 0, 0]),
@@ -42,19 +41,18 @@ fn colours_of_the_prom(rt: HostRuntime) -> Result<(), Fail> {
         (5, [33, 0, 0]),
         (6, [0, 0, 174]),
     ] {
-        assert!(rt; board.picture().colour(number) == colour, "number {number}");
+        assert!(rt; rig.has_colour(number, colour), "number {number}");
     }
-    assert!(rt; is_rectangle(board.picture(), 0..0, 0..0, 0));
+    assert!(rt; rig.shows(0..0, 0..0, 0));
     Ok(())
 }
 
 // LD A,42H / LD (4040H),A / HALT, seen by the sink.
 #[test]
 fn a_tile_shows_in_its_cell(rt: HostRuntime) -> Result<(), Fail> {
-    let mut kept = Kept::new(rt.alloc(), 0);
-    let mut board = board(rt.alloc(), &[0x3E, 0x42, 0x32, 0x40, 0x40, 0x76])?;
-    assert!(rt; run(&mut board, FRAME, &mut kept).is_ok());
-    assert!(rt; gave_rectangle(&kept, 1584, 16..24, 0..8, GREEN));
+    let mut rig = Rig::new(rt.alloc(), &[0x3E, 0x42, 0x32, 0x40, 0x40, 0x76])?;
+    assert!(rt; rig.ticks(FRAME).is_some());
+    assert!(rt; rig.gave(1584, 16..24, 0..8, GREEN));
     Ok(())
 }
 
@@ -68,13 +66,9 @@ fn sprites_by_their_looked_up_numbers(rt: HostRuntime) -> Result<(), Fail> {
             0x21, 0x20, 0x00, 0x11, 0xF0, 0x4F, 0x01, 0x06, 0x00, 0xED, 0xB0, 0x11, 0x60, 0x50,
             0x01, 0x06, 0x00, 0xED, 0xB0, 0x3E, flip, 0x32, 0x03, 0x50, 0x76,
         ];
-        let mut kept = Kept::new(rt.alloc(), 0);
-        let mut board = board_of(rt.alloc(), &[(0, &bytes), (0x20, &sprites)], 0)?;
-        assert!(rt; run(&mut board, FRAME, &mut kept).is_ok());
-        assert!(rt;
-            gave_rectangle(&kept, 1584, columns, lines, WHITE),
-            "flip {flip}"
-        );
+        let mut rig = Rig::of(rt.alloc(), &[(0, &bytes), (0x20, &sprites)], 0)?;
+        assert!(rt; rig.ticks(FRAME).is_some());
+        assert!(rt; rig.gave(1584, columns, lines, WHITE), "flip {flip}");
     }
     Ok(())
 }
@@ -86,24 +80,13 @@ fn inputs_and_switches_show(rt: HostRuntime) -> Result<(), Fail> {
         0x3A, 0x00, 0x50, 0x32, 0x40, 0x40, 0x3A, 0x80, 0x50, 0x32, 0x41, 0x40, 0x76,
     ];
     for (switches, held, first, second) in [(0xC9, false, 3, 1), (0, true, 2, 0)] {
-        let mut kept = Kept::new(rt.alloc(), 0);
-        let mut board = board_of(rt.alloc(), &[(0, &bytes)], switches)?;
+        let mut rig = Rig::of(rt.alloc(), &[(0, &bytes)], switches)?;
         if held {
-            board.input_set(Inputs::P1_UP);
+            rig.hold(Inputs::P1_UP);
         }
-        assert!(rt; run(&mut board, FRAME, &mut kept).is_ok());
-        assert_eq!(rt; (board.steps(), board.time()), (12_663, 50_688));
-        for (x, number) in [
-            (15, 0),
-            (16, first),
-            (23, first),
-            (24, second),
-            (31, second),
-            (32, 0),
-        ] {
-            assert_eq!(rt; board.picture().row(7)[x], number, "column {x}");
-            assert_eq!(rt; board.picture().row(8)[x], 0, "column {x}");
-        }
+        assert!(rt; rig.runs(FRAME, 50_688, None));
+        assert!(rt; rig.counts(12_663, 50_688));
+        assert!(rt; rig.shows_two(first, second), "{switches}");
     }
     Ok(())
 }
@@ -111,17 +94,13 @@ fn inputs_and_switches_show(rt: HostRuntime) -> Result<(), Fail> {
 // DEFS 2000 / LD A,42H / LD (4040H),A / HALT: the write ends at 8,020, between line 0 at 7,872 and line 1 at 8,064.
 #[test]
 fn a_line_is_composed_as_it_ends(rt: HostRuntime) -> Result<(), Fail> {
-    let mut kept = Kept::new(rt.alloc(), 0);
-    let mut board = board_of(
-        rt.alloc(),
-        &[(2000, &[0x3E, 0x42, 0x32, 0x40, 0x40, 0x76])],
-        0,
-    )?;
-    assert_eq!(rt; run(&mut board, FRAME, &mut kept), Ok((50_688, None)));
-    assert!(rt; gave_rectangle(&kept, 1584, 16..24, 1..8, GREEN));
-    assert_eq!(rt; run(&mut board, FRAME, &mut kept), Ok((50_688, None)));
-    assert!(rt; gave_rectangle(&kept, 3169, 16..24, 0..8, GREEN));
-    assert_eq!(rt; (board.steps(), board.time()), (25_341, 101_376));
+    let pieces: [(usize, &[u8]); 1] = [(2000, &[0x3E, 0x42, 0x32, 0x40, 0x40, 0x76])];
+    let mut rig = Rig::of(rt.alloc(), &pieces, 0)?;
+    assert!(rt; rig.runs(FRAME, 50_688, None));
+    assert!(rt; rig.gave(1584, 16..24, 1..8, GREEN));
+    assert!(rt; rig.runs(FRAME, 50_688, None));
+    assert!(rt; rig.gave(3169, 16..24, 0..8, GREEN));
+    assert!(rt; rig.counts(25_341, 101_376));
     Ok(())
 }
 
@@ -129,17 +108,12 @@ fn a_line_is_composed_as_it_ends(rt: HostRuntime) -> Result<(), Fail> {
 // drew the cells of its row.
 #[test]
 fn the_picture_as_it_stands(rt: HostRuntime) -> Result<(), Fail> {
-    let mut kept = Kept::new(rt.alloc(), 0);
-    let mut board = board(rt.alloc(), &[0x3E, 0x42, 0x32, 0x40, 0x40, 0x76])?;
-    assert!(rt; run(&mut board, 2_500, &mut kept).is_ok());
-    assert_eq!(rt; (board.time(), board.picture().drawn()), (7_680, 0));
-    assert!(rt; is_rectangle(board.picture(), 0..0, 0..0, 0));
-    assert!(rt; run(&mut board, 62, &mut kept).is_ok());
-    assert_eq!(rt; (board.time(), board.picture().drawn()), (7_872, 36));
-    assert!(rt; is_rectangle(board.picture(), 16..24, 0..1, 2));
-    assert!(rt; run(&mut board, 63, &mut kept).is_ok());
-    assert_eq!(rt; (board.time(), board.picture().drawn()), (8_064, 0));
-    assert!(rt; is_rectangle(board.picture(), 16..24, 0..2, 2));
-    assert_eq!(rt; place(&board).2, 0x0006);
+    let mut rig = Rig::new(rt.alloc(), &[0x3E, 0x42, 0x32, 0x40, 0x40, 0x76])?;
+    for (us, time, drawn, lines) in [(2_500, 7_680, 0, 0), (62, 7_872, 36, 1), (63, 8_064, 0, 2)] {
+        assert!(rt; rig.ticks(us).is_some(), "{time}");
+        assert!(rt; rig.time() == time && rig.drawn() == drawn, "{time}");
+        assert!(rt; rig.shows(16..24, 0..lines, 2), "{time}");
+    }
+    assert!(rt; rig.pc() == 0x0006);
     Ok(())
 }

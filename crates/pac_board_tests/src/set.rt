@@ -1,12 +1,7 @@
-//! The ROM set of the rows, and boards whose program is given as bytes.
+//! The ROM set of the rows, whose program is given as bytes.
 
-use pac_board::kept::{Kept, Taken};
-use pac_board::{Board, Fault, Fields, Sink};
-use pac_cpu::Stop;
-use pac_picture::Picture;
 use pac_roms::{Raw, RomSet};
 use std::alloc::{AllocError, Global};
-use std::ops::Range;
 
 /// The byte of the DIP switches as they are set at the factory.
 pub const SWITCHES: u8 = 0xC9;
@@ -92,95 +87,4 @@ pub fn set(alloc: Global, pieces: &[(usize, &[u8])]) -> Result<RomSet, AllocErro
         wave: &wave(),
     };
     RomSet::of(alloc, &program(pieces), &raw)
-}
-
-/// A board at power-on whose program has these bytes at these addresses.
-pub fn board_of(
-    alloc: Global,
-    pieces: &[(usize, &[u8])],
-    switches: u8,
-) -> Result<Board, AllocError> {
-    match Board::init(alloc, set(alloc, pieces)?, switches) {
-        Ok(board) => Ok(board),
-        Err(_) => Err(AllocError),
-    }
-}
-
-/// A board at power-on whose program begins with these bytes.
-pub fn board(alloc: Global, bytes: &[u8]) -> Result<Board, AllocError> {
-    board_of(alloc, &[(0, bytes)], SWITCHES)
-}
-
-/// A board of these fields, whose program has these bytes at these addresses.
-pub fn board_with(
-    alloc: Global,
-    pieces: &[(usize, &[u8])],
-    fields: &Fields,
-) -> Result<Board, AllocError> {
-    if !fields.are_in_range() {
-        return Err(AllocError);
-    }
-    match Board::of(alloc, set(alloc, pieces)?, fields) {
-        Ok(board) => Ok(board),
-        Err(_) => Err(AllocError),
-    }
-}
-
-/// Lets so many microseconds go by: the T-states that went by, and the stop.
-pub fn run<S: Sink>(
-    board: &mut Board,
-    us: u32,
-    sink: &mut S,
-) -> Result<(u64, Option<Stop>), Fault> {
-    let ran = board.exec(us, sink)?;
-    Ok((ran.ticks, ran.stop))
-}
-
-/// Steps, time and PC.
-pub fn place(board: &Board) -> (u64, u64, u16) {
-    (board.steps(), board.time(), board.regs().pc)
-}
-
-/// Whether a picture has one number in a rectangle, and 0 everywhere else.
-pub fn is_rectangle(picture: &Picture, columns: Range<u16>, lines: Range<u8>, number: u8) -> bool {
-    let mut is_right = true;
-    for y in 0..224u8 {
-        let row = picture.row(y);
-        for x in 0..288u16 {
-            let inside = lines.start <= y && y < lines.end && columns.start <= x && x < columns.end;
-            let wanted = if inside { number } else { 0 };
-            is_right = is_right && row[x as usize] == wanted;
-        }
-    }
-    is_right
-}
-
-/// The same of the output of this index: a picture with one colour in a rectangle, and black everywhere else.
-pub fn gave_rectangle(
-    kept: &Kept,
-    index: usize,
-    columns: Range<u16>,
-    lines: Range<u8>,
-    colour: [u8; 3],
-) -> bool {
-    let Some(Taken::Picture(shown)) = kept.taken().get(index) else {
-        return false;
-    };
-    let mut is_right = true;
-    for y in 0..224u8 {
-        for x in 0..288u16 {
-            let inside = lines.start <= y && y < lines.end && columns.start <= x && x < columns.end;
-            let wanted = if inside { colour } else { [0, 0, 0] };
-            is_right = is_right && shown.colour(x, y) == wanted;
-        }
-    }
-    is_right
-}
-
-/// Whether the output of this index is this sample.
-pub fn gave_sample(kept: &Kept, index: usize, sample: i16) -> bool {
-    match kept.taken().get(index) {
-        Some(Taken::Sample(other)) => *other == sample,
-        _ => false,
-    }
 }

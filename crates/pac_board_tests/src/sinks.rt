@@ -1,21 +1,19 @@
 //! Sinks that refuse.
 
-use crate::set::{FRAME, board, gave_rectangle, is_rectangle, place, run};
-use pac_board::kept::{Kept, Taken};
-use pac_board::{Board, Fault};
+use crate::rig::Rig;
+use crate::set::FRAME;
+use pac_board::Fault;
 use std::test::Fail;
 
 // No program: the first sample is refused.
 #[test]
 fn a_refused_sample_is_offered_again(rt: HostRuntime) -> Result<(), Fail> {
-    let mut kept = Kept::new(rt.alloc(), 1);
-    let mut board = board(rt.alloc(), &[])?;
-    assert_eq!(rt; run(&mut board, FRAME, &mut kept), Err(Fault::Refused));
-    assert_eq!(rt; place(&board), (8, 32, 0x0008));
-    assert_eq!(rt; kept.taken().len(), 0);
-    assert_eq!(rt; run(&mut board, 0, &mut kept), Ok((50_656, None)));
-    assert_eq!(rt; place(&board), (12_672, 50_688, 0x3180));
-    assert_eq!(rt; kept.taken().len(), 1585);
+    let mut rig = Rig::new(rt.alloc(), &[])?;
+    rig.refuse(rt.alloc(), 1);
+    assert!(rt; rig.fails(FRAME, Fault::Refused));
+    assert!(rt; rig.is_at(8, 32, 0x0008) && rig.outputs() == 0);
+    assert!(rt; rig.runs(0, 50_656, None));
+    assert!(rt; rig.is_at(12_672, 50_688, 0x3180) && rig.outputs() == 1585);
     Ok(())
 }
 
@@ -23,58 +21,39 @@ fn a_refused_sample_is_offered_again(rt: HostRuntime) -> Result<(), Fail> {
 // flipped one.
 #[test]
 fn a_refused_picture_is_offered_again(rt: HostRuntime) -> Result<(), Fail> {
-    let mut kept = Kept::new(rt.alloc(), 16 * 1585);
-    let mut board = board(
-        rt.alloc(),
-        &[0x3E, 1, 0x32, 0x03, 0x50, 0x32, 0x40, 0x40, 0x76],
-    )?;
-    assert_eq!(rt; run(&mut board, 16 * FRAME, &mut kept), Err(Fault::Refused));
-    assert_eq!(rt; place(&board), (202_747, 811_009, 0));
-    assert_eq!(rt; board.fields().memory.latch, 0);
-    assert_eq!(rt; kept.taken().len(), 16 * 1585 - 1);
-    assert!(rt; is_rectangle(board.picture(), 264..272, 216..224, 1));
-    assert_eq!(rt; run(&mut board, 0, &mut kept), Ok((0, None)));
-    assert_eq!(rt; kept.taken().len(), 16 * 1585);
-    assert!(rt; gave_rectangle(&kept, 16 * 1585 - 1, 264..272, 216..224, [255, 0, 0]));
+    let bytes = [0x3E, 1, 0x32, 0x03, 0x50, 0x32, 0x40, 0x40, 0x76];
+    let mut rig = Rig::new(rt.alloc(), &bytes)?;
+    rig.refuse(rt.alloc(), 16 * 1585);
+    assert!(rt; rig.fails(16 * FRAME, Fault::Refused));
+    assert!(rt; rig.is_at(202_747, 811_009, 0) && rig.latch() == 0);
+    assert!(rt; rig.outputs() == 16 * 1585 - 1);
+    assert!(rt; rig.shows(264..272, 216..224, 1));
+    assert!(rt; rig.runs(0, 0, None));
+    assert!(rt; rig.outputs() == 16 * 1585);
+    assert!(rt; rig.gave(16 * 1585 - 1, 264..272, 216..224, [255, 0, 0]));
     Ok(())
-}
-
-/// Whether two sinks took the same samples and pictures; of the pictures one column is compared.
-fn is_same(kept: &Kept, other: &Kept) -> bool {
-    let mut is_same = kept.taken().len() == other.taken().len();
-    for (one, another) in kept.taken().iter().zip(other.taken().iter()) {
-        is_same = is_same
-            && match (one, another) {
-                (Taken::Sample(one), Taken::Sample(another)) => one == another,
-                (Taken::Picture(one), Taken::Picture(another)) => (0..224u8).all(|y| y >= 224
-                    || one.colour(16, y) == another.colour(16, y)),
-                _ => false,
-            };
-    }
-    is_same
 }
 
 // A tile and three voices; offers of a frame are refused, one each turn, up to its picture, the 1,585th, and past it.
 #[test]
 fn offers_refused_in_turn(rt: HostRuntime) -> Result<(), Fail> {
-    let mut board = board(
-        rt.alloc(),
-        &[
-            0x3E, 0x42, 0x32, 0x40, 0x40, 0x32, 0x01, 0x50, 0x32, 0x55, 0x50, 0x76,
-        ],
-    )?;
-    let start = board.snapshot(rt.alloc())?;
-    let mut whole = Kept::new(rt.alloc(), 0);
-    assert!(rt; run(&mut board, FRAME, &mut whole).is_ok());
-    let end = place(&board);
+    let bytes = [
+        0x3E, 0x42, 0x32, 0x40, 0x40, 0x32, 0x01, 0x50, 0x32, 0x55, 0x50, 0x76,
+    ];
+    let mut whole = Rig::new(rt.alloc(), &bytes)?;
+    let start = whole.snapshot(rt.alloc())?;
+    assert!(rt; whole.ticks(FRAME).is_some());
+    let mut rig = Rig::new(rt.alloc(), &bytes)?;
     for refusal in [1u64, 2, 3, 40, 792, 1583, 1584, 1585, 1586, 1600] {
-        board.restore(&start);
-        let mut kept = Kept::new(rt.alloc(), refusal);
-        let answer = run(&mut board, FRAME, &mut kept);
-        assert_eq!(rt; answer.is_ok(), refusal > 1585, "offer {refusal}");
-        assert!(rt; run(&mut board, 0, &mut kept).is_ok(), "offer {refusal}");
+        rig.restore(&start);
+        rig.refuse(rt.alloc(), refusal);
         assert!(rt;
-            place(&board) == end && is_same(&kept, &whole),
+            rig.ticks(FRAME).is_some() == (refusal > 1585),
+            "offer {refusal}"
+        );
+        assert!(rt; rig.ticks(0).is_some(), "offer {refusal}");
+        assert!(rt;
+            rig.is_where(&whole) && rig.gave_the_same(&whole),
             "offer {refusal}"
         );
     }

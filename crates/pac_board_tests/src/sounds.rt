@@ -1,7 +1,7 @@
 //! Samples as the board gives them, worked out by hand from the schematics and this profile.
 
-use crate::set::{FRAME, board, gave_sample, place, run};
-use pac_board::kept::Kept;
+use crate::rig::Rig;
+use crate::set::FRAME;
 use std::test::Fail;
 
 // LD A,1 / LD (5001H),A / LD A,15 / LD (5055H),A / LD (505AH),A / LD (505FH),A / HALT: the first sample sees one voice.
@@ -11,14 +11,13 @@ fn voices_come_one_by_one(rt: HostRuntime) -> Result<(), Fail> {
         0x3E, 1, 0x32, 0x01, 0x50, 0x3E, 15, 0x32, 0x55, 0x50, 0x32, 0x5A, 0x50, 0x32, 0x5F, 0x50,
         0x76,
     ];
-    let mut kept = Kept::new(rt.alloc(), 0);
-    let mut board = board(rt.alloc(), &bytes)?;
-    assert_eq!(rt; run(&mut board, FRAME, &mut kept), Ok((50_690, None)));
-    assert_eq!(rt; place(&board), (12_662, 50_690, 0x0011));
-    assert_eq!(rt; kept.taken().len(), 1585);
-    assert!(rt; gave_sample(&kept, 0, 6_720));
+    let mut rig = Rig::new(rt.alloc(), &bytes)?;
+    assert!(rt; rig.runs(FRAME, 50_690, None));
+    assert!(rt; rig.is_at(12_662, 50_690, 0x0011));
+    assert!(rt; rig.outputs() == 1585);
+    assert!(rt; rig.gave_sample(0, 6_720));
     for index in 1..1584usize {
-        assert!(rt; gave_sample(&kept, index, 20_160), "sample {index} and one");
+        assert!(rt; rig.gave_sample(index, 20_160), "sample {index} and one");
     }
     Ok(())
 }
@@ -31,9 +30,8 @@ fn a_voice_walks_through_its_waveform(rt: HostRuntime) -> Result<(), Fail> {
         0x3E, 2, 0x32, 0x45, 0x50, 0x3E, 8, 0x32, 0x53, 0x50, 0x3E, 1, 0x32, 0x55, 0x50, 0x32,
         0x01, 0x50, 0x76,
     ];
-    let mut kept = Kept::new(rt.alloc(), 0);
-    let mut board = board(rt.alloc(), &bytes)?;
-    assert!(rt; run(&mut board, FRAME, &mut kept).is_ok());
+    let mut rig = Rig::new(rt.alloc(), &bytes)?;
+    assert!(rt; rig.ticks(FRAME).is_some());
     for (index, sample) in [
         (0, 0),
         (1, -512),
@@ -44,7 +42,7 @@ fn a_voice_walks_through_its_waveform(rt: HostRuntime) -> Result<(), Fail> {
         (32, 448),
         (33, -512),
     ] {
-        assert!(rt; gave_sample(&kept, index, sample), "sample {index} and one");
+        assert!(rt; rig.gave_sample(index, sample), "sample {index} and one");
     }
     Ok(())
 }

@@ -4,6 +4,6 @@
 #[cfg(test)]
 mod memory;
 #[cfg(test)]
-mod rows;
+mod rig;
 #[cfg(test)]
-mod set;
+mod rows;

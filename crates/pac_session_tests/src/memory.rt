@@ -1,6 +1,6 @@
 //! Sessions in scarce memory.
 
-use crate::set::{CELL, place, session};
+use crate::rig::{CELL, Rig};
 use pac_scarce::Hoard;
 use std::process::Abort;
 use std::test::Fail;
@@ -19,8 +19,8 @@ fn a_session_in_scarce_memory(rt: HostRuntime) -> Result<(), Fail> {
     let mut refused = 0;
     for turn in 0..99u32 {
         refused = turn;
-        if let Ok(session) = session(rt.alloc(), &CELL, b"1 -") {
-            assert_eq!(rt; place(&session), (0, 0, 0));
+        if let Ok(rig) = Rig::new(rt.alloc(), &CELL, b"1 -") {
+            assert!(rt; rig.is_at(0, 0, 0));
             break;
         }
         release(&rt, &mut hoard);

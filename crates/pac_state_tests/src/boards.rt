@@ -1,30 +1,14 @@
 //! Boards that are saved, and boards of files.
 
-use crate::files::{file, loaded, made, saved};
-use crate::sets::{CELL, board};
-use pac_board::kept::{Kept, Taken};
-use pac_board::{Board, Fault, Sink};
+use crate::files::file;
+use crate::rig::Rig;
+use crate::sets::CELL;
+use pac_board::kept::Taken;
+use pac_board::{Board, Fault, Fields};
 use pac_exec::Regs;
-use pac_out::memory::Memory;
 use pac_table::InterruptMode;
 use std::alloc::{AllocError, Global};
 use std::test::Fail;
-
-/// What is saved of a board after so many microseconds, in which the sink refused an offer or, of number 0, none.
-fn saved_after(alloc: Global, program: &[u8], us: u32, refusal: u64) -> Result<Memory, AllocError> {
-    let mut kept = Kept::new(alloc, refusal);
-    let mut board = board(alloc, program)?;
-    if board.exec(us, &mut kept).is_err() != (refusal != 0) {
-        return Err(AllocError);
-    }
-    saved(alloc, &board)
-}
-
-/// What is saved of the board of a file.
-fn saved_again(alloc: Global, program: &[u8], file: &[u8]) -> Result<Memory, AllocError> {
-    let board = loaded(alloc, file, program)?;
-    saved(alloc, &board)
-}
 
 /// The file of a version, made by hand, of LD A,42H / LD (4040H),A / HALT after 2,625 microseconds, with this number in the
 /// first eight columns of the shown part in lines 0 and 1.
@@ -50,8 +34,9 @@ fn cell_file(alloc: Global, version: u8, number: u8) -> Result<Vec<u8>, AllocErr
 #[test]
 fn a_board_is_saved(rt: HostRuntime) -> Result<(), Fail> {
     let wanted = cell_file(rt.alloc(), 2, 2)?;
-    let file = saved_after(rt.alloc(), &CELL, 2_625, 0)?;
-    assert!(rt; file.bytes() == wanted.as_slice());
+    let mut rig = Rig::new(rt.alloc(), &CELL, 0)?;
+    assert!(rt; rig.runs(2_625));
+    assert!(rt; rig.is_saved_as(rt.alloc(), &wanted));
     Ok(())
 }
 
@@ -59,13 +44,13 @@ fn a_board_is_saved(rt: HostRuntime) -> Result<(), Fail> {
 #[test]
 fn a_file_of_version_1(rt: HostRuntime) -> Result<(), Fail> {
     let old = cell_file(rt.alloc(), 1, 0)?;
-    let file = saved_again(rt.alloc(), &CELL, &old)?;
     let wanted = cell_file(rt.alloc(), 2, 2)?;
-    assert!(rt; file.bytes() == wanted.as_slice());
+    let rig = Rig::loaded(rt.alloc(), &old, &CELL)?;
+    assert!(rt; rig.is_saved_as(rt.alloc(), &wanted));
     Ok(())
 }
 
-/// The registers that a file has where its bytes are 1, 2, 3 and so on.
+/// Whether registers are those of a file whose bytes are 1, 2, 3 and so on.
 fn are_counted(regs: &Regs) -> bool {
     let other = regs.alternate;
     [
@@ -77,16 +62,25 @@ fn are_counted(regs: &Regs) -> bool {
         && [regs.i, regs.r] == [25, 26]
 }
 
+/// Whether only the second interrupt flip-flop is set, the last instruction was EI, and the mode is 2.
+fn is_after_ei(regs: &Regs) -> bool {
+    !regs.iff1 && regs.iff2 && !regs.halted && regs.after_ei && regs.mode == InterruptMode::Two
+}
+
+/// Both of a board's registers.
+fn has_registers(board: &Board) -> bool {
+    let regs = board.regs();
+    are_counted(&regs) && is_after_ei(&regs)
+}
+
 #[test]
 fn registers_of_a_file(rt: HostRuntime) -> Result<(), Fail> {
     let bytes: [u8; 28] = [
         1, 2, 3, 4, 5, 6, 7, 8, 9, 10, 11, 12, 13, 14, 15, 16, 17, 18, 19, 20, 21, 22, 23, 24, 25,
         26, 0b1010, 2,
     ];
-    let regs = made(rt.alloc(), &CELL, &[(30, &bytes)])?.regs();
-    assert!(rt; are_counted(&regs));
-    assert!(rt; !regs.iff1 && regs.iff2 && !regs.halted && regs.after_ei);
-    assert!(rt; regs.mode == InterruptMode::Two);
+    let rig = Rig::made(rt.alloc(), &CELL, &[(30, &bytes)])?;
+    assert!(rt; has_registers(rig.board()));
     Ok(())
 }
 
@@ -100,8 +94,8 @@ fn has(board: &Board, bytes: &[(u16, u8)]) -> bool {
 }
 
 /// A board whose RAMs have a byte at their beginnings and at the end of the last, with two inputs held.
-fn filled(alloc: Global) -> Result<Board, AllocError> {
-    made(
+fn filled(alloc: Global) -> Result<Rig, AllocError> {
+    Rig::made(
         alloc,
         &CELL,
         &[
@@ -116,37 +110,45 @@ fn filled(alloc: Global) -> Result<Board, AllocError> {
 
 #[test]
 fn memory_of_a_file(rt: HostRuntime) -> Result<(), Fail> {
-    let board = filled(rt.alloc())?;
+    let rig = filled(rt.alloc())?;
     assert!(rt;
         has(
-            &board,
+            rig.board(),
             &[
                 (0x4000, 0x11),
                 (0x4400, 0x22),
                 (0x4C00, 0x33),
-                (0x4FFF, 0x44)
+                (0x4FFF, 0x44),
+                (0x5000, 0xFE),
+                (0x5040, 0xDF),
+                (0x5080, 0x55)
             ]
         )
     );
-    assert!(rt; has(&board, &[(0x5000, 0xFE), (0x5040, 0xDF), (0x5080, 0x55)]));
     Ok(())
+}
+
+/// Whether fields have these latch bits, vector and count, and a request.
+fn are_latched(fields: &Fields, latch: u8, vector: u8, count: u8) -> bool {
+    let memory = &fields.memory;
+    memory.latch == latch && memory.vector == vector && memory.count == count && memory.requested
+}
+
+/// Whether a board has them.
+fn is_latched(board: &Board, latch: u8, vector: u8, count: u8) -> bool {
+    are_latched(&board.fields(), latch, vector, count)
 }
 
 #[test]
 fn latches_of_a_file(rt: HostRuntime) -> Result<(), Fail> {
-    let board = made(rt.alloc(), &CELL, &[(3214, &[0x81, 0x66, 1, 15])])?;
-    let memory = board.fields().memory;
-    assert_eq!(rt;
-        (memory.latch, memory.vector, memory.count),
-        (0x81, 0x66, 15)
-    );
-    assert!(rt; memory.requested);
+    let rig = Rig::made(rt.alloc(), &CELL, &[(3214, &[0x81, 0x66, 1, 15])])?;
+    assert!(rt; is_latched(rig.board(), 0x81, 0x66, 15));
     Ok(())
 }
 
 /// A board with coordinates, registers of the wave generator, accumulators, and a sample that is due.
-fn sounding(alloc: Global) -> Result<Board, AllocError> {
-    made(
+fn sounding(alloc: Global) -> Result<Rig, AllocError> {
+    Rig::made(
         alloc,
         &CELL,
         &[
@@ -159,70 +161,76 @@ fn sounding(alloc: Global) -> Result<Board, AllocError> {
     )
 }
 
-#[test]
-fn devices_of_a_file(rt: HostRuntime) -> Result<(), Fail> {
-    let board = sounding(rt.alloc())?;
-    let fields = board.fields();
-    assert!(rt; fields.memory.coordinates[..2] == [0x77, 0x88]);
-    assert!(rt; fields.memory.registers[5] == 7 && fields.memory.registers[31] == 9);
-    assert_eq!(rt; fields.accumulators, [0x03_0201, 0x06_0504, 0x09_0807]);
-    assert_eq!(rt; (fields.due.sample, fields.due.picture), (Some(-2), false));
-    Ok(())
+/// Whether the fields are those of that board.
+fn are_sounding(fields: &Fields) -> bool {
+    fields.memory.coordinates[..2] == [0x77, 0x88]
+        && fields.memory.registers[5] == 7
+        && fields.memory.registers[31] == 9
+        && fields.accumulators == [0x03_0201, 0x06_0504, 0x09_0807]
+        && fields.due.sample == Some(-2)
+        && !fields.due.picture
 }
 
-/// What a board of a file offers first, when no time goes by.
-fn offered(alloc: Global, program: &[u8], file: &[u8]) -> Result<Kept, AllocError> {
-    let mut kept = Kept::new(alloc, 0);
-    let mut board = loaded(alloc, file, program)?;
-    match board.exec(0, &mut kept) {
-        Ok(_) => Ok(kept),
-        Err(_) => Err(AllocError),
-    }
+/// Whether a board's fields are.
+fn is_sounding(board: &Board) -> bool {
+    are_sounding(&board.fields())
+}
+
+#[test]
+fn devices_of_a_file(rt: HostRuntime) -> Result<(), Fail> {
+    let rig = sounding(rt.alloc())?;
+    assert!(rt; is_sounding(rig.board()));
+    Ok(())
 }
 
 /// LD A,1 / LD (5003H),A / LD (4040H),A / HALT.
 const FLIP: [u8; 9] = [0x3E, 1, 0x32, 0x03, 0x50, 0x32, 0x40, 0x40, 0x76];
 
+/// Whether a file has no latch bit, and a picture alone that is due.
+fn has_picture_due(file: &[u8]) -> bool {
+    file.get(3214) == Some(&0x00) && file.get(3221) == Some(&0x02)
+}
+
+/// Whether all that was taken is a picture with number 1 in the flipped cell of 4040H.
+fn is_flipped(taken: &[Taken]) -> bool {
+    taken.len() == 1
+        && match taken.first() {
+            Some(Taken::Picture(shown)) => {
+                shown.number(264, 216) == 1
+                    && shown.number(263, 216) == 0
+                    && shown.number(271, 223) == 1
+            }
+            _ => false,
+        }
+}
+
 // Picture 16, which the sixteenth blank gives before the watchdog's reset, is refused; the board of what was saved then
 // offers it, flipped.
 #[test]
 fn what_is_due_is_kept(rt: HostRuntime) -> Result<(), Fail> {
-    let file = saved_after(rt.alloc(), &FLIP, 264_000, 16 * 1585)?;
-    assert_eq!(rt;
-        (file.bytes().get(3214), file.bytes().get(3221)),
-        (Some(&0x00), Some(&0x02))
-    );
-    let kept = offered(rt.alloc(), &FLIP, file.bytes())?;
-    assert_eq!(rt; kept.taken().len(), 1);
-    assert!(rt;
-        matches!(kept.taken().first(), Some(Taken::Picture(shown))
-        if shown.number(264, 216) == 1 && shown.number(263, 216) == 0 && shown.number(271, 223) == 1)
-    );
+    let mut rig = Rig::new(rt.alloc(), &FLIP, 16 * 1585)?;
+    assert!(rt; rig.fails(264_000, Fault::Refused));
+    let file = rig.saved(rt.alloc())?;
+    assert!(rt; has_picture_due(file.bytes()));
+    let mut other = Rig::loaded(rt.alloc(), file.bytes(), &FLIP)?;
+    assert!(rt; other.runs(0) && is_flipped(other.taken()));
     Ok(())
-}
-
-/// Whether a board does so many microseconds, up to a stop or not.
-fn does<S: Sink>(board: &mut Board, us: u32, sink: &mut S) -> Result<bool, Fault> {
-    let ran = board.exec(us, sink)?;
-    Ok(ran.stop.is_some())
 }
 
 // A board of which 2^50 microseconds were asked, and which stops.
 #[test]
 fn the_most_that_is_asked(rt: HostRuntime) -> Result<(), Fail> {
-    let mut kept = Kept::new(rt.alloc(), 0);
     let asked: [u8; 7] = [0, 0, 0, 0, 0, 0, 4];
-    let mut board = made(rt.alloc(), &[0xCB, 0x30], &[(8, &[1]), (74, &asked)])?;
-    assert_eq!(rt; does(&mut board, 1, &mut kept), Err(Fault::TooFar));
-    assert_eq!(rt; does(&mut board, 0, &mut kept), Ok(true));
+    let mut rig = Rig::made(rt.alloc(), &[0xCB, 0x30], &[(8, &[1]), (74, &asked)])?;
+    assert!(rt; rig.fails(1, Fault::TooFar));
+    assert!(rt; rig.stops(0));
     Ok(())
 }
 
 // A board at time 2^52, from which on no step is begun.
 #[test]
 fn the_latest_time(rt: HostRuntime) -> Result<(), Fail> {
-    let mut kept = Kept::new(rt.alloc(), 0);
-    let mut board = made(rt.alloc(), &[], &[(58, &[0, 0, 0, 0, 0, 0, 16])])?;
-    assert!(rt; matches!(board.step_once(&mut kept), Err(Fault::TooFar)));
+    let mut rig = Rig::made(rt.alloc(), &[], &[(58, &[0, 0, 0, 0, 0, 0, 16])])?;
+    assert!(rt; rig.is_too_late());
     Ok(())
 }

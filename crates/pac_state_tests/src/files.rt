@@ -1,15 +1,13 @@
-//! State files that are made by hand, from the table of the format, and what comes of them.
+//! State files that are made by hand, from the table of the format, and why some aren't loaded.
 
 use crate::sets::{CELL, set};
-use pac_board::Board;
-use pac_out::memory::Memory;
 use pac_roms::RomSet;
-use pac_state::{LoadFault, load, save};
+use pac_state::{LoadFault, load};
 use sha1::Sha1;
 use std::alloc::{AllocError, Global};
 
 /// The bytes of a file.
-const SIZE: usize = 67_756;
+pub const SIZE: usize = 67_756;
 
 /// Bytes that stand at a place.
 pub type Piece<'a> = (usize, &'a [u8]);
@@ -64,29 +62,6 @@ pub fn file(alloc: Global, program: &[u8], pieces: &[Piece]) -> Result<Vec<u8>, 
     file_of(alloc, &set, pieces)
 }
 
-/// The board of a file, whose program begins with these bytes.
-pub fn loaded(alloc: Global, file: &[u8], program: &[u8]) -> Result<Board, AllocError> {
-    match load(alloc, file, set(alloc, program)?) {
-        Ok(board) => Ok(board),
-        Err(_) => Err(AllocError),
-    }
-}
-
-/// The board of the file that has these pieces.
-pub fn made(alloc: Global, program: &[u8], pieces: &[Piece]) -> Result<Board, AllocError> {
-    let file = file(alloc, program, pieces)?;
-    loaded(alloc, &file, program)
-}
-
-/// What is saved of a board.
-pub fn saved(alloc: Global, board: &Board) -> Result<Memory, AllocError> {
-    let mut file = Memory::new(alloc, SIZE)?;
-    match save(board, &mut file) {
-        Ok(()) => Ok(file),
-        Err(_) => Err(AllocError),
-    }
-}
-
 /// Why as many of a file's first bytes aren't loaded.
 fn fault_of(alloc: Global, file: &[u8], count: usize) -> Result<LoadFault, AllocError> {
     let bytes = &file[..count.min(file.len())];
@@ -96,28 +71,21 @@ fn fault_of(alloc: Global, file: &[u8], count: usize) -> Result<LoadFault, Alloc
     }
 }
 
-/// Why the file that has this piece isn't loaded.
-pub fn why_not(alloc: Global, at: usize, bytes: &[u8]) -> Result<LoadFault, AllocError> {
-    let file = file(alloc, &CELL, &[(at, bytes)])?;
-    fault_of(alloc, &file, SIZE)
+/// Whether the file that has this piece, and is cut to so many bytes, isn't loaded for this reason.
+pub fn is_refused(alloc: Global, at: usize, bytes: &[u8], count: usize, wanted: LoadFault) -> bool {
+    match file(alloc, &CELL, &[(at, bytes)]) {
+        Ok(file) => fault_of(alloc, &file, count) == Ok(wanted),
+        Err(_) => false,
+    }
 }
 
-/// The same of one that is cut to so many bytes.
-pub fn why_not_cut(
-    alloc: Global,
-    at: usize,
-    bytes: &[u8],
-    count: usize,
-) -> Result<LoadFault, AllocError> {
-    let file = file(alloc, &CELL, &[(at, bytes)])?;
-    fault_of(alloc, &file, count)
-}
-
-/// The same of a whole one in which the lowest bit of a byte is another.
-pub fn why_not_flipped(alloc: Global, at: usize) -> Result<LoadFault, AllocError> {
-    let mut file = file(alloc, &CELL, &[])?;
+/// Whether a file isn't loaded in which the lowest bit of a byte is another, for it is damaged.
+pub fn is_damaged_at(alloc: Global, at: usize) -> bool {
+    let Ok(mut file) = file(alloc, &CELL, &[]) else {
+        return false;
+    };
     for byte in file.iter_mut().skip(at).take(1) {
         *byte ^= 1;
     }
-    fault_of(alloc, &file, SIZE)
+    fault_of(alloc, &file, SIZE) == Ok(LoadFault::Damaged)
 }

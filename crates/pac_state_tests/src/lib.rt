@@ -10,4 +10,6 @@ mod memory;
 #[cfg(test)]
 mod refusals;
 #[cfg(test)]
+mod rig;
+#[cfg(test)]
 mod sets;

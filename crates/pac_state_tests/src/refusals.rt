@@ -1,63 +1,57 @@
 //! Files that are refused.
 
-use crate::files::{file_of, why_not, why_not_cut, why_not_flipped};
+use crate::files::{SIZE, file_of, is_damaged_at, is_refused};
 use crate::sets::{CELL, set, set_with, tiles};
 use pac_roms::RomSet;
-use pac_state::{LoadFault, LoadRefused, load};
+use pac_state::{LoadFault, load};
 use std::alloc::{AllocError, Global};
 use std::test::Fail;
 
 // Some of the sizes below that of a file; a few cut the first bytes and the version.
 #[test]
-fn cut_files(rt: HostRuntime) -> Result<(), Fail> {
+fn cut_files(rt: HostRuntime) {
     for count in [0usize, 1, 7, 8, 9, 10, 30, 3224, 67_736, 67_755] {
-        let fault = why_not_cut(rt.alloc(), 0, b"P", count)?;
-        assert_eq!(rt; fault, LoadFault::Size, "{count} bytes");
+        let is_right = is_refused(rt.alloc(), 0, b"P", count, LoadFault::Size);
+        assert!(rt; is_right, "{count} bytes");
     }
-    Ok(())
 }
 
 // Another first byte, also of a file that is cut after it.
 #[test]
-fn other_files(rt: HostRuntime) -> Result<(), Fail> {
-    for (at, count) in [(0usize, 67_756usize), (7, 67_756), (0, 1), (7, 8)] {
-        let fault = why_not_cut(rt.alloc(), at, b"x", count)?;
-        assert_eq!(rt; fault, LoadFault::NoState, "byte {at} of {count}");
+fn other_files(rt: HostRuntime) {
+    for (at, count) in [(0usize, SIZE), (7, SIZE), (0, 1), (7, 8)] {
+        let is_right = is_refused(rt.alloc(), at, b"x", count, LoadFault::NoState);
+        assert!(rt; is_right, "byte {at} of {count}");
     }
-    Ok(())
 }
 
 // Versions 3, 0 and 258; half a version isn't judged.
 #[test]
-fn other_versions(rt: HostRuntime) -> Result<(), Fail> {
-    assert_eq!(rt; why_not(rt.alloc(), 8, &[3])?, LoadFault::OtherVersion);
-    assert_eq!(rt;
-        why_not_cut(rt.alloc(), 8, &[0], 10)?,
-        LoadFault::OtherVersion
-    );
-    assert_eq!(rt;
-        why_not_cut(rt.alloc(), 9, &[1], 10)?,
-        LoadFault::OtherVersion
-    );
-    assert_eq!(rt; why_not_cut(rt.alloc(), 8, &[3], 9)?, LoadFault::Size);
-    Ok(())
+fn other_versions(rt: HostRuntime) {
+    for (at, byte, count, fault) in [
+        (8usize, 3u8, SIZE, LoadFault::OtherVersion),
+        (8, 0, 10, LoadFault::OtherVersion),
+        (9, 1, 10, LoadFault::OtherVersion),
+        (8, 3, 9, LoadFault::Size),
+    ] {
+        let is_right = is_refused(rt.alloc(), at, &[byte], count, fault);
+        assert!(rt; is_right, "{byte} in {count}");
+    }
 }
 
 // One bit is another, from the digest of the set on.
 #[test]
-fn damaged_files(rt: HostRuntime) -> Result<(), Fail> {
+fn damaged_files(rt: HostRuntime) {
     for at in [
         10usize, 30, 58, 82, 3214, 3220, 3224, 67_735, 67_736, 67_755,
     ] {
-        let fault = why_not_flipped(rt.alloc(), at)?;
-        assert_eq!(rt; fault, LoadFault::Damaged, "byte {at}");
+        assert!(rt; is_damaged_at(rt.alloc(), at), "byte {at}");
     }
-    Ok(())
 }
 
 // A field that is out of its range, and bits that nothing has.
 #[test]
-fn fields_out_of_range(rt: HostRuntime) -> Result<(), Fail> {
+fn fields_out_of_range(rt: HostRuntime) {
     // flags, mode, steps, request, watchdog, what is due, and colour numbers
     for (at, byte) in [
         (56usize, 16u8),
@@ -73,43 +67,50 @@ fn fields_out_of_range(rt: HostRuntime) -> Result<(), Fail> {
         (3224, 16),
         (67_735, 16),
     ] {
-        let fault = why_not(rt.alloc(), at, &[byte])?;
-        assert_eq!(rt; fault, LoadFault::OutOfRange, "byte {at}");
+        let is_right = is_refused(rt.alloc(), at, &[byte], SIZE, LoadFault::OutOfRange);
+        assert!(rt; is_right, "byte {at}");
     }
-    Ok(())
 }
 
 // A time of 2^52 + 23, and 2^50 + 1 microseconds.
 #[test]
-fn times_out_of_range(rt: HostRuntime) -> Result<(), Fail> {
-    let late = why_not(rt.alloc(), 58, &[23, 0, 0, 0, 0, 0, 16])?;
-    let much = why_not(rt.alloc(), 74, &[1, 0, 0, 0, 0, 0, 4])?;
-    assert_eq!(rt;
-        (late, much),
-        (LoadFault::OutOfRange, LoadFault::OutOfRange)
-    );
-    Ok(())
+fn times_out_of_range(rt: HostRuntime) {
+    for (at, bytes) in [
+        (58usize, [23, 0, 0, 0, 0, 0, 16u8]),
+        (74, [1, 0, 0, 0, 0, 0, 4]),
+    ] {
+        let is_right = is_refused(rt.alloc(), at, &bytes, SIZE, LoadFault::OutOfRange);
+        assert!(rt; is_right, "byte {at}");
+    }
 }
 
-/// A file isn't loaded: why, and the set that comes back.
-fn refused(alloc: Global, bytes: &[u8], set: RomSet) -> Result<LoadRefused, AllocError> {
+/// Whether a file isn't loaded with a set, as it is of another one, and the set comes back, of which tiles and sprites begin with 0.
+fn is_of_another(alloc: Global, bytes: &[u8], set: RomSet) -> bool {
     match load(alloc, bytes, set) {
-        Ok(_) => Err(AllocError),
-        Err(refused) => Ok(refused),
+        Ok(_) => false,
+        Err(refused) => {
+            refused.fault == LoadFault::OtherSet
+                && refused.set.tiles().first() == Some(&0)
+                && refused.set.sprites().first() == Some(&0)
+        }
     }
+}
+
+/// Whether the file of a board with these tile and sprite ROMs isn't loaded with the tests' set.
+fn is_told_apart(
+    alloc: Global,
+    tiles: &[u8; 4096],
+    sprites: &[u8; 4096],
+) -> Result<bool, AllocError> {
+    let other = set_with(alloc, &CELL, tiles, sprites)?;
+    let file = file_of(alloc, &other, &[])?;
+    Ok(is_of_another(alloc, &file, set(alloc, &CELL)?))
 }
 
 // The file of a board with another tile or sprite ROM; the set that was handed in comes back.
 #[test]
 fn another_set(rt: HostRuntime) -> Result<(), Fail> {
-    for (tiles, sprites) in [([1; 4096], [0; 4096]), (tiles(), [1; 4096])] {
-        let other = set_with(rt.alloc(), &CELL, &tiles, &sprites)?;
-        let file = file_of(rt.alloc(), &other, &[])?;
-        let refused = refused(rt.alloc(), &file, set(rt.alloc(), &CELL)?)?;
-        assert_eq!(rt; refused.fault, LoadFault::OtherSet);
-        assert!(rt;
-            refused.set.tiles().first() == Some(&0) && refused.set.sprites().first() == Some(&0)
-        );
-    }
+    assert!(rt; is_told_apart(rt.alloc(), &[1; 4096], &[0; 4096])?);
+    assert!(rt; is_told_apart(rt.alloc(), &tiles(), &[1; 4096])?);
     Ok(())
 }

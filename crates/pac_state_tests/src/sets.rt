@@ -1,6 +1,5 @@
-//! ROM sets whose program is given as bytes, and boards with them.
+//! ROM sets whose program is given as bytes.
 
-use pac_board::Board;
 use pac_roms::{Raw, RomSet};
 use std::alloc::{AllocError, Global};
 
@@ -50,12 +49,4 @@ pub fn set_with(
 /// The set whose program begins with these bytes.
 pub fn set(alloc: Global, bytes: &[u8]) -> Result<RomSet, AllocError> {
     set_with(alloc, bytes, &tiles(), &[0; 4096])
-}
-
-/// A board at power-on whose program begins with these bytes.
-pub fn board(alloc: Global, bytes: &[u8]) -> Result<Board, AllocError> {
-    match Board::init(alloc, set(alloc, bytes)?, 0xC9) {
-        Ok(board) => Ok(board),
-        Err(_) => Err(AllocError),
-    }
 }
