@@ -50,6 +50,14 @@ fn check_open<W>(file: &Counted<W>) -> Result<(), WriteFault>
     Ok(())
 }
 
+/// The bytes of a sample, the low one first.
+#[inline(always)]
+fn bytes_of(sample: i16) -> [u8; 2]
+    ensures { result ≡ sample_text sample }
+{
+    sample.to_le_bytes()
+}
+
 /// A file of samples with its header. Samples are gathered and go to the file in large writes.
 #[derive(Drop)]
 pub struct WaveFile<W> {
@@ -91,7 +99,7 @@ impl<W: Out> WaveFile<W> {
         ensures later_unchanged { self.old.file.failed ≡ true → self.new ≡ self.old }
     {
         check_open(&self.file)?;
-        self.waiting.put(&mut self.file, &sample.to_le_bytes())?;
+        self.waiting.put(&mut self.file, &bytes_of(sample))?;
         self.owed = self.owed.saturating_sub(1);
         Ok(())
     }
