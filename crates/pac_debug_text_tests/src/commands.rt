@@ -110,23 +110,33 @@ static REFUSED: [&[u8]; 48] = [
     b"step \xC3\x28",
 ];
 
+/// Whether a line tells this command.
+fn tells(line: &[u8], command: Command) -> bool {
+    read_command(line) == Some(Ok(command))
+}
+
+/// Whether a line is refused.
+fn is_refused(line: &[u8]) -> bool {
+    read_command(line) == Some(Err(NoCommand))
+}
+
 #[test]
 fn lines_and_what_they_tell(rt: HostRuntime) {
     for line in &SKIPPED {
-        assert!(rt; read_command(line).is_none());
+        assert!(rt; read_command(line).is_none(), "{line:?}");
     }
     for (line, command) in &TOLD {
-        assert_eq!(rt; read_command(line), Some(Ok(*command)));
+        assert!(rt; tells(line, *command), "{line:?}");
     }
     for line in &REFUSED {
-        assert_eq!(rt; read_command(line), Some(Err(NoCommand)));
+        assert!(rt; is_refused(line), "{line:?}");
     }
 }
 
 #[test]
 fn slots_by_their_places(rt: HostRuntime) {
-    assert_eq!(rt; Slot::First.index(), 0);
-    assert_eq!(rt; Slot::Second.index(), 1);
-    assert_eq!(rt; Slot::Third.index(), 2);
-    assert_eq!(rt; Slot::Fourth.index(), 3);
+    assert!(rt; Slot::First.index() == 0);
+    assert!(rt; Slot::Second.index() == 1);
+    assert!(rt; Slot::Third.index() == 2);
+    assert!(rt; Slot::Fourth.index() == 3);
 }

@@ -11,11 +11,27 @@ use pac_out::faulty::Faulty;
 use pac_out::memory::Memory;
 use pac_table::InterruptMode;
 use std::alloc::Global;
+use std::process::Abort;
 use std::test::Fail;
 
 /// A file in memory with room for a text.
 fn file(alloc: Global) -> Result<Counted<Memory>, Fail> {
     Ok(Counted::new(Memory::new(alloc, 1000)?))
+}
+
+/// A text was put whole.
+fn is_put(rt: &impl Abort, answer: Result<(), WriteFault>) {
+    assert_eq!(rt; answer, Ok(()));
+}
+
+/// A text was refused after so many bytes in all.
+fn is_refused(rt: &impl Abort, answer: Result<(), WriteFault>, count: u64) {
+    assert_eq!(rt; answer, Err(WriteFault { count }));
+}
+
+/// A file has these bytes.
+fn has_text(rt: &impl Abort, found: &[u8], text: &[u8]) {
+    assert_eq!(rt; found, text);
 }
 
 /// Memory that has eight bytes, again and again.
@@ -95,8 +111,8 @@ fn places(rt: HostRuntime) -> Result<(), Fail> {
             code,
         };
         let mut file = file(rt.alloc())?;
-        assert_eq!(rt; put_place(&mut file, ending, place), Ok(()));
-        assert_eq!(rt; file.writer.bytes(), *line);
+        is_put(&rt, put_place(&mut file, ending, place));
+        has_text(&rt, file.writer.bytes(), line);
     }
     Ok(())
 }
@@ -104,17 +120,15 @@ fn places(rt: HostRuntime) -> Result<(), Fail> {
 #[test]
 fn answers(rt: HostRuntime) -> Result<(), Fail> {
     let mut file = file(rt.alloc())?;
-    assert_eq!(rt; put_ok(&mut file), Ok(()));
-    assert_eq!(rt; put_refusal(&mut file, Refusal::NoCommand), Ok(()));
-    assert_eq!(rt;
-        put_refusal(&mut file, Refusal::TooFarBack(139_264)),
-        Ok(())
-    );
-    assert_eq!(rt; put_refusal(&mut file, Refusal::EmptySlot), Ok(()));
-    assert_eq!(rt; put_refusal(&mut file, Refusal::NoRoom), Ok(()));
-    assert_eq!(rt;
+    is_put(&rt, put_ok(&mut file));
+    is_put(&rt, put_refusal(&mut file, Refusal::NoCommand));
+    is_put(&rt, put_refusal(&mut file, Refusal::TooFarBack(139_264)));
+    is_put(&rt, put_refusal(&mut file, Refusal::EmptySlot));
+    is_put(&rt, put_refusal(&mut file, Refusal::NoRoom));
+    has_text(
+        &rt,
         file.writer.bytes(),
-        b"ok\nrefused G1\nrefused G2 oldest 139264\nrefused G3\nrefused G4\n".as_slice()
+        b"ok\nrefused G1\nrefused G2 oldest 139264\nrefused G3\nrefused G4\n",
     );
     Ok(())
 }
@@ -139,11 +153,12 @@ fn steps_that_were_done(rt: HostRuntime) -> Result<(), Fail> {
         },
     ];
     let mut file = file(rt.alloc())?;
-    assert_eq!(rt; put_history(&mut file, &steps), Ok(()));
-    assert_eq!(rt; put_history(&mut file, &[]), Ok(()));
-    assert_eq!(rt;
+    is_put(&rt, put_history(&mut file, &steps));
+    is_put(&rt, put_history(&mut file, &[]));
+    has_text(
+        &rt,
         file.writer.bytes(),
-        b"1 0002 LD (4040H),A\n12666 0006 HALTED\n12667 000C INTERRUPT\n".as_slice()
+        b"1 0002 LD (4040H),A\n12666 0006 HALTED\n12667 000C INTERRUPT\n",
     );
     Ok(())
 }
@@ -232,18 +247,20 @@ fn registers_in_two_lines(rt: HostRuntime) -> Result<(), Fail> {
         vector: 0,
         watchdog: 1,
     };
-    assert_eq!(rt;
+    has_text(
+        &rt,
         registers(rt.alloc(), &few_registers(), few)?.writer.bytes(),
-        b"AF=4200 BC=0000 DE=0000 HL=0000 IX=0000 IY=0000 SP=0000 PC=0006\nAF'=0000 BC'=0000 DE'=0000 HL'=0000 I=00 R=7D IM=0 IFF=00 LATCH=00 VEC=00 WD=1\n".as_slice()
+        b"AF=4200 BC=0000 DE=0000 HL=0000 IX=0000 IY=0000 SP=0000 PC=0006\nAF'=0000 BC'=0000 DE'=0000 HL'=0000 I=00 R=7D IM=0 IFF=00 LATCH=00 VEC=00 WD=1\n",
     );
     let all = Latches {
         latch: 0x8B,
         vector: 0xFA,
         watchdog: 15,
     };
-    assert_eq!(rt;
+    has_text(
+        &rt,
         registers(rt.alloc(), &all_registers(), all)?.writer.bytes(),
-        b"AF=1234 BC=5678 DE=9ABC HL=DEF0 IX=1357 IY=2468 SP=4FF0 PC=0100\nAF'=0123 BC'=4567 DE'=89AB HL'=CDEF I=3F R=7D IM=2 IFF=10 LATCH=8B VEC=FA WD=15\n".as_slice()
+        b"AF=1234 BC=5678 DE=9ABC HL=DEF0 IX=1357 IY=2468 SP=4FF0 PC=0100\nAF'=0123 BC'=4567 DE'=89AB HL'=CDEF I=3F R=7D IM=2 IFF=10 LATCH=8B VEC=FA WD=15\n",
     );
     Ok(())
 }
@@ -252,13 +269,14 @@ fn registers_in_two_lines(rt: HostRuntime) -> Result<(), Fail> {
 fn memory_in_rows(rt: HostRuntime) -> Result<(), Fail> {
     let memory = Eight([0x42, 0, 0xFF, 3, 4, 5, 6, 7]);
     let mut file = file(rt.alloc())?;
-    assert_eq!(rt; put_memory(&mut file, &memory, 0x4040, 2), Ok(()));
+    is_put(&rt, put_memory(&mut file, &memory, 0x4040, 2));
     // rows that wrap, each with the address of its first byte
-    assert_eq!(rt; put_memory(&mut file, &memory, 0xFFF8, 17), Ok(()));
-    assert_eq!(rt; put_memory(&mut file, &memory, 0xFFFF, 3), Ok(()));
-    assert_eq!(rt;
+    is_put(&rt, put_memory(&mut file, &memory, 0xFFF8, 17));
+    is_put(&rt, put_memory(&mut file, &memory, 0xFFFF, 3));
+    has_text(
+        &rt,
         file.writer.bytes(),
-        b"4040: 42 00\nFFF8: 42 00 FF 03 04 05 06 07 42 00 FF 03 04 05 06 07\n0008: 42\nFFFF: 07 42 00\n".as_slice()
+        b"4040: 42 00\nFFF8: 42 00 FF 03 04 05 06 07 42 00 FF 03 04 05 06 07\n0008: 42\nFFFF: 07 42 00\n",
     );
     Ok(())
 }
@@ -267,13 +285,14 @@ fn memory_in_rows(rt: HostRuntime) -> Result<(), Fail> {
 fn instructions_in_lines(rt: HostRuntime) -> Result<(), Fail> {
     let mut file = file(rt.alloc())?;
     let memory = Eight([0x3E, 0x42, 0x32, 0x40, 0x40, 0x76, 0xDD, 0x24]);
-    assert_eq!(rt; put_instructions(&mut file, &memory, 0, 5), Ok(()));
+    is_put(&rt, put_instructions(&mut file, &memory, 0, 5));
     // a code that wraps
     let wrapped = Eight([0x40, 0x40, 0x76, 0, 0, 0, 0, 0x32]);
-    assert_eq!(rt; put_instructions(&mut file, &wrapped, 0xFFFF, 2), Ok(()));
-    assert_eq!(rt;
+    is_put(&rt, put_instructions(&mut file, &wrapped, 0xFFFF, 2));
+    has_text(
+        &rt,
         file.writer.bytes(),
-        b"0000 3E42     LD A,42H\n0002 324040   LD (4040H),A\n0005 76       HALT\n0006 DD       DEFB 0DDH\n0007 24       INC H\nFFFF 324040   LD (4040H),A\n0002 76       HALT\n".as_slice()
+        b"0000 3E42     LD A,42H\n0002 324040   LD (4040H),A\n0005 76       HALT\n0006 DD       DEFB 0DDH\n0007 24       INC H\nFFFF 324040   LD (4040H),A\n0002 76       HALT\n",
     );
     Ok(())
 }
@@ -289,11 +308,8 @@ fn writer_that_refuses(rt: HostRuntime) -> Result<(), Fail> {
     };
     // five bytes a call, and the third call is refused
     let mut file = Counted::new(Faulty::new(rt.alloc(), 100, 5, 3)?);
-    assert_eq!(rt;
-        put_place(&mut file, Ending::Break, place),
-        Err(WriteFault { count: 10 })
-    );
-    assert_eq!(rt; put_ok(&mut file), Err(WriteFault { count: 10 }));
-    assert_eq!(rt; file.writer.bytes(), b"break 2 20".as_slice());
+    is_refused(&rt, put_place(&mut file, Ending::Break, place), 10);
+    is_refused(&rt, put_ok(&mut file), 10);
+    has_text(&rt, file.writer.bytes(), b"break 2 20");
     Ok(())
 }

@@ -1,128 +1,170 @@
 //! Scripts and their faults by the format's page, and what is printed for each fault.
 
 use bitflags::Flags;
-use pac_inputs::{Code, Inputs, ScriptError, ScriptFault, read_script};
+use pac_inputs::{Code, Inputs, Script, ScriptError, ScriptFault, read_script};
+use std::alloc::Global;
+use std::process::Abort;
 use std::test::Fail;
 
-/// The fault of a script, if it has one.
-fn fault_of(rt: &HostRuntime, text: &[u8]) -> Option<ScriptError> {
-    read_script(rt.alloc(), text).err()
+/// Whether a script has this fault.
+fn has_fault(alloc: Global, text: &[u8], code: Code, line: u64) -> bool {
+    match read_script(alloc, text) {
+        Err(error) => error == ScriptError::Fault(ScriptFault { code, line }),
+        Ok(_) => false,
+    }
+}
+
+/// Whether a text is a script of so many frames, which holds inputs of these bits in the first.
+fn is_script(alloc: Global, text: &[u8], frames: u32, first: u16) -> bool {
+    match read_script(alloc, text) {
+        Ok(script) => script.frames() == frames && script.held(1).bits() == first,
+        Err(_) => false,
+    }
+}
+
+/// Whether P1_UP and START1 are held, by their bits and by both ports.
+fn is_start(held: Inputs) -> bool {
+    held == Inputs::P1_UP | Inputs::START1
+        && held.bits() == 0x2001
+        && held.in0() == 0xFE
+        && held.in1() == 0xDF
+}
+
+/// A script holds P1_UP and START1 in frames 1 and 2 of its three, and nothing in any other.
+fn is_held_twice(rt: &impl Abort, script: &Script) {
+    assert!(rt; script.frames() == 3);
+    for frame in 1..3u32 {
+        assert!(rt; is_start(script.held(frame)), "{frame}");
+    }
+    for frame in [0, 3, 4, u32::MAX] {
+        assert!(rt; script.held(frame) == Inputs::empty(), "{frame}");
+    }
+    assert!(rt; script.held(3).in0() == 0xFF);
 }
 
 #[test]
 fn inputs_frame_by_frame(rt: HostRuntime) -> Result<(), Fail> {
     let script = read_script(rt.alloc(), b"2 P1_UP,START1\n1 -")?;
-    assert_eq!(rt; script.frames(), 3);
-    assert_eq!(rt; script.held(0), Inputs::empty());
-    for frame in 1..3u32 {
-        let held = script.held(frame);
-        assert_eq!(rt; held, Inputs::P1_UP | Inputs::START1);
-        assert_eq!(rt; held.bits(), 0x2001);
-        assert_eq!(rt; held.in0(), 0xFE);
-        assert_eq!(rt; held.in1(), 0xDF);
-    }
-    assert_eq!(rt; script.held(3), Inputs::empty());
-    assert_eq!(rt; script.held(3).in0(), 0xFF);
-    assert_eq!(rt; script.held(4), Inputs::empty());
-    assert_eq!(rt; script.held(u32::MAX), Inputs::empty());
+    is_held_twice(&rt, &script);
     Ok(())
 }
 
-#[test]
-fn every_input_by_its_name(rt: HostRuntime) -> Result<(), Fail> {
-    for (line, bits) in [
-        (b"1 P1_UP".as_slice(), 0x0001),
-        (b"1 P1_LEFT", 0x0002),
-        (b"1 P1_RIGHT", 0x0004),
-        (b"1 P1_DOWN", 0x0008),
-        (b"1 RACK_TEST", 0x0010),
-        (b"1 COIN1", 0x0020),
-        (b"1 COIN2", 0x0040),
-        (b"1 CREDIT", 0x0080),
-        (b"1 P2_UP", 0x0100),
-        (b"1 P2_LEFT", 0x0200),
-        (b"1 P2_RIGHT", 0x0400),
-        (b"1 P2_DOWN", 0x0800),
-        (b"1 BOARD_TEST", 0x1000),
-        (b"1 START1", 0x2000),
-        (b"1 START2", 0x4000),
-        (b"1 COCKTAIL", 0x8000),
-    ] {
-        assert_eq!(rt;
-            read_script(rt.alloc(), line)?.held(1).bits(),
-            bits,
-            "at {line:?}"
-        );
-    }
-    Ok(())
-}
+/// Lines of one frame, each with an input, and its bit.
+static NAMES: [(&[u8], u16); 16] = [
+    (b"1 P1_UP", 0x0001),
+    (b"1 P1_LEFT", 0x0002),
+    (b"1 P1_RIGHT", 0x0004),
+    (b"1 P1_DOWN", 0x0008),
+    (b"1 RACK_TEST", 0x0010),
+    (b"1 COIN1", 0x0020),
+    (b"1 COIN2", 0x0040),
+    (b"1 CREDIT", 0x0080),
+    (b"1 P2_UP", 0x0100),
+    (b"1 P2_LEFT", 0x0200),
+    (b"1 P2_RIGHT", 0x0400),
+    (b"1 P2_DOWN", 0x0800),
+    (b"1 BOARD_TEST", 0x1000),
+    (b"1 START1", 0x2000),
+    (b"1 START2", 0x4000),
+    (b"1 COCKTAIL", 0x8000),
+];
 
 #[test]
-fn what_scripts_may_have(rt: HostRuntime) -> Result<(), Fail> {
-    for (text, frames, first) in [
-        (b"".as_slice(), 0, 0x0000),
-        (b"\n\n", 0, 0x0000),
-        (b"# 1 COIN1\n \t#COIN1\n \t\n00001 -\n", 1, 0x0000),
-        (b"\t 1 \t COIN1 \t\r\n2 COIN2\r\n", 3, 0x0020),
-        (b"1 COIN1,COIN1,P1_UP,COIN1", 1, 0x0021),
-        (b"1 -\n35999 COCKTAIL", 36_000, 0x0000),
-        (b"0000000000000000000036000 COCKTAIL", 36_000, 0x8000),
-    ] {
-        let script = read_script(rt.alloc(), text)?;
-        assert_eq!(rt; script.frames(), frames, "at {text:?}");
-        assert_eq!(rt; script.held(1).bits(), first, "at {text:?}");
+fn every_input_by_its_name(rt: HostRuntime) {
+    for (line, bits) in &NAMES {
+        assert!(rt; is_script(rt.alloc(), line, 1, *bits), "at {line:?}");
     }
-    Ok(())
 }
+
+/// Scripts, their frames, and the bits of what is held in the first.
+static SCRIPTS: [(&[u8], u32, u16); 7] = [
+    (b"", 0, 0x0000),
+    (b"\n\n", 0, 0x0000),
+    (b"# 1 COIN1\n \t#COIN1\n \t\n00001 -\n", 1, 0x0000),
+    (b"\t 1 \t COIN1 \t\r\n2 COIN2\r\n", 3, 0x0020),
+    (b"1 COIN1,COIN1,P1_UP,COIN1", 1, 0x0021),
+    (b"1 -\n35999 COCKTAIL", 36_000, 0x0000),
+    (b"0000000000000000000036000 COCKTAIL", 36_000, 0x8000),
+];
+
+#[test]
+fn what_scripts_may_have(rt: HostRuntime) {
+    for (text, frames, first) in &SCRIPTS {
+        assert!(rt; is_script(rt.alloc(), text, *frames, *first), "at {text:?}");
+    }
+}
+
+/// Scripts with a fault, and its line.
+static FAULTS: [(&[u8], Code, u64); 20] = [
+    (b"36000 -\n1 -", Code::Length, 2),
+    (b"0 -", Code::Count, 1),
+    (b"+1 -", Code::Count, 1),
+    (b"-1 -", Code::Count, 1),
+    (b"1.0 -", Code::Count, 1),
+    (b"36001 -", Code::Count, 1),
+    (b"4294967297 -", Code::Count, 1),
+    (b"x", Code::Count, 1),
+    (b"1 p1_up", Code::Names, 1),
+    (b"1 -,-", Code::Names, 1),
+    (b"1 P1_UP,", Code::Names, 1),
+    (b"1 ,P1_UP", Code::Names, 1),
+    (b"1 P1_UP, START1", Code::Names, 1),
+    (b"1 P1_UP # up", Code::Names, 1),
+    (b"1 *", Code::Names, 1),
+    (b"1 \xFF", Code::Names, 1),
+    (b"1", Code::Names, 1),
+    (b"1 -\r", Code::Names, 1),
+    (b"# first\n\n36000 -\n1 x\n0 -", Code::Names, 4),
+    (b"36000 -\n1 -\n0 -", Code::Length, 2),
+];
 
 #[test]
 fn the_first_fault(rt: HostRuntime) {
-    for (text, code, line) in [
-        (b"36000 -\n1 -".as_slice(), Code::Length, 2),
-        (b"0 -", Code::Count, 1),
-        (b"+1 -", Code::Count, 1),
-        (b"-1 -", Code::Count, 1),
-        (b"1.0 -", Code::Count, 1),
-        (b"36001 -", Code::Count, 1),
-        (b"4294967297 -", Code::Count, 1),
-        (b"x", Code::Count, 1),
-        (b"1 p1_up", Code::Names, 1),
-        (b"1 -,-", Code::Names, 1),
-        (b"1 P1_UP,", Code::Names, 1),
-        (b"1 ,P1_UP", Code::Names, 1),
-        (b"1 P1_UP, START1", Code::Names, 1),
-        (b"1 P1_UP # up", Code::Names, 1),
-        (b"1 *", Code::Names, 1),
-        (b"1 \xFF", Code::Names, 1),
-        (b"1", Code::Names, 1),
-        (b"1 -\r", Code::Names, 1),
-        (b"# first\n\n36000 -\n1 x\n0 -", Code::Names, 4),
-        (b"36000 -\n1 -\n0 -", Code::Length, 2),
-    ] {
-        let fault = ScriptFault { code, line };
-        assert_eq!(rt;
-            fault_of(&rt, text),
-            Some(ScriptError::Fault(fault)),
-            "at {text:?}"
-        );
+    for (text, code, line) in &FAULTS {
+        assert!(rt; has_fault(rt.alloc(), text, *code, *line), "at {text:?}");
+    }
+}
+
+/// Codes as they are printed.
+static CODES: [(Code, &str); 3] = [
+    (Code::Names, "I1"),
+    (Code::Count, "I2"),
+    (Code::Length, "I3"),
+];
+
+/// Whether a code is printed so.
+fn is_code(alloc: Global, code: Code, text: &str) -> bool {
+    match format!(in alloc; "{code}") {
+        Ok(found) => found.as_str() == text,
+        Err(_) => false,
+    }
+}
+
+/// Whether a fault is printed so.
+fn is_fault(alloc: Global, fault: ScriptFault, text: &str) -> bool {
+    match format!(in alloc; "{fault}") {
+        Ok(found) => found.as_str() == text,
+        Err(_) => false,
+    }
+}
+
+/// Whether an error is printed so.
+fn is_error(alloc: Global, error: ScriptError, text: &str) -> bool {
+    match format!(in alloc; "{error}") {
+        Ok(found) => found.as_str() == text,
+        Err(_) => false,
     }
 }
 
 #[test]
-fn printed_faults(rt: HostRuntime) -> Result<(), Fail> {
-    for (code, text) in [
-        (Code::Names, "I1"),
-        (Code::Count, "I2"),
-        (Code::Length, "I3"),
-    ] {
-        assert_eq!(rt; format!(in rt.alloc(); "{code}")?.as_str(), text);
+fn printed_faults(rt: HostRuntime) {
+    for (code, text) in &CODES {
+        assert!(rt; is_code(rt.alloc(), *code, text), "{text}");
     }
     let fault = ScriptFault {
         code: Code::Length,
         line: 2,
     };
-    assert_eq!(rt; format!(in rt.alloc(); "{fault}")?.as_str(), "I3 line 2");
-    let error = ScriptError::Fault(fault);
-    assert_eq!(rt; format!(in rt.alloc(); "{error}")?.as_str(), "I3 line 2");
-    Ok(())
+    assert!(rt; is_fault(rt.alloc(), fault, "I3 line 2"));
+    assert!(rt; is_error(rt.alloc(), ScriptError::Fault(fault), "I3 line 2"));
 }

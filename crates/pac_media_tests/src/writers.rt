@@ -1,10 +1,11 @@
 //! Writers that take few bytes a call, refuse, or are interrupted; and that each writer takes what it is given.
 
+use crate::answers::{is_refused, is_taken};
+use pac_out::Out;
 use pac_out::counted::Counted;
 use pac_out::faulty::Faulty;
 use pac_out::memory::Memory;
 use pac_out::through::Through;
-use pac_out::{Out, WriteFault};
 use std::io;
 use std::io::Write;
 
@@ -14,7 +15,7 @@ const TEXT: &[u8] = b"The quick brown fox jumps over the lazy dog.";
 fn few_bytes_a_call_give_the_same_bytes(rt: HostRuntime) -> io::Result<()> {
     for most in [1, 7, 44, 100] {
         let mut output = Faulty::new(rt.alloc(), 100, most, 0)?;
-        assert_eq!(rt; output.put_all(TEXT), Ok(()));
+        is_taken(&rt, output.put_all(TEXT));
         assert!(rt; output.bytes() == TEXT, "{most} a call");
     }
     Ok(())
@@ -24,10 +25,10 @@ fn few_bytes_a_call_give_the_same_bytes(rt: HostRuntime) -> io::Result<()> {
 fn a_refusal_is_told_with_its_count(rt: HostRuntime) -> io::Result<()> {
     for (refusal, count) in [(1, 0), (2, 7), (4, 21), (7, 42)] {
         let mut output = Faulty::new(rt.alloc(), 100, 7, refusal)?;
-        assert_eq!(rt; output.put_all(TEXT), Err(WriteFault { count }));
-        assert_eq!(rt; output.bytes().len() as u64, count);
+        is_refused(&rt, output.put_all(TEXT), count);
+        assert!(rt; output.bytes().len() as u64 == count);
         assert!(rt; TEXT.starts_with(output.bytes()), "the prefix at {count}");
-        assert_eq!(rt; output.put_all(TEXT), Ok(()));
+        is_taken(&rt, output.put_all(TEXT));
     }
     Ok(())
 }
@@ -35,10 +36,10 @@ fn a_refusal_is_told_with_its_count(rt: HostRuntime) -> io::Result<()> {
 #[test]
 fn taking_no_byte_is_a_refusal(rt: HostRuntime) -> io::Result<()> {
     let mut output = Faulty::new(rt.alloc(), 100, 0, 0)?;
-    assert_eq!(rt; output.put_all(TEXT), Err(WriteFault { count: 0 }));
-    assert_eq!(rt; output.put_all(&[]), Ok(()));
+    is_refused(&rt, output.put_all(TEXT), 0);
+    is_taken(&rt, output.put_all(&[]));
     let mut output = Memory::new(rt.alloc(), 10)?;
-    assert_eq!(rt; output.put_all(TEXT), Err(WriteFault { count: 10 }));
+    is_refused(&rt, output.put_all(TEXT), 10);
     assert!(rt; output.bytes() == b"The quick ".as_slice());
     Ok(())
 }
@@ -46,14 +47,19 @@ fn taking_no_byte_is_a_refusal(rt: HostRuntime) -> io::Result<()> {
 #[test]
 fn a_file_counts_over_all_calls(rt: HostRuntime) -> io::Result<()> {
     let mut file = Counted::new(Faulty::new(rt.alloc(), 1000, 30, 5)?);
-    assert_eq!(rt; file.put(TEXT), Ok(()));
-    assert_eq!(rt; file.put(&TEXT[..6]), Ok(()));
-    assert_eq!(rt; file.count, 50);
-    assert_eq!(rt; file.put(TEXT), Err(WriteFault { count: 80 }));
-    assert_eq!(rt; file.put(&[]), Err(WriteFault { count: 80 }));
-    assert_eq!(rt; file.put(TEXT), Err(WriteFault { count: 80 }));
-    assert_eq!(rt; file.writer.bytes().len(), 80);
+    is_taken(&rt, file.put(TEXT));
+    is_taken(&rt, file.put(&TEXT[..6]));
+    assert!(rt; file.count == 50);
+    is_refused(&rt, file.put(TEXT), 80);
+    is_refused(&rt, file.put(&[]), 80);
+    is_refused(&rt, file.put(TEXT), 80);
+    assert!(rt; file.writer.bytes().len() == 80);
     Ok(())
+}
+
+/// Whether bytes are the text and what was put after it.
+fn are_both(bytes: &[u8]) -> bool {
+    bytes.get(..TEXT.len()) == Some(TEXT) && bytes.get(TEXT.len()..) == Some(b" Again.".as_slice())
 }
 
 #[test]
@@ -61,16 +67,15 @@ fn a_writer_of_std_takes_the_bytes(rt: HostRuntime) -> io::Result<()> {
     let mut output = Through {
         inner: Vec::new(rt.alloc()),
     };
-    assert_eq!(rt; output.put_all(TEXT), Ok(()));
-    assert_eq!(rt; (&mut output).put_all(b" Again."), Ok(()));
-    assert!(rt; &output.inner[..TEXT.len()] == TEXT);
-    assert!(rt; &output.inner[TEXT.len()..] == b" Again.".as_slice());
+    is_taken(&rt, output.put_all(TEXT));
+    is_taken(&rt, (&mut output).put_all(b" Again."));
+    assert!(rt; are_both(output.inner.as_slice()));
 
     let mut room = [0u8; 9];
     let mut output = Through {
         inner: &mut room[..],
     };
-    assert_eq!(rt; output.put_all(TEXT), Err(WriteFault { count: 9 }));
+    is_refused(&rt, output.put_all(TEXT), 9);
     assert!(rt; &room == b"The quick");
     Ok(())
 }
@@ -110,10 +115,10 @@ fn an_interrupted_write_is_tried_again(rt: HostRuntime) {
         taken: 0,
     };
     let mut file = Counted::new(Through { inner });
-    assert_eq!(rt; file.put(TEXT), Ok(()));
-    assert_eq!(rt; file.count, 44);
-    assert_eq!(rt; file.put(TEXT), Err(WriteFault { count: 44 }));
-    assert_eq!(rt; file.put(TEXT), Err(WriteFault { count: 44 }));
-    assert_eq!(rt; file.writer.inner.taken, 44);
-    assert_eq!(rt; file.writer.inner.next, 4);
+    is_taken(&rt, file.put(TEXT));
+    assert!(rt; file.count == 44);
+    is_refused(&rt, file.put(TEXT), 44);
+    is_refused(&rt, file.put(TEXT), 44);
+    assert!(rt; file.writer.inner.taken == 44);
+    assert!(rt; file.writer.inner.next == 4);
 }
