@@ -91,10 +91,7 @@ fn is_manifest(alloc: Global, text: &str) -> bool {
 #[test]
 fn what_manifests_may_have(rt: HostRuntime) {
     for text in &MANIFESTS {
-        assert!(rt;
-            read_manifest(rt.alloc(), text.as_bytes()).is_ok(),
-            "at {text:?}"
-        );
+        assert!(rt; is_manifest(rt.alloc(), text), "at {text:?}");
     }
 }
 
