@@ -2,6 +2,8 @@
 #![tactic(auto)]
 
 #[cfg(test)]
+mod programs;
+#[cfg(test)]
 mod rows;
 #[cfg(test)]
 mod sources;

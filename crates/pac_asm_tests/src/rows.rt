@@ -1,7 +1,6 @@
-//! Rows of the source language: short sources with their fault, or with the bytes that they become.
+//! Rows of the source language: short sources with their fault.
 
 use pac_asm::{AsmError, assemble};
-use pac_program::Program;
 use std::alloc::{AllocError, Global};
 use std::process::Abort;
 
@@ -162,98 +161,4 @@ static CONDITIONS: [(&str, &str); 37] = [
 #[test]
 fn faults_of_conditional_lines(rt: HostRuntime) {
     have_faults(&rt, rt.alloc(), &CONDITIONS);
-}
-
-/// Whether bytes stand at an address of a ROM.
-fn stand_at(rom: &[u8], at: usize, bytes: &[u8]) -> bool {
-    match rom.get(at..) {
-        Some(rest) => rest.starts_with(bytes),
-        None => false,
-    }
-}
-
-/// Whether a source has a program, with these bytes at an address of its ROM.
-fn has_bytes(alloc: Global, source: &str, at: usize, bytes: &[u8]) -> bool {
-    match assemble(alloc, source.as_bytes()) {
-        Ok(program) => stand_at(program.rom(), at, bytes),
-        Err(_) => false,
-    }
-}
-
-/// Sources, an address of the ROM, and the bytes there.
-static BYTES: [(&str, usize, &[u8]); 11] = [
-    ("", 0, &[0; 3]),
-    ("JR 129", 0, &[0x18, 0x7F, 0]),
-    ("ORG 200\nJR 74", 199, &[0, 0x18, 0x80, 0]),
-    ("JR -5", 0, &[0x18, 0xF9]),
-    ("ORG 3FFFH\nDEFB 7", 0x3FFE, &[0, 7]),
-    (
-        "DEFS 3,0FFH\nDEFB $\nDEFM 'A''B'",
-        0,
-        &[0xFF, 0xFF, 0xFF, 3, 0x41, 0x27, 0x42, 0],
-    ),
-    ("ORG 2\nDEFB 1\nORG 0\nDEFW -2", 0, &[0xFE, 0xFF, 1, 0]),
-    (
-        "SIZE EQU 9\nORG 10H\nTAB: DEFB SIZE,'AB',TAB,1,2\nDEFW TAB+1",
-        0x10,
-        &[9, 0x41, 0x42, 0x10, 1, 2, 0x11, 0],
-    ),
-    (
-        "FLAG EQU 1\nIF FLAG\nLD A,42H\nELSE\nLD A,\nENDIF\nHALT",
-        0,
-        &[0x3E, 0x42, 0x76, 0],
-    ),
-    ("IF 0\nDEFB 1\nELSE\nDEFB 2\nENDIF\nDEFB 3", 0, &[2, 3, 0]),
-    (
-        "IF 1\nDEFB 1\nELSE\nORG 5\nELSE\nDEFB 2\nENDIF\nDEFB 3",
-        0,
-        &[1, 3, 0],
-    ),
-];
-
-#[test]
-fn bytes_of_programs(rt: HostRuntime) {
-    for (source, at, bytes) in &BYTES {
-        assert!(rt; has_bytes(rt.alloc(), source, *at, bytes), "{source}");
-    }
-}
-
-/// Names with their numbers.
-static SYMBOLS: [(&str, i32); 3] = [("TWO", -2), ("one", 1), ("ONE", 1)];
-
-/// Whether a program's symbols are these, in this order.
-fn has_symbols(program: &Program, symbols: &[(&str, i32)]) -> bool {
-    if program.symbols().len() != symbols.len() {
-        return false;
-    }
-    for place in 0..symbols.len() {
-        let (name, number) = symbols[place];
-        if !has_symbol(program, place, name, number) {
-            return false;
-        }
-    }
-    true
-}
-
-/// Whether a program's symbol at a place is this one.
-fn has_symbol(program: &Program, place: usize, name: &str, number: i32) -> bool {
-    match program.symbols().get(place) {
-        Some((found, value)) => found == name.as_bytes() && value == number,
-        None => false,
-    }
-}
-
-/// Whether a source has a program with these symbols.
-fn defines(alloc: Global, source: &str, symbols: &[(&str, i32)]) -> bool {
-    match assemble(alloc, source.as_bytes()) {
-        Ok(program) => has_symbols(&program, symbols),
-        Err(_) => false,
-    }
-}
-
-// A name for each number, in the order of the lines that count.
-#[test]
-fn symbols_in_order(rt: HostRuntime) {
-    let source = "TWO EQU -2\nIF 0\nNONE: NOP\nENDIF\nDEFB 1\none:\nONE: DEFB 5";
-    assert!(rt; defines(rt.alloc(), source, &SYMBOLS));
 }

@@ -6,6 +6,8 @@ mod manifests;
 #[cfg(test)]
 mod memory;
 #[cfg(test)]
+mod refusals;
+#[cfg(test)]
 mod sample;
 #[cfg(test)]
 mod sets;

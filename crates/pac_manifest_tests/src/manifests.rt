@@ -53,19 +53,22 @@ fn has_two_files(rt: &impl Abort, alloc: Global, manifest: &Manifest) {
 #[test]
 fn files_in_their_order(rt: HostRuntime) -> Result<(), Fail> {
     let text = text_of(rt.alloc(), &BACKWARDS)?;
-    let manifest = read_manifest(rt.alloc(), text.as_bytes())?;
-    is_sample(&rt, rt.alloc(), &manifest);
+    match read_manifest(rt.alloc(), text.as_bytes()) {
+        Ok(manifest) => is_sample(&rt, rt.alloc(), &manifest),
+        Err(_) => assert!(rt; false, "no manifest"),
+    }
     Ok(())
 }
 
 // Where files aren't given, the others follow one another, whatever can be said of the set.
 #[test]
-fn files_that_are_not_given(rt: HostRuntime) -> Result<(), Fail> {
+fn files_that_are_not_given(rt: HostRuntime) {
     let text =
-        "wave.file = 'w'\n[[program]]\n[[program]]\nfile = 'b'\n[[program]]\n[[program]]\nother = ''";
-    let manifest = read_manifest(rt.alloc(), text.as_bytes())?;
-    has_two_files(&rt, rt.alloc(), &manifest);
-    Ok(())
+        b"wave.file = 'w'\n[[program]]\n[[program]]\nfile = 'b'\n[[program]]\n[[program]]\nother = ''";
+    match read_manifest(rt.alloc(), text) {
+        Ok(manifest) => has_two_files(&rt, rt.alloc(), &manifest),
+        Err(_) => assert!(rt; false, "no manifest"),
+    }
 }
 
 /// Texts of manifests.
@@ -80,13 +83,15 @@ static MANIFESTS: [&str; 8] = [
     "tiles.sha1 = \"0123456789abcdefABCDEF012345678901234567\"",
 ];
 
+/// Whether a text is a manifest.
+fn is_manifest(alloc: Global, text: &str) -> bool {
+    read_manifest(alloc, text.as_bytes()).is_ok()
+}
+
 #[test]
 fn what_manifests_may_have(rt: HostRuntime) {
     for text in &MANIFESTS {
-        assert!(rt;
-            read_manifest(rt.alloc(), text.as_bytes()).is_ok(),
-            "at {text:?}"
-        );
+        assert!(rt; is_manifest(rt.alloc(), text), "at {text:?}");
     }
 }
 

@@ -19,7 +19,7 @@ fn ends_as_sample(set: &RomSet) -> bool {
 }
 
 /// The answer where a right one is there, or an error.
-fn answer(right: bool, error: Option<SetError>) -> Answer {
+fn answer_of(right: bool, error: Option<SetError>) -> Answer {
     match error {
         Some(SetError::Memory) => Answer::Refused,
         None if right => Answer::Right,
@@ -30,16 +30,16 @@ fn answer(right: bool, error: Option<SetError>) -> Answer {
 /// What reading a manifest comes to.
 fn reading(alloc: Global, text: &[u8]) -> Answer {
     match read_manifest(alloc, text) {
-        Ok(manifest) => answer(is_sample(&manifest), None),
-        Err(error) => answer(false, Some(error)),
+        Ok(manifest) => answer_of(is_sample(&manifest), None),
+        Err(error) => answer_of(false, Some(error)),
     }
 }
 
 /// What loading the sample's set comes to.
 fn loading(alloc: Global, manifest: &Manifest) -> Answer {
     match load_set(alloc, manifest, &FILES, None) {
-        Ok(set) => answer(ends_as_sample(&set), None),
-        Err(error) => answer(false, Some(error)),
+        Ok(set) => answer_of(ends_as_sample(&set), None),
+        Err(error) => answer_of(false, Some(error)),
     }
 }
 

@@ -74,20 +74,21 @@ fn film(
     Ok(Frames::new(writer, Image::new(alloc)?))
 }
 
-/// The film of two pictures is their images, where a call takes so many bytes.
-fn has_both(
-    rt: &impl Abort,
-    alloc: Global,
-    pictures: [&Picture; 2],
-    most: usize,
-) -> Result<(), AllocError> {
-    let mut frames = film(alloc, 2 * SIZE, most, 0)?;
+/// A film takes two pictures, and its writer, which takes so many bytes a call, has their images.
+fn takes_both(rt: &impl Abort, mut frames: Frames<Faulty>, pictures: [&Picture; 2], most: usize) {
     for picture in pictures {
         is_taken(rt, frames.put(picture));
     }
     let writer = frames.into_writer();
     assert!(rt; are_both(writer.bytes()), "{most} a call");
-    Ok(())
+}
+
+/// The film of two pictures is their images, where a call takes so many bytes.
+fn has_both(rt: &impl Abort, alloc: Global, pictures: [&Picture; 2], most: usize) {
+    match film(alloc, 2 * SIZE, most, 0) {
+        Ok(frames) => takes_both(rt, frames, pictures, most),
+        Err(_) => assert!(rt; false, "no memory"),
+    }
 }
 
 #[test]
@@ -95,13 +96,30 @@ fn an_image_has_a_header_and_the_colours_of_its_pixels(rt: HostRuntime) -> Resul
     let black = black(rt.alloc())?;
     let colourful = colourful(rt.alloc())?;
     for most in [7usize, 1_000, 1_000_000] {
-        has_both(&rt, rt.alloc(), [&black, &colourful], most)?;
+        has_both(&rt, rt.alloc(), [&black, &colourful], most);
     }
     Ok(())
 }
 
+/// A writer with so much room, so many bytes a call and the call that it refuses; the images that its film takes, and
+/// the bytes that it has then.
+#[derive(Clone, Copy)]
+struct Stop {
+    room: usize,
+    most: usize,
+    refusal: u64,
+    images: u32,
+    count: u64,
+}
+
 /// A film takes so many pictures, and then refuses for good, with the count of its bytes.
-fn stops(rt: &impl Abort, mut frames: Frames<Faulty>, picture: &Picture, images: u32, count: u64) {
+fn refuses(
+    rt: &impl Abort,
+    mut frames: Frames<Faulty>,
+    picture: &Picture,
+    images: u32,
+    count: u64,
+) {
     for _ in 0..images {
         is_taken(rt, frames.put(picture));
     }
@@ -111,30 +129,78 @@ fn stops(rt: &impl Abort, mut frames: Frames<Faulty>, picture: &Picture, images:
     assert!(rt; writer.bytes().len() as u64 == count, "{count}");
 }
 
+/// The film of a picture again and again stops so.
+fn stops(rt: &impl Abort, alloc: Global, picture: &Picture, stop: &Stop) {
+    match film(alloc, stop.room, stop.most, stop.refusal) {
+        Ok(frames) => refuses(rt, frames, picture, stop.images, stop.count),
+        Err(_) => assert!(rt; false, "no memory"),
+    }
+}
+
+/// A writer with room for 100 bytes.
+static FULL: Stop = Stop {
+    room: 100,
+    most: 1_000_000,
+    refusal: 0,
+    images: 0,
+    count: 100,
+};
+
 #[test]
 fn a_full_writer_stops_the_film_for_good(rt: HostRuntime) -> Result<(), Fail> {
     let picture = black(rt.alloc())?;
-    let frames = film(rt.alloc(), 100, 1_000_000, 0)?;
-    stops(&rt, frames, &picture, 0, 100);
+    stops(&rt, rt.alloc(), &picture, &FULL);
     Ok(())
 }
 
-/// The call that is refused, the images before it, and the bytes that were taken.
-static REFUSALS: [(u64, u32, u64); 5] = [
-    (1, 0, 0),
-    (2, 0, 100_000),
-    (3, 1, 193_551),
-    (4, 1, 293_551),
-    (5, 2, 387_102),
+/// A writer that takes 100,000 bytes a call; each image takes two calls.
+const TWO_CALLS: Stop = Stop {
+    room: 600_000,
+    most: 100_000,
+    refusal: 0,
+    images: 0,
+    count: 0,
+};
+
+/// The calls that are refused in turn.
+static REFUSALS: [Stop; 5] = [
+    Stop {
+        refusal: 1,
+        images: 0,
+        count: 0,
+        ..TWO_CALLS
+    },
+    Stop {
+        refusal: 2,
+        images: 0,
+        count: 100_000,
+        ..TWO_CALLS
+    },
+    Stop {
+        refusal: 3,
+        images: 1,
+        count: 193_551,
+        ..TWO_CALLS
+    },
+    Stop {
+        refusal: 4,
+        images: 1,
+        count: 293_551,
+        ..TWO_CALLS
+    },
+    Stop {
+        refusal: 5,
+        images: 2,
+        count: 387_102,
+        ..TWO_CALLS
+    },
 ];
 
-// A call takes 100,000 bytes, and each image two calls.
 #[test]
 fn each_refused_write_is_told_with_all_bytes_of_the_film(rt: HostRuntime) -> Result<(), Fail> {
     let picture = black(rt.alloc())?;
-    for (refusal, images, count) in &REFUSALS {
-        let frames = film(rt.alloc(), 600_000, 100_000, *refusal)?;
-        stops(&rt, frames, &picture, *images, *count);
+    for stop in &REFUSALS {
+        stops(&rt, rt.alloc(), &picture, stop);
     }
     Ok(())
 }

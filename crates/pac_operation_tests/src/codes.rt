@@ -1,8 +1,8 @@
 //! Operations and their codes, by the manual's instruction table.
 
-use crate::names::read;
+use crate::names::{Answer, read};
 use std::alloc::Global;
-use std::test::Fail;
+use std::process::Abort;
 
 /// Loads, exchanges and blocks at 1000H, and their bytes.
 static LOADS: [(&[u8], &[u8]); 30] = [
@@ -121,22 +121,24 @@ static INDEXED: [(&[u8], &[u8]); 22] = [
     (b"Jr nZ,$+2", &[0x20, 0x00]),
 ];
 
-/// Whether each of these operations has its code, and by its form the size of the code.
-fn have_codes(alloc: Global, rows: &[(&[u8], &[u8])]) -> Result<bool, Fail> {
-    for (text, bytes) in rows {
-        match read(alloc, text)? {
-            Some((size, Ok(code)))
-                if code.as_slice() == *bytes && usize::from(size) == bytes.len() => {}
-            _ => return Ok(false),
-        }
+/// Whether an operation has this code, and by its form the size of the code.
+fn has_code(alloc: Global, text: &[u8], bytes: &[u8]) -> bool {
+    match read(alloc, text) {
+        Answer::Code(size, code) => code.as_slice() == bytes && usize::from(size) == bytes.len(),
+        _ => false,
     }
-    Ok(true)
+}
+
+/// Each of these operations has its code.
+fn have_codes(rt: &impl Abort, alloc: Global, rows: &[(&[u8], &[u8])]) {
+    for (text, bytes) in rows {
+        assert!(rt; has_code(alloc, text, bytes), "{text:?}");
+    }
 }
 
 #[test]
-fn operations_and_their_codes(rt: HostRuntime) -> Result<(), Fail> {
-    assert!(rt; have_codes(rt.alloc(), &LOADS)?);
-    assert!(rt; have_codes(rt.alloc(), &WORK)?);
-    assert!(rt; have_codes(rt.alloc(), &INDEXED)?);
-    Ok(())
+fn operations_and_their_codes(rt: HostRuntime) {
+    have_codes(&rt, rt.alloc(), &LOADS);
+    have_codes(&rt, rt.alloc(), &WORK);
+    have_codes(&rt, rt.alloc(), &INDEXED);
 }

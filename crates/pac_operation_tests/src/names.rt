@@ -7,7 +7,6 @@ use pac_expr::Symbols;
 use pac_lex::tokens;
 use pac_operation::{Operation, OperationFault};
 use std::alloc::Global;
-use std::test::Fail;
 
 /// Names of one byte stand for 5, and no other is defined.
 pub(crate) struct OneByteNames;
@@ -20,21 +19,38 @@ impl Symbols for OneByteNames {
     }
 }
 
-/// What a text at 1000H comes to: nothing where it is no operation, or its size with its code or its fault.
-pub(crate) fn read(
-    alloc: Global,
-    text: &[u8],
-) -> Result<Option<(u8, Result<Code, OperationFault>)>, Fail> {
-    let found = tokens(alloc, text)?;
-    let Some((word, operands)) = found.as_slice().split_first() else {
-        return Ok(None);
+/// What a text at 1000H comes to.
+#[derive(Drop)]
+pub(crate) enum Answer {
+    /// It can't be read.
+    NoTokens,
+    /// It is no operation.
+    Nothing,
+    /// An operation of this size, with its code.
+    Code(u8, Code),
+    /// An operation of this size, with the fault of its numbers.
+    Fault(u8, OperationFault),
+}
+
+/// What a text at 1000H comes to.
+pub(crate) fn read(alloc: Global, text: &[u8]) -> Answer {
+    let Ok(found) = tokens(alloc, text) else {
+        return Answer::NoTokens;
     };
-    let Some(operation) = Operation::read(word.text, operands) else {
-        return Ok(None);
+    match found.as_slice().split_first() {
+        Some((word, operands)) => answer_of(Operation::read(word.text, operands)),
+        None => Answer::Nothing,
+    }
+}
+
+/// What an operation at 1000H comes to.
+fn answer_of(operation: Option<Operation<'_, '_>>) -> Answer {
+    let Some(operation) = operation else {
+        return Answer::Nothing;
     };
     let size = operation.size();
     match operation.instruction(&OneByteNames, 0x1000) {
-        Ok(instruction) => Ok(Some((size, Ok(encode(&instruction))))),
-        Err(fault) => Ok(Some((size, Err(fault)))),
+        Ok(instruction) => Answer::Code(size, encode(&instruction)),
+        Err(fault) => Answer::Fault(size, fault),
     }
 }

@@ -1,30 +1,33 @@
 //! Reserved words, directives, and expressions of a source.
 
-use pac_lex::tokens;
+use pac_lex::{Token, tokens};
 use pac_operation::{Directive, directive_of, is_reserved, is_source_expression, next_part};
-use std::test::Fail;
+use std::alloc::Global;
+
+/// Words, and whether they are reserved.
+static WORDS: [(&[u8], bool); 16] = [
+    (b"ld", true),
+    (b"OtDr", true),
+    (b"endif", true),
+    (b"dm", true),
+    (b"af", true),
+    (b"IX", true),
+    (b"Nz", true),
+    (b"m", true),
+    (b"F", false),
+    (b"PC", false),
+    (b"IFF1", false),
+    (b"END", false),
+    (b"DEFL", false),
+    (b"SLL", false),
+    (b"LDX", false),
+    (b"_LD", false),
+];
 
 #[test]
 fn reserved_words(rt: HostRuntime) {
-    for (word, want) in [
-        (b"ld".as_slice(), true),
-        (b"OtDr", true),
-        (b"endif", true),
-        (b"dm", true),
-        (b"af", true),
-        (b"IX", true),
-        (b"Nz", true),
-        (b"m", true),
-        (b"F", false),
-        (b"PC", false),
-        (b"IFF1", false),
-        (b"END", false),
-        (b"DEFL", false),
-        (b"SLL", false),
-        (b"LDX", false),
-        (b"_LD", false),
-    ] {
-        assert_eq!(rt; is_reserved(word), want, "{word:?}");
+    for (word, want) in &WORDS {
+        assert!(rt; is_reserved(word) == *want, "{word:?}");
     }
 }
 
@@ -36,22 +39,34 @@ fn directives(rt: HostRuntime) {
     assert!(rt; directive_of(b"DEF").is_none());
 }
 
-#[test]
-fn expressions(rt: HostRuntime) -> Result<(), Fail> {
-    for (text, count, want) in [
-        (b"-(X+1)*2".as_slice(), 8, true),
-        (b"'A',HL", 1, true),
-        (b"HL+1", 3, false),
-        (b"ENDIF", 1, false),
-        (b",5", 0, false),
-    ] {
-        let found = tokens(rt.alloc(), text)?;
-        let (part, rest) = next_part(found.as_slice());
-        assert!(rt;
-            part.len() == count && is_source_expression(part) == want,
-            "{text:?}"
-        );
-        assert_eq!(rt; rest.is_some(), part.len() < found.len());
+/// Operands, the tokens of the first, and whether it is an expression of a source.
+static PARTS: [(&[u8], usize, bool); 5] = [
+    (b"-(X+1)*2", 8, true),
+    (b"'A',HL", 1, true),
+    (b"HL+1", 3, false),
+    (b"ENDIF", 1, false),
+    (b",5", 0, false),
+];
+
+/// Whether the first operand has so many tokens, with others after it or none, and is such an expression or isn't.
+fn is_part(found: &[Token<'_>], count: usize, want: bool) -> bool {
+    let (part, rest) = next_part(found);
+    part.len() == count
+        && is_source_expression(part) == want
+        && rest.is_some() == (count < found.len())
+}
+
+/// Whether a text's first operand is so.
+fn begins_with(alloc: Global, text: &[u8], count: usize, want: bool) -> bool {
+    match tokens(alloc, text) {
+        Ok(found) => is_part(found.as_slice(), count, want),
+        Err(_) => false,
     }
-    Ok(())
+}
+
+#[test]
+fn expressions(rt: HostRuntime) {
+    for (text, count, want) in &PARTS {
+        assert!(rt; begins_with(rt.alloc(), text, *count, *want), "{text:?}");
+    }
 }
