@@ -1,226 +1,251 @@
 //! Command lines, run in process over the files of a folder: statuses, what is printed, and what the files have then.
 
-use crate::console::Console;
-use crate::folder::{bytes_of, expect, is_there, lay, lay_set, words_of};
-use pac_command::run_words;
-use std::process::Abort;
-use std::rt::Files;
-use std::{fs, io};
+use crate::folder::{
+    ANY_TEXT, LINE, Left, Line, hold, hold_over_set, lay_many, lay_set,
+};
+use crate::picture::{BLUE_AND_RED, GREEN_AND_RED, GREEN_TILE};
+use std::fs;
 
 /// The outputs of a run.
 const OUTPUTS: &str = "--frames @/f.ppm --wave @/w.wav --listing @/l.txt";
 
 const CELL_REPORT: &str = "frames 1 of 1\nsteps 12669 ticks 50688\nend done\n";
 
-const CELL_LISTING: &str = "00001 0000 3E42     LD A,42H
+const CELL_LISTING: &[u8] = b"00001 0000 3E42     LD A,42H
 00002 0002 324040   LD (4040H),A
 00003 0005 76       HALT
 SYMBOLS
 ";
 
-/// Runs `run` with these words and the outputs, and compares.
-fn expect_run(
-    rt: &(impl Files + AllocGlobal + Abort),
-    folder: &str,
-    words: &str,
-    status: u8,
-    output: &str,
-    error: &str,
-) -> io::Result<()> {
-    let line = format!(in rt.alloc(); "run {words} {OUTPUTS}")?;
-    expect(rt, folder, &line, status, output, error)
-}
+/// A run into the folder's three files.
+const RUN: Line = Line {
+    outputs: OUTPUTS,
+    ..LINE
+};
 
-/// Whether the folder's outputs are there, and empty.
-fn are_empty(rt: &(impl Files + AllocGlobal), folder: &str) -> io::Result<bool> {
-    Ok(
-        bytes_of(rt, folder, "f.ppm")?.is_empty()
-            && bytes_of(rt, folder, "w.wav")?.is_empty()
-            && bytes_of(rt, folder, "l.txt")?.is_empty(),
-    )
-}
+/// The folder's three files, empty.
+const EMPTY: &[(&str, Left)] = &[
+    ("f.ppm", Left::Bytes(b"")),
+    ("w.wav", Left::Bytes(b"")),
+    ("l.txt", Left::Bytes(b"")),
+];
 
-/// Whether none of the folder's outputs is there.
-fn none_is_there(rt: &(impl Files + AllocGlobal), folder: &str) -> bool {
-    !is_there(rt, folder, "f.ppm")
-        && !is_there(rt, folder, "w.wav")
-        && !is_there(rt, folder, "l.txt")
-}
+/// None of the folder's three files.
+const NONE: &[(&str, Left)] = &[
+    ("f.ppm", Left::Absent),
+    ("w.wav", Left::Absent),
+    ("l.txt", Left::Absent),
+];
 
-#[test]
-fn a_run_writes_four_outputs(rt: HostRuntime) -> io::Result<()> {
-    lay_set(&rt, "whole")?;
-    expect_run(
-        &rt,
-        "whole",
-        "--set @/set.toml --script @/one.script --source @/cell.asm",
-        0,
-        CELL_REPORT,
-        "",
-    )?;
-    let image = bytes_of(&rt, "whole", "f.ppm")?;
-    assert_eq!(rt; image.len(), 193_551);
-    let Some(levels) = image.strip_prefix(b"P6\n288 224\n255\n") else {
-        panic!(rt; "another header");
-    };
-    for (place, level) in levels.iter().enumerate() {
-        let is_in_tile = (16..24).contains(&(place / 3 % 288)) && place / 864 < 8;
-        let is_green = place % 3 == 1;
-        assert_eq!(rt;
-            *level,
-            if is_in_tile && is_green { 255 } else { 0 },
-            "{place}"
-        );
-    }
-    assert_eq!(rt; bytes_of(&rt, "whole", "w.wav")?.len(), 3_212);
-    assert!(rt; bytes_of(&rt, "whole", "l.txt")?.as_slice() == CELL_LISTING.as_bytes());
-    expect_run(
-        &rt,
-        "whole",
-        "--set @/whole.toml --script @/one.script",
-        0,
-        CELL_REPORT,
-        "",
-    )?;
-    assert!(rt; bytes_of(&rt, "whole", "f.ppm")? == image);
-    assert!(rt; bytes_of(&rt, "whole", "l.txt")?.as_slice() == b"SYMBOLS\n".as_slice());
-    fs::remove_dir_all(&rt, "whole")
-}
-
-// The joystick's bit 0 and the DIP byte, as they are read at 5000H and 5080H, become tiles at x 16 and x 24.
-#[test]
-fn inputs_and_switches(rt: HostRuntime) -> io::Result<()> {
-    lay_set(&rt, "held")?;
-    lay(
-        &rt,
-        "held",
-        "inputs.asm",
-        b"LD A,(5000H)\nLD (4040H),A\nLD A,(5080H)\nLD (4041H),A\nHALT",
-    )?;
-    lay(&rt, "held", "up.script", b"1 P1_UP")?;
-    let report = "frames 1 of 1\nsteps 12663 ticks 50688\nend done\n";
-    for (words, pixels) in [
-        ("--script @/one.script", [0, 0, 255, 255, 0, 0]),
-        ("--script @/up.script --dip 0", [0, 255, 0, 0, 0, 0]),
-        ("--dip=201 --script @/up.script", [0, 255, 0, 255, 0, 0]),
-    ] {
-        let line = format!(in rt.alloc(); "--set @/set.toml {words} --source @/inputs.asm")?;
-        expect_run(&rt, "held", &line, 0, report, "")?;
-        let image = bytes_of(&rt, "held", "f.ppm")?;
-        let Some(found) = image.get(84..90) else {
-            panic!(rt; "no pixels");
-        };
-        assert_eq!(rt; found[..3], pixels[..3], "{words}");
-        assert_eq!(rt; found[3..], pixels[3..], "{words}");
-    }
-    fs::remove_dir_all(&rt, "held")
-}
+/// A source, and the same bytes as the program of a set: all is equal but the listing.
+const FOUR_OUTPUTS: &[Line] = &[
+    Line {
+        words: "run --set @/set.toml --script @/one.script --source @/cell.asm",
+        output: &[CELL_REPORT],
+        left: &[
+            ("f.ppm", Left::Image(&GREEN_TILE)),
+            ("w.wav", Left::Length(3_212)),
+            ("l.txt", Left::Bytes(CELL_LISTING)),
+        ],
+        ..RUN
+    },
+    Line {
+        words: "run --set @/whole.toml --script @/one.script",
+        output: &[CELL_REPORT],
+        left: &[
+            ("f.ppm", Left::Image(&GREEN_TILE)),
+            ("l.txt", Left::Bytes(b"SYMBOLS\n")),
+        ],
+        ..RUN
+    },];
 
 #[test]
-fn a_stopped_board(rt: HostRuntime) -> io::Result<()> {
-    lay_set(&rt, "stopped")?;
-    lay(&rt, "stopped", "stop.asm", b"DEFB 0CBH,30H")?;
-    lay(&rt, "stopped", "two.script", b"2 -")?;
-    expect_run(
-        &rt,
-        "stopped",
-        "--source @/stop.asm --set @/set.toml --script @/two.script",
-        5,
-        "frames 0 of 2\nsteps 0 ticks 0\nstop S1 at 0000 bytes CB 30 00 00\n",
-        "",
-    )?;
-    assert!(rt; bytes_of(&rt, "stopped", "f.ppm")?.is_empty());
-    assert_eq!(rt; bytes_of(&rt, "stopped", "w.wav")?.len(), 6_380);
-    fs::remove_dir_all(&rt, "stopped")
+fn a_run_writes_four_outputs(rt: HostRuntime) {
+    hold_over_set(&rt, "whole", FOUR_OUTPUTS);
 }
 
+/// A run of a source that shows what it reads.
+const READING: Line = Line {
+    files: &[
+        (
+            "inputs.asm",
+            b"LD A,(5000H)\nLD (4040H),A\nLD A,(5080H)\nLD (4041H),A\nHALT",
+        ),
+        ("up.script", b"1 P1_UP"),
+    ],
+    output: &["frames 1 of 1\nsteps 12663 ticks 50688\nend done\n"],
+    ..RUN
+};
+
+/// The joystick's bit 0 and the DIP byte, as they are read at 5000H and 5080H, become tiles at x 16 and x 24.
+const READINGS: &[Line] = &[
+    Line {
+        words: "run --set @/set.toml --script @/one.script --source @/inputs.asm",
+        left: &[("f.ppm", Left::Image(&BLUE_AND_RED))],
+        ..READING
+    },
+    Line {
+        words: "run --set @/set.toml --script @/up.script --dip 0 --source @/inputs.asm",
+        left: &[("f.ppm", Left::Image(&GREEN_TILE))],
+        ..READING
+    },
+    Line {
+        words: "run --set @/set.toml --dip=201 --script @/up.script --source @/inputs.asm",
+        left: &[("f.ppm", Left::Image(&GREEN_AND_RED))],
+        ..READING
+    },];
+
 #[test]
-fn words_that_are_no_command_line(rt: HostRuntime) -> io::Result<()> {
-    lay_set(&rt, "words")?;
-    for line in [
-        "",
-        "first @/cell.asm",
-        "asm @/cell.asm --rom @/f.ppm",
-        "asm @/cell.asm --rom @/f.ppm --listing @/l.txt @/l.txt",
-        "dis",
-        "dis @/set.toml @/set.toml",
-        "run --set @/set.toml --script @/one.script --frames @/f.ppm --wave @/w.wav",
-        "run --set @/set.toml --script @/one.script --frames @/f.ppm --wave @/w.wav --listing @/l.txt --dip 256",
-        "run --set @/set.toml --script @/one.script --frames @/f.ppm --wave @/w.wav --listing @/l.txt --dip -1",
-        "run --set @/set.toml --set @/set.toml --script @/one.script --frames @/f.ppm --wave @/w.wav --listing @/l.txt",
-        "debug --set @/set.toml --script @/one.script --frames @/f.ppm --wave @/w.wav --listing @/l.txt",
-    ] {
-        let console = Console::new(rt.alloc(), 400)?;
-        let words = words_of(rt.alloc(), "words", line)?;
-        assert_eq!(rt; run_words(&rt, &console, &words), 2, "{line}");
-        assert!(rt; console.has_error_alone(), "{line}");
-    }
-    assert!(rt; none_is_there(&rt, "words"));
-    fs::remove_dir_all(&rt, "words")
+fn inputs_and_switches(rt: HostRuntime) {
+    hold_over_set(&rt, "held", READINGS);
 }
 
-// Source, manifest, script, then the manifest's files in the order of the parts; nothing is created before all is read.
+/// A board that stops at its first step.
+const STOPPED: &[Line] = &[Line {
+    files: &[
+        ("stop.asm", b"DEFB 0CBH,30H"),
+        ("two.script", b"2 -"),
+    ],
+    words: "run --source @/stop.asm --set @/set.toml --script @/two.script",
+    status: 5,
+    output: &["frames 0 of 2\nsteps 0 ticks 0\nstop S1 at 0000 bytes CB 30 00 00\n"],
+    left: &[("f.ppm", Left::Bytes(b"")), ("w.wav", Left::Length(6_380))],
+    ..RUN
+}];
+
 #[test]
-fn files_that_cannot_be_read(rt: HostRuntime) -> io::Result<()> {
-    lay_set(&rt, "unread")?;
-    lay(&rt, "unread", "fault.asm", b"LD A,256\n")?;
-    lay(
-        &rt,
-        "unread",
-        "none.toml",
-        b"tiles.file = 'none.rom'\nwave.file = '/none.prom'\nsprites.file = 'no/tiles.rom'\n",
-    )?;
-    lay(
-        &rt,
-        "unread",
-        "wave.toml",
-        b"tiles.file = 'tiles.rom'\nwave.file = '/none.prom'\n",
-    )?;
-    for (words, error) in [
-        (
-            "--source @/none.asm --set @/no.toml --script @/no.script",
-            "read fault unread/none.asm\n",
-        ),
-        (
-            "--source @/fault.asm --set @/no.toml --script @/no.script",
-            "read fault unread/no.toml\n",
-        ),
-        (
-            "--source . --set @/no.toml --script @/no.script",
-            "read fault .\n",
-        ),
-        (
-            "--set @/none.toml --script @/no.script",
-            "read fault unread/no.script\n",
-        ),
-        (
-            "--source @/fault.asm --set @/none.toml --script @/one.script",
-            "read fault none.rom\n",
-        ),
-        (
-            "--set @/wave.toml --script @/one.script",
-            "read fault /none.prom\n",
-        ),
-    ] {
-        expect_run(&rt, "unread", words, 3, "", error)?;
-    }
-    assert!(rt; none_is_there(&rt, "unread"));
-    fs::remove_dir_all(&rt, "unread")
+fn a_stopped_board(rt: HostRuntime) {
+    hold_over_set(&rt, "stopped", STOPPED);
 }
 
-// The first fault of source, set and script is told, and the outputs are there, empty.
+/// Words that are no command line.
+const NO_COMMAND: Line = Line {
+status: 2,
+error: ANY_TEXT,
+left: NONE,
+..LINE
+};
+
+/// A run with these further words.
+const NO_RUN: Line = Line {
+words: "run --set @/set.toml --script @/one.script --frames @/f.ppm --wave @/w.wav",
+..NO_COMMAND
+};
+
+/// Command lines of no kind.
+const NO_COMMANDS: &[Line] = &[
+    NO_COMMAND,
+    Line {
+        words: "first @/cell.asm",
+        ..NO_COMMAND
+    },
+    Line {
+        words: "asm @/cell.asm --rom @/f.ppm",
+        ..NO_COMMAND
+    },
+    Line {
+        words: "asm @/cell.asm --rom @/f.ppm --listing @/l.txt @/l.txt",
+        ..NO_COMMAND
+    },
+    Line {
+        words: "dis",
+        ..NO_COMMAND
+    },
+    Line {
+        words: "dis @/set.toml @/set.toml",
+        ..NO_COMMAND
+    },
+    NO_RUN,
+    Line {
+        outputs: "--listing @/l.txt --dip 256",
+        ..NO_RUN
+    },
+    Line {
+        outputs: "--listing @/l.txt --dip -1",
+        ..NO_RUN
+    },
+    Line {
+        words: "run --set @/set.toml --set @/set.toml --script @/one.script",
+        outputs: OUTPUTS,
+        ..NO_COMMAND
+    },
+    Line {
+        words: "debug --set @/set.toml --script @/one.script",
+        outputs: OUTPUTS,
+        ..NO_COMMAND
+    },];
+
 #[test]
-fn inputs_that_are_refused(rt: HostRuntime) -> io::Result<()> {
-    lay_set(&rt, "refused")?;
-    lay(&rt, "refused", "fault.asm", b"NOP\nLD A,2B\n")?;
-    lay(&rt, "refused", "far.asm", b"LD A,256\n")?;
-    lay(&rt, "refused", "form.toml", b"tiles = 3\n")?;
-    lay(&rt, "refused", "bad.script", b"1 -\n1 up\n")?;
-    lay(
-        &rt,
-        "refused",
-        "digest.toml",
-        b"colours.file = 'colours.prom'
+fn words_that_are_no_command_line(rt: HostRuntime) {
+    hold_over_set(&rt, "words", NO_COMMANDS);
+}
+
+/// A run whose files can't all be read.
+const UNREAD: Line = Line {
+    files: &[
+        ("fault.asm", b"LD A,256\n"),
+        (
+            "none.toml",
+            b"tiles.file = 'none.rom'\nwave.file = '/none.prom'\nsprites.file = 'no/tiles.rom'\n",
+        ),
+        (
+            "wave.toml",
+            b"tiles.file = 'tiles.rom'\nwave.file = '/none.prom'\n",
+        ),
+    ],
+    status: 3,
+    left: NONE,
+    ..RUN
+};
+
+/// Source, manifest, script, then the manifest's files in the order of the parts; nothing is created before all is read.
+const UNREADABLE: &[Line] = &[
+    Line {
+        words: "run --source @/none.asm --set @/no.toml --script @/no.script",
+        error: "read fault unread/none.asm\n",
+        ..UNREAD
+    },
+    Line {
+        words: "run --source @/fault.asm --set @/no.toml --script @/no.script",
+        error: "read fault unread/no.toml\n",
+        ..UNREAD
+    },
+    Line {
+        words: "run --source . --set @/no.toml --script @/no.script",
+        error: "read fault .\n",
+        ..UNREAD
+    },
+    Line {
+        words: "run --set @/none.toml --script @/no.script",
+        error: "read fault unread/no.script\n",
+        ..UNREAD
+    },
+    Line {
+        words: "run --source @/fault.asm --set @/none.toml --script @/one.script",
+        error: "read fault none.rom\n",
+        ..UNREAD
+    },
+    Line {
+        words: "run --set @/wave.toml --script @/one.script",
+        error: "read fault /none.prom\n",
+        ..UNREAD
+    },];
+
+#[test]
+fn files_that_cannot_be_read(rt: HostRuntime) {
+    hold_over_set(&rt, "unread", UNREADABLE);
+}
+
+/// A run whose source, set or script is refused, over a file of an older one.
+const REFUSED: Line = Line {
+    files: &[
+        ("fault.asm", b"NOP\nLD A,2B\n"),
+        ("far.asm", b"LD A,256\n"),
+        ("form.toml", b"tiles = 3\n"),
+        ("bad.script", b"1 -\n1 up\n"),
+        (
+            "digest.toml",
+            b"colours.file = 'colours.prom'
 lookup.file = 'lookup.prom'
 sprites.file = 'sprites.rom'
 wave.file = 'wave.prom'
@@ -228,210 +253,317 @@ wave.file = 'wave.prom'
 file = 'tiles.rom'
 sha1 = '0000000000000000000000000000000000000000'
 ",
-    )?;
-    lay(
-        &rt,
-        "refused",
-        "size.toml",
-        b"tiles.file = 'wave.prom'
+        ),
+        (
+            "size.toml",
+            b"tiles.file = 'wave.prom'
 colours.file = 'colours.prom'
 lookup.file = 'lookup.prom'
 sprites.file = 'sprites.rom'
 wave.file = 'wave.prom'
 ",
-    )?;
-    for (words, error) in [
-        (
-            "--source @/fault.asm --set @/form.toml --script @/bad.script",
-            "refused A1 L2 line 2\n",
         ),
-        (
-            "--source @/far.asm --set @/form.toml --script @/bad.script",
-            "refused A9 line 1\n",
-        ),
-        (
-            "--source @/cell.asm --set @/form.toml --script @/bad.script",
-            "refused M1\n",
-        ),
-        (
-            "--source @/cell.asm --set @/whole.toml --script @/bad.script",
-            "refused M6\n",
-        ),
-        (
-            "--set @/set.toml --script @/bad.script",
-            "refused M2 program1\n",
-        ),
-        (
-            "--source @/cell.asm --set @/digest.toml --script @/bad.script",
-            "refused M4 tiles\n",
-        ),
-        (
-            "--source @/cell.asm --set @/size.toml --script @/bad.script",
-            "refused M3 tiles\n",
-        ),
-        (
-            "--source @/cell.asm --set @/set.toml --script @/bad.script",
-            "refused I1 line 2\n",
-        ),
-    ] {
-        lay(&rt, "refused", "f.ppm", b"an old picture")?;
-        expect_run(&rt, "refused", words, 1, "", error)?;
-        assert!(rt; are_empty(&rt, "refused")?, "{words}");
-    }
-    fs::remove_dir_all(&rt, "refused")
-}
+        ("f.ppm", b"an old picture"),
+    ],
+    status: 1,
+    left: EMPTY,
+    ..RUN
+};
 
-// The outputs are created in the order frames, wave, listing, before anything is refused.
-#[test]
-fn outputs_that_cannot_be_created(rt: HostRuntime) -> io::Result<()> {
-    lay_set(&rt, "closed")?;
-    lay(&rt, "closed", "fault.asm", b"LD A,256\n")?;
-    for (outputs, output) in [
-        ("--frames @/no/f --wave @/no/w --listing @/no/l", "frames"),
-        ("--wave @/no/w --listing @/no/l --frames @/f.ppm", "wave"),
-        ("--frames @/f.ppm --wave @/w.wav --listing .", "listing"),
-    ] {
-        let line = format!(in rt.alloc();
-            "run --source @/fault.asm --set @/set.toml --script @/one.script {outputs}"
-        )?;
-        let error = format!(in rt.alloc(); "write fault {output} after 0 bytes\n")?;
-        expect(&rt, "closed", &line, 3, "", &error)?;
-    }
-    assert!(rt; !is_there(&rt, "closed", "l.txt"));
-    fs::remove_dir_all(&rt, "closed")
-}
+/// The first fault of source, set and script is told, and the outputs are there, empty.
+const REFUSALS: &[Line] = &[
+    Line {
+        words: "run --source @/fault.asm --set @/form.toml --script @/bad.script",
+        error: "refused A1 L2 line 2\n",
+        ..REFUSED
+    },
+    Line {
+        words: "run --source @/far.asm --set @/form.toml --script @/bad.script",
+        error: "refused A9 line 1\n",
+        ..REFUSED
+    },
+    Line {
+        words: "run --source @/cell.asm --set @/form.toml --script @/bad.script",
+        error: "refused M1\n",
+        ..REFUSED
+    },
+    Line {
+        words: "run --source @/cell.asm --set @/whole.toml --script @/bad.script",
+        error: "refused M6\n",
+        ..REFUSED
+    },
+    Line {
+        words: "run --set @/set.toml --script @/bad.script",
+        error: "refused M2 program1\n",
+        ..REFUSED
+    },
+    Line {
+        words: "run --source @/cell.asm --set @/digest.toml --script @/bad.script",
+        error: "refused M4 tiles\n",
+        ..REFUSED
+    },
+    Line {
+        words: "run --source @/cell.asm --set @/size.toml --script @/bad.script",
+        error: "refused M3 tiles\n",
+        ..REFUSED
+    },
+    Line {
+        words: "run --source @/cell.asm --set @/set.toml --script @/bad.script",
+        error: "refused I1 line 2\n",
+        ..REFUSED
+    },];
 
 #[test]
-fn writes_that_are_refused(rt: HostRuntime) -> io::Result<()> {
-    lay_set(&rt, "cut")?;
-    let inputs = "run --source @/cell.asm --set @/set.toml --script @/one.script";
-    for (outputs, output) in [
-        (
-            "--frames /dev/full --wave @/w.wav --listing @/l.txt",
-            "frames",
-        ),
-        (
-            "--frames @/f.ppm --wave @/w.wav --listing /dev/full",
-            "listing",
-        ),
-        (
-            "--frames @/f.ppm --wave /dev/full --listing @/l.txt",
-            "wave",
-        ),
-    ] {
-        let line = format!(in rt.alloc(); "{inputs} {outputs}")?;
-        let error = format!(in rt.alloc(); "write fault {output} after 0 bytes\n")?;
-        expect(&rt, "cut", &line, 3, "", &error)?;
-    }
-    // the wave's header was refused, before the first frame and after the listing
-    assert!(rt; bytes_of(&rt, "cut", "f.ppm")?.is_empty());
-    assert!(rt; bytes_of(&rt, "cut", "l.txt")?.as_slice() == CELL_LISTING.as_bytes());
-    let line = format!(in rt.alloc(); "{inputs} {OUTPUTS}")?;
-    let words = words_of(rt.alloc(), "cut", &line)?;
-    for room in [0, 1, 30, 46] {
-        let console = Console::new(rt.alloc(), room)?;
-        assert_eq!(rt; run_words(&rt, &console, &words), 3);
-        let error = format!(in rt.alloc(); "write fault report after {room} bytes\n")?;
-        assert!(rt; console.has(&CELL_REPORT[..room], &error), "{room}");
-    }
-    fs::remove_dir_all(&rt, "cut")
+fn inputs_that_are_refused(rt: HostRuntime) {
+    hold_over_set(&rt, "refused", REFUSALS);
 }
 
-#[test]
-fn files_have_a_size(rt: HostRuntime) -> io::Result<()> {
-    lay_set(&rt, "sized")?;
-    let mut most = vec![in rt.alloc(); b'\n'; 16_777_216]?;
-    lay(&rt, "sized", "most.asm", &most)?;
-    let line = "asm @/most.asm --rom @/r.rom --listing @/l.txt";
-    expect(&rt, "sized", line, 1, "", "refused A7 line 65536\n")?;
-    most.push(b'\n')?;
-    lay(&rt, "sized", "most.asm", &most)?;
-    expect(&rt, "sized", line, 3, "", "read fault sized/most.asm\n")?;
-    fs::remove_dir_all(&rt, "sized")
-}
+/// A run of a source that has a fault, one output of which can't be created.
+const CLOSED: Line = Line {
+    files: &[("fault.asm", b"LD A,256\n")],
+    words: "run --source @/fault.asm --set @/set.toml --script @/one.script",
+    status: 3,
+    left: &[("l.txt", Left::Absent)],
+    ..LINE
+};
+
+/// The outputs are created in the order frames, wave, listing, before anything is refused.
+const CLOSED_OUTPUTS: &[Line] = &[
+    Line {
+        outputs: "--frames @/no/f --wave @/no/w --listing @/no/l",
+        error: "write fault frames after 0 bytes\n",
+        ..CLOSED
+    },
+    Line {
+        outputs: "--wave @/no/w --listing @/no/l --frames @/f.ppm",
+        error: "write fault wave after 0 bytes\n",
+        ..CLOSED
+    },
+    Line {
+        outputs: "--frames @/f.ppm --wave @/w.wav --listing .",
+        error: "write fault listing after 0 bytes\n",
+        ..CLOSED
+    },];
 
 #[test]
-fn an_assembled_file(rt: HostRuntime) -> io::Result<()> {
-    lay_set(&rt, "made")?;
-    lay(&rt, "made", "fault.asm", b"NOP\nJP WHO\n")?;
-    let line = "asm @/cell.asm --rom @/r.rom --listing @/l.txt";
-    expect(&rt, "made", line, 0, "", "")?;
-    let rom = bytes_of(&rt, "made", "r.rom")?;
-    assert_eq!(rt; rom.len(), 16_384);
-    assert!(rt; rom.starts_with(&[0x3E, 0x42, 0x32, 0x40, 0x40, 0x76]));
-    assert!(rt; rom.iter().skip(6).all(|byte| *byte == 0));
-    assert!(rt; bytes_of(&rt, "made", "l.txt")?.as_slice() == CELL_LISTING.as_bytes());
-    for (line, status, error) in [
-        (
-            "asm @/fault.asm --rom @/r.rom --listing @/l.txt",
-            1,
-            "refused A8 line 2\n",
-        ),
-        (
-            "asm @/none.asm --rom @/r.rom --listing @/l.txt",
-            3,
-            "read fault made/none.asm\n",
-        ),
-        (
-            "asm @/fault.asm --rom @/no/r --listing @/no/l",
-            3,
-            "write fault rom after 0 bytes\n",
-        ),
-        (
-            "asm @/fault.asm --rom @/r.rom --listing @/no/l",
-            3,
-            "write fault listing after 0 bytes\n",
-        ),
-        (
-            "asm @/cell.asm --rom /dev/full --listing @/l.txt",
-            3,
-            "write fault rom after 0 bytes\n",
-        ),
-        (
-            "asm @/cell.asm --rom @/r.rom --listing /dev/full",
-            3,
-            "write fault listing after 0 bytes\n",
-        ),
-    ] {
-        expect(&rt, "made", line, status, "", error)?;
-    }
-    assert!(rt; bytes_of(&rt, "made", "l.txt")?.is_empty());
-    fs::remove_dir_all(&rt, "made")
+fn outputs_that_cannot_be_created(rt: HostRuntime) {
+    hold_over_set(&rt, "closed", CLOSED_OUTPUTS);
 }
 
+/// A run of which something isn't taken.
+const CUT: Line = Line {
+    words: "run --source @/cell.asm --set @/set.toml --script @/one.script",
+    status: 3,
+    ..RUN
+};
+
+/// The wave's header is refused before the first frame and after the listing.
+const CUTS: &[Line] = &[
+    Line {
+        outputs: "--frames /dev/full --wave @/w.wav --listing @/l.txt",
+        error: "write fault frames after 0 bytes\n",
+        ..CUT
+    },
+    Line {
+        outputs: "--frames @/f.ppm --wave @/w.wav --listing /dev/full",
+        error: "write fault listing after 0 bytes\n",
+        ..CUT
+    },
+    Line {
+        outputs: "--frames @/f.ppm --wave /dev/full --listing @/l.txt",
+        error: "write fault wave after 0 bytes\n",
+        left: &[
+            ("f.ppm", Left::Bytes(b"")),
+            ("l.txt", Left::Bytes(CELL_LISTING)),
+        ],
+        ..CUT
+    },
+    Line {
+        room: 0,
+        error: "write fault report after 0 bytes\n",
+        ..CUT
+    },
+    Line {
+        room: 1,
+        output: &["f"],
+        error: "write fault report after 1 bytes\n",
+        ..CUT
+    },
+    Line {
+        room: 30,
+        output: &["frames 1 of 1\nsteps 12669 tick"],
+        error: "write fault report after 30 bytes\n",
+        ..CUT
+    },
+    Line {
+        room: 46,
+        output: &["frames 1 of 1\nsteps 12669 ticks 50688\nend done"],
+        error: "write fault report after 46 bytes\n",
+        ..CUT
+    },];
+
 #[test]
-fn a_disassembled_file(rt: HostRuntime) -> io::Result<()> {
-    lay_set(&rt, "told")?;
-    for (bytes, text) in [
-        (
-            [0x3E, 0x42, 0x32, 0x40, 0x40, 0x76].as_slice(),
+fn writes_that_are_refused(rt: HostRuntime) {
+    hold_over_set(&rt, "cut", CUTS);
+}
+
+/// A source of the most bytes, and one of a byte more.
+const SIZES: &[Line] = &[
+    Line {
+        words: "asm @/most.asm --rom @/r.rom --listing @/l.txt",
+        status: 1,
+        error: "refused A7 line 65536\n",
+        ..LINE
+    },
+    Line {
+        words: "asm @/more.asm --rom @/r.rom --listing @/l.txt",
+        status: 3,
+        error: "read fault sized/more.asm\n",
+        ..LINE
+    },];
+
+#[test]
+fn files_have_a_size(rt: HostRuntime) {
+    assert!(rt; lay_set(&rt, "sized"));
+    assert!(rt; lay_many(&rt, "sized", "most.asm", b'\n', 16_777_216));
+    assert!(rt; lay_many(&rt, "sized", "more.asm", b'\n', 16_777_217));
+    hold(&rt, "sized", SIZES);
+    assert!(rt; fs::remove_dir_all(&rt, "sized").is_ok());
+}
+
+/// A source that isn't assembled.
+const UNMADE: Line = Line {
+    files: &[("fault.asm", b"NOP\nJP WHO\n")],
+    status: 3,
+    ..LINE
+};
+
+/// A source that is assembled, and those that aren't.
+const ASSEMBLED: &[Line] = &[
+    Line {
+        words: "asm @/cell.asm --rom @/r.rom --listing @/l.txt",
+        left: &[
+            (
+                "r.rom",
+                Left::Program(&[0x3E, 0x42, 0x32, 0x40, 0x40, 0x76]),
+            ),
+            ("l.txt", Left::Bytes(CELL_LISTING)),
+        ],
+        ..LINE
+    },
+    Line {
+        words: "asm @/fault.asm --rom @/r.rom --listing @/l.txt",
+        status: 1,
+        error: "refused A8 line 2\n",
+        ..UNMADE
+    },
+    Line {
+        words: "asm @/none.asm --rom @/r.rom --listing @/l.txt",
+        error: "read fault made/none.asm\n",
+        ..UNMADE
+    },
+    Line {
+        words: "asm @/fault.asm --rom @/no/r --listing @/no/l",
+        error: "write fault rom after 0 bytes\n",
+        ..UNMADE
+    },
+    Line {
+        words: "asm @/fault.asm --rom @/r.rom --listing @/no/l",
+        error: "write fault listing after 0 bytes\n",
+        ..UNMADE
+    },
+    Line {
+        words: "asm @/cell.asm --rom /dev/full --listing @/l.txt",
+        error: "write fault rom after 0 bytes\n",
+        ..UNMADE
+    },
+    Line {
+        words: "asm @/cell.asm --rom @/r.rom --listing /dev/full",
+        error: "write fault listing after 0 bytes\n",
+        left: &[("l.txt", Left::Bytes(b""))],
+        ..UNMADE
+    },];
+
+#[test]
+fn an_assembled_file(rt: HostRuntime) {
+    hold_over_set(&rt, "made", ASSEMBLED);
+}
+
+/// A disassembly of the file `code`.
+const DIS: Line = Line {
+    words: "dis @/code",
+    ..LINE
+};
+
+/// Files that are disassembled.
+const DISASSEMBLED: &[Line] = &[
+    Line {
+        files: &[("code", &[0x3E, 0x42, 0x32, 0x40, 0x40, 0x76])],
+        output: &[
             "0000 3E42     LD A,42H\n0002 324040   LD (4040H),A\n0005 76       HALT\n",
-        ),
-        (
-            &[0xDD, 0x24],
-            "0000 DD       DEFB 0DDH\n0001 24       INC H\n",
-        ),
-        (&[0xED, 0x6B, 0x34, 0x12], "0000 ED6B3412 LD HL,(1234H)\n"),
-        (&[0xFD, 0xCB, 0xFD, 0x46], "0000 FDCBFD46 BIT 0,(IY-03H)\n"),
-        (
-            &[0x76, 0x3E],
-            "0000 76       HALT\n0001 3E       DEFB 3EH\n",
-        ),
-    ] {
-        lay(&rt, "told", "code", bytes)?;
-        expect(&rt, "told", "dis @/code", 0, text, "")?;
-    }
-    lay(&rt, "told", "code", b"")?;
-    expect(&rt, "told", "dis @/code", 1, "", "refused X1\n")?;
-    let above = vec![in rt.alloc(); 0u8; 65_537]?;
-    lay(&rt, "told", "code", &above)?;
-    expect(&rt, "told", "dis @/code", 1, "", "refused X1\n")?;
-    expect(&rt, "told", "dis @/none", 3, "", "read fault told/none\n")?;
-    lay(&rt, "told", "code", &above[1..])?;
-    let console = Console::new(rt.alloc(), 30)?;
-    let words = words_of(rt.alloc(), "told", "dis @/code")?;
-    assert_eq!(rt; run_words(&rt, &console, &words), 3);
-    let text = "0000 00       NOP\n0001 00      ";
-    assert!(rt; console.has(&text[..30], "write fault text after 30 bytes\n"));
-    fs::remove_dir_all(&rt, "told")
+        ],
+        ..DIS
+    },
+    Line {
+        files: &[("code", &[0xDD, 0x24])],
+        output: &["0000 DD       DEFB 0DDH\n0001 24       INC H\n"],
+        ..DIS
+    },
+    Line {
+        files: &[("code", &[0xED, 0x6B, 0x34, 0x12])],
+        output: &["0000 ED6B3412 LD HL,(1234H)\n"],
+        ..DIS
+    },
+    Line {
+        files: &[("code", &[0xFD, 0xCB, 0xFD, 0x46])],
+        output: &["0000 FDCBFD46 BIT 0,(IY-03H)\n"],
+        ..DIS
+    },
+    Line {
+        files: &[("code", &[0x76, 0x3E])],
+        output: &["0000 76       HALT\n0001 3E       DEFB 3EH\n"],
+        ..DIS
+    },
+    Line {
+        files: &[("code", b"")],
+        status: 1,
+        error: "refused X1\n",
+        ..DIS
+    },
+    Line {
+        words: "dis @/none",
+        status: 3,
+        error: "read fault told/none\n",
+        ..LINE
+    },];
+
+#[test]
+fn a_disassembled_file(rt: HostRuntime) {
+    hold_over_set(&rt, "told", DISASSEMBLED);
+}
+
+/// As many bytes as there are addresses are told, as far as the console takes them; one more isn't.
+const LONG: &[Line] = &[
+    Line {
+        words: "dis @/more",
+        status: 1,
+        error: "refused X1\n",
+        ..LINE
+    },
+    Line {
+        words: "dis @/most",
+        room: 30,
+        status: 3,
+        output: &["0000 00       NOP\n0001 00     "],
+        error: "write fault text after 30 bytes\n",
+        ..LINE
+    },];
+
+#[test]
+fn a_long_disassembled_file(rt: HostRuntime) {
+    assert!(rt; lay_set(&rt, "long"));
+    assert!(rt; lay_many(&rt, "long", "more", 0, 65_537));
+    assert!(rt; lay_many(&rt, "long", "most", 0, 65_536));
+    hold(&rt, "long", LONG);
+    assert!(rt; fs::remove_dir_all(&rt, "long").is_ok());
 }

@@ -1,69 +1,198 @@
 //! Folders with the files of a set, and command lines that are run over them.
 
 use crate::console::Console;
-use crate::set::{Files, PROGRAM_TABLES, TABLES, WAVE_TABLE};
+use crate::picture::Picture;
+use crate::set::{Files, SET, Tables, WHOLE_SET, text_of};
 use pac_command::run_words;
 use std::alloc::{AllocError, Global};
 use std::process::Abort;
-use std::{fs, io, rt};
+use std::{fs, rt};
 
-/// Lays a file into a folder.
-pub fn lay(
+/// What a file of a folder has.
+#[derive(Clone, Copy)]
+pub enum Left {
+    /// There is no such file.
+    Absent,
+    /// These bytes.
+    Bytes(&'static [u8]),
+    /// So many bytes.
+    Length(usize),
+    /// These bytes, and then 0 up to 16,384 bytes.
+    Program(&'static [u8]),
+    /// An image of this picture.
+    Image(&'static Picture),
+    /// The bytes of another file of the folder.
+    Like(&'static str),
+}
+
+/// Files of a folder, by their names.
+pub type Named = &'static [(&'static str, &'static [u8])];
+
+/// A command line over a folder, and what it comes to.
+#[derive(Clone, Copy)]
+pub struct Line {
+    /// Files that are laid into the folder before it.
+    pub files: Named,
+    /// Its words after the program's name, parted by blanks; `@` is the folder.
+    pub words: &'static str,
+    /// Further words, likewise.
+    pub outputs: &'static str,
+    /// The bytes that standard output takes.
+    pub room: usize,
+    /// The exit status.
+    pub status: u8,
+    /// What standard output has then, as pieces.
+    pub output: &'static [&'static str],
+    /// What standard error has; `ANY_TEXT` for any but none.
+    pub error: &'static str,
+    /// What files have after it.
+    pub left: &'static [(&'static str, Left)],
+}
+
+/// Any text but none.
+pub const ANY_TEXT: &str = "*";
+
+/// A line without words, that is done and tells nothing.
+pub const LINE: Line = Line {
+    files: &[],
+    words: "",
+    outputs: "",
+    room: 400,
+    status: 0,
+    output: &[],
+    error: "",
+    left: &[],
+};
+
+/// Lays a file into a folder; whether it could.
+fn lay(
     rt: &(impl rt::Files + AllocGlobal),
     folder: &str,
     name: &str,
     bytes: &[u8],
-) -> io::Result<()> {
-    let path = format!(in rt.alloc(); "{folder}/{name}")?;
-    fs::write(rt, path.as_str(), bytes)
-}
-
-/// Makes a folder with the files of the set; `set.toml` names all but a program, `whole.toml` the program too.
-pub fn lay_set(rt: &(impl rt::Files + AllocGlobal), folder: &str) -> io::Result<()> {
-    let _ = fs::remove_dir_all(rt, folder);
-    fs::create_dir(rt, folder)?;
-    let files = Files::new(rt.alloc())?;
-    for part in files.parts() {
-        lay(rt, folder, part.name, part.bytes)?;
+) -> bool {
+    match format!(in rt.alloc(); "{folder}/{name}") {
+        Ok(path) => fs::write(rt, path.as_str(), bytes).is_ok(),
+        Err(_) => false,
     }
-    let manifest = format!(in rt.alloc(); "{TABLES}{WAVE_TABLE}")?;
-    lay(rt, folder, "set.toml", manifest.as_bytes())?;
-    let whole = format!(in rt.alloc(); "{TABLES}{WAVE_TABLE}{PROGRAM_TABLES}")?;
-    lay(rt, folder, "whole.toml", whole.as_bytes())?;
-    lay(rt, folder, "cell.asm", b"LD A,42H\nLD (4040H),A\nHALT\n")?;
-    lay(rt, folder, "one.script", b"1 -\n")
 }
 
-/// The words of a command line, which blanks part, after the program's name; `@` in a word is the folder.
-pub fn words_of(alloc: Global, folder: &str, line: &str) -> Result<Vec<String>, AllocError> {
-    let mut words = Vec::new(alloc);
-    words.push(String::from_str(alloc, "pacboard")?)?;
-    for word in line.split(' ') {
+/// Lays a file of so many bytes, all of them this one; whether it could.
+pub fn lay_many(
+    rt: &(impl rt::Files + AllocGlobal),
+    folder: &str,
+    name: &str,
+    byte: u8,
+    count: usize,
+) -> bool {
+    match vec![in rt.alloc(); byte; count] {
+        Ok(bytes) => lay(rt, folder, name, &bytes),
+        Err(_) => false,
+    }
+}
+
+/// Lays files; whether it could.
+fn lay_all(
+    rt: &(impl rt::Files + AllocGlobal),
+    folder: &str,
+    files: &[(&str, &[u8])],
+) -> bool {
+    files.iter().all(|(name, bytes)| lay(rt, folder, name, bytes))
+}
+
+/// Lays the files of the set's parts; whether it could.
+fn lay_parts(rt: &(impl rt::Files + AllocGlobal), folder: &str) -> bool {
+    let files = Files::new();
+    files
+        .parts()
+        .iter()
+        .all(|part| lay(rt, folder, part.name, part.bytes))
+}
+
+/// Lays a manifest; whether it could.
+fn lay_manifest(
+    rt: &(impl rt::Files + AllocGlobal),
+    folder: &str,
+    name: &str,
+    tables: &Tables,
+) -> bool {
+    match text_of(rt.alloc(), tables) {
+        Ok(text) => lay(rt, folder, name, text.as_bytes()),
+        Err(_) => false,
+    }
+}
+
+/// What lies in each folder beside the set.
+const INPUTS: Named = &[
+    ("cell.asm", b"LD A,42H\nLD (4040H),A\nHALT\n"),
+    ("one.script", b"1 -\n"),
+];
+
+/// Makes a folder with the files of the set; `set.toml` names all but a program, `whole.toml` the program too. Whether it
+/// could.
+pub fn lay_set(rt: &(impl rt::Files + AllocGlobal), folder: &str) -> bool {
+    let _ = fs::remove_dir_all(rt, folder);
+    fs::create_dir(rt, folder).is_ok()
+        && lay_parts(rt, folder)
+        && lay_manifest(rt, folder, "set.toml", &SET)
+        && lay_manifest(rt, folder, "whole.toml", &WHOLE_SET)
+        && lay_all(rt, folder, INPUTS)
+}
+
+/// Adds the words of a text, which blanks part, with the folder for each `@`.
+fn add_words(
+    alloc: Global,
+    words: &mut Vec<String>,
+    folder: &str,
+    text: &str,
+) -> Result<(), AllocError> {
+    for word in text.split(' ') {
         if !word.is_empty() {
             words.push(word.replace(alloc, "@", folder)?)?;
         }
     }
-    Ok(words)
-}
-
-/// Runs a command line over a folder and compares its status and what it prints.
-pub fn expect(
-    rt: &(impl rt::Files + AllocGlobal + Abort),
-    folder: &str,
-    line: &str,
-    status: u8,
-    output: &str,
-    error: &str,
-) -> io::Result<()> {
-    let console = Console::new(rt.alloc(), 400)?;
-    let words = words_of(rt.alloc(), folder, line)?;
-    assert_eq!(rt; run_words(rt, &console, &words), status, "{line}");
-    assert!(rt; console.has(output, error), "{line}");
     Ok(())
 }
 
-/// Whether a folder has a file of this name.
-pub fn is_there(rt: &(impl rt::Files + AllocGlobal), folder: &str, name: &str) -> bool {
+/// The words of a command line, the program's name first.
+pub fn words_of(
+    alloc: Global,
+    folder: &str,
+    first: &str,
+    second: &str,
+) -> Result<Vec<String>, AllocError> {
+    let mut words = Vec::new(alloc);
+    add_words(alloc, &mut words, "", "pacboard")?;
+    add_words(alloc, &mut words, folder, first)?;
+    add_words(alloc, &mut words, folder, second)?;
+    Ok(words)
+}
+
+/// Runs the program with these words; its exit status.
+pub fn status_of(
+    rt: &(impl rt::Files + AllocGlobal),
+    console: &Console,
+    words: &[String],
+) -> u8 {
+    run_words(rt, console, words)
+}
+
+/// Whether a line, with these words, comes to its status and prints what it says.
+fn is_answered(
+    rt: &(impl rt::Files + AllocGlobal),
+    line: &Line,
+    words: &[String],
+) -> bool {
+    match Console::new(rt.alloc(), line.room) {
+        Ok(console) => {
+            status_of(rt, &console, words) == line.status && console.has(line.output, line.error)
+        }
+        Err(_) => false,
+    }
+}
+
+/// Whether a file of a folder is there.
+fn is_there(rt: &(impl rt::Files + AllocGlobal), folder: &str, name: &str) -> bool {
     match format!(in rt.alloc(); "{folder}/{name}") {
         Ok(path) => fs::metadata(rt, path.as_str()).is_ok(),
         Err(_) => false,
@@ -71,11 +200,92 @@ pub fn is_there(rt: &(impl rt::Files + AllocGlobal), folder: &str, name: &str) -
 }
 
 /// The bytes of a folder's file.
-pub fn bytes_of(
+fn bytes_of(
     rt: &(impl rt::Files + AllocGlobal),
     folder: &str,
     name: &str,
-) -> io::Result<Vec<u8>> {
-    let path = format!(in rt.alloc(); "{folder}/{name}")?;
-    fs::read(rt, path.as_str())
+) -> Option<Vec<u8>> {
+    match format!(in rt.alloc(); "{folder}/{name}") {
+        Ok(path) => fs::read(rt, path.as_str()).ok(),
+        Err(_) => None,
+    }
+}
+
+/// Whether a folder's file has these bytes.
+fn has_bytes(
+    rt: &(impl rt::Files + AllocGlobal),
+    folder: &str,
+    name: &str,
+    bytes: &[u8],
+) -> bool {
+    match bytes_of(rt, folder, name) {
+        Some(found) => found.as_slice() == bytes,
+        None => false,
+    }
+}
+
+/// Whether bytes are what a file is said to have, among the files of a folder.
+fn are_left(
+    rt: &(impl rt::Files + AllocGlobal),
+    folder: &str,
+    bytes: &[u8],
+    left: &Left,
+) -> bool {
+    match left {
+        Left::Absent => false,
+        Left::Bytes(wanted) => bytes == *wanted,
+        Left::Length(length) => bytes.len() == *length,
+        Left::Program(begun) => {
+            bytes.len() == 16_384
+                && bytes.starts_with(begun)
+                && bytes.iter().skip(begun.len()).all(|byte| *byte == 0)
+        }
+        Left::Image(picture) => picture.is_shown(bytes),
+        Left::Like(other) => has_bytes(rt, folder, other, bytes),
+    }
+}
+
+/// Whether a folder's file has what it is said to have.
+pub fn is_left(
+    rt: &(impl rt::Files + AllocGlobal),
+    folder: &str,
+    name: &str,
+    left: &Left,
+) -> bool {
+    match (left, bytes_of(rt, folder, name)) {
+        (Left::Absent, _) => !is_there(rt, folder, name),
+        (_, Some(bytes)) => are_left(rt, folder, &bytes, left),
+        (_, None) => false,
+    }
+}
+
+/// Whether a line comes to what it says.
+fn holds(rt: &(impl rt::Files + AllocGlobal), folder: &str, line: &Line) -> bool {
+    let Ok(words) = words_of(rt.alloc(), folder, line.words, line.outputs) else {
+        return false;
+    };
+    lay_all(rt, folder, line.files)
+        && is_answered(rt, line, &words)
+        && line
+            .left
+            .iter()
+            .all(|(name, left)| is_left(rt, folder, name, left))
+}
+
+/// Runs command lines over a folder that is there, one after another, and compares what each comes to.
+pub fn hold(rt: &(impl rt::Files + AllocGlobal + Abort), folder: &str, lines: &[Line]) {
+    for line in lines {
+        assert!(rt; holds(rt, folder, line), "{} > {}", line.words, line.error);
+    }
+}
+
+/// Makes a folder with the files of the set, runs command lines over it, and removes it.
+pub fn hold_over_set(
+    rt: &(impl rt::Files + AllocGlobal + Abort),
+    folder: &str,
+    lines: &[Line],
+) {
+    assert!(rt; lay_set(rt, folder));
+    hold(rt, folder, lines);
+    assert!(rt; fs::remove_dir_all(rt, folder).is_ok());
 }

@@ -11,6 +11,10 @@ mod folder;
 #[cfg(test)]
 mod memory;
 #[cfg(test)]
+mod outputs;
+#[cfg(test)]
+mod picture;
+#[cfg(test)]
 mod runs;
 #[cfg(test)]
 mod sessions;

@@ -1,45 +1,60 @@
 //! Want of memory: a command line under every amount of it.
 
 use crate::console::Console;
-use crate::folder::{bytes_of, is_there, lay_set, words_of};
-use pac_command::run_words;
+use crate::folder::{Left, is_left, lay_set, status_of, words_of};
 use pac_scarce::Hoard;
+use std::fs;
 use std::rt::Files;
-use std::{fs, io};
 
 /// The most blocks that a run needs.
 const MOST_BLOCKS: usize = 4000;
 
-/// Whether a folder's file is empty, or isn't there.
-fn has_nothing(rt: &(impl Files + AllocGlobal), folder: &str, name: &str) -> io::Result<bool> {
-    Ok(!is_there(rt, folder, name) || bytes_of(rt, folder, name)?.is_empty())
+/// A run over a folder.
+const WORDS: &str = "run --set @/set.toml --script @/one.script --source @/cell.asm";
+
+/// Its outputs.
+const OUTPUTS: &str = "--frames @/f --wave @/w --listing @/l";
+
+/// Whether a file of the folder is empty, or isn't there.
+fn has_nothing(rt: &(impl Files + AllocGlobal), name: &str) -> bool {
+    is_left(rt, "scarce", name, &Left::Absent) || is_left(rt, "scarce", name, &Left::Bytes(b""))
+}
+
+/// Runs words with a little more memory each time, until all is done; the count of runs before that one, each of which told
+/// that it found no memory, and wrote nothing.
+fn refusals(
+    rt: &(impl Files + AllocGlobal),
+    console: &Console,
+    words: &[String],
+    hoard: &mut Hoard,
+) -> Option<usize> {
+    for turn in 0..MOST_BLOCKS {
+        let status = status_of(rt, console, words);
+        if status == 0 {
+            return Some(turn);
+        }
+        if status != 4 || !has_nothing(rt, "f") || !has_nothing(rt, "l") || !hoard.release() {
+            return None;
+        }
+    }
+    None
+}
+
+/// The same, with no memory at first.
+fn refusals_from_nothing(rt: &(impl Files + AllocGlobal)) -> Option<usize> {
+    let words = words_of(rt.alloc(), "scarce", WORDS, OUTPUTS).ok()?;
+    let console = Console::new(rt.alloc(), 200).ok()?;
+    let mut hoard = Hoard::take(rt.alloc(), MOST_BLOCKS).ok()?;
+    refusals(rt, &console, &words, &mut hoard)
 }
 
 // With no memory, and then with a little more each time, a run tells that it found none and writes nothing, until it is
 // whole.
 #[test]
-fn memory_that_is_refused(rt: HostRuntime) -> io::Result<()> {
-    lay_set(&rt, "scarce")?;
-    let words = words_of(
-        rt.alloc(),
-        "scarce",
-        "run --set @/set.toml --script @/one.script --source @/cell.asm --frames @/f --wave @/w --listing @/l",
-    )?;
-    let console = Console::new(rt.alloc(), 200)?;
-    let mut hoard = Hoard::take(rt.alloc(), MOST_BLOCKS)?;
-    let mut refused = 0;
-    for turn in 0..MOST_BLOCKS {
-        refused = turn;
-        let status = run_words(&rt, &console, &words);
-        if status == 0 {
-            break;
-        }
-        assert_eq!(rt; status, 4, "{turn}");
-        assert!(rt; has_nothing(&rt, "scarce", "f")? && has_nothing(&rt, "scarce", "l")?);
-        assert!(rt; hoard.release());
-    }
-    drop(hoard);
+fn memory_that_is_refused(rt: HostRuntime) {
+    assert!(rt; lay_set(&rt, "scarce"));
+    let refused = refusals_from_nothing(&rt).unwrap_or(0);
     assert!(rt; 50 < refused && refused < MOST_BLOCKS - 1, "{refused}");
-    assert_eq!(rt; bytes_of(&rt, "scarce", "f")?.len(), 193_551);
-    fs::remove_dir_all(&rt, "scarce")
+    assert!(rt; is_left(&rt, "scarce", "f", &Left::Length(193_551)));
+    assert!(rt; fs::remove_dir_all(&rt, "scarce").is_ok());
 }

@@ -1,18 +1,16 @@
-//! The ROM set of the rows as files, with a manifest that names them, and runs of it whose outputs are kept.
+//! The ROM set of the rows: the bytes of its files, and the manifests that name them.
 
 use pac_manifest::Part;
-use pac_out::memory::Memory;
-use pac_run::{Outcome, RunFault, RunInputs, run_all};
 use std::alloc::{AllocError, Global};
 
 /// The byte of the DIP switches as they are set at the factory.
 pub const SWITCHES: u8 = 0xC9;
 
 /// The table of the wave PROM.
-pub const WAVE_TABLE: &str = "[wave]\nfile = 'wave.prom'\n";
+const WAVE_TABLE: &str = "[wave]\nfile = 'wave.prom'\n";
 
 /// The tables of the other parts that each set has.
-pub const TABLES: &str = "[tiles]
+const TABLES: &str = "[tiles]
 file = 'tiles.rom'
 [sprites]
 file = 'sprites.rom'
@@ -23,7 +21,7 @@ file = 'lookup.prom'
 ";
 
 /// The tables of a program, whose four ROMs are alike.
-pub const PROGRAM_TABLES: &str = "[[program]]
+const PROGRAM_TABLES: &str = "[[program]]
 file = 'program.rom'
 [[program]]
 file = 'program.rom'
@@ -33,57 +31,91 @@ file = 'program.rom'
 file = 'program.rom'
 ";
 
+/// A manifest, as the texts that it is joined of.
+pub type Tables = [&'static str; 3];
+
+/// The set without a program.
+pub const SET: Tables = [TABLES, WAVE_TABLE, ""];
+
+/// The set with a program.
+pub const WHOLE_SET: Tables = [TABLES, WAVE_TABLE, PROGRAM_TABLES];
+
+/// A set without a program and without the wave PROM.
+pub const NO_WAVE: Tables = [TABLES, "", ""];
+
+/// A manifest's text.
+pub fn text_of(alloc: Global, [first, second, third]: &Tables) -> Result<String, AllocError> {
+    format!(in alloc; "{first}{second}{third}")
+}
+
 /// The files of the set.
 #[derive(Drop)]
 pub struct Files {
-    program: Vec<u8>,
-    tiles: Vec<u8>,
-    sprites: Vec<u8>,
-    colours: Vec<u8>,
-    lookup: Vec<u8>,
-    wave: Vec<u8>,
+    program: [u8; 4096],
+    tiles: [u8; 4096],
+    sprites: [u8; 4096],
+    colours: [u8; 32],
+    lookup: [u8; 256],
+    wave: [u8; 256],
 }
 
-/// Four pixels of a value, as a byte of the tile or the sprite ROM.
-fn pixels(value: u16) -> u8 {
-    match value % 4 {
-        0 => 0x00,
-        1 => 0x0F,
-        2 => 0xF0,
-        _ => 0xFF,
+/// A file that begins with these bytes, and has 0 after them.
+fn begun<const N: usize>(bytes: &[u8]) -> [u8; N] {
+    let mut file = [0u8; N];
+    for (place, byte) in file.iter_mut().zip(bytes.iter()) {
+        *place = *byte;
     }
+    file
 }
 
-/// Byte i of the lookup PROM: i mod 16, save byte 21, which is 0.
-fn looked_up(place: u8) -> u8 {
-    if place == 21 { 0 } else { place % 16 }
-}
-
-/// Byte i of the wave PROM, of eight waveforms: 0 is all 15, 1 all 0, in each other one sample i is i/2 rounded down.
-fn amplitude(place: u8) -> u8 {
-    match place / 32 {
-        0 => 15,
-        1 => 0,
-        _ => place % 32 / 2,
+/// Pixels of which those of thing t (a tile or a sprite, of so many bytes) are all t mod 4.
+fn pixels(size: usize) -> [u8; 4096] {
+    let mut rom = [0u8; 4096];
+    for (place, byte) in rom.iter_mut().enumerate() {
+        *byte = match place / size % 4 {
+            0 => 0x00,
+            1 => 0x0F,
+            2 => 0xF0,
+            _ => 0xFF,
+        };
     }
+    rom
+}
+
+/// Byte i of the lookup PROM is i mod 16, save byte 21, which is 0.
+fn lookup() -> [u8; 256] {
+    let mut prom = [0u8; 256];
+    for place in 0..=255u8 {
+        prom[place as usize] = if place == 21 { 0 } else { place % 16 };
+    }
+    prom
+}
+
+/// Eight waveforms: 0 is all 15, 1 all 0, in each other one sample i is i/2 rounded down.
+fn wave() -> [u8; 256] {
+    let mut prom = [0u8; 256];
+    for place in 0..=255u8 {
+        prom[place as usize] = match place / 32 {
+            0 => 15,
+            1 => 0,
+            _ => place % 32 / 2,
+        };
+    }
+    prom
 }
 
 impl Files {
     /// Every pixel of tile t is t mod 4, of sprite s s mod 4; the colours are black, red, green, blue, white, dark red,
     /// dark blue, and black for the rest. The program is LD A,42H / LD (4040H),A / HALT.
-    pub fn new(alloc: Global) -> Result<Files, AllocError> {
-        let mut program = Vec::from_slice(alloc, &[0x3E, 0x42, 0x32, 0x40, 0x40, 0x76])?;
-        program.resize(4096, 0)?;
-        let mut colours = Vec::from_slice(alloc, &[0x00, 0x07, 0x38, 0xC0, 0xFF, 0x01, 0x80])?;
-        colours.resize(32, 0)?;
-        Ok(Files {
-            program,
-            tiles: (0..4096u16).map(|place| pixels(place / 16)).collect(alloc)?,
-            sprites: (0..4096u16).map(|place| pixels(place / 64)).collect(alloc)?,
-            colours,
-            lookup: (0..=255u8).map(looked_up).collect(alloc)?,
-            wave: (0..=255u8).map(amplitude).collect(alloc)?,
-        })
+    pub fn new() -> Files {
+        Files {
+            program: begun(&[0x3E, 0x42, 0x32, 0x40, 0x40, 0x76]),
+            tiles: pixels(16),
+            sprites: pixels(64),
+            colours: begun(&[0x00, 0x07, 0x38, 0xC0, 0xFF, 0x01, 0x80]),
+            lookup: lookup(),
+            wave: wave(),
+        }
     }
 
     /// The files with their names.
@@ -115,69 +147,4 @@ impl Files {
             },
         ]
     }
-}
-
-/// The outputs of a run, each with room for all that a row writes.
-#[derive(Drop)]
-pub struct Outputs {
-    /// The images.
-    pub frames: Memory,
-    /// The sound.
-    pub wave: Memory,
-    /// The listing.
-    pub listing: Memory,
-    /// The report.
-    pub report: Memory,
-}
-
-impl Outputs {
-    /// Empty ones.
-    pub fn new(alloc: Global) -> Result<Outputs, AllocError> {
-        Ok(Outputs {
-            frames: Memory::new(alloc, 400_000)?,
-            wave: Memory::new(alloc, 10_000)?,
-            listing: Memory::new(alloc, 20_000)?,
-            report: Memory::new(alloc, 200)?,
-        })
-    }
-
-    /// Runs these inputs.
-    pub fn run(&mut self, alloc: Global, inputs: &RunInputs) -> Result<Outcome, RunFault> {
-        let Outputs {
-            frames,
-            wave,
-            listing,
-            report,
-        } = self;
-        run_all(alloc, inputs, frames, wave, listing, report)
-    }
-
-    /// Whether nothing was written.
-    pub fn are_empty(&self) -> bool {
-        self.frames.bytes().is_empty()
-            && self.wave.bytes().is_empty()
-            && self.listing.bytes().is_empty()
-            && self.report.bytes().is_empty()
-    }
-}
-
-/// The manifest of the set without a program.
-pub fn manifest(alloc: Global) -> Result<String, AllocError> {
-    format!(in alloc; "{TABLES}{WAVE_TABLE}")
-}
-
-/// The outputs of a source that is run with this DIP byte and script.
-pub fn run_source(alloc: Global, source: &str, dip: u8, script: &str) -> Result<Outputs, RunFault> {
-    let files = Files::new(alloc)?;
-    let manifest = manifest(alloc)?;
-    let mut outputs = Outputs::new(alloc)?;
-    let inputs = RunInputs {
-        source: Some(source.as_bytes()),
-        manifest: manifest.as_bytes(),
-        parts: &files.parts(),
-        dip,
-        script: script.as_bytes(),
-    };
-    outputs.run(alloc, &inputs)?;
-    Ok(outputs)
 }
