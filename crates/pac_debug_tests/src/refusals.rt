@@ -1,73 +1,83 @@
 //! What is refused: by the table of refusals, by the sink, and by the text's writer.
 
-use crate::set::{CELL, answers, is_refused, session, told, told_within};
+use crate::set::{CELL, is_answered, is_cut_to, is_refused, session};
+use pac_board::Sink;
 use pac_board::kept::Kept;
-use std::test::Fail;
+use pac_session::Session;
+use std::alloc::Global;
 
-// The watchdog resets the board at the last blank; the oldest index is told.
-#[test]
-fn too_far_back(rt: HostRuntime) -> Result<(), Fail> {
-    let lines: [&[u8]; 5] = [
-        b"frames 16",
-        b"back 63489",
-        b"back 63488",
-        b"return 1",
-        b"continue",
-    ];
-    let text = told(rt.alloc(), &[0xF3, 0x76], b"16 -", &lines)?;
-    assert_eq!(rt;
-        text.bytes(),
-        b"end 202752 811008 0000 DI\n\
-        refused G2 oldest 139264\n\
-        back 139264 557056 0002 HALTED\n\
-        refused G3\n\
-        end 202752 811008 0000 DI\n"
-            .as_slice()
-    );
-    Ok(())
+/// Whether the lines after a refusal are answered by this text, and leave the session at the index that it had.
+fn goes_on<S: Sink>(alloc: Global, session: &mut Session, sink: &mut S) -> bool {
+    let after = session.index();
+    let text = "refused G1\nrefused G2 oldest 0\n";
+    is_answered(alloc, session, "frames\nback 9999", sink, text) && session.index() == after
+}
+
+/// Whether a command's first output is refused, and then taken at a line that is no command.
+fn is_offered_again(alloc: Global, session: &mut Session, kept: &mut Kept) -> bool {
+    is_refused(alloc, session, b"frames 1", kept)
+        && kept.taken().is_empty()
+        && goes_on(alloc, session, kept)
+        && kept.taken().len() == 1
+}
+
+/// The same in a new session.
+fn is_offered_again_in_a_session(alloc: Global) -> bool {
+    let mut kept = Kept::new(alloc, 1);
+    match session(alloc, &CELL, b"1 -") {
+        Ok(mut session) => is_offered_again(alloc, &mut session, &mut kept),
+        Err(_) => false,
+    }
 }
 
 // The first output, which is refused, is offered again by a line that is no command, and taken.
 #[test]
-fn refused_by_the_sink(rt: HostRuntime) -> Result<(), Fail> {
-    let mut kept = Kept::new(rt.alloc(), 1);
-    let mut s = session(rt.alloc(), &CELL, b"1 -")?;
-    assert!(rt; is_refused(rt.alloc(), &mut s, b"frames 1", &mut kept)?);
-    let after = s.index();
-    assert!(rt; kept.taken().is_empty());
-    let text = answers(rt.alloc(), &mut s, &[b"frames", b"back 9999"], &mut kept)?;
-    assert_eq!(rt; (s.index(), kept.taken().len()), (after, 1));
-    assert_eq!(rt;
-        text.bytes(),
-        b"refused G1\nrefused G2 oldest 0\n".as_slice()
-    );
-    Ok(())
+fn refused_by_the_sink(rt: HostRuntime) {
+    assert!(rt; is_offered_again_in_a_session(rt.alloc()));
+}
+
+/// Whether a text that can't be written is told with its count, and leaves the command done.
+fn is_cut(alloc: Global) -> bool {
+    match session(alloc, &CELL, b"1 -") {
+        Ok(mut session) => {
+            is_cut_to(alloc, &mut session, b"step 2", b"step") && session.index() == 2
+        }
+        Err(_) => false,
+    }
 }
 
 // A text that can't be written leaves the command done.
 #[test]
-fn refused_by_the_writer(rt: HostRuntime) -> Result<(), Fail> {
-    let mut s = session(rt.alloc(), &CELL, b"1 -")?;
-    let (text, count) = told_within(rt.alloc(), &mut s, b"step 2", 4)?;
-    assert_eq!(rt; (count, s.index()), (Some(4), 2));
-    assert_eq!(rt; text.bytes(), b"step".as_slice());
-    Ok(())
+fn refused_by_the_writer(rt: HostRuntime) {
+    assert!(rt; is_cut(rt.alloc()));
+}
+
+/// Sets 64 breakpoints; whether each was set.
+fn fills(session: &mut Session) -> bool {
+    let mut is_set = true;
+    for address in 0..64u16 {
+        is_set = session.break_at(address).is_ok() && is_set;
+    }
+    is_set
+}
+
+/// Whether there is room for 64, and lines that set a 65th and the last of them again are answered so.
+fn is_full_at_64(alloc: Global, session: &mut Session) -> bool {
+    let mut kept = Kept::new(alloc, 0);
+    let lines = "break 0040\nbreak 003f";
+    fills(session) && is_answered(alloc, session, lines, &mut kept, "refused G4\nok\n")
+}
+
+/// The same in a new session.
+fn is_full(alloc: Global) -> bool {
+    match session(alloc, &CELL, b"1 -") {
+        Ok(mut session) => is_full_at_64(alloc, &mut session),
+        Err(_) => false,
+    }
 }
 
 // A 65th breakpoint is refused, and one that is set is not.
 #[test]
-fn too_many_breakpoints(rt: HostRuntime) -> Result<(), Fail> {
-    let mut kept = Kept::new(rt.alloc(), 0);
-    let mut s = session(rt.alloc(), &CELL, b"1 -")?;
-    for address in 0..64u16 {
-        assert!(rt; s.break_at(address).is_ok());
-    }
-    let text = answers(
-        rt.alloc(),
-        &mut s,
-        &[b"break 0040", b"break 003f"],
-        &mut kept,
-    )?;
-    assert_eq!(rt; text.bytes(), b"refused G4\nok\n".as_slice());
-    Ok(())
+fn too_many_breakpoints(rt: HostRuntime) {
+    assert!(rt; is_full(rt.alloc()));
 }

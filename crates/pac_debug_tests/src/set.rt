@@ -16,6 +16,14 @@ use std::alloc::{AllocError, Global};
 /// LD A,42H / LD (4040H),A / HALT.
 pub const CELL: [u8; 6] = [0x3E, 0x42, 0x32, 0x40, 0x40, 0x76];
 
+/// LD A,1 / LD (5000H),A / LD SP,4FF0H / IM 1 / EI / HALT, and RETI at 38H.
+pub const INTERRUPT: [u8; 58] = [
+    0x3E, 0x01, 0x32, 0x00, 0x50, 0x31, 0xF0, 0x4F, 0xED, 0x56, 0xFB, 0x76, 0x00, 0x00, 0x00, 0x00,
+    0x00, 0x00, 0x00, 0x00, 0x00, 0x00, 0x00, 0x00, 0x00, 0x00, 0x00, 0x00, 0x00, 0x00, 0x00, 0x00,
+    0x00, 0x00, 0x00, 0x00, 0x00, 0x00, 0x00, 0x00, 0x00, 0x00, 0x00, 0x00, 0x00, 0x00, 0x00, 0x00,
+    0x00, 0x00, 0x00, 0x00, 0x00, 0x00, 0x00, 0x00, 0xED, 0x4D,
+];
+
 /// A board at power-on whose program begins with these bytes.
 fn board(alloc: Global, bytes: &[u8]) -> Result<Board, AllocError>
     ensures { IfOk result (λ board. IsNew board) }
@@ -49,55 +57,95 @@ pub fn session(alloc: Global, bytes: &[u8], script: &[u8]) -> Result<Session, Al
     }
 }
 
-/// Does what command lines ask, one after another, up to the first that isn't answered; whether all were.
+/// A program under a debugger, its script, the command lines, and what is told.
+#[derive(Clone, Copy)]
+pub struct Telling {
+    /// The program's first bytes.
+    pub program: &'static [u8],
+    /// The script.
+    pub script: &'static [u8],
+    /// The command lines, one after another.
+    pub lines: &'static str,
+    /// The text.
+    pub text: &'static str,
+}
+
+/// Does what the lines of a text ask, one after another, up to the first that isn't answered; whether all were.
 fn obey<S: Sink>(
     session: &mut Session,
-    lines: &[&[u8]],
+    lines: &str,
     sink: &mut S,
     text: &mut Counted<Memory>,
 ) -> bool {
-    for line in lines {
-        if command(session, line, sink, text).is_err() {
+    for line in lines.split('\n') {
+        if command(session, line.as_bytes(), sink, text).is_err() {
             return false;
         }
     }
     true
 }
 
-/// How command lines are answered, one after another; each is.
-pub fn answers<S: Sink>(
+/// A text that takes so many bytes.
+fn text_of(alloc: Global, room: usize) -> Option<Counted<Memory>> {
+    match Memory::new(alloc, room) {
+        Ok(memory) => Some(Counted::new(memory)),
+        Err(_) => None,
+    }
+}
+
+/// Whether each of these command lines is answered, one after another, and all of them by this text.
+pub fn is_answered<S: Sink>(
     alloc: Global,
     session: &mut Session,
-    lines: &[&[u8]],
+    lines: &str,
     sink: &mut S,
-) -> Result<Memory, AllocError> {
-    let mut text = Counted::new(Memory::new(alloc, 1000)?);
-    if !obey(session, lines, sink, &mut text) {
-        return Err(AllocError);
+    wanted: &str,
+) -> bool {
+    match text_of(alloc, 1000) {
+        Some(mut text) => {
+            obey(session, lines, sink, &mut text) && text.writer.bytes() == wanted.as_bytes()
+        }
+        None => false,
     }
-    Ok(text.writer)
 }
 
 /// The same in a new session, whose sink takes all.
-pub fn told(
-    alloc: Global,
-    program: &[u8],
-    script: &[u8],
-    lines: &[&[u8]],
-) -> Result<Memory, AllocError> {
+pub fn is_told(alloc: Global, telling: &Telling) -> bool {
     let mut kept = Kept::new(alloc, 0);
-    let mut session = session(alloc, program, script)?;
-    answers(alloc, &mut session, lines, &mut kept)
+    match session(alloc, telling.program, telling.script) {
+        Ok(mut session) => {
+            is_answered(alloc, &mut session, telling.lines, &mut kept, telling.text)
+        }
+        Err(_) => false,
+    }
 }
 
-/// How the lines of a text are answered in such a session.
-pub fn told_of_text(alloc: Global, program: &[u8], lines: &[u8]) -> Result<Memory, AllocError> {
+/// Whether the lines of a text are answered by this one.
+fn is_text_answered<S: Sink>(
+    alloc: Global,
+    session: &mut Session,
+    lines: &[u8],
+    sink: &mut S,
+    wanted: &str,
+) -> bool {
+    match text_of(alloc, 1000) {
+        Some(mut text) => {
+            commands(session, lines, sink, &mut text).is_ok()
+                && text.writer.bytes() == wanted.as_bytes()
+        }
+        None => false,
+    }
+}
+
+/// The same in a new session, whose sink takes all.
+pub fn is_told_of_text(alloc: Global, telling: &Telling) -> bool {
+    let lines = telling.lines.as_bytes();
     let mut kept = Kept::new(alloc, 0);
-    let mut session = session(alloc, program, b"1 -")?;
-    let mut text = Counted::new(Memory::new(alloc, 1000)?);
-    match commands(&mut session, lines, &mut kept, &mut text) {
-        Ok(()) => Ok(text.writer),
-        Err(_) => Err(AllocError),
+    match session(alloc, telling.program, telling.script) {
+        Ok(mut session) => {
+            is_text_answered(alloc, &mut session, lines, &mut kept, telling.text)
+        }
+        Err(_) => false,
     }
 }
 
@@ -107,24 +155,37 @@ pub fn is_refused<S: Sink>(
     session: &mut Session,
     line: &[u8],
     sink: &mut S,
-) -> Result<bool, AllocError> {
-    let mut text = Counted::new(Memory::new(alloc, 1000)?);
-    let answer = command(session, line, sink, &mut text);
-    Ok(matches!(answer, Err(CommandFault::Refused)) && text.writer.bytes().is_empty())
+) -> bool {
+    match text_of(alloc, 1000) {
+        Some(mut text) => {
+            let answer = command(session, line, sink, &mut text);
+            matches!(answer, Err(CommandFault::Refused)) && text.writer.bytes().is_empty()
+        }
+        None => false,
+    }
 }
 
-/// What a file with little room takes of the answer to a command line, and how many bytes the fault tells.
-pub fn told_within(
-    alloc: Global,
+/// How a text is told to be refused at a command line: the count of its bytes that were taken.
+fn count_told<S: Sink>(
     session: &mut Session,
     line: &[u8],
-    room: usize,
-) -> Result<(Memory, Option<u64>), AllocError> {
-    let mut kept = Kept::new(alloc, 0);
-    let mut text = Counted::new(Memory::new(alloc, room)?);
-    let count = match command(session, line, &mut kept, &mut text) {
+    sink: &mut S,
+    text: &mut Counted<Memory>,
+) -> Option<u64> {
+    match command(session, line, sink, text) {
         Err(CommandFault::Text(fault)) => Some(fault.count),
         _ => None,
-    };
-    Ok((text.writer, count))
+    }
+}
+
+/// Whether a file with room for these bytes alone takes them of the answer to a command line, and their count is told.
+pub fn is_cut_to(alloc: Global, session: &mut Session, line: &[u8], wanted: &[u8]) -> bool {
+    let mut kept = Kept::new(alloc, 0);
+    match text_of(alloc, wanted.len()) {
+        Some(mut text) => {
+            let count = count_told(session, line, &mut kept, &mut text);
+            count == Some(wanted.len() as u64) && text.writer.bytes() == wanted
+        }
+        None => false,
+    }
 }
