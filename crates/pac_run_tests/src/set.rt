@@ -68,16 +68,30 @@ fn begun<const N: usize>(bytes: &[u8]) -> [u8; N] {
     file
 }
 
-/// Pixels of which those of thing t (a tile or a sprite, of so many bytes) are all t mod 4.
-fn pixels(size: usize) -> [u8; 4096] {
+/// Four pixels of a tile or a sprite of this number, as a byte.
+fn pixels(number: usize) -> u8 {
+    match number % 4 {
+        0 => 0x00,
+        1 => 0x0F,
+        2 => 0xF0,
+        _ => 0xFF,
+    }
+}
+
+/// Every pixel of tile t is t mod 4.
+fn tiles() -> [u8; 4096] {
     let mut rom = [0u8; 4096];
     for (place, byte) in rom.iter_mut().enumerate() {
-        *byte = match place / size % 4 {
-            0 => 0x00,
-            1 => 0x0F,
-            2 => 0xF0,
-            _ => 0xFF,
-        };
+        *byte = pixels(place / 16);
+    }
+    rom
+}
+
+/// Every pixel of sprite s is s mod 4.
+fn sprites() -> [u8; 4096] {
+    let mut rom = [0u8; 4096];
+    for (place, byte) in rom.iter_mut().enumerate() {
+        *byte = pixels(place / 64);
     }
     rom
 }
@@ -105,13 +119,13 @@ fn wave() -> [u8; 256] {
 }
 
 impl Files {
-    /// Every pixel of tile t is t mod 4, of sprite s s mod 4; the colours are black, red, green, blue, white, dark red,
-    /// dark blue, and black for the rest. The program is LD A,42H / LD (4040H),A / HALT.
+    /// The colours are black, red, green, blue, white, dark red, dark blue, and black for the rest. The program is
+    /// LD A,42H / LD (4040H),A / HALT.
     pub fn new() -> Files {
         Files {
             program: begun(&[0x3E, 0x42, 0x32, 0x40, 0x40, 0x76]),
-            tiles: pixels(16),
-            sprites: pixels(64),
+            tiles: tiles(),
+            sprites: sprites(),
             colours: begun(&[0x00, 0x07, 0x38, 0xC0, 0xFF, 0x01, 0x80]),
             lookup: lookup(),
             wave: wave(),
