@@ -1,8 +1,6 @@
 //! Command lines, run in process over the files of a folder: statuses, what is printed, and what the files have then.
 
-use crate::folder::{
-    ANY_TEXT, LINE, Left, Line, hold, hold_over_set, lay_many, lay_set,
-};
+use crate::folder::{ANY_TEXT, LINE, Left, Line, hold, hold_over_set, lay_many, lay_set};
 use crate::picture::{BLUE_AND_RED, GREEN_AND_RED, GREEN_TILE};
 use std::fs;
 
@@ -38,7 +36,7 @@ const NONE: &[(&str, Left)] = &[
 ];
 
 /// A source, and the same bytes as the program of a set: all is equal but the listing.
-const FOUR_OUTPUTS: &[Line] = &[
+static FOUR_OUTPUTS: [Line; 2] = [
     Line {
         words: "run --set @/set.toml --script @/one.script --source @/cell.asm",
         output: &[CELL_REPORT],
@@ -57,11 +55,12 @@ const FOUR_OUTPUTS: &[Line] = &[
             ("l.txt", Left::Bytes(b"SYMBOLS\n")),
         ],
         ..RUN
-    },];
+    },
+];
 
 #[test]
 fn a_run_writes_four_outputs(rt: HostRuntime) {
-    hold_over_set(&rt, "whole", FOUR_OUTPUTS);
+    hold_over_set(&rt, "whole", &FOUR_OUTPUTS);
 }
 
 /// A run of a source that shows what it reads.
@@ -78,7 +77,7 @@ const READING: Line = Line {
 };
 
 /// The joystick's bit 0 and the DIP byte, as they are read at 5000H and 5080H, become tiles at x 16 and x 24.
-const READINGS: &[Line] = &[
+static READINGS: [Line; 3] = [
     Line {
         words: "run --set @/set.toml --script @/one.script --source @/inputs.asm",
         left: &[("f.ppm", Left::Image(&BLUE_AND_RED))],
@@ -93,19 +92,17 @@ const READINGS: &[Line] = &[
         words: "run --set @/set.toml --dip=201 --script @/up.script --source @/inputs.asm",
         left: &[("f.ppm", Left::Image(&GREEN_AND_RED))],
         ..READING
-    },];
+    },
+];
 
 #[test]
 fn inputs_and_switches(rt: HostRuntime) {
-    hold_over_set(&rt, "held", READINGS);
+    hold_over_set(&rt, "held", &READINGS);
 }
 
 /// A board that stops at its first step.
-const STOPPED: &[Line] = &[Line {
-    files: &[
-        ("stop.asm", b"DEFB 0CBH,30H"),
-        ("two.script", b"2 -"),
-    ],
+static STOPPED: [Line; 1] = [Line {
+    files: &[("stop.asm", b"DEFB 0CBH,30H"), ("two.script", b"2 -")],
     words: "run --source @/stop.asm --set @/set.toml --script @/two.script",
     status: 5,
     output: &["frames 0 of 2\nsteps 0 ticks 0\nstop S1 at 0000 bytes CB 30 00 00\n"],
@@ -115,25 +112,25 @@ const STOPPED: &[Line] = &[Line {
 
 #[test]
 fn a_stopped_board(rt: HostRuntime) {
-    hold_over_set(&rt, "stopped", STOPPED);
+    hold_over_set(&rt, "stopped", &STOPPED);
 }
 
 /// Words that are no command line.
 const NO_COMMAND: Line = Line {
-status: 2,
-error: ANY_TEXT,
-left: NONE,
-..LINE
+    status: 2,
+    error: ANY_TEXT,
+    left: NONE,
+    ..LINE
 };
 
 /// A run with these further words.
 const NO_RUN: Line = Line {
-words: "run --set @/set.toml --script @/one.script --frames @/f.ppm --wave @/w.wav",
-..NO_COMMAND
+    words: "run --set @/set.toml --script @/one.script --frames @/f.ppm --wave @/w.wav",
+    ..NO_COMMAND
 };
 
 /// Command lines of no kind.
-const NO_COMMANDS: &[Line] = &[
+static NO_COMMANDS: [Line; 11] = [
     NO_COMMAND,
     Line {
         words: "first @/cell.asm",
@@ -173,11 +170,12 @@ const NO_COMMANDS: &[Line] = &[
         words: "debug --set @/set.toml --script @/one.script",
         outputs: OUTPUTS,
         ..NO_COMMAND
-    },];
+    },
+];
 
 #[test]
 fn words_that_are_no_command_line(rt: HostRuntime) {
-    hold_over_set(&rt, "words", NO_COMMANDS);
+    hold_over_set(&rt, "words", &NO_COMMANDS);
 }
 
 /// A run whose files can't all be read.
@@ -199,7 +197,7 @@ const UNREAD: Line = Line {
 };
 
 /// Source, manifest, script, then the manifest's files in the order of the parts; nothing is created before all is read.
-const UNREADABLE: &[Line] = &[
+static UNREADABLE: [Line; 6] = [
     Line {
         words: "run --source @/none.asm --set @/no.toml --script @/no.script",
         error: "read fault unread/none.asm\n",
@@ -229,11 +227,12 @@ const UNREADABLE: &[Line] = &[
         words: "run --set @/wave.toml --script @/one.script",
         error: "read fault /none.prom\n",
         ..UNREAD
-    },];
+    },
+];
 
 #[test]
 fn files_that_cannot_be_read(rt: HostRuntime) {
-    hold_over_set(&rt, "unread", UNREADABLE);
+    hold_over_set(&rt, "unread", &UNREADABLE);
 }
 
 /// A run whose source, set or script is refused, over a file of an older one.
@@ -271,7 +270,7 @@ wave.file = 'wave.prom'
 };
 
 /// The first fault of source, set and script is told, and the outputs are there, empty.
-const REFUSALS: &[Line] = &[
+static REFUSALS: [Line; 8] = [
     Line {
         words: "run --source @/fault.asm --set @/form.toml --script @/bad.script",
         error: "refused A1 L2 line 2\n",
@@ -311,11 +310,12 @@ const REFUSALS: &[Line] = &[
         words: "run --source @/cell.asm --set @/set.toml --script @/bad.script",
         error: "refused I1 line 2\n",
         ..REFUSED
-    },];
+    },
+];
 
 #[test]
 fn inputs_that_are_refused(rt: HostRuntime) {
-    hold_over_set(&rt, "refused", REFUSALS);
+    hold_over_set(&rt, "refused", &REFUSALS);
 }
 
 /// A run of a source that has a fault, one output of which can't be created.
@@ -328,7 +328,7 @@ const CLOSED: Line = Line {
 };
 
 /// The outputs are created in the order frames, wave, listing, before anything is refused.
-const CLOSED_OUTPUTS: &[Line] = &[
+static CLOSED_OUTPUTS: [Line; 3] = [
     Line {
         outputs: "--frames @/no/f --wave @/no/w --listing @/no/l",
         error: "write fault frames after 0 bytes\n",
@@ -343,11 +343,12 @@ const CLOSED_OUTPUTS: &[Line] = &[
         outputs: "--frames @/f.ppm --wave @/w.wav --listing .",
         error: "write fault listing after 0 bytes\n",
         ..CLOSED
-    },];
+    },
+];
 
 #[test]
 fn outputs_that_cannot_be_created(rt: HostRuntime) {
-    hold_over_set(&rt, "closed", CLOSED_OUTPUTS);
+    hold_over_set(&rt, "closed", &CLOSED_OUTPUTS);
 }
 
 /// A run of which something isn't taken.
@@ -358,7 +359,7 @@ const CUT: Line = Line {
 };
 
 /// The wave's header is refused before the first frame and after the listing.
-const CUTS: &[Line] = &[
+static CUTS: [Line; 7] = [
     Line {
         outputs: "--frames /dev/full --wave @/w.wav --listing @/l.txt",
         error: "write fault frames after 0 bytes\n",
@@ -400,15 +401,16 @@ const CUTS: &[Line] = &[
         output: &["frames 1 of 1\nsteps 12669 ticks 50688\nend done"],
         error: "write fault report after 46 bytes\n",
         ..CUT
-    },];
+    },
+];
 
 #[test]
 fn writes_that_are_refused(rt: HostRuntime) {
-    hold_over_set(&rt, "cut", CUTS);
+    hold_over_set(&rt, "cut", &CUTS);
 }
 
 /// A source of the most bytes, and one of a byte more.
-const SIZES: &[Line] = &[
+static SIZES: [Line; 2] = [
     Line {
         words: "asm @/most.asm --rom @/r.rom --listing @/l.txt",
         status: 1,
@@ -420,14 +422,15 @@ const SIZES: &[Line] = &[
         status: 3,
         error: "read fault sized/more.asm\n",
         ..LINE
-    },];
+    },
+];
 
 #[test]
 fn files_have_a_size(rt: HostRuntime) {
     assert!(rt; lay_set(&rt, "sized"));
     assert!(rt; lay_many(&rt, "sized", "most.asm", b'\n', 16_777_216));
     assert!(rt; lay_many(&rt, "sized", "more.asm", b'\n', 16_777_217));
-    hold(&rt, "sized", SIZES);
+    hold(&rt, "sized", &SIZES);
     assert!(rt; fs::remove_dir_all(&rt, "sized").is_ok());
 }
 
@@ -439,7 +442,7 @@ const UNMADE: Line = Line {
 };
 
 /// A source that is assembled, and those that aren't.
-const ASSEMBLED: &[Line] = &[
+static ASSEMBLED: [Line; 7] = [
     Line {
         words: "asm @/cell.asm --rom @/r.rom --listing @/l.txt",
         left: &[
@@ -482,11 +485,12 @@ const ASSEMBLED: &[Line] = &[
         error: "write fault listing after 0 bytes\n",
         left: &[("l.txt", Left::Bytes(b""))],
         ..UNMADE
-    },];
+    },
+];
 
 #[test]
 fn an_assembled_file(rt: HostRuntime) {
-    hold_over_set(&rt, "made", ASSEMBLED);
+    hold_over_set(&rt, "made", &ASSEMBLED);
 }
 
 /// A disassembly of the file `code`.
@@ -496,12 +500,10 @@ const DIS: Line = Line {
 };
 
 /// Files that are disassembled.
-const DISASSEMBLED: &[Line] = &[
+static DISASSEMBLED: [Line; 7] = [
     Line {
         files: &[("code", &[0x3E, 0x42, 0x32, 0x40, 0x40, 0x76])],
-        output: &[
-            "0000 3E42     LD A,42H\n0002 324040   LD (4040H),A\n0005 76       HALT\n",
-        ],
+        output: &["0000 3E42     LD A,42H\n0002 324040   LD (4040H),A\n0005 76       HALT\n"],
         ..DIS
     },
     Line {
@@ -535,15 +537,16 @@ const DISASSEMBLED: &[Line] = &[
         status: 3,
         error: "read fault told/none\n",
         ..LINE
-    },];
+    },
+];
 
 #[test]
 fn a_disassembled_file(rt: HostRuntime) {
-    hold_over_set(&rt, "told", DISASSEMBLED);
+    hold_over_set(&rt, "told", &DISASSEMBLED);
 }
 
 /// As many bytes as there are addresses are told, as far as the console takes them; one more isn't.
-const LONG: &[Line] = &[
+static LONG: [Line; 2] = [
     Line {
         words: "dis @/more",
         status: 1,
@@ -557,13 +560,14 @@ const LONG: &[Line] = &[
         output: &["0000 00       NOP\n0001 00     "],
         error: "write fault text after 30 bytes\n",
         ..LINE
-    },];
+    },
+];
 
 #[test]
 fn a_long_disassembled_file(rt: HostRuntime) {
     assert!(rt; lay_set(&rt, "long"));
     assert!(rt; lay_many(&rt, "long", "more", 0, 65_537));
     assert!(rt; lay_many(&rt, "long", "most", 0, 65_536));
-    hold(&rt, "long", LONG);
+    hold(&rt, "long", &LONG);
     assert!(rt; fs::remove_dir_all(&rt, "long").is_ok());
 }

@@ -65,12 +65,7 @@ pub const LINE: Line = Line {
 };
 
 /// Lays a file into a folder; whether it could.
-fn lay(
-    rt: &(impl rt::Files + AllocGlobal),
-    folder: &str,
-    name: &str,
-    bytes: &[u8],
-) -> bool {
+fn lay(rt: &(impl rt::Files + AllocGlobal), folder: &str, name: &str, bytes: &[u8]) -> bool {
     match format!(in rt.alloc(); "{folder}/{name}") {
         Ok(path) => fs::write(rt, path.as_str(), bytes).is_ok(),
         Err(_) => false,
@@ -92,12 +87,10 @@ pub fn lay_many(
 }
 
 /// Lays files; whether it could.
-fn lay_all(
-    rt: &(impl rt::Files + AllocGlobal),
-    folder: &str,
-    files: &[(&str, &[u8])],
-) -> bool {
-    files.iter().all(|(name, bytes)| lay(rt, folder, name, bytes))
+fn lay_all(rt: &(impl rt::Files + AllocGlobal), folder: &str, files: &[(&str, &[u8])]) -> bool {
+    files
+        .iter()
+        .all(|(name, bytes)| lay(rt, folder, name, bytes))
 }
 
 /// Lays the files of the set's parts; whether it could.
@@ -169,20 +162,12 @@ pub fn words_of(
 }
 
 /// Runs the program with these words; its exit status.
-pub fn status_of(
-    rt: &(impl rt::Files + AllocGlobal),
-    console: &Console,
-    words: &[String],
-) -> u8 {
+pub fn status_of(rt: &(impl rt::Files + AllocGlobal), console: &Console, words: &[String]) -> u8 {
     run_words(rt, console, words)
 }
 
 /// Whether a line, with these words, comes to its status and prints what it says.
-fn is_answered(
-    rt: &(impl rt::Files + AllocGlobal),
-    line: &Line,
-    words: &[String],
-) -> bool {
+fn is_answered(rt: &(impl rt::Files + AllocGlobal), line: &Line, words: &[String]) -> bool {
     match Console::new(rt.alloc(), line.room) {
         Ok(console) => {
             status_of(rt, &console, words) == line.status && console.has(line.output, line.error)
@@ -200,11 +185,7 @@ fn is_there(rt: &(impl rt::Files + AllocGlobal), folder: &str, name: &str) -> bo
 }
 
 /// The bytes of a folder's file.
-fn bytes_of(
-    rt: &(impl rt::Files + AllocGlobal),
-    folder: &str,
-    name: &str,
-) -> Option<Vec<u8>> {
+fn bytes_of(rt: &(impl rt::Files + AllocGlobal), folder: &str, name: &str) -> Option<Vec<u8>> {
     match format!(in rt.alloc(); "{folder}/{name}") {
         Ok(path) => fs::read(rt, path.as_str()).ok(),
         Err(_) => None,
@@ -212,12 +193,7 @@ fn bytes_of(
 }
 
 /// Whether a folder's file has these bytes.
-fn has_bytes(
-    rt: &(impl rt::Files + AllocGlobal),
-    folder: &str,
-    name: &str,
-    bytes: &[u8],
-) -> bool {
+fn has_bytes(rt: &(impl rt::Files + AllocGlobal), folder: &str, name: &str, bytes: &[u8]) -> bool {
     match bytes_of(rt, folder, name) {
         Some(found) => found.as_slice() == bytes,
         None => false,
@@ -225,12 +201,7 @@ fn has_bytes(
 }
 
 /// Whether bytes are what a file is said to have, among the files of a folder.
-fn are_left(
-    rt: &(impl rt::Files + AllocGlobal),
-    folder: &str,
-    bytes: &[u8],
-    left: &Left,
-) -> bool {
+fn are_left(rt: &(impl rt::Files + AllocGlobal), folder: &str, bytes: &[u8], left: &Left) -> bool {
     match left {
         Left::Absent => false,
         Left::Bytes(wanted) => bytes == *wanted,
@@ -246,12 +217,7 @@ fn are_left(
 }
 
 /// Whether a folder's file has what it is said to have.
-pub fn is_left(
-    rt: &(impl rt::Files + AllocGlobal),
-    folder: &str,
-    name: &str,
-    left: &Left,
-) -> bool {
+pub fn is_left(rt: &(impl rt::Files + AllocGlobal), folder: &str, name: &str, left: &Left) -> bool {
     match (left, bytes_of(rt, folder, name)) {
         (Left::Absent, _) => !is_there(rt, folder, name),
         (_, Some(bytes)) => are_left(rt, folder, &bytes, left),
@@ -280,11 +246,7 @@ pub fn hold(rt: &(impl rt::Files + AllocGlobal + Abort), folder: &str, lines: &[
 }
 
 /// Makes a folder with the files of the set, runs command lines over it, and removes it.
-pub fn hold_over_set(
-    rt: &(impl rt::Files + AllocGlobal + Abort),
-    folder: &str,
-    lines: &[Line],
-) {
+pub fn hold_over_set(rt: &(impl rt::Files + AllocGlobal + Abort), folder: &str, lines: &[Line]) {
     assert!(rt; lay_set(rt, folder));
     hold(rt, folder, lines);
     assert!(rt; fs::remove_dir_all(rt, folder).is_ok());

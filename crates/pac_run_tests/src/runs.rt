@@ -2,9 +2,7 @@
 //! tiles and the weights of the colour PROM; sound by waveform, volume and the 1,584 samples of a frame.
 
 use crate::outputs::{AMPLE, Given, Outputs, run};
-use crate::picture::{
-    ALL_BLACK, BLUE_AND_RED, GREEN_TILE, LATE_GREEN_TILE, Picture, are_shown,
-};
+use crate::picture::{ALL_BLACK, BLUE_AND_RED, GREEN_TILE, LATE_GREEN_TILE, Picture, are_shown};
 use crate::set::{NO_WAVE, SET, SWITCHES, Tables, WHOLE_SET};
 use pac_asm::{AsmCode, AsmFault};
 use pac_inputs::ScriptFault;
@@ -42,7 +40,7 @@ const CELL_REPORT: &str = "frames 1 of 1\nsteps 12669 ticks 50688\nend done\n";
 const INPUTS_REPORT: &str = "frames 1 of 1\nsteps 12663 ticks 50688\nend done\n";
 
 /// Reports, the pictures and the sound's size.
-const ROWS: [Row; 9] = [
+static ROWS: [Row; 9] = [
     Row {
         source: "",
         dip: SWITCHES,
@@ -120,9 +118,7 @@ const ROWS: [Row; 9] = [
 
 /// Whether a sound has so many bytes, and no sample but 0.
 fn is_silent(wave: &[u8], length: usize) -> bool {
-    wave.len() == length
-        && wave.starts_with(b"RIFF")
-        && wave.iter().skip(44).all(|byte| *byte == 0)
+    wave.len() == length && wave.starts_with(b"RIFF") && wave.iter().skip(44).all(|byte| *byte == 0)
 }
 
 /// Whether a run gives out what its row says.
@@ -146,7 +142,7 @@ fn holds(alloc: Global, row: &Row) -> bool {
 #[test]
 fn reports_pictures_and_silence(rt: HostRuntime) {
     for row in &ROWS {
-        assert!(rt; holds(rt.alloc(), row), "{:?} {}", row.source, row.script);
+        assert!(rt; holds(rt.alloc(), row), "{}", row.source);
     }
 }
 
@@ -235,70 +231,75 @@ fn a_source_and_a_program_of_a_set(rt: HostRuntime) {
     assert!(rt; are_alike_but_for_listings(rt.alloc()));
 }
 
-/// Whether a source with a script that is none is refused for this fault, and nothing is written.
-fn is_refused(alloc: Global, source: &'static str, tables: Tables, fault: &RunFault) -> bool {
+/// A source and a manifest, and why they are refused.
+#[derive(Clone, Copy)]
+struct Refused {
+    source: &'static str,
+    tables: Tables,
+    fault: RunFault,
+}
+
+/// Source, set and script are judged in this order.
+static REFUSED: [Refused; 5] = [
+    Refused {
+        source: "LD A,256",
+        tables: NO_WAVE,
+        fault: RunFault::Source(AsmFault {
+            code: AsmCode::OutOfRange,
+            line: 1,
+        }),
+    },
+    Refused {
+        source: "",
+        tables: NO_WAVE,
+        fault: RunFault::Set(SetFault {
+            code: Code::Unnamed,
+            part: Some(PartName::Wave),
+        }),
+    },
+    Refused {
+        source: "",
+        tables: ["tiles = 3", "", ""],
+        fault: RunFault::Set(SetFault {
+            code: Code::Manifest,
+            part: None,
+        }),
+    },
+    Refused {
+        source: "",
+        tables: WHOLE_SET,
+        fault: RunFault::Set(SetFault {
+            code: Code::TwoPrograms,
+            part: None,
+        }),
+    },
+    Refused {
+        source: "",
+        tables: SET,
+        fault: RunFault::Script(ScriptFault {
+            code: pac_inputs::Code::Count,
+            line: 1,
+        }),
+    },
+];
+
+/// Whether a row's source and manifest, with a script that is none, are refused for its fault, and nothing is written.
+fn is_refused(alloc: Global, row: &Refused) -> bool {
     let given = Given {
-        tables,
-        source: Some(source),
+        tables: row.tables,
+        source: Some(row.source),
         dip: SWITCHES,
         script: "0 -",
     };
     match Outputs::new(alloc, &AMPLE, usize::MAX) {
-        Ok(mut outputs) => {
-            outputs.run(alloc, &given) == Some(*fault) && outputs.have(&[0; 4])
-        }
+        Ok(mut outputs) => outputs.run(alloc, &given) == Some(row.fault) && outputs.have(&[0; 4]),
         Err(_) => false,
     }
 }
 
-/// Sources and manifests, and why they are refused.
-const REFUSED: [(&str, Tables, RunFault); 5] = [
-    (
-        "LD A,256",
-        NO_WAVE,
-        RunFault::Source(AsmFault {
-            code: AsmCode::OutOfRange,
-            line: 1,
-        }),
-    ),
-    (
-        "",
-        NO_WAVE,
-        RunFault::Set(SetFault {
-            code: Code::Unnamed,
-            part: Some(PartName::Wave),
-        }),
-    ),
-    (
-        "",
-        ["tiles = 3", "", ""],
-        RunFault::Set(SetFault {
-            code: Code::Manifest,
-            part: None,
-        }),
-    ),
-    (
-        "",
-        WHOLE_SET,
-        RunFault::Set(SetFault {
-            code: Code::TwoPrograms,
-            part: None,
-        }),
-    ),
-    (
-        "",
-        SET,
-        RunFault::Script(ScriptFault {
-            code: pac_inputs::Code::Count,
-            line: 1,
-        }),
-    ),
-];
-
-// Source, set and script are judged in this order.
 #[test]
 fn refused_inputs_write_nothing(rt: HostRuntime) {
-    for (source, tables, fault) in &REFUSED {
-        assert!(rt; is_refused(rt.alloc(), source, *tables, fault), "{fault:?}");
+    for (number, row) in REFUSED.iter().enumerate() {
+        assert!(rt; is_refused(rt.alloc(), row), "row {number}");
     }
 }

@@ -35,7 +35,7 @@ const DEBUG: Line = Line {
 };
 
 /// The files are those of the same run without commands, though the session went back and forth.
-const BEFORE_THE_REPORT: &[Line] = &[
+static BEFORE_THE_REPORT: [Line; 2] = [
     Line {
         files: &[("commands", COMMANDS)],
         output: &[TEXT, REPORT],
@@ -52,35 +52,34 @@ const BEFORE_THE_REPORT: &[Line] = &[
             ("l.txt", Left::Like("l")),
         ],
         ..LINE
-    },];
+    },
+];
 
 #[test]
 fn a_session_before_the_report(rt: HostRuntime) {
-    hold_over_set(&rt, "session", BEFORE_THE_REPORT);
+    hold_over_set(&rt, "session", &BEFORE_THE_REPORT);
 }
 
 /// No lines at all; then neither bytes that aren't UTF-8 nor a number beyond all sizes is a command, and the session goes on.
-const NO_COMMANDS: &[Line] = &[
+static NO_COMMANDS: [Line; 2] = [
     Line {
         files: &[("commands", b"")],
         output: &[REPORT],
         ..DEBUG
     },
     Line {
-        files: &[(
-            "commands",
-            b"\xFF\xFE 1\nstep 99999999999999999999\nstep 1",
-        )],
+        files: &[("commands", b"\xFF\xFE 1\nstep 99999999999999999999\nstep 1")],
         output: &[
             "refused G1\nrefused G1\nstep 1 7 0002 LD (4040H),A\n",
             REPORT,
         ],
         ..DEBUG
-    },];
+    },
+];
 
 #[test]
 fn lines_that_are_no_commands(rt: HostRuntime) {
-    hold_over_set(&rt, "unread_lines", NO_COMMANDS);
+    hold_over_set(&rt, "unread_lines", &NO_COMMANDS);
 }
 
 /// A session of a source that has a fault, over a set whose tiles are no file.
@@ -96,7 +95,7 @@ const UNREAD: Line = Line {
 };
 
 /// The commands are read after the script, and before the files that the manifest names; then all is judged.
-const UNREADABLE: &[Line] = &[
+static UNREADABLE: [Line; 3] = [
     Line {
         words: "debug --script @/no.script --commands @/no",
         error: "read fault no_commands/no.script\n",
@@ -111,15 +110,16 @@ const UNREADABLE: &[Line] = &[
         words: "debug --script @/one.script --commands @/one.script",
         error: "read fault none.rom\n",
         ..UNREAD
-    },];
+    },
+];
 
 #[test]
 fn commands_that_cannot_be_read(rt: HostRuntime) {
-    hold_over_set(&rt, "no_commands", UNREADABLE);
+    hold_over_set(&rt, "no_commands", &UNREADABLE);
 }
 
 /// A refused source leaves the outputs empty, and no command is done; a board that stops ends the session.
-const ENDED: &[Line] = &[
+static ENDED: [Line; 2] = [
     Line {
         files: &[("cell.asm", b"LD A,256\n"), ("commands", COMMANDS)],
         status: 1,
@@ -138,11 +138,12 @@ const ENDED: &[Line] = &[
             "frames 0 of 1\nsteps 0 ticks 0\nstop S1 at 0000 bytes CB 30 00 00\n",
         ],
         ..DEBUG
-    },];
+    },
+];
 
 #[test]
 fn a_session_that_is_refused_and_one_that_stops(rt: HostRuntime) {
-    hold_over_set(&rt, "stopping", ENDED);
+    hold_over_set(&rt, "stopping", &ENDED);
 }
 
 /// The session, over a console that takes fewer bytes than are told.
@@ -153,7 +154,7 @@ const FULL: Line = Line {
 };
 
 /// Text and report go to one console, and each counts its own bytes.
-const CUTS: &[Line] = &[
+static CUTS: [Line; 4] = [
     Line {
         room: 0,
         error: "write fault text after 0 bytes\n",
@@ -176,9 +177,10 @@ const CUTS: &[Line] = &[
         output: &[TEXT, "frames"],
         error: "write fault report after 6 bytes\n",
         ..FULL
-    },];
+    },
+];
 
 #[test]
 fn texts_that_are_refused(rt: HostRuntime) {
-    hold_over_set(&rt, "full", CUTS);
+    hold_over_set(&rt, "full", &CUTS);
 }
