@@ -1,10 +1,11 @@
 //! Runs of the set whose outputs are kept.
 
-use crate::set::{Files, Tables, text_of};
+use pac_sample_set::{Files, Tables, text_of};
 use pac_manifest::Part;
 use pac_out::faulty::Faulty;
 use pac_run::{RunFault, RunInputs, debug_all, run_all};
 use std::alloc::{AllocError, Global};
+use std::marker::Model;
 
 /// What is run: a manifest over the set's files, a source if the set has no program, the DIP byte and a script.
 #[derive(Clone, Copy)]
@@ -25,17 +26,31 @@ pub type Lengths = [usize; 4];
 /// Room for all that a row writes.
 pub const AMPLE: Lengths = [400_000, 10_000, 20_000, 200];
 
-/// The outputs of a run.
-#[derive(Drop)]
+/// The outputs of a run: images, sound, listing and report. Clauses see nothing of them, and they are dropped by a function of
+/// their own, so that a proof has a single value without parts to carry for each run that a function owns.
 pub struct Outputs {
-    /// The images.
-    pub frames: Faulty,
-    /// The sound.
-    pub wave: Faulty,
-    /// The listing.
-    pub listing: Faulty,
-    /// The report.
-    pub report: Faulty,
+    frames: Faulty,
+    wave: Faulty,
+    listing: Faulty,
+    report: Faulty,
+}
+
+impl Model for Outputs {
+    ghost Value = { Unit {0} };
+
+    ghost view = { λ _. tt };
+}
+
+impl Drop for Outputs {
+    /// Drops each.
+    fn drop(self) {
+        let Outputs {
+            frames: _,
+            wave: _,
+            listing: _,
+            report: _,
+        } = self;
+    }
 }
 
 impl Outputs {
@@ -51,13 +66,15 @@ impl Outputs {
 
     /// Runs these inputs; why there is no outcome, if there is none.
     fn take(&mut self, alloc: Global, inputs: &RunInputs) -> Option<RunFault> {
-        let Outputs {
-            frames,
-            wave,
-            listing,
-            report,
-        } = self;
-        run_all(alloc, inputs, frames, wave, listing, report).err()
+        run_all(
+            alloc,
+            inputs,
+            &mut self.frames,
+            &mut self.wave,
+            &mut self.listing,
+            &mut self.report,
+        )
+        .err()
     }
 
     /// Runs these inputs under a debugger; whether they come to an outcome.
@@ -68,13 +85,17 @@ impl Outputs {
         commands: &[u8],
         text: &mut Faulty,
     ) -> bool {
-        let Outputs {
-            frames,
-            wave,
-            listing,
-            report,
-        } = self;
-        debug_all(alloc, inputs, commands, frames, wave, listing, report, text).is_ok()
+        debug_all(
+            alloc,
+            inputs,
+            commands,
+            &mut self.frames,
+            &mut self.wave,
+            &mut self.listing,
+            &mut self.report,
+            text,
+        )
+        .is_ok()
     }
 
     /// Runs what is given; why there is no outcome, if there is none.
@@ -106,19 +127,39 @@ impl Outputs {
         )
     }
 
+    /// The images.
+    pub fn frames(&self) -> &[u8] {
+        self.frames.bytes()
+    }
+
+    /// The sound.
+    pub fn wave(&self) -> &[u8] {
+        self.wave.bytes()
+    }
+
+    /// The listing.
+    pub fn listing(&self) -> &[u8] {
+        self.listing.bytes()
+    }
+
+    /// The report.
+    pub fn report(&self) -> &[u8] {
+        self.report.bytes()
+    }
+
     /// Whether they have these lengths.
     pub fn have(&self, lengths: &Lengths) -> bool {
-        self.frames.bytes().len() == lengths[0]
-            && self.wave.bytes().len() == lengths[1]
-            && self.listing.bytes().len() == lengths[2]
-            && self.report.bytes().len() == lengths[3]
+        self.frames().len() == lengths[0]
+            && self.wave().len() == lengths[1]
+            && self.listing().len() == lengths[2]
+            && self.report().len() == lengths[3]
     }
 
     /// Whether images, sound and report are those of another run.
     pub fn are_like(&self, other: &Outputs) -> bool {
-        self.frames.bytes() == other.frames.bytes()
-            && self.wave.bytes() == other.wave.bytes()
-            && self.report.bytes() == other.report.bytes()
+        self.frames() == other.frames()
+            && self.wave() == other.wave()
+            && self.report() == other.report()
     }
 }
 

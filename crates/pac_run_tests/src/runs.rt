@@ -2,8 +2,10 @@
 //! tiles and the weights of the colour PROM; sound by waveform, volume and the 1,584 samples of a frame.
 
 use crate::outputs::{AMPLE, Given, Outputs, run};
-use crate::picture::{ALL_BLACK, BLUE_AND_RED, GREEN_TILE, LATE_GREEN_TILE, Picture, are_shown};
-use crate::set::{NO_WAVE, SET, SWITCHES, Tables, WHOLE_SET};
+use pac_sample_set::{
+    ALL_BLACK, BLUE_AND_RED, GREEN_TILE, LATE_GREEN_TILE, NO_WAVE, Picture, SET, SWITCHES, Tables,
+    WHOLE_SET, are_shown,
+};
 use pac_asm::{AsmCode, AsmFault};
 use pac_inputs::ScriptFault;
 use pac_manifest::{Code, PartName, SetFault};
@@ -131,9 +133,9 @@ fn holds(alloc: Global, row: &Row) -> bool {
     };
     match run(alloc, &given, usize::MAX) {
         Ok(outputs) => {
-            outputs.report.bytes() == row.report.as_bytes()
-                && are_shown(outputs.frames.bytes(), row.pictures)
-                && is_silent(outputs.wave.bytes(), row.sound)
+            outputs.report() == row.report.as_bytes()
+                && are_shown(outputs.frames(), row.pictures)
+                && is_silent(outputs.wave(), row.sound)
         }
         Err(_) => false,
     }
@@ -178,7 +180,7 @@ fn is_heard(alloc: Global) -> bool {
         script: "1 -",
     };
     match run(alloc, &given, usize::MAX) {
-        Ok(outputs) => outputs.report.bytes() == report.as_slice() && sounds(outputs.wave.bytes()),
+        Ok(outputs) => outputs.report() == report.as_slice() && sounds(outputs.wave()),
         Err(_) => false,
     }
 }
@@ -210,17 +212,22 @@ fn outputs_of_cell(alloc: Global, tables: Tables, source: Option<&'static str>) 
 /// Whether two runs differ in their listings alone, which are these.
 fn differ_in_listings(one: &Outputs, first: &str, other: &Outputs, second: &str) -> bool {
     one.are_like(other)
-        && one.listing.bytes() == first.as_bytes()
-        && other.listing.bytes() == second.as_bytes()
+        && one.listing() == first.as_bytes()
+        && other.listing() == second.as_bytes()
 }
 
-/// Whether a run of the source and a run of the set's program do.
-fn are_alike_but_for_listings(alloc: Global) -> bool {
-    let Some(assembled) = outputs_of_cell(alloc, SET, Some(CELL)) else {
-        return false;
-    };
+/// Whether a run of the set's program and this one of the source do.
+fn is_alike_but_for_listings(alloc: Global, assembled: &Outputs) -> bool {
     match outputs_of_cell(alloc, WHOLE_SET, None) {
-        Some(given) => differ_in_listings(&assembled, CELL_LISTING, &given, "SYMBOLS\n"),
+        Some(given) => differ_in_listings(assembled, CELL_LISTING, &given, "SYMBOLS\n"),
+        None => false,
+    }
+}
+
+/// The same, beside a run of the source.
+fn are_alike_but_for_listings(alloc: Global) -> bool {
+    match outputs_of_cell(alloc, SET, Some(CELL)) {
+        Some(assembled) => is_alike_but_for_listings(alloc, &assembled),
         None => false,
     }
 }

@@ -1,7 +1,7 @@
 //! Writers that take few bytes a call, or refuse.
 
 use crate::outputs::{AMPLE, Given, Lengths, Outputs, run};
-use crate::set::{SET, SWITCHES};
+use pac_sample_set::{SET, SWITCHES};
 use pac_out::faulty::Faulty;
 use pac_run::{Output, RunFault};
 use std::alloc::Global;
@@ -19,17 +19,22 @@ const REPORT: &[u8] = b"frames 1 of 1\nsteps 12669 ticks 50688\nend done\n";
 /// Whether two runs have the same images, sound and listing, and both this report.
 fn are_same(one: &Outputs, other: &Outputs) -> bool {
     one.are_like(other)
-        && one.listing.bytes() == other.listing.bytes()
-        && one.report.bytes() == REPORT
+        && one.listing() == other.listing()
+        && one.report() == REPORT
 }
 
-/// Whether a run over writers that take seven bytes a call is that over writers that take all.
-fn are_same_in_few_bytes(alloc: Global) -> bool {
-    let Ok(whole) = run(alloc, &CELL, usize::MAX) else {
-        return false;
-    };
+/// Whether a run over writers that take seven bytes a call gives out the same.
+fn is_same_in_few_bytes(alloc: Global, whole: &Outputs) -> bool {
     match run(alloc, &CELL, 7) {
-        Ok(slow) => are_same(&whole, &slow),
+        Ok(slow) => are_same(whole, &slow),
+        Err(_) => false,
+    }
+}
+
+/// The same, beside a run over writers that take all.
+fn are_same_in_few_bytes(alloc: Global) -> bool {
+    match run(alloc, &CELL, usize::MAX) {
+        Ok(whole) => is_same_in_few_bytes(alloc, &whole),
         Err(_) => false,
     }
 }
@@ -69,13 +74,18 @@ fn is_told(alloc: Global, outputs: &mut Outputs) -> bool {
     }
 }
 
-/// Whether the outputs are those of the same run without commands.
-fn are_same_under_a_session(alloc: Global) -> bool {
-    let Ok(plain) = run(alloc, &CELL, usize::MAX) else {
-        return false;
-    };
+/// Whether such a session's outputs are those of a run.
+fn is_same_under_a_session(alloc: Global, plain: &Outputs) -> bool {
     match Outputs::new(alloc, &AMPLE, 7) {
-        Ok(mut slow) => is_told(alloc, &mut slow) && are_same(&plain, &slow),
+        Ok(mut slow) => is_told(alloc, &mut slow) && are_same(plain, &slow),
+        Err(_) => false,
+    }
+}
+
+/// The same, of the same run without commands.
+fn are_same_under_a_session(alloc: Global) -> bool {
+    match run(alloc, &CELL, usize::MAX) {
+        Ok(plain) => is_same_under_a_session(alloc, &plain),
         Err(_) => false,
     }
 }
@@ -145,7 +155,7 @@ fn is_cut(alloc: Global, cut: &Cut) -> bool {
         Ok(mut outputs) => {
             outputs.run(alloc, &CELL) == Some(RunFault::Write(cut.output, cut.count))
                 && outputs.have(&cut.lengths)
-                && REPORT.starts_with(outputs.report.bytes())
+                && REPORT.starts_with(outputs.report())
         }
         Err(_) => false,
     }

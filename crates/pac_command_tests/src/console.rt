@@ -2,7 +2,7 @@
 
 ghost use Rattle.std.specs.Prelude.{◌≤◌, length, IfOk};
 
-use crate::folder::ANY_TEXT;
+use crate::lines::ANY_TEXT;
 use arrayvec::ArrayString;
 use pac_out::Out;
 use pac_out::memory::Memory;

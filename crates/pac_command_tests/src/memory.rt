@@ -1,13 +1,17 @@
 //! Want of memory: a command line under every amount of it.
 
 use crate::console::Console;
-use crate::folder::{Left, is_left, lay_set, status_of, words_of};
+use crate::folder::{is_left, lay_set, status_of, words_of};
+use crate::lines::Left;
 use pac_scarce::Hoard;
 use std::fs;
 use std::rt::Files;
 
 /// The most blocks that a run needs.
 const MOST_BLOCKS: usize = 4000;
+
+/// More runs than are refused.
+const MOST_REFUSALS: usize = 3999;
 
 /// A run over a folder.
 const WORDS: &str = "run --set @/set.toml --script @/one.script --source @/cell.asm";
@@ -41,11 +45,24 @@ fn refusals(
 }
 
 /// The same, with no memory at first.
-fn refusals_from_nothing(rt: &(impl Files + AllocGlobal)) -> Option<usize> {
+fn refusals_from_nothing(
+    rt: &(impl Files + AllocGlobal),
+    console: &Console,
+    words: &[String],
+) -> Option<usize> {
+    match Hoard::take(rt.alloc(), MOST_BLOCKS) {
+        Ok(mut hoard) => refusals(rt, console, words, &mut hoard),
+        Err(_) => None,
+    }
+}
+
+/// The same with the words of a run, over a console.
+fn refusals_of_a_run(rt: &(impl Files + AllocGlobal)) -> Option<usize> {
     let words = words_of(rt.alloc(), "scarce", WORDS, OUTPUTS).ok()?;
-    let console = Console::new(rt.alloc(), 200).ok()?;
-    let mut hoard = Hoard::take(rt.alloc(), MOST_BLOCKS).ok()?;
-    refusals(rt, &console, &words, &mut hoard)
+    match Console::new(rt.alloc(), 200) {
+        Ok(console) => refusals_from_nothing(rt, &console, &words),
+        Err(_) => None,
+    }
 }
 
 // With no memory, and then with a little more each time, a run tells that it found none and writes nothing, until it is
@@ -53,8 +70,7 @@ fn refusals_from_nothing(rt: &(impl Files + AllocGlobal)) -> Option<usize> {
 #[test]
 fn memory_that_is_refused(rt: HostRuntime) {
     assert!(rt; lay_set(&rt, "scarce"));
-    let refused = refusals_from_nothing(&rt).unwrap_or(0);
-    assert!(rt; 50 < refused && refused < MOST_BLOCKS - 1, "{refused}");
+    assert!(rt; matches!(refusals_of_a_run(&rt), Some(51..MOST_REFUSALS)));
     assert!(rt; is_left(&rt, "scarce", "f", &Left::Length(193_551)));
     assert!(rt; fs::remove_dir_all(&rt, "scarce").is_ok());
 }

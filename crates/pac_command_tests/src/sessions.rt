@@ -1,7 +1,8 @@
 //! Runs under a debugger: what is told before the report, files equal to those of a run without commands, and what is refused.
 
-use crate::folder::{LINE, Left, Line, hold_over_set};
-use crate::picture::GREEN_TILE;
+use crate::folder::hold;
+use crate::lines::{LINE, Left, Line};
+use pac_sample_set::GREEN_TILE;
 
 const COMMANDS: &[u8] = b"break 0005
 continue
@@ -57,7 +58,7 @@ static BEFORE_THE_REPORT: [Line; 2] = [
 
 #[test]
 fn a_session_before_the_report(rt: HostRuntime) {
-    hold_over_set(&rt, "session", &BEFORE_THE_REPORT);
+    hold(&rt, "session", &BEFORE_THE_REPORT);
 }
 
 /// No lines at all; then neither bytes that aren't UTF-8 nor a number beyond all sizes is a command, and the session goes on.
@@ -79,7 +80,7 @@ static NO_COMMANDS: [Line; 2] = [
 
 #[test]
 fn lines_that_are_no_commands(rt: HostRuntime) {
-    hold_over_set(&rt, "unread_lines", &NO_COMMANDS);
+    hold(&rt, "unread_lines", &NO_COMMANDS);
 }
 
 /// A session of a source that has a fault, over a set whose tiles are no file.
@@ -115,7 +116,7 @@ static UNREADABLE: [Line; 3] = [
 
 #[test]
 fn commands_that_cannot_be_read(rt: HostRuntime) {
-    hold_over_set(&rt, "no_commands", &UNREADABLE);
+    hold(&rt, "no_commands", &UNREADABLE);
 }
 
 /// A refused source leaves the outputs empty, and no command is done; a board that stops ends the session.
@@ -143,7 +144,7 @@ static ENDED: [Line; 2] = [
 
 #[test]
 fn a_session_that_is_refused_and_one_that_stops(rt: HostRuntime) {
-    hold_over_set(&rt, "stopping", &ENDED);
+    hold(&rt, "stopping", &ENDED);
 }
 
 /// The session, over a console that takes fewer bytes than are told.
@@ -182,5 +183,5 @@ static CUTS: [Line; 4] = [
 
 #[test]
 fn texts_that_are_refused(rt: HostRuntime) {
-    hold_over_set(&rt, "full", &CUTS);
+    hold(&rt, "full", &CUTS);
 }

@@ -1,68 +1,12 @@
 //! Folders with the files of a set, and command lines that are run over them.
 
 use crate::console::Console;
-use crate::picture::Picture;
-use crate::set::{Files, SET, Tables, WHOLE_SET, text_of};
+use crate::lines::{Left, Line, Named};
 use pac_command::run_words;
+use pac_sample_set::{Files, SET, Tables, WHOLE_SET, text_of};
 use std::alloc::{AllocError, Global};
 use std::process::Abort;
 use std::{fs, rt};
-
-/// What a file of a folder has.
-#[derive(Clone, Copy)]
-pub enum Left {
-    /// There is no such file.
-    Absent,
-    /// These bytes.
-    Bytes(&'static [u8]),
-    /// So many bytes.
-    Length(usize),
-    /// These bytes, and then 0 up to 16,384 bytes.
-    Program(&'static [u8]),
-    /// An image of this picture.
-    Image(&'static Picture),
-    /// The bytes of another file of the folder.
-    Like(&'static str),
-}
-
-/// Files of a folder, by their names.
-pub type Named = &'static [(&'static str, &'static [u8])];
-
-/// A command line over a folder, and what it comes to.
-#[derive(Clone, Copy)]
-pub struct Line {
-    /// Files that are laid into the folder before it.
-    pub files: Named,
-    /// Its words after the program's name, parted by blanks; `@` is the folder.
-    pub words: &'static str,
-    /// Further words, likewise.
-    pub outputs: &'static str,
-    /// The bytes that standard output takes.
-    pub room: usize,
-    /// The exit status.
-    pub status: u8,
-    /// What standard output has then, as pieces.
-    pub output: &'static [&'static str],
-    /// What standard error has; `ANY_TEXT` for any but none.
-    pub error: &'static str,
-    /// What files have after it.
-    pub left: &'static [(&'static str, Left)],
-}
-
-/// Any text but none.
-pub const ANY_TEXT: &str = "*";
-
-/// A line without words, that is done and tells nothing.
-pub const LINE: Line = Line {
-    files: &[],
-    words: "",
-    outputs: "",
-    room: 400,
-    status: 0,
-    output: &[],
-    error: "",
-    left: &[],
-};
 
 /// Lays a file into a folder; whether it could.
 fn lay(rt: &(impl rt::Files + AllocGlobal), folder: &str, name: &str, bytes: &[u8]) -> bool {
@@ -73,7 +17,7 @@ fn lay(rt: &(impl rt::Files + AllocGlobal), folder: &str, name: &str, bytes: &[u
 }
 
 /// Lays a file of so many bytes, all of them this one; whether it could.
-pub fn lay_many(
+fn lay_long(
     rt: &(impl rt::Files + AllocGlobal),
     folder: &str,
     name: &str,
@@ -91,6 +35,15 @@ fn lay_all(rt: &(impl rt::Files + AllocGlobal), folder: &str, files: &[(&str, &[
     files
         .iter()
         .all(|(name, bytes)| lay(rt, folder, name, bytes))
+}
+
+/// Lays what a line wants in the folder before it; whether it could.
+fn lay_before(rt: &(impl rt::Files + AllocGlobal), folder: &str, line: &Line) -> bool {
+    lay_all(rt, folder, line.files)
+        && line
+            .long
+            .iter()
+            .all(|(name, byte, count)| lay_long(rt, folder, name, *byte, *count))
 }
 
 /// Lays the files of the set's parts; whether it could.
@@ -230,7 +183,7 @@ fn holds(rt: &(impl rt::Files + AllocGlobal), folder: &str, line: &Line) -> bool
     let Ok(words) = words_of(rt.alloc(), folder, line.words, line.outputs) else {
         return false;
     };
-    lay_all(rt, folder, line.files)
+    lay_before(rt, folder, line)
         && is_answered(rt, line, &words)
         && line
             .left
@@ -238,16 +191,12 @@ fn holds(rt: &(impl rt::Files + AllocGlobal), folder: &str, line: &Line) -> bool
             .all(|(name, left)| is_left(rt, folder, name, left))
 }
 
-/// Runs command lines over a folder that is there, one after another, and compares what each comes to.
+/// Makes a folder with the files of the set, runs command lines over it, one after another, and compares what each comes
+/// to; then removes it.
 pub fn hold(rt: &(impl rt::Files + AllocGlobal + Abort), folder: &str, lines: &[Line]) {
+    assert!(rt; lay_set(rt, folder));
     for line in lines {
         assert!(rt; holds(rt, folder, line), "{} > {}", line.words, line.error);
     }
-}
-
-/// Makes a folder with the files of the set, runs command lines over it, and removes it.
-pub fn hold_over_set(rt: &(impl rt::Files + AllocGlobal + Abort), folder: &str, lines: &[Line]) {
-    assert!(rt; lay_set(rt, folder));
-    hold(rt, folder, lines);
     assert!(rt; fs::remove_dir_all(rt, folder).is_ok());
 }
