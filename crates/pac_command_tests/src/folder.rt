@@ -40,10 +40,7 @@ fn lay_all(rt: &(impl rt::Files + AllocGlobal), folder: &str, files: &[(&str, &[
 /// Lays what a line wants in the folder before it; whether it could.
 fn lay_before(rt: &(impl rt::Files + AllocGlobal), folder: &str, line: &Line) -> bool {
     lay_all(rt, folder, line.files)
-        && line
-            .long
-            .iter()
-            .all(|(name, byte, count)| lay_long(rt, folder, name, *byte, *count))
+        && line.long.iter().all(|(name, byte, count)| lay_long(rt, folder, name, *byte, *count))
 }
 
 /// Lays the files of the set's parts; whether it could.

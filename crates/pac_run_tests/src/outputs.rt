@@ -1,9 +1,9 @@
 //! Runs of the set whose outputs are kept.
 
-use pac_sample_set::{Files, Tables, text_of};
 use pac_manifest::Part;
 use pac_out::faulty::Faulty;
 use pac_run::{RunFault, RunInputs, debug_all, run_all};
+use pac_sample_set::{Files, Tables, text_of};
 use std::alloc::{AllocError, Global};
 use std::marker::Model;
 

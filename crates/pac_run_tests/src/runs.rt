@@ -2,14 +2,14 @@
 //! tiles and the weights of the colour PROM; sound by waveform, volume and the 1,584 samples of a frame.
 
 use crate::outputs::{AMPLE, Given, Outputs, run};
-use pac_sample_set::{
-    ALL_BLACK, BLUE_AND_RED, GREEN_TILE, LATE_GREEN_TILE, NO_WAVE, Picture, SET, SWITCHES, Tables,
-    WHOLE_SET, are_shown,
-};
 use pac_asm::{AsmCode, AsmFault};
 use pac_inputs::ScriptFault;
 use pac_manifest::{Code, PartName, SetFault};
 use pac_run::RunFault;
+use pac_sample_set::{
+    ALL_BLACK, BLUE_AND_RED, GREEN_TILE, LATE_GREEN_TILE, NO_WAVE, Picture, SET, SWITCHES, Tables,
+    WHOLE_SET, are_shown,
+};
 use std::alloc::Global;
 
 /// Shows tile 42H, of which all pixels are 2, at x 16 to 23, y 0 to 7.
@@ -211,9 +211,7 @@ fn outputs_of_cell(alloc: Global, tables: Tables, source: Option<&'static str>) 
 
 /// Whether two runs differ in their listings alone, which are these.
 fn differ_in_listings(one: &Outputs, first: &str, other: &Outputs, second: &str) -> bool {
-    one.are_like(other)
-        && one.listing() == first.as_bytes()
-        && other.listing() == second.as_bytes()
+    one.are_like(other) && one.listing() == first.as_bytes() && other.listing() == second.as_bytes()
 }
 
 /// Whether a run of the set's program and this one of the source do.

@@ -1,9 +1,9 @@
 //! Writers that take few bytes a call, or refuse.
 
 use crate::outputs::{AMPLE, Given, Lengths, Outputs, run};
-use pac_sample_set::{SET, SWITCHES};
 use pac_out::faulty::Faulty;
 use pac_run::{Output, RunFault};
+use pac_sample_set::{SET, SWITCHES};
 use std::alloc::Global;
 
 /// Shows a tile.
@@ -18,9 +18,7 @@ const REPORT: &[u8] = b"frames 1 of 1\nsteps 12669 ticks 50688\nend done\n";
 
 /// Whether two runs have the same images, sound and listing, and both this report.
 fn are_same(one: &Outputs, other: &Outputs) -> bool {
-    one.are_like(other)
-        && one.listing() == other.listing()
-        && one.report() == REPORT
+    one.are_like(other) && one.listing() == other.listing() && one.report() == REPORT
 }
 
 /// Whether a run over writers that take seven bytes a call gives out the same.
