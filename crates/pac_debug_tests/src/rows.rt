@@ -3,7 +3,7 @@
 use crate::set::{CELL, INTERRUPT, Telling, is_told, is_told_of_text};
 
 /// Sessions, whose lines are done one by one.
-const SESSIONS: &[Telling] = &[
+static SESSIONS: [Telling; 6] = [
     // a breakpoint, a step, back over the write, on to the end, and back to a slot
     Telling {
         program: &CELL,
@@ -74,13 +74,13 @@ const SESSIONS: &[Telling] = &[
 
 #[test]
 fn worked_sessions(rt: HostRuntime) {
-    for session in SESSIONS {
+    for session in &SESSIONS {
         assert!(rt; is_told(rt.alloc(), session), "{}", session.lines);
     }
 }
 
 /// A text of commands, with a line without words and a return at a line's end.
-const COMMANDS: Telling = Telling {
+static COMMANDS: Telling = Telling {
     program: &CELL,
     script: b"1 -",
     lines: "break 0005\r\n\ncontinue\nSTEP 1\nstep 1",
