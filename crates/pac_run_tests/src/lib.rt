@@ -1,20 +1,9 @@
-//! Nothing but tests of runs: whole runs over a set's files, held against what `pac_run` writes and answers, and command
-//! lines, held against what `pac_command` does with files.
+//! Nothing but tests of runs: whole runs over a set's files, held against what `pac_run` writes and answers.
 #![tactic(auto)]
 
 #[cfg(test)]
-mod commands;
-#[cfg(test)]
-mod console;
-#[cfg(test)]
-mod folder;
-#[cfg(test)]
-mod memory;
+mod outputs;
 #[cfg(test)]
 mod runs;
-#[cfg(test)]
-mod sessions;
-#[cfg(test)]
-mod set;
 #[cfg(test)]
 mod writers;

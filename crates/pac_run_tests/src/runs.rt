@@ -1,12 +1,16 @@
 //! Runs whose numbers follow from UM0080's T-states and from a frame's 50,688; pictures by the schematics' places of
 //! tiles and the weights of the colour PROM; sound by waveform, volume and the 1,584 samples of a frame.
 
-use crate::set::{Files, Outputs, PROGRAM_TABLES, SWITCHES, TABLES, WAVE_TABLE, run_source};
+use crate::outputs::{AMPLE, Given, Outputs, run};
 use pac_asm::{AsmCode, AsmFault};
 use pac_inputs::ScriptFault;
 use pac_manifest::{Code, PartName, SetFault};
-use pac_run::{RunFault, RunInputs};
-use std::test::Fail;
+use pac_run::RunFault;
+use pac_sample_set::{
+    ALL_BLACK, BLUE_AND_RED, GREEN_TILE, LATE_GREEN_TILE, NO_WAVE, Picture, SET, SWITCHES, Tables,
+    WHOLE_SET, are_shown,
+};
+use std::alloc::Global;
 
 /// Shows tile 42H, of which all pixels are 2, at x 16 to 23, y 0 to 7.
 const CELL: &str = "LD A,42H\nLD (4040H),A\nHALT";
@@ -21,143 +25,139 @@ const LATE_CELL: &str = "DEFS 2000\nLD A,42H\nLD (4040H),A\nHALT";
 const VOICES: &str =
     "LD A,1\nLD (5001H),A\nLD A,15\nLD (5055H),A\nLD (505AH),A\nLD (505FH),A\nHALT";
 
-/// The bytes of an image: its header's 15, and 3 for each of 288 by 224 pixels.
-const IMAGE: usize = 193_551;
+/// A run of a source without a sound, and what it gives out.
+#[derive(Clone, Copy)]
+struct Row {
+    source: &'static str,
+    dip: u8,
+    script: &'static str,
+    report: &'static str,
+    pictures: &'static [Picture],
+    /// The bytes of the sound, whose samples are 0.
+    sound: usize,
+}
 
-const BLACK: [u8; 3] = [0, 0, 0];
+const CELL_REPORT: &str = "frames 1 of 1\nsteps 12669 ticks 50688\nend done\n";
 
-const RED: [u8; 3] = [255, 0, 0];
+const INPUTS_REPORT: &str = "frames 1 of 1\nsteps 12663 ticks 50688\nend done\n";
 
-const GREEN: [u8; 3] = [0, 255, 0];
+/// Reports, the pictures and the sound's size.
+static ROWS: [Row; 9] = [
+    Row {
+        source: "",
+        dip: SWITCHES,
+        script: "1 -",
+        report: "frames 1 of 1\nsteps 12672 ticks 50688\nend done\n",
+        pictures: &[ALL_BLACK],
+        sound: 3_212,
+    },
+    Row {
+        source: "DEFB 0CBH,30H",
+        dip: SWITCHES,
+        script: "2 -",
+        report: "frames 0 of 2\nsteps 0 ticks 0\nstop S1 at 0000 bytes CB 30 00 00\n",
+        pictures: &[],
+        sound: 6_380,
+    },
+    Row {
+        source: "ORG 3180H\nDEFB 0DDH,24H",
+        dip: SWITCHES,
+        script: "2 -",
+        report: "frames 1 of 2\nsteps 12672 ticks 50688\nstop S1 at 3180 bytes DD 24 00 00\n",
+        pictures: &[ALL_BLACK],
+        sound: 6_380,
+    },
+    Row {
+        source: "LD A,1\nLD (5000H),A\nEI\nHALT",
+        dip: SWITCHES,
+        script: "2 -",
+        report: "frames 1 of 2\nsteps 12669 ticks 50688\nstop S2 at 0007 byte 00\n",
+        pictures: &[ALL_BLACK],
+        sound: 6_380,
+    },
+    Row {
+        source: CELL,
+        dip: SWITCHES,
+        script: "",
+        report: "frames 0 of 0\nsteps 0 ticks 0\nend done\n",
+        pictures: &[],
+        sound: 44,
+    },
+    Row {
+        source: CELL,
+        dip: SWITCHES,
+        script: "1 -",
+        report: CELL_REPORT,
+        pictures: &[GREEN_TILE],
+        sound: 3_212,
+    },
+    Row {
+        source: INPUTS,
+        dip: SWITCHES,
+        script: "1 -",
+        report: INPUTS_REPORT,
+        pictures: &[BLUE_AND_RED],
+        sound: 3_212,
+    },
+    Row {
+        source: INPUTS,
+        dip: 0,
+        script: "1 P1_UP",
+        report: INPUTS_REPORT,
+        pictures: &[GREEN_TILE],
+        sound: 3_212,
+    },
+    // the frame in which the tile was written has it from line 1 on, the next one whole
+    Row {
+        source: LATE_CELL,
+        dip: SWITCHES,
+        script: "2 -",
+        report: "frames 2 of 2\nsteps 25341 ticks 101376\nend done\n",
+        pictures: &[LATE_GREEN_TILE, GREEN_TILE],
+        sound: 6_380,
+    },
+];
 
-const BLUE: [u8; 3] = [0, 0, 255];
+/// Whether a sound has so many bytes, and no sample but 0.
+fn is_silent(wave: &[u8], length: usize) -> bool {
+    wave.len() == length && wave.starts_with(b"RIFF") && wave.iter().skip(44).all(|byte| *byte == 0)
+}
 
-/// Whether an image has these colours at x 16 to 23 and at x 24 to 31, from line `top` to line 7, and is black elsewhere.
-fn shows(image: &[u8], top: usize, left: [u8; 3], right: [u8; 3]) -> bool {
-    if image.len() != IMAGE || !image.starts_with(b"P6\n288 224\n255\n") {
-        return false;
-    }
-    for (place, level) in image.iter().skip(15).enumerate() {
-        let (x, y) = (place / 3 % 288, place / 864);
-        let colour = if y < top || 8 <= y {
-            BLACK
-        } else if 16 <= x && x < 24 {
-            left
-        } else if 24 <= x && x < 32 {
-            right
-        } else {
-            BLACK
-        };
-        if *level != colour[place % 3] {
-            return false;
+/// Whether a run gives out what its row says.
+fn holds(alloc: Global, row: &Row) -> bool {
+    let given = Given {
+        tables: SET,
+        source: Some(row.source),
+        dip: row.dip,
+        script: row.script,
+    };
+    match run(alloc, &given, usize::MAX) {
+        Ok(outputs) => {
+            outputs.report() == row.report.as_bytes()
+                && are_shown(outputs.frames(), row.pictures)
+                && is_silent(outputs.wave(), row.sound)
         }
+        Err(_) => false,
     }
-    true
 }
 
 #[test]
-fn reports_and_sizes(rt: HostRuntime) -> Result<(), Fail> {
-    for (source, script, report, images, sound) in [
-        (
-            "",
-            "1 -",
-            "frames 1 of 1\nsteps 12672 ticks 50688\nend done\n",
-            1,
-            3_212,
-        ),
-        (
-            "DEFB 0CBH,30H",
-            "2 -",
-            "frames 0 of 2\nsteps 0 ticks 0\nstop S1 at 0000 bytes CB 30 00 00\n",
-            0,
-            6_380,
-        ),
-        (
-            "ORG 3180H\nDEFB 0DDH,24H",
-            "2 -",
-            "frames 1 of 2\nsteps 12672 ticks 50688\nstop S1 at 3180 bytes DD 24 00 00\n",
-            1,
-            6_380,
-        ),
-        (
-            "LD A,1\nLD (5000H),A\nEI\nHALT",
-            "2 -",
-            "frames 1 of 2\nsteps 12669 ticks 50688\nstop S2 at 0007 byte 00\n",
-            1,
-            6_380,
-        ),
-        (
-            CELL,
-            "",
-            "frames 0 of 0\nsteps 0 ticks 0\nend done\n",
-            0,
-            44,
-        ),
-    ] {
-        let Ok(outputs) = run_source(rt.alloc(), source, SWITCHES, script) else {
-            panic!(rt; "refused {source:?}");
-        };
-        assert!(rt; outputs.report.bytes() == report.as_bytes(), "{source:?}");
-        assert_eq!(rt; outputs.frames.bytes().len(), images * IMAGE, "{source:?}");
-        assert!(rt;
-            images == 0 || shows(outputs.frames.bytes(), 0, BLACK, BLACK),
-            "{source:?}"
-        );
-        let wave = outputs.wave.bytes();
-        assert_eq!(rt; wave.len(), sound, "{source:?}");
-        assert!(rt; wave.starts_with(b"RIFF") && wave.iter().skip(44).all(|byte| *byte == 0));
+fn reports_pictures_and_silence(rt: HostRuntime) {
+    for row in &ROWS {
+        assert!(rt; holds(rt.alloc(), row), "{}", row.source);
     }
-    Ok(())
 }
 
-#[test]
-fn pictures(rt: HostRuntime) -> Result<(), Fail> {
-    for (source, dip, script, steps, left, right) in [
-        (CELL, SWITCHES, "1 -", "12669", GREEN, BLACK),
-        (INPUTS, SWITCHES, "1 -", "12663", BLUE, RED),
-        (INPUTS, 0, "1 P1_UP", "12663", GREEN, BLACK),
-    ] {
-        let Ok(outputs) = run_source(rt.alloc(), source, dip, script) else {
-            panic!(rt; "refused {source:?}");
-        };
-        let report = format!(in rt.alloc();
-            "frames 1 of 1\nsteps {steps} ticks 50688\nend done\n"
-        )?;
-        assert!(rt; outputs.report.bytes() == report.as_bytes(), "{source:?}");
-        assert!(rt; shows(outputs.frames.bytes(), 0, left, right), "{source:?}");
-    }
-    Ok(())
-}
+/// The header of a sound of 1,584 samples.
+const HEADER: [u8; 44] = [
+    0x52, 0x49, 0x46, 0x46, 0x84, 0x0C, 0x00, 0x00, 0x57, 0x41, 0x56, 0x45, 0x66, 0x6D, 0x74, 0x20,
+    0x10, 0x00, 0x00, 0x00, 0x01, 0x00, 0x01, 0x00, 0x00, 0x77, 0x01, 0x00, 0x00, 0xEE, 0x02, 0x00,
+    0x02, 0x00, 0x10, 0x00, 0x64, 0x61, 0x74, 0x61, 0x60, 0x0C, 0x00, 0x00,
+];
 
-// The frame in which the tile was written has it from line 1 on, the next one whole.
-#[test]
-fn a_tile_written_between_lines(rt: HostRuntime) -> Result<(), Fail> {
-    let Ok(outputs) = run_source(rt.alloc(), LATE_CELL, SWITCHES, "2 -") else {
-        panic!(rt; "refused");
-    };
-    let images = outputs.frames.bytes();
-    assert_eq!(rt; images.len(), 387_102);
-    let (first, second) = images.split_at(IMAGE);
-    assert!(rt; shows(first, 1, GREEN, BLACK) && shows(second, 0, GREEN, BLACK));
-    Ok(())
-}
-
-// Each voice is heard from the sample on that follows its volume: one at sample 1, all three from sample 2 on.
-#[test]
-fn samples_of_three_voices(rt: HostRuntime) -> Result<(), Fail> {
-    let Ok(outputs) = run_source(rt.alloc(), VOICES, SWITCHES, "1 -") else {
-        panic!(rt; "refused");
-    };
-    let report = b"frames 1 of 1\nsteps 12662 ticks 50690\nend done\n";
-    assert!(rt; outputs.report.bytes() == report.as_slice());
-    let header = [
-        0x52, 0x49, 0x46, 0x46, 0x84, 0x0C, 0x00, 0x00, 0x57, 0x41, 0x56, 0x45, 0x66, 0x6D, 0x74,
-        0x20, 0x10, 0x00, 0x00, 0x00, 0x01, 0x00, 0x01, 0x00, 0x00, 0x77, 0x01, 0x00, 0x00, 0xEE,
-        0x02, 0x00, 0x02, 0x00, 0x10, 0x00, 0x64, 0x61, 0x74, 0x61, 0x60, 0x0C, 0x00, 0x00,
-    ];
-    let wave = outputs.wave.bytes();
-    assert_eq!(rt; wave.len(), 3_212);
-    assert!(rt; wave.starts_with(&header));
+/// Whether a sound's first sample is 6,720, and each other of its 1,584 is 20,160.
+fn sounds(wave: &[u8]) -> bool {
+    let mut is_right = wave.len() == 3_212 && wave.starts_with(&HEADER);
     for (place, byte) in wave.iter().skip(44).enumerate() {
         let sample = if place < 2 { 6_720u16 } else { 20_160 };
         let half = if place % 2 == 0 {
@@ -165,92 +165,146 @@ fn samples_of_three_voices(rt: HostRuntime) -> Result<(), Fail> {
         } else {
             sample / 256
         };
-        assert_eq!(rt; *byte as u16, half, "{place}");
+        is_right = is_right && *byte as u16 == half;
     }
-    Ok(())
+    is_right
 }
 
-// The same bytes as a source and as the program of a set: all is equal but the listing.
-#[test]
-fn a_source_and_a_program_of_a_set(rt: HostRuntime) -> Result<(), Fail> {
-    let Ok(assembled) = run_source(rt.alloc(), CELL, SWITCHES, "1 -") else {
-        panic!(rt; "refused");
+/// Whether a run of the three voices is reported, and heard.
+fn is_heard(alloc: Global) -> bool {
+    let report = b"frames 1 of 1\nsteps 12662 ticks 50690\nend done\n";
+    let given = Given {
+        tables: SET,
+        source: Some(VOICES),
+        dip: SWITCHES,
+        script: "1 -",
     };
-    let listing = "00001 0000 3E42     LD A,42H
+    match run(alloc, &given, usize::MAX) {
+        Ok(outputs) => outputs.report() == report.as_slice() && sounds(outputs.wave()),
+        Err(_) => false,
+    }
+}
+
+// Each voice is heard from the sample on that follows its volume: one at sample 1, all three from sample 2 on.
+#[test]
+fn samples_of_three_voices(rt: HostRuntime) {
+    assert!(rt; is_heard(rt.alloc()));
+}
+
+/// The listing of `CELL`.
+const CELL_LISTING: &str = "00001 0000 3E42     LD A,42H
 00002 0002 324040   LD (4040H),A
 00003 0005 76       HALT
 SYMBOLS
 ";
-    assert!(rt; assembled.listing.bytes() == listing.as_bytes());
-    let files = Files::new(rt.alloc())?;
-    let manifest = format!(in rt.alloc(); "{TABLES}{WAVE_TABLE}{PROGRAM_TABLES}")?;
-    let mut given = Outputs::new(rt.alloc())?;
-    let inputs = RunInputs {
-        source: None,
-        manifest: manifest.as_bytes(),
-        parts: &files.parts(),
+
+/// The outputs of the program of `CELL`, as a source or as the program of a set.
+fn outputs_of_cell(alloc: Global, tables: Tables, source: Option<&'static str>) -> Option<Outputs> {
+    let given = Given {
+        tables,
+        source,
         dip: SWITCHES,
-        script: b"1 -",
+        script: "1 -",
     };
-    assert!(rt; given.run(rt.alloc(), &inputs).is_ok());
-    assert!(rt; given.listing.bytes() == b"SYMBOLS\n".as_slice());
-    assert!(rt; given.frames.bytes() == assembled.frames.bytes());
-    assert!(rt; given.wave.bytes() == assembled.wave.bytes());
-    assert!(rt; given.report.bytes() == assembled.report.bytes());
-    Ok(())
+    run(alloc, &given, usize::MAX).ok()
 }
 
-// Source, set and script are judged in this order.
-#[test]
-fn refused_inputs_write_nothing(rt: HostRuntime) -> Result<(), Fail> {
-    let files = Files::new(rt.alloc())?;
-    let far = RunFault::Source(AsmFault {
-        code: AsmCode::OutOfRange,
-        line: 1,
-    });
-    let mut outputs = Outputs::new(rt.alloc())?;
-    for (source, [first, second, third], fault) in [
-        (b"LD A,256".as_slice(), [TABLES, "", ""], far),
-        (
-            b"",
-            [TABLES, "", ""],
-            refused_set(Code::Unnamed, Some(PartName::Wave)),
-        ),
-        (
-            b"",
-            ["tiles = 3", "", ""],
-            refused_set(Code::Manifest, None),
-        ),
-        (
-            b"",
-            [TABLES, WAVE_TABLE, PROGRAM_TABLES],
-            refused_set(Code::TwoPrograms, None),
-        ),
-        (b"", [TABLES, WAVE_TABLE, ""], script_fault()),
-    ] {
-        let text = format!(in rt.alloc(); "{first}{second}{third}")?;
-        let inputs = RunInputs {
-            source: Some(source),
-            manifest: text.as_bytes(),
-            parts: &files.parts(),
-            dip: SWITCHES,
-            script: b"0 -",
-        };
-        assert_eq!(rt; outputs.run(rt.alloc(), &inputs), Err(fault));
-        assert!(rt; outputs.are_empty());
+/// Whether two runs differ in their listings alone, which are these.
+fn differ_in_listings(one: &Outputs, first: &str, other: &Outputs, second: &str) -> bool {
+    one.are_like(other) && one.listing() == first.as_bytes() && other.listing() == second.as_bytes()
+}
+
+/// Whether a run of the set's program and this one of the source do.
+fn is_alike_but_for_listings(alloc: Global, assembled: &Outputs) -> bool {
+    match outputs_of_cell(alloc, WHOLE_SET, None) {
+        Some(given) => differ_in_listings(assembled, CELL_LISTING, &given, "SYMBOLS\n"),
+        None => false,
     }
-    Ok(())
 }
 
-/// A set that is refused.
-fn refused_set(code: Code, part: Option<PartName>) -> RunFault {
-    RunFault::Set(SetFault { code, part })
+/// The same, beside a run of the source.
+fn are_alike_but_for_listings(alloc: Global) -> bool {
+    match outputs_of_cell(alloc, SET, Some(CELL)) {
+        Some(assembled) => is_alike_but_for_listings(alloc, &assembled),
+        None => false,
+    }
 }
 
-/// A script whose first line's count is none.
-fn script_fault() -> RunFault {
-    RunFault::Script(ScriptFault {
-        code: pac_inputs::Code::Count,
-        line: 1,
-    })
+// The same bytes as a source and as the program of a set: all is equal but the listing.
+#[test]
+fn a_source_and_a_program_of_a_set(rt: HostRuntime) {
+    assert!(rt; are_alike_but_for_listings(rt.alloc()));
+}
+
+/// A source and a manifest, and why they are refused.
+#[derive(Clone, Copy)]
+struct Refused {
+    source: &'static str,
+    tables: Tables,
+    fault: RunFault,
+}
+
+/// Source, set and script are judged in this order.
+static REFUSED: [Refused; 5] = [
+    Refused {
+        source: "LD A,256",
+        tables: NO_WAVE,
+        fault: RunFault::Source(AsmFault {
+            code: AsmCode::OutOfRange,
+            line: 1,
+        }),
+    },
+    Refused {
+        source: "",
+        tables: NO_WAVE,
+        fault: RunFault::Set(SetFault {
+            code: Code::Unnamed,
+            part: Some(PartName::Wave),
+        }),
+    },
+    Refused {
+        source: "",
+        tables: ["tiles = 3", "", ""],
+        fault: RunFault::Set(SetFault {
+            code: Code::Manifest,
+            part: None,
+        }),
+    },
+    Refused {
+        source: "",
+        tables: WHOLE_SET,
+        fault: RunFault::Set(SetFault {
+            code: Code::TwoPrograms,
+            part: None,
+        }),
+    },
+    Refused {
+        source: "",
+        tables: SET,
+        fault: RunFault::Script(ScriptFault {
+            code: pac_inputs::Code::Count,
+            line: 1,
+        }),
+    },
+];
+
+/// Whether a row's source and manifest, with a script that is none, are refused for its fault, and nothing is written.
+fn is_refused(alloc: Global, row: &Refused) -> bool {
+    let given = Given {
+        tables: row.tables,
+        source: Some(row.source),
+        dip: SWITCHES,
+        script: "0 -",
+    };
+    match Outputs::new(alloc, &AMPLE, usize::MAX) {
+        Ok(mut outputs) => outputs.run(alloc, &given) == Some(row.fault) && outputs.have(&[0; 4]),
+        Err(_) => false,
+    }
+}
+
+#[test]
+fn refused_inputs_write_nothing(rt: HostRuntime) {
+    for (number, row) in REFUSED.iter().enumerate() {
+        assert!(rt; is_refused(rt.alloc(), row), "row {number}");
+    }
 }

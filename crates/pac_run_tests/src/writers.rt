@@ -1,105 +1,167 @@
 //! Writers that take few bytes a call, or refuse.
 
-use crate::set::{Files, Outputs, SWITCHES, manifest};
+use crate::outputs::{AMPLE, Given, Lengths, Outputs, run};
 use pac_out::faulty::Faulty;
-use pac_out::memory::Memory;
-use pac_run::{Output, RunFault, RunInputs, run_all};
-use std::test::Fail;
+use pac_run::{Output, RunFault};
+use pac_sample_set::{SET, SWITCHES};
+use std::alloc::Global;
 
 /// Shows a tile.
-const CELL: &[u8] = b"LD A,42H\nLD (4040H),A\nHALT";
+const CELL: Given = Given {
+    tables: SET,
+    source: Some("LD A,42H\nLD (4040H),A\nHALT"),
+    dip: SWITCHES,
+    script: "1 -",
+};
 
 const REPORT: &[u8] = b"frames 1 of 1\nsteps 12669 ticks 50688\nend done\n";
 
-#[test]
-fn few_bytes_a_call_give_the_same_bytes(rt: HostRuntime) -> Result<(), Fail> {
-    let files = Files::new(rt.alloc())?;
-    let manifest = manifest(rt.alloc())?;
-    let inputs = RunInputs {
-        source: Some(CELL),
-        manifest: manifest.as_bytes(),
-        parts: &files.parts(),
-        dip: SWITCHES,
-        script: b"1 -",
-    };
-    let mut whole = Outputs::new(rt.alloc())?;
-    assert!(rt; whole.run(rt.alloc(), &inputs).is_ok());
-    assert!(rt; whole.report.bytes() == REPORT);
-    let mut frames = Faulty::new(rt.alloc(), 200_000, 7, 0)?;
-    let mut wave = Faulty::new(rt.alloc(), 10_000, 7, 0)?;
-    let mut listing = Faulty::new(rt.alloc(), 1_000, 7, 0)?;
-    let mut report = Faulty::new(rt.alloc(), 200, 7, 0)?;
-    let found = run_all(
-        rt.alloc(),
-        &inputs,
-        &mut frames,
-        &mut wave,
-        &mut listing,
-        &mut report,
-    );
-    assert!(rt; found.is_ok());
-    assert!(rt; frames.bytes() == whole.frames.bytes());
-    assert!(rt; wave.bytes() == whole.wave.bytes());
-    assert!(rt; listing.bytes() == whole.listing.bytes());
-    assert!(rt; report.bytes() == REPORT);
-    Ok(())
+/// Whether two runs have the same images, sound and listing, and both this report.
+fn are_same(one: &Outputs, other: &Outputs) -> bool {
+    one.are_like(other) && one.listing() == other.listing() && one.report() == REPORT
 }
 
-// The wave's header of 44 bytes goes out before the first frame. The last sample of a frame comes before its picture, so
-// the sound is whole where the first image is cut; samples wait, and those of this frame go out after its picture.
-#[test]
-fn full_writers_are_told_with_their_counts(rt: HostRuntime) -> Result<(), Fail> {
-    let files = Files::new(rt.alloc())?;
-    let manifest = manifest(rt.alloc())?;
-    let inputs = RunInputs {
-        source: Some(CELL),
-        manifest: manifest.as_bytes(),
-        parts: &files.parts(),
-        dip: SWITCHES,
-        script: b"1 -",
-    };
-    for (output, rooms, lengths) in [
-        (Output::Listing, (200_000, 10_000, 9, 200), (0, 0, 9, 0)),
-        (Output::Wave, (200_000, 0, 1_000, 200), (0, 0, 95, 0)),
-        (Output::Wave, (200_000, 43, 1_000, 200), (0, 43, 95, 0)),
-        (
-            Output::Wave,
-            (200_000, 44, 1_000, 200),
-            (193_551, 44, 95, 0),
-        ),
-        (
-            Output::Frames,
-            (100, 10_000, 1_000, 200),
-            (100, 3_212, 95, 0),
-        ),
-        (
-            Output::Report,
-            (200_000, 10_000, 1_000, 30),
-            (193_551, 3_212, 95, 30),
-        ),
-    ] {
-        let mut outputs = Outputs {
-            frames: Memory::new(rt.alloc(), rooms.0)?,
-            wave: Memory::new(rt.alloc(), rooms.1)?,
-            listing: Memory::new(rt.alloc(), rooms.2)?,
-            report: Memory::new(rt.alloc(), rooms.3)?,
-        };
-        let count = match output {
-            Output::Frames => lengths.0,
-            Output::Wave => lengths.1,
-            Output::Listing => lengths.2,
-            Output::Report | Output::Text => lengths.3,
-        };
-        let found = outputs.run(rt.alloc(), &inputs);
-        assert_eq!(rt; found, Err(RunFault::Write(output, count as u64)));
-        let found = (
-            outputs.frames.bytes().len(),
-            outputs.wave.bytes().len(),
-            outputs.listing.bytes().len(),
-            outputs.report.bytes().len(),
-        );
-        assert_eq!(rt; found, lengths);
-        assert!(rt; REPORT.starts_with(outputs.report.bytes()));
+/// Whether a run over writers that take seven bytes a call gives out the same.
+fn is_same_in_few_bytes(alloc: Global, whole: &Outputs) -> bool {
+    match run(alloc, &CELL, 7) {
+        Ok(slow) => are_same(whole, &slow),
+        Err(_) => false,
     }
-    Ok(())
+}
+
+/// The same, beside a run over writers that take all.
+fn are_same_in_few_bytes(alloc: Global) -> bool {
+    match run(alloc, &CELL, usize::MAX) {
+        Ok(whole) => is_same_in_few_bytes(alloc, &whole),
+        Err(_) => false,
+    }
+}
+
+#[test]
+fn few_bytes_a_call_give_the_same_bytes(rt: HostRuntime) {
+    assert!(rt; are_same_in_few_bytes(rt.alloc()));
+}
+
+const COMMANDS: &[u8] = b"break 0005
+continue
+step 1
+back 2
+unbreak 0005
+keep 1
+frames 1
+return 1
+continue
+";
+
+const TEXT: &[u8] = b"ok
+break 2 20 0005 HALT
+step 3 24 0006 HALTED
+back 1 7 0002 LD (4040H),A
+ok
+ok
+end 12669 50688 0006 HALTED
+return 1 7 0002 LD (4040H),A
+end 12669 50688 0006 HALTED
+";
+
+/// Whether a session over writers that take seven bytes a call tells its text, and fills these outputs.
+fn is_told(alloc: Global, outputs: &mut Outputs) -> bool {
+    match Faulty::new(alloc, 200, 7, 0) {
+        Ok(mut text) => outputs.debug(alloc, &CELL, COMMANDS, &mut text) && text.bytes() == TEXT,
+        Err(_) => false,
+    }
+}
+
+/// Whether such a session's outputs are those of a run.
+fn is_same_under_a_session(alloc: Global, plain: &Outputs) -> bool {
+    match Outputs::new(alloc, &AMPLE, 7) {
+        Ok(mut slow) => is_told(alloc, &mut slow) && are_same(plain, &slow),
+        Err(_) => false,
+    }
+}
+
+/// The same, of the same run without commands.
+fn are_same_under_a_session(alloc: Global) -> bool {
+    match run(alloc, &CELL, usize::MAX) {
+        Ok(plain) => is_same_under_a_session(alloc, &plain),
+        Err(_) => false,
+    }
+}
+
+#[test]
+fn a_session_over_few_bytes_a_call(rt: HostRuntime) {
+    assert!(rt; are_same_under_a_session(rt.alloc()));
+}
+
+/// A run over writers one of which is too small.
+#[derive(Clone, Copy)]
+struct Cut {
+    /// The one that refuses.
+    output: Output,
+    /// The bytes that it took.
+    count: u64,
+    /// The bytes that each has room for.
+    rooms: Lengths,
+    /// The bytes that each has in the end.
+    lengths: Lengths,
+}
+
+/// The wave's header of 44 bytes goes out before the first frame. The last sample of a frame comes before its picture, so
+/// the sound is whole where the first image is cut; samples wait, and those of this frame go out after its picture.
+static CUTS: [Cut; 6] = [
+    Cut {
+        output: Output::Listing,
+        count: 9,
+        rooms: [200_000, 10_000, 9, 200],
+        lengths: [0, 0, 9, 0],
+    },
+    Cut {
+        output: Output::Wave,
+        count: 0,
+        rooms: [200_000, 0, 1_000, 200],
+        lengths: [0, 0, 95, 0],
+    },
+    Cut {
+        output: Output::Wave,
+        count: 43,
+        rooms: [200_000, 43, 1_000, 200],
+        lengths: [0, 43, 95, 0],
+    },
+    Cut {
+        output: Output::Wave,
+        count: 44,
+        rooms: [200_000, 44, 1_000, 200],
+        lengths: [193_551, 44, 95, 0],
+    },
+    Cut {
+        output: Output::Frames,
+        count: 100,
+        rooms: [100, 10_000, 1_000, 200],
+        lengths: [100, 3_212, 95, 0],
+    },
+    Cut {
+        output: Output::Report,
+        count: 30,
+        rooms: [200_000, 10_000, 1_000, 30],
+        lengths: [193_551, 3_212, 95, 30],
+    },
+];
+
+/// Whether a run is cut as told.
+fn is_cut(alloc: Global, cut: &Cut) -> bool {
+    match Outputs::new(alloc, &cut.rooms, usize::MAX) {
+        Ok(mut outputs) => {
+            outputs.run(alloc, &CELL) == Some(RunFault::Write(cut.output, cut.count))
+                && outputs.have(&cut.lengths)
+                && REPORT.starts_with(outputs.report())
+        }
+        Err(_) => false,
+    }
+}
+
+#[test]
+fn full_writers_are_told_with_their_counts(rt: HostRuntime) {
+    for cut in &CUTS {
+        assert!(rt; is_cut(rt.alloc(), cut), "{}", cut.output);
+    }
 }

@@ -2,6 +2,7 @@
 
 ghost use Rattle.std.specs.Prelude.{◌≤◌, length, IfOk};
 
+use crate::lines::ANY_TEXT;
 use arrayvec::ArrayString;
 use pac_out::Out;
 use pac_out::memory::Memory;
@@ -41,6 +42,27 @@ fn add_printed<D: Display + Drop>(kept: &RefCell<Memory>, value: D, end: &str) -
     Ok(())
 }
 
+/// Whether bytes are these pieces, one after another.
+fn is_joined(bytes: &[u8], pieces: &[&str]) -> bool {
+    let mut rest = bytes;
+    for piece in pieces {
+        match rest.strip_prefix(piece.as_bytes()) {
+            Some(after) => rest = after,
+            None => return false,
+        }
+    }
+    rest.is_empty()
+}
+
+/// Whether bytes are this text, or any but none where that is wanted.
+fn is_text(bytes: &[u8], wanted: &str) -> bool {
+    if wanted == ANY_TEXT {
+        !bytes.is_empty()
+    } else {
+        bytes == wanted.as_bytes()
+    }
+}
+
 impl Console {
     /// One whose standard output takes so many bytes.
     pub fn new(alloc: Global, room: usize) -> Result<Console, AllocError> {
@@ -50,22 +72,10 @@ impl Console {
         })
     }
 
-    /// Whether it printed these texts on standard output and standard error.
-    pub fn has(&self, output: &str, error: &str) -> bool {
+    /// Whether standard output has these pieces, and standard error this text.
+    pub fn has(&self, output: &[&str], error: &str) -> bool {
         match (self.output.try_borrow(), self.error.try_borrow()) {
-            (Ok(out), Ok(err)) => {
-                out.bytes() == output.as_bytes() && err.bytes() == error.as_bytes()
-            }
-            _ => false,
-        }
-    }
-}
-
-impl Console {
-    /// Whether it printed nothing on standard output, and something on standard error.
-    pub fn has_error_alone(&self) -> bool {
-        match (self.output.try_borrow(), self.error.try_borrow()) {
-            (Ok(out), Ok(err)) => out.bytes().is_empty() && !err.bytes().is_empty(),
+            (Ok(out), Ok(err)) => is_joined(out.bytes(), output) && is_text(err.bytes(), error),
             _ => false,
         }
     }

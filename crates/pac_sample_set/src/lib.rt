@@ -1,0 +1,10 @@
+//! A ROM set for tests of runs: its files, manifests that name them, and what images of it show.
+#![tactic(auto)]
+
+mod picture;
+mod set;
+
+pub use picture::{
+    ALL_BLACK, BLUE_AND_RED, GREEN_AND_RED, GREEN_TILE, LATE_GREEN_TILE, Picture, are_shown,
+};
+pub use set::{Files, NO_WAVE, SET, SWITCHES, Tables, WHOLE_SET, text_of};
