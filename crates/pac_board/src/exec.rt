@@ -1,11 +1,12 @@
 //! The calls that make steps, and offer what they give to a sink.
 
 ghost use Rattle.std.specs.Prelude.{◌≡◌, ◌<◌, ◌≤◌, ◌^◌, []};
-ghost use Rattle.pac_board.specs.State.{latest, due_outputs};
+ghost use Rattle.pac_board.specs.State.{latest, due_outputs, nothing_due};
 ghost use Rattle.pac_board.specs.Calls.{counted_once, Offers, Advanced, Advances, StepsOnce, Runs};
 ghost use Rattle.pac_board.specs.Turns.{Turns, GoesTo};
 
 use crate::board::Board;
+use crate::due::Due;
 use crate::fault::{Fault, Idle};
 use crate::sink::{Refused, Sink};
 use pac_cpu::{Once, Stop};
@@ -32,6 +33,17 @@ fn count(made: &mut u64, once: &Once)
 {
     if let Once::Stepped { .. } = once {
         *made = made.saturating_add(1);
+    }
+}
+
+/// Notes what a step gave out. Nothing was due before, so after most steps, which give nothing, nothing is written.
+#[inline(always)]
+fn note(due: &mut Due, given: Due)
+    requires { due.old ≡ nothing_due }
+    ensures { due.new ≡ given }
+{
+    if given.is_some() {
+        *due = given;
     }
 }
 
@@ -66,7 +78,7 @@ impl Board {
         ensures { Advanced self.old result self.new }
     {
         let (once, due) = self.machine.step();
-        self.due = due;
+        note(&mut self.due, due);
         count(&mut self.made, &once);
         once
     }

@@ -2,7 +2,7 @@
 
 ghost use Rattle.std.specs.Prelude.{◌≡◌};
 ghost use Rattle.pac_bus.specs.Action.{after_all};
-ghost use Rattle.pac_exec.specs.Places.{source, regs_with, writes_to, byte_put};
+ghost use Rattle.pac_exec.specs.Places.{address, source, regs_with, writes_to, byte_put};
 ghost use Rattle.pac_exec.specs.Transition.{Did};
 
 use crate::regs::Regs;
@@ -10,7 +10,23 @@ use pac_bus::Bus;
 use pac_num::displaced;
 use pac_table::{Instr, Place};
 
-/// The byte that a place gives.
+/// The address of a place in memory; 0 where the place is none.
+#[inline(always)]
+fn address(place: Place, instr: &Instr, regs: &Regs) -> u16
+    ensures { result ≡ address place instr.now regs.now }
+{
+    match place {
+        Place::First | Place::Second | Place::Accumulator | Place::Immediate => 0,
+        Place::AtBc => regs.bc(),
+        Place::AtDe => regs.de(),
+        Place::AtHl => regs.hl(),
+        Place::AtWord => instr.word(),
+        Place::AtIx => displaced(regs.ix, instr.disp()),
+        Place::AtIy => displaced(regs.iy, instr.disp()),
+    }
+}
+
+/// The byte that a place gives. All places in memory are read by one call, since it is inlined with the bus in it.
 #[inline(always)]
 pub(crate) fn get<B: Bus>(place: Place, instr: &Instr, regs: &Regs, bus: &B) -> u8
     ensures { result ≡ source place instr.now regs.now (B.byte_at bus.now) }
@@ -20,16 +36,12 @@ pub(crate) fn get<B: Bus>(place: Place, instr: &Instr, regs: &Regs, bus: &B) -> 
         Place::Second => regs.register(instr.q()),
         Place::Accumulator => regs.a,
         Place::Immediate => pac_num::low_byte(instr.word()),
-        Place::AtBc => bus.read(regs.bc()),
-        Place::AtDe => bus.read(regs.de()),
-        Place::AtHl => bus.read(regs.hl()),
-        Place::AtWord => bus.read(instr.word()),
-        Place::AtIx => bus.read(displaced(regs.ix, instr.disp())),
-        Place::AtIy => bus.read(displaced(regs.iy, instr.disp())),
+        Place::AtBc | Place::AtDe | Place::AtHl | Place::AtWord | Place::AtIx | Place::AtIy =>
+            bus.read(address(place, instr, regs)),
     }
 }
 
-/// Brings a byte to a place.
+/// Brings a byte to a place, by one call for all in memory.
 #[inline(always)]
 pub(crate) fn put<B: Bus>(place: Place, byte: u8, instr: &Instr, regs: &mut Regs, bus: &mut B)
     ensures regs { regs.new ≡ regs_with place instr.now regs.old byte }
@@ -40,17 +52,13 @@ pub(crate) fn put<B: Bus>(place: Place, byte: u8, instr: &Instr, regs: &mut Regs
         Place::Second => regs.set_register(instr.q(), byte),
         Place::Accumulator => regs.a = byte,
         Place::Immediate => {}
-        Place::AtBc => bus.write(regs.bc(), byte),
-        Place::AtDe => bus.write(regs.de(), byte),
-        Place::AtHl => bus.write(regs.hl(), byte),
-        Place::AtWord => bus.write(instr.word(), byte),
-        Place::AtIx => bus.write(displaced(regs.ix, instr.disp()), byte),
-        Place::AtIy => bus.write(displaced(regs.iy, instr.disp()), byte),
+        Place::AtBc | Place::AtDe | Place::AtHl | Place::AtWord | Place::AtIx | Place::AtIy =>
+            bus.write(address(place, instr, regs), byte),
     }
 }
 
 /// Brings a byte to a place; the instruction's time in T-states.
-#[inline]
+#[inline(always)]
 pub(crate) fn put_byte<B: Bus>(
     place: Place,
     byte: u8,

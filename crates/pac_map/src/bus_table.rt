@@ -88,7 +88,7 @@ fn write_port(offset: u8) -> BusPlace
 
 /// The place of the ROM or of the RAM page that an address selects, none where it selects a port.
 #[inline(always)]
-fn memory_place(address: u16) -> Option<BusPlace>
+pub(crate) fn memory_place(address: u16) -> Option<BusPlace>
     ensures place { result ≡ spec.memory_place address }
     ensures in_range { IfSome result spec.IsInRange }
 {
