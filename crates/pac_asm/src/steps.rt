@@ -161,7 +161,7 @@ impl Standing {
         ensures { Becomes result (spec.after_item self.old (option_map (λ name. name.now) label.entry) size) self.new }
     {
         let span = self.room_for(size)?;
-        self.define(alloc, label, i32::from(self.at()))?;
+        self.define(alloc, label, i32::from(span.at))?;
         self.add(Place::Placed(span))?;
         self.go_to(span.at + span.size);
         Ok(())
