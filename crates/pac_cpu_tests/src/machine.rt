@@ -5,7 +5,6 @@ use pac_bus::{Bus, Flat};
 use pac_cpu::{Cause, Cpu, Kind, Once, Stop};
 use pac_exec::Regs;
 use std::alloc::Global;
-use std::test::Fail;
 
 /// Registers, a bus, and the vector byte of the interrupt that is requested, if one is.
 #[derive(Drop)]
@@ -33,35 +32,30 @@ fn is_called(once: Once, word: &str) -> bool {
 
 impl Machine {
     /// What a line finds: these fields, and a code where PC is.
-    pub(crate) fn of(
-        alloc: Global,
-        usual: &str,
-        before: &str,
-        code: &str,
-    ) -> Result<Machine, Fail> {
+    pub(crate) fn of(alloc: Global, usual: &str, before: &str, code: &str) -> Option<Machine> {
         let mut machine = Machine {
             regs: Cpu::power_on().regs(),
-            bus: Flat::new(alloc)?,
+            bus: Flat::new(alloc).ok()?,
             request: None,
         };
         machine.set_all(usual)?;
         machine.set_all(before)?;
         let mut at = machine.regs.pc;
         for digits in code.split(' ') {
-            machine.bus.write(at, byte(digits).ok_or("no byte")?);
+            machine.bus.write(at, byte(digits)?);
             at = at.wrapping_add(1);
         }
-        Ok(machine)
+        Some(machine)
     }
 
     /// Takes each of some fields as it says, as `A=15 (4800)=27`.
-    pub(crate) fn set_all(&mut self, fields: &str) -> Result<(), Fail> {
+    pub(crate) fn set_all(&mut self, fields: &str) -> Option<()> {
         for field in fields.split(' ') {
             if !field.is_empty() {
-                self.set(field).ok_or("no field")?;
+                self.set(field)?;
             }
         }
-        Ok(())
+        Some(())
     }
 
     /// Takes a field as it says.

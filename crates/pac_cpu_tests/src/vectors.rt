@@ -16,7 +16,6 @@
 use crate::machine::Machine;
 use std::alloc::Global;
 use std::process::Abort;
-use std::test::Fail;
 
 mod arithmetic;
 mod blocks;
@@ -56,52 +55,51 @@ fn parts(line: &str) -> Option<Line<'_>> {
 }
 
 /// What a line wants to be found after it.
-fn wanted(alloc: Global, usual: &str, line: &Line<'_>) -> Result<Machine, Fail> {
+fn wanted(alloc: Global, usual: &str, line: &Line<'_>) -> Option<Machine> {
     let mut wanted = Machine::of(alloc, usual, line.before, line.code)?;
     wanted.pass(line.code, line.times);
     wanted.set_all(line.after)?;
-    Ok(wanted)
+    Some(wanted)
 }
 
 /// Whether a line holds, where `usual` is what its steps find too.
-fn holds(alloc: Global, usual: &str, line: &str) -> Result<bool, Fail> {
-    let line = parts(line).ok_or("five parts")?;
+fn holds(alloc: Global, usual: &str, line: &str) -> Option<bool> {
+    let line = parts(line)?;
     let mut found = Machine::of(alloc, usual, line.before, line.code)?;
     let wanted = wanted(alloc, usual, &line)?;
-    Ok(found.answers_as(line.times) && found.is(&wanted))
+    Some(found.answers_as(line.times) && found.is(&wanted))
 }
 
 /// Holds each of some steps against the processor.
-fn hold(rt: &(impl AllocGlobal + Abort), table: &[Steps]) -> Result<(), Fail> {
+fn hold(rt: &impl Abort, alloc: Global, table: &[Steps]) {
     for steps in table {
         for line in steps.lines.lines() {
             if !line.is_empty() {
-                assert!(rt; holds(rt.alloc(), steps.usual, line)?, "{line}");
+                assert!(rt; holds(alloc, steps.usual, line) == Some(true), "{line}");
             }
         }
     }
-    Ok(())
 }
 
 #[test]
-fn each_line_holds(rt: HostRuntime) -> Result<(), Fail> {
-    hold(&rt, &loads::BYTES)?;
-    hold(&rt, &loads::WORDS)?;
-    hold(&rt, &loads::EXCHANGES)?;
-    hold(&rt, &arithmetic::BYTES)?;
-    hold(&rt, &arithmetic::ACCUMULATOR)?;
-    hold(&rt, &arithmetic::WORDS)?;
-    hold(&rt, &shifts::ROTATIONS_AND_SHIFTS)?;
-    hold(&rt, &shifts::BITS)?;
-    hold(&rt, &flow::JUMPS)?;
-    hold(&rt, &flow::CALLS)?;
-    hold(&rt, &control::PORTS)?;
-    hold(&rt, &control::CONTROL)?;
-    hold(&rt, &blocks::COPIES)?;
-    hold(&rt, &blocks::SEARCHES)?;
-    hold(&rt, &blocks::PORTS)?;
-    hold(&rt, &blocks::WRAPS)?;
-    hold(&rt, &interrupts::ACCEPTANCES)?;
-    hold(&rt, &interrupts::STOPS)?;
-    hold(&rt, &programs::PROGRAMS)
+fn each_line_holds(rt: HostRuntime) {
+    hold(&rt, rt.alloc(), &loads::BYTES);
+    hold(&rt, rt.alloc(), &loads::WORDS);
+    hold(&rt, rt.alloc(), &loads::EXCHANGES);
+    hold(&rt, rt.alloc(), &arithmetic::BYTES);
+    hold(&rt, rt.alloc(), &arithmetic::ACCUMULATOR);
+    hold(&rt, rt.alloc(), &arithmetic::WORDS);
+    hold(&rt, rt.alloc(), &shifts::ROTATIONS_AND_SHIFTS);
+    hold(&rt, rt.alloc(), &shifts::BITS);
+    hold(&rt, rt.alloc(), &flow::JUMPS);
+    hold(&rt, rt.alloc(), &flow::CALLS);
+    hold(&rt, rt.alloc(), &control::PORTS);
+    hold(&rt, rt.alloc(), &control::CONTROL);
+    hold(&rt, rt.alloc(), &blocks::COPIES);
+    hold(&rt, rt.alloc(), &blocks::SEARCHES);
+    hold(&rt, rt.alloc(), &blocks::PORTS);
+    hold(&rt, rt.alloc(), &blocks::WRAPS);
+    hold(&rt, rt.alloc(), &interrupts::ACCEPTANCES);
+    hold(&rt, rt.alloc(), &interrupts::STOPS);
+    hold(&rt, rt.alloc(), &programs::PROGRAMS);
 }

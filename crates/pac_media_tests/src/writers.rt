@@ -6,13 +6,14 @@ use pac_out::counted::Counted;
 use pac_out::faulty::Faulty;
 use pac_out::memory::Memory;
 use pac_out::through::Through;
+use std::alloc::AllocError;
 use std::io;
 use std::io::Write;
 
 const TEXT: &[u8] = b"The quick brown fox jumps over the lazy dog.";
 
 #[test]
-fn few_bytes_a_call_give_the_same_bytes(rt: HostRuntime) -> io::Result<()> {
+fn few_bytes_a_call_give_the_same_bytes(rt: HostRuntime) -> Result<(), AllocError> {
     for most in [1, 7, 44, 100] {
         let mut output = Faulty::new(rt.alloc(), 100, most, 0)?;
         is_taken(&rt, output.put_all(TEXT));
@@ -22,7 +23,7 @@ fn few_bytes_a_call_give_the_same_bytes(rt: HostRuntime) -> io::Result<()> {
 }
 
 #[test]
-fn a_refusal_is_told_with_its_count(rt: HostRuntime) -> io::Result<()> {
+fn a_refusal_is_told_with_its_count(rt: HostRuntime) -> Result<(), AllocError> {
     for (refusal, count) in [(1, 0), (2, 7), (4, 21), (7, 42)] {
         let mut output = Faulty::new(rt.alloc(), 100, 7, refusal)?;
         is_refused(&rt, output.put_all(TEXT), count);
@@ -34,7 +35,7 @@ fn a_refusal_is_told_with_its_count(rt: HostRuntime) -> io::Result<()> {
 }
 
 #[test]
-fn taking_no_byte_is_a_refusal(rt: HostRuntime) -> io::Result<()> {
+fn taking_no_byte_is_a_refusal(rt: HostRuntime) -> Result<(), AllocError> {
     let mut output = Faulty::new(rt.alloc(), 100, 0, 0)?;
     is_refused(&rt, output.put_all(TEXT), 0);
     is_taken(&rt, output.put_all(&[]));
@@ -45,7 +46,7 @@ fn taking_no_byte_is_a_refusal(rt: HostRuntime) -> io::Result<()> {
 }
 
 #[test]
-fn a_file_counts_over_all_calls(rt: HostRuntime) -> io::Result<()> {
+fn a_file_counts_over_all_calls(rt: HostRuntime) -> Result<(), AllocError> {
     let mut file = Counted::new(Faulty::new(rt.alloc(), 1000, 30, 5)?);
     is_taken(&rt, file.put(TEXT));
     is_taken(&rt, file.put(&TEXT[..6]));
@@ -63,7 +64,7 @@ fn are_both(bytes: &[u8]) -> bool {
 }
 
 #[test]
-fn a_writer_of_std_takes_the_bytes(rt: HostRuntime) -> io::Result<()> {
+fn a_writer_of_std_takes_the_bytes(rt: HostRuntime) -> Result<(), AllocError> {
     let mut output = Through {
         inner: Vec::new(rt.alloc()),
     };
