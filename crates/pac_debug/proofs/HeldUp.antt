@@ -1,5 +1,5 @@
 -- A session that its sink held up: it told what those lines tell that give no more than the sink took.
-use Rattle.std.proofs.Common.{◌≡◌, ℕ, ◌+◌, ◌<◌, ◌≤◌, nat_le, Bool, true, false, max, Option, None, Some, Result, Ok, Err, List, [], ◌∷◌, ◌++◌}
+use Rattle.std.proofs.Common.{◌≡◌, ℕ, ◌+◌, ◌<◌, ◌≤◌, nat_le, Bool, true, false, max, Option, None, Some, Result, Ok, List, [], ◌∷◌, ◌++◌}
 use Rattle.std.proofs.Common.{append-nil, length, ◌⊎◌, refl, sym, ap, subst, ◌∙◌, length-append, arith}
 use Rattle.std.proofs.lemmas.Bool.Decides.{nat_tests}
 use mathlib.Core.Logic.{inl, inr}
@@ -10,16 +10,15 @@ use Rattle.pac_debug_text.specs.declared.command.NoCommand.{NoCommand}
 use Rattle.pac_debug_text.specs.declared.command.Command.{Command}
 use Rattle.pac_debug_text.specs.Commands.{command_of}
 use Rattle.pac_session.specs.declared.motion.Motion.{Motion}
-use Rattle.pac_session.specs.Motions.{HasTravelled, IsTravelRefused, IsFinishRefused, rests}
+use Rattle.pac_session.specs.Motions.{IsTravelRefused, IsFinishRefused}
 use Rattle.pac_session.specs.Running.{Setting, run, whole_run, outputs_between, outputs_from}
 use Rattle.pac_session.specs.Session.{SessionValue, IsOfferRefused, begun, due_outputs}
 use Rattle.pac_session.proofs.Forwards.{between-joined, joined-to-end}
-use Rattle.pac_debug.specs.declared.answer.Answer.{Answer}
 use Rattle.pac_debug.specs.declared.answer.Answer.TheVariants as answers
 use Rattle.pac_debug.specs.Answers.{ending_of, answer_text}
-use Rattle.pac_debug.specs.Obeying.{Scene, Performed, Obeyed, cleared, motion_of}
-use Rattle.pac_debug.specs.Watched.{takes_all, TellsOf, Tells, TellsAll, HasGiven, RefusedOf, RefusedAt, IsWatchRefused}
-use Rattle.pac_debug.specs.Watched.{given_by, GivesMore, FirstGivesMore, ToldUpTo}
+use Rattle.pac_debug.specs.Obeying.{Scene, Performed, Obeyed, cleared}
+use Rattle.pac_debug.specs.Watched.{takes_all, TellsOf, TellsAll, HasGiven, RefusedOf, RefusedAt, IsWatchRefused}
+use Rattle.pac_debug.specs.Watched.{given_by, FirstGivesMore, ToldUpTo}
 use Rattle.pac_debug.proofs.Giving.{nothing-given, obeyed}
 use Rattle.pac_debug.proofs.Resting.{ComesToRest, comes-to-rest}
 

@@ -7,7 +7,6 @@ use Rattle.std.proofs.lemmas.List.Filters.{length-filter_both}
 use mathlib.Core.Logic.{inl, inr}
 use Rattle.pac_cpu.specs.declared.once.Stop.{Stop}
 use Rattle.pac_step.specs.BoardView.{BoardView, power_on}
-use Rattle.pac_step.specs.Output.{Output}
 use Rattle.pac_step.specs.Step.{Next, Goes, Ends}
 use Rattle.pac_step.specs.Trace.{by_view, frame_steps}
 use Rattle.pac_step.specs.Walk.{Walk, after_step, onward_if, has_ended}
@@ -26,15 +25,15 @@ use Rattle.pac_session.specs.declared.motion.Ending.TheVariants.{AtStop, AtEnd}
 use Rattle.pac_session.specs.declared.motion.Motion.{Motion}
 use Rattle.pac_session.specs.declared.motion.Motion.TheVariants as motions
 use Rattle.pac_session.specs.Motions.{RestsBy, HasTravelled, rests, has_met, word_of, moved_to, oldest_index, back_to, kept_in}
-use Rattle.pac_session.specs.Running.{Setting, IsLeast, play_of, run, whole_run, next_from, limit, is_late, stop_in, stop_at, goes_at}
+use Rattle.pac_session.specs.Running.{Setting, IsLeast, play_of, run, next_from, limit, is_late, stop_in, stop_at, goes_at}
 use Rattle.pac_session.specs.Session.{SessionValue, breaks_at, has_breakpoint, without_breakpoint, most_breakpoints}
 use Rattle.pac_session.proofs.Travelled.{met-by}
 use Rattle.pac_debug.specs.declared.answer.Answer.{Answer}
 use Rattle.pac_debug.specs.declared.answer.Answer.TheVariants as answers
 use Rattle.pac_debug.specs.Answers.{ending_of, answer_text}
 use Rattle.pac_debug.specs.Obeying.{WentBack, Returned, SetsBreakpoint, Performed, Obeyed, cleared, kept_at, motion_of}
-use Rattle.pac_debug.specs.Watched.{takes_all, TellsOf, TellsAll}
-use Rattle.pac_debug.specs.Laws.{TellsSomething, AllLinesTell}
+use Rattle.pac_debug.specs.Watched.{takes_all, TellsOf}
+use Rattle.pac_debug.specs.Laws.{AllLinesTell}
 use Rattle.pac_debug.proofs.Telling.{all-taken, told-then}
 
 -- ---- the least index

@@ -8,7 +8,8 @@ use Rattle.pac_dis.proofs.Fronts.{begins-within}
 
 -- an instruction, which is the only one
 pub shows-instruction : (at : ℕ) (bytes text : List ℕ) (i : Instruction) (size : ℕ) → IsInstruction i → Begins (code i) bytes
-    → ((j : Instruction) → IsInstruction j → Begins (code j) bytes → ◌≡◌ {A = Option (Instruction × ℕ)} (Some (i, size)) (Some (j, length (code j))))
+    → ((j : Instruction) → IsInstruction j → Begins (code j) bytes
+    → ◌≡◌ {A = Option (Instruction × ℕ)} (Some (i, size)) (Some (j, length (code j))))
     → text ≡ instruction_text at i → Disassembles at bytes text size
 shows-instruction at bytes text i size valid begins only is = record {
   found = λ j starts.

@@ -1,5 +1,6 @@
 -- What building a command makes of what clap reads of it.
-use Rattle.std.proofs.Common.{◌≡◌, ◌∙◌, ◌||◌, ◌+◌, ◌<◌, ℕ, Bool, false, true, List, refl, sym, ap, ap₂, map, drop, length, get_or, add-one, drop-cons}
+use Rattle.std.proofs.Common.{◌≡◌, ◌∙◌, ◌||◌, ◌+◌, ◌<◌, ℕ, Bool, false, true, List, refl, sym, ap, ap₂}
+use Rattle.std.proofs.Common.{map, drop, length, get_or, add-one, drop-cons}
 use Rattle.pac_options.specs.CommandLine.{with_rules}
 use Rattle.clap.specs.Words.{AddsArg, AddsSubcommand, App, Rule, app_of, rule_of, with_rule, with_subcommand}
 use Rattle.clap.specs.declared.builder.arg.Arg.{Arg}

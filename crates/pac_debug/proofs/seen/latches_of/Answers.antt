@@ -15,6 +15,7 @@ pub returns : goal.returns
 returns c =
     let memory = c.fields.result.memory in
     let byte : memory.latch < 256 = omega arith in
-    let now : moment_of c.fields.result ≡ here c.args.session.now = ap (λ (s : State). s.now) c.fields.ensures.fields ∙ c.board.ensures.now in
+    let now : moment_of c.fields.result ≡ here c.args.session.now =
+    ap (λ (s : State). s.now) c.fields.ensures.fields ∙ c.board.ensures.now in
     ap (with_latch memory.vector memory.count) (sym (byte_of-bits_of memory.latch byte))
     ∙ ap (λ (m : Moment BoardView). latches_in m.board.memory.latched) now

@@ -37,7 +37,8 @@ returns-in_err-entry-4 c =
     ≡ four_forms (view c.first-item.result) (view c.second-item.result) (view c.third-item.result) (view c.fourth-item.result) =
     four_tables _ _ _ _ _ c.in-len4.len_at_least c.in-len4.len_below c.first-item.is c.second-item.is c.third-item.is c.fourth-item.is in
     let told = err_from_is_err_and c.from_residual-in_err-entry-4.result c.from_residual-in_err-entry-4.ensures.1 in
-    rw (all, c.in_ok-entry.ensures, c.in_ok-entry-2.ensures, c.in_ok-entry-3.ensures) (unread _ told.0 _ _ _ told.1 told.2 c.in_err-entry-4.ensures)
+    rw (all, c.in_ok-entry.ensures, c.in_ok-entry-2.ensures, c.in_ok-entry-3.ensures)
+    (unread _ told.0 _ _ _ told.1 told.2 c.in_err-entry-4.ensures)
 
 pub returns : goal.returns
 returns c =

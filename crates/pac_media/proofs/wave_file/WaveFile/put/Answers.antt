@@ -13,7 +13,9 @@ returns-in_err-check_open-clause-put g c =
 pub returns-in_err-put-clause-put : goal.returns-in_err-put-clause-put
 returns-in_err-put-clause-put g c =
     let told = err_from_is_err_and c.from_residual-in_err-put.result c.from_residual-in_err-put.ensures.1 in
-    rw (told.1, told.2) (fails-held c.self.view_is (c.bytes_of.ensures ∙ ap sample_text (to_z-of_z w16 c.args.sample c.ranges.sample)) c.in_err-put.ensures)
+    rw (told.1, told.2)
+    (fails-held c.self.view_is (c.bytes_of.ensures ∙ ap sample_text (to_z-of_z w16 c.args.sample c.ranges.sample)) c.in_err-put.ensures)
 
 pub returns-clause-put : goal.returns-clause-put
-returns-clause-put g c = gains-held c.self.view_is (c.bytes_of.ensures ∙ ap sample_text (to_z-of_z w16 c.args.sample c.ranges.sample)) c.in_ok-put.ensures
+returns-clause-put g c =
+    gains-held c.self.view_is (c.bytes_of.ensures ∙ ap sample_text (to_z-of_z w16 c.args.sample c.ranges.sample)) c.in_ok-put.ensures
