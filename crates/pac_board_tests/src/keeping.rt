@@ -7,7 +7,7 @@ use std::test::Fail;
 /// LD A,42H / LD (4040H),A / HALT.
 const CELL: [u8; 6] = [0x3E, 0x42, 0x32, 0x40, 0x40, 0x76];
 
-// After 2,625 microseconds two lines have passed; they come back.
+// After 2,625 microseconds two lines have passed; they come back. Line 2, at 8,256 T-states, draws all cells of its row again.
 #[test]
 fn a_state_is_put_back(rt: HostRuntime) -> Result<(), Fail> {
     let mut rig = Rig::new(rt.alloc(), &CELL)?;
@@ -17,6 +17,7 @@ fn a_state_is_put_back(rt: HostRuntime) -> Result<(), Fail> {
     rig.restore(&middle);
     assert!(rt; rig.time() == 8_064);
     assert!(rt; rig.shows(16..24, 0..2, 2));
+    assert!(rt; rig.ticks(63).is_some() && rig.drawn() == 36);
     Ok(())
 }
 

@@ -70,6 +70,11 @@ impl Rig {
         self.board().fields().memory.latch
     }
 
+    /// The blanks since the watchdog was kicked.
+    pub fn blanks(&self) -> u8 {
+        self.board().fields().memory.count
+    }
+
     /// Whether its fields are those of a board at power-on, with the switches as they are set at the factory.
     pub fn is_at_power_on(&self) -> bool {
         are_at_power_on(&self.board().fields())

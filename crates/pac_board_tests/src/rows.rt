@@ -91,7 +91,7 @@ fn a_blank_is_accepted_in_mode_1(rt: HostRuntime) -> Result<(), Fail> {
 }
 
 // LD A,3FH / LD I,A / IM 2 / LD SP,4FF0H / LD A,0FAH / OUT (0),A / LD A,1 / LD (5000H),A / EI / HALT, and at 3FFAH the
-// word 0100H.
+// word 0100H. R counts 12 fetches, 12,652 of the halted processor and the acceptance, in seven bits.
 #[test]
 fn a_blank_is_accepted_in_mode_2(rt: HostRuntime) -> Result<(), Fail> {
     let bytes = [
@@ -104,6 +104,7 @@ fn a_blank_is_accepted_in_mode_2(rt: HostRuntime) -> Result<(), Fail> {
     assert!(rt; rig.pc() == 0x0014);
     assert!(rt; rig.accepts(19));
     assert!(rt; rig.pc() == 0x0100 && rig.has_pushed(0x14, 0x00));
+    assert!(rt; matches!(rig.registers(), [_, _, _, 0x79]));
     Ok(())
 }
 
@@ -117,11 +118,24 @@ fn the_watchdog_resets_the_board(rt: HostRuntime) -> Result<(), Fail> {
     Ok(())
 }
 
+/// Whether there was one blank since the last kick after each of 16 frames.
+fn is_kicked_in_each_frame(rig: &mut Rig) -> bool {
+    let mut is_kicked = true;
+    for _ in 0..16u8 {
+        is_kicked = rig.ticks(FRAME).is_some() && rig.blanks() == 1 && is_kicked;
+    }
+    is_kicked
+}
+
 #[test]
 fn a_kick_keeps_the_watchdog_off(rt: HostRuntime) -> Result<(), Fail> {
-    let mut kicking = Rig::new(rt.alloc(), &[0x32, 0xC0, 0x50, 0xC3, 0x00, 0x00])?;
+    let bytes = [0x32, 0xC0, 0x50, 0xC3, 0x00, 0x00];
+    let mut kicking = Rig::new(rt.alloc(), &bytes)?;
     assert!(rt; kicking.runs(16 * FRAME, 811_016, None));
     assert!(rt; kicking.is_at(70_523, 811_016, 3));
+    let mut framed = Rig::new(rt.alloc(), &bytes)?;
+    assert!(rt; is_kicked_in_each_frame(&mut framed));
+    assert!(rt; framed.is_where(&kicking));
     Ok(())
 }
 

@@ -18,7 +18,8 @@ fn a_refused_sample_is_offered_again(rt: HostRuntime) -> Result<(), Fail> {
 }
 
 // LD A,1 / LD (5003H),A / LD (4040H),A / HALT: picture 16, which the sixteenth blank gives before the watchdog's reset, is the
-// flipped one.
+// flipped one: lines 0 to 222 were composed earlier in its frame, while the flip bit was 1, and line 223 at the blank, before
+// the reset.
 #[test]
 fn a_refused_picture_is_offered_again(rt: HostRuntime) -> Result<(), Fail> {
     let bytes = [0x3E, 1, 0x32, 0x03, 0x50, 0x32, 0x40, 0x40, 0x76];

@@ -22,6 +22,23 @@ fn voices_come_one_by_one(rt: HostRuntime) -> Result<(), Fail> {
     Ok(())
 }
 
+// LD A,1 / LD (5001H),A / LD (5045H),A / LD (504AH),A / LD (504FH),A / LD A,15 / LD (5055H),A / LD (505AH),A / LD (505FH),A /
+// HALT: three voices of waveform 1, which is all 0, at full volume from the third sample on.
+#[test]
+fn the_least_sample(rt: HostRuntime) -> Result<(), Fail> {
+    let bytes = [
+        0x3E, 1, 0x32, 0x01, 0x50, 0x32, 0x45, 0x50, 0x32, 0x4A, 0x50, 0x32, 0x4F, 0x50, 0x3E, 15,
+        0x32, 0x55, 0x50, 0x32, 0x5A, 0x50, 0x32, 0x5F, 0x50, 0x76,
+    ];
+    let mut rig = Rig::new(rt.alloc(), &bytes)?;
+    assert!(rt; rig.ticks(FRAME).is_some());
+    assert!(rt; rig.gave_sample(0, 0) && rig.gave_sample(1, 0));
+    for index in 2..1584usize {
+        assert!(rt; rig.gave_sample(index, -23_040), "sample {index} and one");
+    }
+    Ok(())
+}
+
 // LD A,2 / LD (5045H),A / LD A,8 / LD (5053H),A / LD A,1 / LD (5055H),A / LD (5001H),A / HALT: the step that turns
 // sound on meets the second sample.
 #[test]
