@@ -130,7 +130,8 @@ pub fn record<D: FileSystem, R: Out>(
 
 /// The status of a run that ended or failed; a failure is told.
 pub(crate) fn end<C: Teller>(console: &mut C, ran: Result<Outcome, Failure>) -> u8
-    ensures ends { RunEnds (record { tells = C.tells; explains = C.explains; old = console.old; new = console.new; status = result }) ran.entry }
+    ensures ends { RunEnds (record { tells = C.tells; explains = C.explains; old = console.old; new = console.new; status = result })
+        ran.entry }
     ensures most { result ≤ told.most_status }
 {
     match ran {

@@ -139,7 +139,8 @@ pub fn work<D: FileSystem, R: Out, T: Out, C: Teller>(
 
 /// Tells a failure, and answers its status.
 pub(crate) fn tell<C: Teller>(console: &mut C, failure: Failure) -> u8
-    ensures fails { Fails (record { tells = C.tells; explains = C.explains; old = console.old; new = console.new; status = result }) failure.entry }
+    ensures fails { Fails (record { tells = C.tells; explains = C.explains; old = console.old; new = console.new; status = result })
+        failure.entry }
     ensures most { result ≤ told.most_status }
 {
     console.tell(&failure);
@@ -148,7 +149,8 @@ pub(crate) fn tell<C: Teller>(console: &mut C, failure: Failure) -> u8
 
 /// The status of work that is done or that failed; a failure is told.
 fn end<C: Teller>(console: &mut C, done: Result<(), Failure>) -> u8
-    ensures ends { WorkEnds (record { tells = C.tells; explains = C.explains; old = console.old; new = console.new; status = result }) done.entry }
+    ensures ends { WorkEnds (record { tells = C.tells; explains = C.explains; old = console.old; new = console.new; status = result })
+        done.entry }
     ensures most { result ≤ told.most_status }
 {
     match done {
@@ -159,7 +161,8 @@ fn end<C: Teller>(console: &mut C, done: Result<(), Failure>) -> u8
 
 /// Tells why the words are no command line, or what they ask to be told of it.
 fn explain<C: Teller>(console: &mut C, error: &clap::Error) -> u8
-    ensures ends { WordsEnd (record { tells = C.tells; explains = C.explains; old = console.old; new = console.new; status = result }) (kind_of error.now) }
+    ensures ends { WordsEnd (record { tells = C.tells; explains = C.explains; old = console.old; new = console.new; status = result })
+        (kind_of error.now) }
     ensures status { result ≡ told.line_status (kind_of error.now) }
 {
     if error.kind() == ErrorKind::OutOfMemory {
