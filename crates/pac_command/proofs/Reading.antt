@@ -1,5 +1,5 @@
 -- What was read of a run's files, with the manifest as the program reads it.
-use Rattle.std.proofs.Common.{◌≡◌, ℕ, List, Option, Err, inl, inr, subst, ap, sym, ◌∙◌, ◌⊎◌}
+use Rattle.std.proofs.Common.{◌≡◌, ℕ, List, Option, Err, subst, ap, sym, ◌∙◌}
 use Rattle.std.specs.Result.{result_ok}
 use Rattle.pac_manifest.specs.Manifests.{manifest_of}
 use Rattle.pac_manifest.specs.declared.manifest.Manifest.{Manifest}
@@ -10,14 +10,17 @@ use Rattle.pac_files.specs.declared.given.Given.{Given}
 use Rattle.pac_files.specs.declared.given.ReadFault.{ReadFault}
 use Rattle.pac_files.specs.declared.given.ReadFault.TheVariants.{Unreadable, Memory}
 use Rattle.pac_files.specs.declared.parts.NamedFile.{NamedFile}
+use Rattle.pac_command.specs.Endings.{IsOfReading}
 use Rattle.pac_command.specs.Failures as told
+use Rattle.pac_command.specs.declared.failure.Failure.{Failure}
 
--- why nothing was begun: by a fault of reading and the status that is answered
-pub unread-reason : {A : Type 0} (read : A → Type 0) (unread all : List ℕ → Type 0) (fault : ReadFault) (status : ℕ)
-    → ((name : List ℕ) → unread name → all name) → Reads read unread (Err fault) → status ≡ told.status (told.read_failure fault)
-    → ((name : List ℕ) × all name × (status ≡ 3)) ⊎ (status ≡ 4)
-unread-reason read unread all (Unreadable name) status onward reads status_is = inl (name.now, onward name.now reads, status_is)
-unread-reason read unread all Memory status onward reads status_is = inr status_is
+-- why nothing was begun, by a fault of reading
+pub unread-reason : {A : Type 0} (read : A → Type 0) (unread all : List ℕ → Type 0) (fault : ReadFault) (failure : Failure)
+    → ((name : List ℕ) → unread name → all name) → Reads read unread (Err fault) → failure ≡ told.read_failure fault
+    → IsOfReading all failure
+unread-reason read unread all (Unreadable name) failure onward reads failure_is =
+    subst (IsOfReading all) (sym failure_is) (onward name.now reads)
+unread-reason read unread all Memory failure onward reads failure_is = subst (IsOfReading all) (sym failure_is) tt
 
 module _ (finds : Finds) (asked : AskedRun) (given : Given) (given_are : HasGiven finds asked given) (bytes : List ℕ)
     (manifest : Option Manifest) (bytes_are : bytes ≡ given.manifest.items) (manifest_is : manifest ≡ result_ok (manifest_of bytes)) where

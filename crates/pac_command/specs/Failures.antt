@@ -12,7 +12,6 @@ use Rattle.pac_files.specs.declared.given.ReadFault.{ReadFault}
 use Rattle.pac_files.specs.declared.given.ReadFault.TheVariants as reading
 use Rattle.pac_run.specs.Names.{name_of}
 use Rattle.pac_run.specs.declared.fault.RunFault.{RunFault}
-use Rattle.pac_run.specs.declared.outcome.Outcome.{Outcome}
 use Rattle.pac_run.specs.declared.fault.RunFault.TheVariants as run
 use Rattle.pac_command.specs.declared.failure.Failure.{Failure}
 use Rattle.pac_command.specs.declared.failure.Failure.TheVariants.{Read, Source, Set, Script, Extent, Write, Memory}
@@ -49,11 +48,6 @@ abbrev pub end_status : Option Stop → ℕ
 end_status None = 0
 end_status (Some stop) = 5
 
--- the exit status of a run that ended or failed
-abbrev pub run_status : Result Outcome Failure → ℕ
-run_status (Ok outcome) = end_status outcome.stop
-run_status (Err failure) = status failure
-
 -- the failure that a fault of reading files is
 abbrev pub read_failure : ReadFault → Failure
 read_failure (reading.Unreadable name) = Read name
@@ -76,11 +70,6 @@ failure_of (run.Set fault) = Set fault
 failure_of (run.Script fault) = Script fault
 failure_of (run.Write output count) = Write (Of output) count
 failure_of run.NoMemory = Memory
-
--- the exit status of work that was done or failed
-abbrev pub work_status : Result Unit Failure → ℕ
-work_status (Ok done) = 0
-work_status (Err failure) = status failure
 
 -- the exit status of words that are no command line: 0 where they ask for help, else 2, but want of memory is 4
 abbrev pub line_status : ErrorKind → ℕ

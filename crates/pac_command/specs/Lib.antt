@@ -1,3 +1,4 @@
+pub mod Endings
 pub mod Failures
 pub mod Making
 pub mod Outputs

@@ -1,4 +1,4 @@
--- What the program does with the files of a run: which it reads, which it creates, what these have then, and the exit status.
+-- What the program does with the files of a run: which it reads, which it creates, what these have then, and how it ends.
 use Rattle.std.specs.Prelude.{◌≡◌, ◌⊎◌, ℕ, List, [], ◌∷◌, map, Some, option_map, Result, Err}
 use Rattle.pac_files.specs.Files.{Finds, FirstUnread, Handling, AllCreated, AllClosed, FirstUncreated}
 use Rattle.pac_files.specs.Read.{HasRead, PartUnread, given_files, watched_files, told_file, told_part}
@@ -14,7 +14,7 @@ use Rattle.pac_command.specs.declared.failure.Failure.TheVariants.{Write, Memory
 use Rattle.pac_command.specs.declared.failure.Target.{Target}
 use Rattle.pac_command.specs.declared.failure.Target.TheVariants.{Of}
 use Rattle.pac_command.specs.declared.play.Outputs.{Outputs}
-use Rattle.pac_command.specs.Failures.{run_status}
+use Rattle.pac_command.specs.Endings.{Ending, Fails, IsOfReading, RunEnds}
 
 -- ---- what is run
 
@@ -66,54 +66,57 @@ pub record IsUnmade {Disk : Type 0} (old : Disk) (answer : Result Outcome Failur
   pub answer_is : answer ≡ Err Memory
   pub unchanged : new ≡ old
 
--- What was read is run: the run is done over all its outputs; or it isn't begun, and nothing is told
+-- What was read is run: the run is done over all its outputs; or it isn't begun, and no output gets a byte
 abbrev pub Records : {Disk File : Type 0} → Handling Disk File → (Result Outcome Failure → Performing File) → (silent : Type 0) → AskedRun
     → Given → List NamedFile → Disk → Result Outcome Failure → Disk → Type 0
 Records handling performs silent asked given parts old answer new =
     IsPerformed handling (performs answer) asked given parts old new
     ⊎ (silent × (IsUncreated handling asked old answer new ⊎ IsUnmade old answer new))
 
--- ---- the exit status
+-- ---- the whole
 
--- a file couldn't be read, or memory ran out while files were: nothing is created and nothing is told
-pub record IsUnbegun {Disk : Type 0} (unread : List ℕ → Type 0) (silent : Type 0) (old : Disk) (status : ℕ) (new : Disk) : Type 0 where
-  pub reason : ((name : List ℕ) × unread name × (status ≡ 3)) ⊎ (status ≡ 4)
+-- a file couldn't be read, or memory ran out while files were: this is told, nothing is created, and no output gets a byte
+pub record IsUnbegun {Disk C : Type 0} (unread : List ℕ → Type 0) (silent : Type 0) (ending : Ending C) (old new : Disk) : Type 0 where
+  pub failure : Failure
+  pub reason : IsOfReading unread failure
+  pub fails : Fails ending failure
   pub unchanged : new ≡ old
   pub is_silent : silent
 
--- all was read, and the status is that of the run
-pub record IsRun {Disk File : Type 0} (finds : Finds) (handling : Handling Disk File) (performs : Result Outcome Failure → Performing File)
-    (silent : Type 0) (asked : AskedRun) (old : Disk) (status : ℕ) (new : Disk) : Type 0 where
+-- all was read, and it ends by the answer of the run
+pub record IsRun {Disk File C : Type 0} (finds : Finds) (handling : Handling Disk File)
+    (performs : Result Outcome Failure → Performing File) (silent : Type 0) (ending : Ending C) (asked : AskedRun) (old new : Disk)
+    : Type 0 where
   pub given : Given
   pub parts : List NamedFile
   pub read : HasRead finds asked given parts
   pub answer : Result Outcome Failure
   pub records : Records handling performs silent asked given parts old answer new
-  pub status_is : status ≡ run_status answer
+  pub ends : RunEnds ending answer
 
 -- `run`
-abbrev pub Plays : {Disk File : Type 0} → Finds → Handling Disk File → (Result Outcome Failure → Performing File) → (silent : Type 0)
-    → AskedRun → Disk → (status : ℕ) → Disk → Type 0
-Plays finds handling performs silent asked old status new =
-    IsUnbegun (λ name. FirstUnread finds (given_files asked) name ⊎ PartUnread finds asked name) silent old status new
-    ⊎ IsRun finds handling performs silent asked old status new
+abbrev pub Plays : {Disk File C : Type 0} → Finds → Handling Disk File → (Result Outcome Failure → Performing File) → (silent : Type 0)
+    → Ending C → AskedRun → Disk → Disk → Type 0
+Plays finds handling performs silent ending asked old new =
+    IsUnbegun (λ name. FirstUnread finds (given_files asked) name ⊎ PartUnread finds asked name) silent ending old new
+    ⊎ IsRun finds handling performs silent ending asked old new
 
 -- `debug`: the commands are read after the script and before the parts
-pub record IsWatched {Disk File : Type 0} (finds : Finds) (handling : Handling Disk File)
+pub record IsWatched {Disk File C : Type 0} (finds : Finds) (handling : Handling Disk File)
     (performs : (commands : List ℕ) → Result Outcome Failure → Performing File)
-    (silent : Type 0) (asked : AskedDebug) (old : Disk) (status : ℕ) (new : Disk) : Type 0 where
+    (silent : Type 0) (ending : Ending C) (asked : AskedDebug) (old new : Disk) : Type 0 where
   pub commands : List ℕ
   pub commands_are : finds asked.commands (Some commands)
-  pub run : IsRun finds handling (performs commands) silent asked.run old status new
+  pub run : IsRun finds handling (performs commands) silent ending asked.run old new
 
 pub record WatchedPartUnread (finds : Finds) (asked : AskedDebug) (name : List ℕ) : Type 0 where
   pub commands : List ℕ
   pub commands_are : finds asked.commands (Some commands)
   pub part : PartUnread finds asked.run name
 
-abbrev pub Watches : {Disk File : Type 0} → Finds → Handling Disk File
+abbrev pub Watches : {Disk File C : Type 0} → Finds → Handling Disk File
     → ((commands : List ℕ) → Result Outcome Failure → Performing File) → (silent : Type 0)
-    → AskedDebug → Disk → (status : ℕ) → Disk → Type 0
-Watches finds handling performs silent asked old status new =
-    IsUnbegun (λ name. FirstUnread finds (watched_files asked) name ⊎ WatchedPartUnread finds asked name) silent old status new
-    ⊎ IsWatched finds handling performs silent asked old status new
+    → Ending C → AskedDebug → Disk → Disk → Type 0
+Watches finds handling performs silent ending asked old new =
+    IsUnbegun (λ name. FirstUnread finds (watched_files asked) name ⊎ WatchedPartUnread finds asked name) silent ending old new
+    ⊎ IsWatched finds handling performs silent ending asked old new

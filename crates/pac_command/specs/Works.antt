@@ -1,18 +1,20 @@
 -- What the program does for the words of a command line, by what they ask for: from what its files have to what its outputs
--- get, and the exit status.
+-- get, what is told on the console, and the exit status.
 use Rattle.std.specs.Prelude.{◌≡◌, ◌⊎◌, ℕ, List, [], Option, Some, Result}
-use Rattle.clap.specs.Words.{Kinds}
+use Rattle.clap.specs.Words.{IsAmong, Kinds}
+use Rattle.clap.specs.declared.error.kind.ErrorKind.{ErrorKind}
+use Rattle.clap.specs.declared.error.kind.ErrorKind.TheVariants.{OutOfMemory}
 use Rattle.pac_options.specs.CommandLine.{Asked, asm, run, debug, dis}
 use Rattle.pac_run.specs.declared.outcome.Outcome.{Outcome}
 use Rattle.pac_command.specs.declared.failure.Failure.{Failure}
-use Rattle.pac_command.specs.Failures.{Answers, work_status}
+use Rattle.pac_command.specs.Endings.{Ending, WordsEnd, WorkEnds}
 use Rattle.pac_files.specs.Files.{Finds, Handling}
 use Rattle.pac_command.specs.Making.{Assembling, Makes, Tells}
 use Rattle.pac_command.specs.Outputs.{Performing, Plays, Watches}
 
 -- The files, and what each piece of work leaves of the outputs by its answer. Report and text are standard output; `silent` says
 -- that the report got nothing, and `untold` that the text did.
-pub record Desk (Disk File : Type 0) : Type 1 where
+pub record Desk (Disk File C : Type 0) : Type 1 where
   pub finds : Finds
   pub handling : Handling Disk File
   pub assembles : Assembling File
@@ -21,37 +23,40 @@ pub record Desk (Disk File : Type 0) : Type 1 where
   pub disassembles : (bytes : List ℕ) → Result Unit Failure → Type 0
   pub silent : Type 0
   pub untold : Type 0
+  pub ending : Ending C
 
--- work that is done or fails, and its status
-pub record Ends (work : Result Unit Failure → Type 0) (status : ℕ) : Type 0 where
+-- work that is done or fails, and how it ends
+pub record Ends {C : Type 0} (work : Result Unit Failure → Type 0) (ending : Ending C) : Type 0 where
   pub answer : Result Unit Failure
   pub works : work answer
-  pub status_is : status ≡ work_status answer
+  pub ends : WorkEnds ending answer
 
-abbrev pub Does : {Disk File : Type 0} → Desk Disk File → Asked → Disk → (status : ℕ) → Disk → Type 0
-Does desk (asm asked) old status new =
-    Ends (λ answer. Makes desk.finds desk.handling desk.assembles asked old answer new) status × desk.silent × desk.untold
-Does desk (run asked) old status new = Plays desk.finds desk.handling desk.performs desk.silent asked old status new × desk.untold
-Does desk (debug asked) old status new =
-    Watches desk.finds desk.handling desk.watches (desk.silent × desk.untold) asked old status new
-Does desk (dis name) old status new =
-    Ends (λ answer. Tells desk.finds desk.disassembles desk.untold name answer) status × (new ≡ old) × desk.silent
+abbrev pub Does : {Disk File C : Type 0} → Desk Disk File C → Asked → (old new : Disk) → Type 0
+Does desk (asm asked) old new =
+    Ends (λ answer. Makes desk.finds desk.handling desk.assembles asked old answer new) desk.ending × desk.silent × desk.untold
+Does desk (run asked) old new = Plays desk.finds desk.handling desk.performs desk.silent desk.ending asked old new × desk.untold
+Does desk (debug asked) old new = Watches desk.finds desk.handling desk.watches (desk.silent × desk.untold) desk.ending asked old new
+Does desk (dis name) old new =
+    Ends (λ answer. Tells desk.finds desk.disassembles desk.untold name answer) desk.ending × (new ≡ old) × desk.silent
 
 -- words that ask for this, without a fault, and what is done for them
-pub record IsServed {Disk File : Type 0} (desk : Desk Disk File) (kinds : Kinds) (request : Option Asked) (old : Disk) (status : ℕ)
-    (new : Disk) : Type 0 where
+pub record IsServed {Disk File C : Type 0} (desk : Desk Disk File C) (kinds : Kinds) (request : Option Asked) (old new : Disk)
+    : Type 0 where
   pub faultless : kinds ≡ []
   pub asked : Asked
   pub request_is : request ≡ Some asked
-  pub does : Does desk asked old status new
+  pub does : Does desk asked old new
 
--- words with a fault of one of these kinds, or memory ran out while they were read: no file is created and no output gets a byte
-pub record IsRefused {Disk File : Type 0} (desk : Desk Disk File) (kinds : Kinds) (old : Disk) (status : ℕ) (new : Disk) : Type 0 where
-  pub answers : Answers kinds status
+-- words with a fault of one of these kinds, or memory ran out while they were read: this is told, no file is created and no
+-- output gets a byte
+pub record IsRefused {Disk File C : Type 0} (desk : Desk Disk File C) (kinds : Kinds) (old new : Disk) : Type 0 where
+  pub kind_told : ErrorKind
+  pub is_one : (kind_told ≡ OutOfMemory) ⊎ IsAmong kind_told kinds
+  pub ends : WordsEnd desk.ending kind_told
   pub unchanged : new ≡ old
   pub is_silent : desk.silent
   pub is_untold : desk.untold
 
 -- by the kinds of fault that the words may have, and what they ask for
-abbrev pub Works : {Disk File : Type 0} → Desk Disk File → Kinds → Option Asked → Disk → (status : ℕ) → Disk → Type 0
-Works desk kinds request old status new = IsServed desk kinds request old status new ⊎ IsRefused desk kinds old status new
+abbrev pub Works : {Disk File C : Type 0} → Desk Disk File C → Kinds → Option Asked → (old new : Disk) → Type 0
+Works desk kinds request old new = IsServed desk kinds request old new ⊎ IsRefused desk kinds old new

@@ -10,6 +10,7 @@ use crate::failure::{Failure, failure_of, read_failure};
 use crate::given::inputs_of;
 use crate::play::{close_outputs, create_outputs, end};
 use crate::program::tell;
+use crate::teller::Teller;
 use pac_files::{FileSystem, Given, NamedFile, manifest_in, parts_of, read_parts, read_watched};
 use pac_options::DebugFiles;
 use pac_out::Out;
@@ -84,12 +85,12 @@ pub fn record_watched<D: FileSystem, R: Out, T: Out>(
 
 /// Runs what the files of a command line hold under a debugger, and answers the exit status. All is read before an output is
 /// created: source, manifest, script, commands, and the files that the manifest names.
-pub fn debug<D: FileSystem, R: Out, T: Out, C: Eprint>(
+pub fn debug<D: FileSystem, R: Out, T: Out, C: Teller>(
     alloc: Global,
     disk: &mut D,
     report: &mut R,
     text: &mut T,
-    console: &C,
+    console: &mut C,
     files: &DebugFiles,
 ) -> u8
     ensures watches { Watches (D.finds disk.old) (record { creates = D.creates; closes = D.closes })
@@ -99,7 +100,9 @@ pub fn debug<D: FileSystem, R: Out, T: Out, C: Eprint>(
           listing = record { took = D.File.took; refused = D.File.refused; old = created.listing; new = left.listing };
           report = record { took = R.took; refused = R.refused; old = report.old; new = report.new };
         }) (record { took = T.took; refused = T.refused; old = text.old; new = text.new }) answer)
-        ((report.new ≡ report.old) × (text.new ≡ text.old)) (told_debug files.now) disk.old result disk.new }
+        ((report.new ≡ report.old) × (text.new ≡ text.old))
+        (record { tells = C.tells; explains = C.explains; old = console.old; new = console.new; status = result })
+        (told_debug files.now) disk.old disk.new }
     ensures most { result ≤ told.most_status }
 {
     let (given, commands) = match read_watched(alloc, disk, files) {

@@ -8,6 +8,7 @@ mod failure;
 mod given;
 mod play;
 mod program;
+mod teller;
 
 pub use asm::write_program;
 pub use debug::debug_inputs;
@@ -15,3 +16,4 @@ pub use dis::write_text;
 pub use failure::{Failure, Target};
 pub use play::run_inputs;
 pub use program::{run, run_words, work};
+pub use teller::{HostConsole, Teller};

@@ -2,6 +2,7 @@
 
 ghost use Rattle.std.specs.Prelude.{◌≡◌, ◌≤◌};
 ghost use Rattle.pac_options.specs.CommandLine.{told_run};
+ghost use Rattle.pac_command.specs.Endings.{RunEnds};
 ghost use Rattle.pac_command.specs.Failures as told;
 ghost use Rattle.pac_command.specs.Failures.{Opens};
 ghost use Rattle.pac_files.specs.Files.{AllClosed, AllCreated, FirstUncreated};
@@ -11,6 +12,7 @@ ghost use Rattle.pac_command.specs.Programs.{Performs};
 use crate::failure::{Failure, Target, end_status, failure_of, read_failure};
 use crate::given::inputs_of;
 use crate::program::tell;
+use crate::teller::Teller;
 use pac_files::{FileSystem, Given, NamedFile, manifest_in, parts_of, read_given, read_parts};
 use pac_options::RunFiles;
 use pac_out::Out;
@@ -127,8 +129,9 @@ pub fn record<D: FileSystem, R: Out>(
 }
 
 /// The status of a run that ended or failed; a failure is told.
-pub(crate) fn end<C: Eprint>(console: &C, ran: Result<Outcome, Failure>) -> u8
-    ensures status { result ≡ told.run_status ran.entry }
+pub(crate) fn end<C: Teller>(console: &mut C, ran: Result<Outcome, Failure>) -> u8
+    ensures ends { RunEnds (record { tells = C.tells; explains = C.explains; old = console.old; new = console.new; status = result })
+        ran.entry }
     ensures most { result ≤ told.most_status }
 {
     match ran {
@@ -139,11 +142,11 @@ pub(crate) fn end<C: Eprint>(console: &C, ran: Result<Outcome, Failure>) -> u8
 
 /// Runs what the files of a command line hold, and answers the exit status. All is read before an output is created: source,
 /// manifest, script, and the files that the manifest names.
-pub fn play<D: FileSystem, R: Out, C: Eprint>(
+pub fn play<D: FileSystem, R: Out, C: Teller>(
     alloc: Global,
     disk: &mut D,
     report: &mut R,
-    console: &C,
+    console: &mut C,
     files: &RunFiles,
 ) -> u8
     ensures plays { Plays (D.finds disk.old) (record { creates = D.creates; closes = D.closes })
@@ -152,7 +155,9 @@ pub fn play<D: FileSystem, R: Out, C: Eprint>(
           wave = record { took = D.File.took; refused = D.File.refused; old = created.wave; new = left.wave };
           listing = record { took = D.File.took; refused = D.File.refused; old = created.listing; new = left.listing };
           report = record { took = R.took; refused = R.refused; old = report.old; new = report.new };
-        }) answer) (report.new ≡ report.old) (told_run files.now) disk.old result disk.new }
+        }) answer) (report.new ≡ report.old)
+        (record { tells = C.tells; explains = C.explains; old = console.old; new = console.new; status = result })
+        (told_run files.now) disk.old disk.new }
     ensures most { result ≤ told.most_status }
 {
     let given = match read_given(alloc, disk, files) {

@@ -3,6 +3,7 @@
 ghost use Rattle.std.specs.Prelude.{◌≡◌, ◌≢◌, ◌≤◌, [], map, string_bytes};
 ghost use Rattle.clap.specs.Words.{fault_of, kind_of};
 ghost use Rattle.pac_options.specs.CommandLine.{pacboard, request_of};
+ghost use Rattle.pac_command.specs.Endings.{Fails, WordsEnd, WorkEnds};
 ghost use Rattle.pac_command.specs.Failures as told;
 ghost use Rattle.pac_command.specs.Programs.{Assembles, Performs, PerformsWatched};
 ghost use Rattle.pac_command.specs.Texts.{Disassembles};
@@ -11,8 +12,9 @@ ghost use Rattle.pac_command.specs.Works.{Works};
 use crate::asm::asm;
 use crate::debug::debug;
 use crate::dis::dis;
-use crate::failure::{Failure, end_status};
+use crate::failure::Failure;
 use crate::play::play;
+use crate::teller::{HostConsole, Teller};
 use clap::error::ErrorKind;
 use pac_files::{FileSystem, HostFiles, standard_file};
 use pac_options::{Request, options};
@@ -51,11 +53,11 @@ fn words_of<R: Env + AllocGlobal>(rt: &R) -> io::Result<Vec<String>> {
 }
 
 /// Tells that the words can't be had, and answers the status.
-fn tell_words<C: Eprint>(console: &C, kind: io::ErrorKind) -> u8
+fn tell_words<C: Print + Eprint>(console: &C, kind: io::ErrorKind) -> u8
     ensures { result ≤ told.most_status }
 {
     if kind == io::ErrorKind::OutOfMemory {
-        return tell(console, Failure::Memory);
+        return tell(&mut HostConsole { console }, Failure::Memory);
     }
     let _ = eprintln!(console; "error: a word of the command line isn't UTF-8");
     2
@@ -83,19 +85,19 @@ pub fn run_words<R: Files + AllocGlobal, C: Print + Eprint>(
         &mut disk,
         &mut report,
         &mut text,
-        console,
+        &mut HostConsole { console },
         words,
     )
 }
 
 /// Does what words ask for over files, with a writer for the report and one for the text of a session or a disassembly, which
-/// both are standard output, and a console for the line of a failure.
-pub fn work<D: FileSystem, R: Out, T: Out, C: Print + Eprint>(
+/// both are standard output, and a console where a failure is told.
+pub fn work<D: FileSystem, R: Out, T: Out, C: Teller>(
     alloc: Global,
     disk: &mut D,
     report: &mut R,
     text: &mut T,
-    console: &C,
+    console: &mut C,
     words: &[String],
 ) -> u8
     ensures status { result ≤ told.most_status }
@@ -123,7 +125,8 @@ pub fn work<D: FileSystem, R: Out, T: Out, C: Print + Eprint>(
           (record { took = T.took; refused = T.refused; old = text.old; new = text.new }) answer;
       silent = report.new ≡ report.old;
       untold = text.new ≡ text.old;
-    }) (fault_of pacboard (map string_bytes words.now)) (request_of (map string_bytes words.now)) disk.old result disk.new }
+      ending = record { tells = C.tells; explains = C.explains; old = console.old; new = console.new; status = result };
+    }) (fault_of pacboard (map string_bytes words.now)) (request_of (map string_bytes words.now)) disk.old disk.new }
 {
     match options(alloc, words) {
         Ok(Request::Asm(files)) => end(console, asm(alloc, disk, &files)),
@@ -135,17 +138,20 @@ pub fn work<D: FileSystem, R: Out, T: Out, C: Print + Eprint>(
 }
 
 /// Tells a failure, and answers its status.
-pub(crate) fn tell<C: Eprint>(console: &C, failure: Failure) -> u8
-    ensures status { result ≡ told.status failure.entry }
+pub(crate) fn tell<C: Teller>(console: &mut C, failure: Failure) -> u8
+    ensures fails { Fails (record { tells = C.tells; explains = C.explains; old = console.old; new = console.new; status = result })
+        failure.entry }
     ensures most { result ≤ told.most_status }
 {
-    let _ = eprintln!(console; "{failure}");
+    console.tell(&failure);
     failure.status()
 }
 
 /// The status of work that is done or that failed; a failure is told.
-fn end<C: Eprint>(console: &C, done: Result<(), Failure>) -> u8
-    ensures { result ≡ told.work_status done.entry }
+fn end<C: Teller>(console: &mut C, done: Result<(), Failure>) -> u8
+    ensures ends { WorkEnds (record { tells = C.tells; explains = C.explains; old = console.old; new = console.new; status = result })
+        done.entry }
+    ensures most { result ≤ told.most_status }
 {
     match done {
         Ok(()) => 0,
@@ -154,12 +160,14 @@ fn end<C: Eprint>(console: &C, done: Result<(), Failure>) -> u8
 }
 
 /// Tells why the words are no command line, or what they ask to be told of it.
-fn explain<C: Print + Eprint>(console: &C, error: &clap::Error) -> u8
-    ensures { result ≡ told.line_status (kind_of error.now) }
+fn explain<C: Teller>(console: &mut C, error: &clap::Error) -> u8
+    ensures ends { WordsEnd (record { tells = C.tells; explains = C.explains; old = console.old; new = console.new; status = result })
+        (kind_of error.now) }
+    ensures status { result ≡ told.line_status (kind_of error.now) }
 {
     if error.kind() == ErrorKind::OutOfMemory {
         return tell(console, Failure::Memory);
     }
-    let _ = error.print(console);
+    console.explain(error);
     if error.use_stderr() { 2 } else { 0 }
 }

@@ -1,8 +1,8 @@
-use Rattle.std.proofs.Common.{inl, inr, refl, sym, ap, subst, ◌∙◌, Some, Vec, Global}
+use Rattle.std.proofs.Common.{inl, inr, refl, sym, subst, Some, Vec, Global}
 use Rattle.pac_options.specs.CommandLine.{told_run}
 use Rattle.pac_files.specs.Read.{HasParts, names_in}
 use Rattle.pac_files.specs.declared.parts.NamedFile.{NamedFile}
-use Rattle.pac_command.specs.Failures as told
+use Rattle.pac_command.specs.declared.failure.Failure.TheVariants.{Memory}
 use Rattle.pac_command.proofs.Reading.{unread-reason, part-unread, all-read}
 use Rattle.pac_command.proofs.debug.debug.Goals as goal
 
@@ -12,14 +12,25 @@ returns-in-Err-read_parts-clause-watches g c =
     let unread = part-unread finds (told_run c.args.files.now.run) c.in-Ok.read.0 c.in-Ok.ensures.0 c.deref.result.now
     c.in-Ok-manifest_in.manifest c.deref.ensures.value c.in-Ok-manifest_in.ensures in
     inl (record {
+      failure = c.read_failure-in-Err-read_parts.result;
       reason = unread-reason {A = Vec NamedFile Global}
           (λ parts. HasParts finds c.args.files.now.run.set.now (names_in c.in-Ok-manifest_in.manifest) parts.items) _ _
-          c.in-Err-read_parts.fault c.tell-in-Err-read_parts.result
+          c.in-Err-read_parts.fault c.read_failure-in-Err-read_parts.result
           (λ name first. inr (record { commands = c.in-Ok.read.1.items; commands_are = c.in-Ok.ensures.1; part = unread name first }))
-          c.in-Err-read_parts.ensures (c.tell-in-Err-read_parts.ensures.status ∙ ap told.status c.read_failure-in-Err-read_parts.ensures);
+          c.in-Err-read_parts.ensures c.read_failure-in-Err-read_parts.ensures;
+      fails = c.tell-in-Err-read_parts.ensures.fails;
       unchanged = refl;
       is_silent = (refl, refl);
     })
+
+pub returns-in_default-clause-watches : goal.returns-in_default-clause-watches
+returns-in_default-clause-watches g c = inl (record {
+  failure = Memory;
+  reason = tt;
+  fails = c.tell-in_default.ensures.fails;
+  unchanged = refl;
+  is_silent = (refl, refl);
+})
 
 pub returns-clause-watches : goal.returns-clause-watches
 returns-clause-watches g c =
@@ -35,6 +46,6 @@ returns-clause-watches g c =
             c.deref-3.ensures.value c.in-Ok-read_parts.ensures;
         answer = c.record_watched.result;
         records = c.record_watched.ensures;
-        status_is = c.end.ensures.status;
+        ends = c.end.ensures.ends;
       };
     })

@@ -1,0 +1,46 @@
+-- How the program's work ends: the exit status that is answered, and what is told on the console.
+use Rattle.std.specs.Prelude.{◌≡◌, ⊤, ℕ, List, Result, Ok, Err}
+use Rattle.clap.specs.declared.error.kind.ErrorKind.{ErrorKind}
+use Rattle.clap.specs.declared.error.kind.ErrorKind.TheVariants as kind
+use Rattle.pac_run.specs.declared.outcome.Outcome.{Outcome}
+use Rattle.pac_command.specs.declared.failure.Failure.{Failure}
+use Rattle.pac_command.specs.declared.failure.Failure.TheVariants.{Read, Memory}
+use Rattle.pac_command.specs.Failures.{message, status, end_status, line_status}
+
+-- The status, and the console as it was and as it is left; its two relations are those of the trait `Teller`.
+pub record Ending (C : Type 0) : Type 1 where
+  pub tells : C → (line : List ℕ) → C → Type 0
+  pub explains : C → ErrorKind → C → Type 0
+  pub old : C
+  pub new : C
+  pub status : ℕ
+
+-- nothing is told, and this is the status
+abbrev pub IsQuiet : {C : Type 0} → Ending C → ℕ → Type 0
+IsQuiet ending answer = (ending.status ≡ answer) × (ending.new ≡ ending.old)
+
+-- the line of a failure is told, once and nothing else, and the status is the failure's
+abbrev pub Fails : {C : Type 0} → Ending C → Failure → Type 0
+Fails ending failure = (ending.status ≡ status failure) × ending.tells ending.old (message failure) ending.new
+
+-- work that was done or failed
+abbrev pub WorkEnds : {C : Type 0} → Ending C → Result Unit Failure → Type 0
+WorkEnds ending (Ok done) = IsQuiet ending 0
+WorkEnds ending (Err failure) = Fails ending failure
+
+-- a run that ended or failed
+abbrev pub RunEnds : {C : Type 0} → Ending C → Result Outcome Failure → Type 0
+RunEnds ending (Ok outcome) = IsQuiet ending (end_status outcome.stop)
+RunEnds ending (Err failure) = Fails ending failure
+
+-- words that are no command line: what `clap` has to say of this kind of words is told, once and nothing else; want of memory
+-- is a failure
+abbrev pub WordsEnd : {C : Type 0} → Ending C → ErrorKind → Type 0
+WordsEnd ending kind.OutOfMemory = Fails ending Memory
+WordsEnd ending other = (ending.status ≡ line_status other) × ending.explains ending.old other ending.new
+
+-- a failure of reading: a file of such a name can't be read, or memory ran out
+abbrev pub IsOfReading : (unread : List ℕ → Type 0) → Failure → Type 0
+IsOfReading unread (Read name) = unread name.now
+IsOfReading unread Memory = ⊤
+IsOfReading unread other = ⊥
