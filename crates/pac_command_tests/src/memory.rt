@@ -24,6 +24,11 @@ fn has_nothing(rt: &(impl Files + AllocGlobal), name: &str) -> bool {
     is_left(rt, "scarce", name, &Left::Absent) || is_left(rt, "scarce", name, &Left::Bytes(b""))
 }
 
+/// Whether none of the outputs has a byte.
+fn is_unwritten(rt: &(impl Files + AllocGlobal)) -> bool {
+    has_nothing(rt, "f") && has_nothing(rt, "w") && has_nothing(rt, "l")
+}
+
 /// Runs words with a little more memory each time, until all is done; the count of runs before that one, each of which told
 /// that it found no memory, and wrote nothing.
 fn refusals(
@@ -37,7 +42,7 @@ fn refusals(
         if status == 0 {
             return Some(turn);
         }
-        if status != 4 || !has_nothing(rt, "f") || !has_nothing(rt, "l") || !hoard.release() {
+        if status != 4 || !is_unwritten(rt) || !hoard.release() {
             return None;
         }
     }

@@ -93,9 +93,11 @@ fn a_session_over_few_bytes_a_call(rt: HostRuntime) {
     assert!(rt; are_same_under_a_session(rt.alloc()));
 }
 
-/// A run over writers one of which is too small.
+/// A run of a script over writers one of which is too small.
 #[derive(Clone, Copy)]
 struct Cut {
+    /// The script.
+    script: &'static str,
     /// The one that refuses.
     output: Output,
     /// The bytes that it took.
@@ -107,43 +109,64 @@ struct Cut {
 }
 
 /// The wave's header of 44 bytes goes out before the first frame. The last sample of a frame comes before its picture, so
-/// the sound is whole where the first image is cut; samples wait, and those of this frame go out after its picture.
-static CUTS: [Cut; 6] = [
+/// the sound is whole where the first image is cut; samples wait, and those of this frame go out after its picture. Of a further
+/// frame nothing goes out then, nor are there zeros in its place.
+static CUTS: [Cut; 8] = [
     Cut {
+        script: "1 -",
         output: Output::Listing,
         count: 9,
         rooms: [200_000, 10_000, 9, 200],
         lengths: [0, 0, 9, 0],
     },
     Cut {
+        script: "1 -",
         output: Output::Wave,
         count: 0,
         rooms: [200_000, 0, 1_000, 200],
         lengths: [0, 0, 95, 0],
     },
     Cut {
+        script: "1 -",
         output: Output::Wave,
         count: 43,
         rooms: [200_000, 43, 1_000, 200],
         lengths: [0, 43, 95, 0],
     },
     Cut {
+        script: "1 -",
         output: Output::Wave,
         count: 44,
         rooms: [200_000, 44, 1_000, 200],
         lengths: [193_551, 44, 95, 0],
     },
     Cut {
+        script: "1 -",
         output: Output::Frames,
         count: 100,
         rooms: [100, 10_000, 1_000, 200],
         lengths: [100, 3_212, 95, 0],
     },
     Cut {
+        script: "1 -",
         output: Output::Report,
         count: 30,
         rooms: [200_000, 10_000, 1_000, 30],
         lengths: [193_551, 3_212, 95, 30],
+    },
+    Cut {
+        script: "2 -",
+        output: Output::Frames,
+        count: 100,
+        rooms: [100, 10_000, 1_000, 200],
+        lengths: [100, 3_212, 95, 0],
+    },
+    Cut {
+        script: "2 -",
+        output: Output::Frames,
+        count: 193_651,
+        rooms: [193_651, 10_000, 1_000, 200],
+        lengths: [193_651, 6_380, 95, 0],
     },
 ];
 
@@ -151,7 +174,11 @@ static CUTS: [Cut; 6] = [
 fn is_cut(alloc: Global, cut: &Cut) -> bool {
     match Outputs::new(alloc, &cut.rooms, usize::MAX) {
         Ok(mut outputs) => {
-            outputs.run(alloc, &CELL) == Some(RunFault::Write(cut.output, cut.count))
+            let given = Given {
+                script: cut.script,
+                ..CELL
+            };
+            outputs.run(alloc, &given) == Some(RunFault::Write(cut.output, cut.count))
                 && outputs.have(&cut.lengths)
                 && REPORT.starts_with(outputs.report())
         }
