@@ -85,6 +85,17 @@ abbrev pub OutputsAreTimed : Type 0
 OutputsAreTimed =
     (set : Parts) (items : List Item) (switches index : ℕ) (play : Play) → AreTimed set items switches index play
 
+-- the samples of a frame, one for each 32 of its 50,688 T-states
+abbrev pub frame_samples : ℕ
+frame_samples = 1584
+
+-- When a frame's blank comes, each frame so far has had its samples: 1,584 of them.
+abbrev pub FramesHaveTheirSamples : Type 0
+FramesHaveTheirSamples =
+    (set : Parts) (items : List Item) (switches index frame : ℕ) (play : Play) (later older : List Entry)
+    → (run_at (by_history set items (power_on switches)) play [] index).now.board ≡ later ++ Blank frame ∷ older
+    → samples older ≡ frame_samples * frame
+
 -- Line y of frame f is composed at 50688 (f - 1) + 192 (41 + y).
 abbrev pub LinesHaveTheirMoments : Type 0 → Type 0
 LinesHaveTheirMoments Board =
