@@ -6,3 +6,4 @@ pub mod Sinks
 pub mod Walked
 pub mod Turns
 pub mod Pieces
+pub mod Parts

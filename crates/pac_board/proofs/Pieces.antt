@@ -33,7 +33,7 @@ sum-of-times from middle last whole less more same = omega arith
 -- ---- a call goes on where another ended
 
 -- steps up to a moment and from there to the end of a walk are the steps to its end
-two-parts : (board : BoardValue) (asked : ℕ) (middle last whole : Moment BoardView)
+pub two-parts : (board : BoardValue) (asked : ℕ) (middle last whole : Moment BoardView)
     → board.state.now.steps ≤ middle.steps → middle.steps ≤ last.steps → last ≡ whole
     → ◌≡◌ {A = BoardValue}
     (record {

@@ -1,8 +1,10 @@
 -- Laws of the calls, each proved on a public function of the crate.
-use Rattle.std.specs.Prelude.{◌≡◌, ℕ, zero, suc, ◌+◌, ◌-◌, List, [], ◌++◌}
+use Rattle.std.specs.Prelude.{◌≡◌, ℕ, zero, suc, ◌+◌, ◌-◌, ◌<◌, List, [], ◌++◌}
+use Rattle.pac_cpu.specs.declared.once.Once.{Once}
 use Rattle.pac_step.specs.Output.{Output}
-use Rattle.pac_board.specs.State.{BoardValue, due_outputs, restored}
-use Rattle.pac_board.specs.Calls.{course, given, ran, next_of, IsRunRefused}
+use Rattle.pac_board.specs.State.{BoardValue, due_outputs, nothing_due, restored, time_of}
+use Rattle.pac_board.specs.Calls.{course, given, ran, next_of, outputs_in, with_due}
+use Rattle.pac_board.specs.Calls.{Advanced, IsOneStep, IsStepRefused, IsOfferRefused, IsRunRefused}
 
 -- the T-states that a call for so many microseconds takes
 abbrev pub ticks_of : BoardValue → ℕ → ℕ
@@ -57,3 +59,34 @@ pub record IsDoneAgain (board other : BoardValue) : Type 0 where
 
 abbrev pub StepsAreDoneAgain : Type 0
 StepsAreDoneAgain = (board other : BoardValue) → other.set ≡ board.set → IsDoneAgain board other
+
+-- One board is on the way of another's run, which has given these outputs by then: so many microseconds from the one leave the
+-- board that as many from the other leave, the outputs so far and those that follow are those of the other's run, and a stop is
+-- the same.
+pub record IsOnTheWay (old new : BoardValue) (microseconds : ℕ) (taken : List Output) : Type 0 where
+  pub board_is : ran new microseconds ≡ ran old microseconds
+  pub given_is : taken ++ given new microseconds ≡ given old microseconds
+  pub stop_is : (course new microseconds).stop ≡ (course old microseconds).stop
+
+-- the microseconds leave time for a step
+abbrev pub HasTime : BoardValue → ℕ → Type 0
+HasTime board microseconds = board.state.now.time < time_of (board.state.asked + microseconds)
+
+-- Calls that do one step at most leave a board that is on the way of the run, with what the sink took of them: a step with all
+-- that was due and all that it gave taken, or part of what it gave refused; a step whose outputs are due then; and an offer of
+-- what is due, taken, or refused in part.
+pub record ArePartsOfRuns {S : Type 0} (took refused : S → Output → S → Type 0) (old new : BoardValue) (microseconds : ℕ)
+    (sink later : S)
+    : Type 0 where
+  pub stepped_once : (once : Once) → HasTime old microseconds → IsOneStep took old sink once new later
+      → IsOnTheWay old new microseconds (due_outputs old ++ outputs_in (next_of old))
+  pub step_refused : HasTime old microseconds → (refusal : IsStepRefused took refused old sink new later)
+      → IsOnTheWay old new microseconds (due_outputs old ++ refusal.taken)
+  pub advanced : (once : Once) → HasTime old microseconds → Advanced old once new → IsOnTheWay old new microseconds []
+  pub offered : new ≡ with_due old nothing_due → IsOnTheWay old new microseconds (due_outputs old)
+  pub offer_refused : (refusal : IsOfferRefused took refused old sink new later) → IsOnTheWay old new microseconds refusal.taken
+
+-- Single steps and offers are parts of a run.
+abbrev pub StepsArePartsOfRuns : {S : Type 0} → (S → Output → S → Type 0) → (S → Output → S → Type 0) → Type 0
+StepsArePartsOfRuns {S} took refused =
+    (old new : BoardValue) (microseconds : ℕ) (sink later : S) → ArePartsOfRuns took refused old new microseconds sink later

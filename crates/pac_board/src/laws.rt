@@ -1,6 +1,6 @@
 //! Laws of the calls.
 
-ghost use Rattle.pac_board.specs.Laws.{TimeCanBeCut, RefusalsAreTakenUp, StepsAreDoneAgain};
+ghost use Rattle.pac_board.specs.Laws.{TimeCanBeCut, RefusalsAreTakenUp, StepsAreDoneAgain, StepsArePartsOfRuns};
 
 use crate::sink::Sink;
 
@@ -17,4 +17,9 @@ pub fn refusals_are_taken_up<S: Sink>()
 /// A step that is done again after a board's state was put back gives its outputs again, and what was due then is due again.
 pub fn steps_are_done_again()
     ensures { StepsAreDoneAgain }
+{}
+
+/// Single steps and offers are parts of a run: from the board that they leave it goes on to the same board with the same outputs.
+pub fn steps_are_parts_of_runs<S: Sink>()
+    ensures { StepsArePartsOfRuns S.took S.refused }
 {}

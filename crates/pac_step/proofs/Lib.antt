@@ -14,3 +14,4 @@ pub mod Runs
 pub mod RunsKeep
 pub mod Outputs
 pub mod LinesComposed
+pub mod FrameSamples

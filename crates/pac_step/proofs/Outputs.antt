@@ -58,7 +58,7 @@ outputs-of-history set items start index play =
 
 -- ---- how many by when
 
-quiet-samples : (entry : Entry) (entries : List Entry) → is_quiet entry ≡ true → samples (entry ∷ entries) ≡ samples entries
+pub quiet-samples : (entry : Entry) (entries : List Entry) → is_quiet entry ≡ true → samples (entry ∷ entries) ≡ samples entries
 quiet-samples (Sample number) entries h = not-both (sym h)
 quiet-samples entry entries h = refl
 
@@ -70,7 +70,7 @@ quiet-blanks entry entries h = refl
 sample-ends : (time moment : ℕ) → moment ≡ suc time → moment % sample_ticks ≡ 0 → suc (time / sample_ticks) ≡ moment / sample_ticks
 sample-ends time moment next ends = omega arith
 
-sample-lasts : (time moment : ℕ) → moment ≡ suc time → moment % sample_ticks ≢ 0 → time / sample_ticks ≡ moment / sample_ticks
+pub sample-lasts : (time moment : ℕ) → moment ≡ suc time → moment % sample_ticks ≢ 0 → time / sample_ticks ≡ moment / sample_ticks
 sample-lasts time moment next lasts = omega arith
 
 frame-ends : (time moment : ℕ) → moment ≡ suc time → moment % frame_ticks ≡ 0 → suc (time / frame_ticks) ≡ moment / frame_ticks

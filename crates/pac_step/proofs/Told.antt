@@ -7,7 +7,7 @@ use Rattle.pac_map.specs.View as view
 use Rattle.pac_step.specs.Laws.{ViewAnswers, ViewTells}
 use Rattle.pac_step.proofs.Views.{read-viewed, tile-viewed, colour-viewed, work-viewed, held-viewed}
 use Rattle.pac_step.proofs.Lists.{attributes-listed, coordinates-listed}
-use Rattle.pac_step.proofs.Latches.{bit-viewed, vector-viewed, request-viewed, due-viewed}
+use Rattle.pac_step.proofs.Latches.{bit-viewed, vector-viewed, request-viewed, count-viewed, due-viewed}
 use Rattle.pac_step.proofs.Memories.{memory-viewed, registers-kept}
 use Rattle.pac_step.proofs.Voices.{voices-viewed}
 use Rattle.pac_step.proofs.Lines.{lines-viewed}
@@ -32,6 +32,7 @@ view-tells set start entries fit =
       bits = λ place. ap (λ memory. is_set memory.latched place) kept ∙ bit-viewed first entries place;
       vector = ap (λ memory. memory.latched.vector) kept ∙ vector-viewed first entries;
       request = ap (λ memory. request_of memory.latched) kept ∙ request-viewed first entries;
+      count = ap (λ memory. memory.latched.count) kept ∙ count-viewed first entries well.count;
       due = ap (λ memory. latch.is_due memory.latched) kept ∙ due-viewed first entries well.count;
       accumulators = voices-viewed set start entries fit;
       lines = lines-viewed set start entries fit;

@@ -1,12 +1,12 @@
 -- Laws of the board's definitions, each proved on a public function of the crate.
-use Rattle.std.specs.Prelude.{◌≡◌, ◌<◌, ◌≤◌, ℕ, zero, suc, ◌+◌, ◌*◌, ◌/◌, Option, None, Some, true}
+use Rattle.std.specs.Prelude.{◌≡◌, ◌<◌, ◌≤◌, ℕ, zero, suc, ◌+◌, ◌*◌, ◌/◌, Option, None, Some, true, min}
 use Rattle.std.specs.Prelude.{List, [], ◌++◌, ◌∷◌, slice_index, slice_index_or}
 use mathlib.Core.List.{IsPrefix}
 use Rattle.pac_code.specs.Items.{Item, AllLie}
 use Rattle.pac_cpu.specs.declared.once.Stop.{Stop}
 use Rattle.pac_table.specs.Instructions.{least_ticks, most_ticks}
 use Rattle.pac_roms.specs.Parts.{Parts, IsWhole}
-use Rattle.pac_latch.specs.Latched.{is_set, request_of}
+use Rattle.pac_latch.specs.Latched.{is_set, request_of, watchdog_limit}
 use Rattle.pac_latch.specs.Latched as latch
 use Rattle.pac_tiles.specs.Tiles.{height}
 use Rattle.pac_map.specs.Contents.{read_of}
@@ -16,7 +16,7 @@ use Rattle.pac_map.specs.View as view
 use Rattle.pac_picture.specs.Picture.{line_of}
 use Rattle.pac_step.specs.BoardView.{BoardView, IsBoard, power_on, video_roms}
 use Rattle.pac_step.specs.History.{read, board_of, tile_at, colour_at, work_at, attributes, coordinates, registers, held}
-use Rattle.pac_step.specs.Queries.{bit_at, vector, request, is_due}
+use Rattle.pac_step.specs.Queries.{bit_at, vector, request, blanks_since, is_due}
 use Rattle.pac_step.specs.Shown.{accumulators_at, memory_at, lines_at, outputs_of, samples, blanks}
 use Rattle.pac_step.specs.Step.{Questions, Moment, Next, Goes, Ends, Met, note, lined, step, line_ticks, frame_ticks, sample_ticks}
 use Rattle.pac_step.specs.Walk.{Walk, walk, walk_to, begun, has_ended}
@@ -46,6 +46,9 @@ pub record Tells (set : Parts) (start : BoardView) (entries : List Entry) : Type
   pub bits : (place : ℕ) → is_set (board_of set start entries).memory.latched place ≡ bit_at start.memory entries place
   pub vector : (board_of set start entries).memory.latched.vector ≡ vector start.memory entries
   pub request : request_of (board_of set start entries).memory.latched ≡ request start.memory entries
+  pub count :
+      (board_of set start entries).memory.latched.count
+      ≡ min watchdog_limit (blanks_since start.memory.latched.count entries)
   pub due : latch.is_due (board_of set start entries).memory.latched ≡ is_due start.memory entries
   pub accumulators : (board_of set start entries).accumulators ≡ accumulators_at start entries
   pub lines : (board_of set start entries).lines ≡ lines_at set start entries
@@ -81,6 +84,17 @@ pub record AreTimed (set : Parts) (items : List Item) (switches index : ℕ) (pl
 abbrev pub OutputsAreTimed : Type 0
 OutputsAreTimed =
     (set : Parts) (items : List Item) (switches index : ℕ) (play : Play) → AreTimed set items switches index play
+
+-- the samples of a frame, one for each 32 of its 50,688 T-states
+abbrev pub frame_samples : ℕ
+frame_samples = 1584
+
+-- When a frame's blank comes, each frame so far has had its samples: 1,584 of them.
+abbrev pub FramesHaveTheirSamples : Type 0
+FramesHaveTheirSamples =
+    (set : Parts) (items : List Item) (switches index frame : ℕ) (play : Play) (later older : List Entry)
+    → (run_at (by_history set items (power_on switches)) play [] index).now.board ≡ later ++ Blank frame ∷ older
+    → samples older ≡ frame_samples * frame
 
 -- Line y of frame f is composed at 50688 (f - 1) + 192 (41 + y).
 abbrev pub LinesHaveTheirMoments : Type 0 → Type 0

@@ -1,6 +1,7 @@
 //! Laws of the board's definitions.
 
 ghost use Rattle.pac_step.specs.Laws.{ViewAnswers, ViewTells, RunsAgree, OutputsAreOfTheHistory, OutputsAreTimed, LinesHaveTheirMoments};
+ghost use Rattle.pac_step.specs.Laws.{FramesHaveTheirSamples};
 ghost use Rattle.pac_step.specs.Laws.{PicturesAreLineExact, StepsAreTimely, RunsEnd, RunsAreJoined, WalksEnd, WalksJoin, WalksGoOn, RunsGoByFrames};
 
 /// The view that a history leaves answers each read as the history does.
@@ -23,9 +24,14 @@ pub fn outputs_are_of_the_history()
     ensures { OutputsAreOfTheHistory }
 {}
 
-/// A run has 1,584 samples and one picture a frame.
+/// A run has a sample for each 32 T-states and one picture a frame.
 pub fn outputs_are_timed()
     ensures { OutputsAreTimed }
+{}
+
+/// When a frame's blank comes, 1,584 samples have come for each frame so far.
+pub fn frames_have_their_samples()
+    ensures { FramesHaveTheirSamples }
 {}
 
 /// A line of the picture is composed as its line of the scan ends.
