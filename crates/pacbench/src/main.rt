@@ -8,7 +8,7 @@ use pac_out::counted::Counted;
 use pac_out::memory::Memory;
 use pacbench_common::rounds;
 use std::alloc::{AllocError, Global};
-use std::io;
+use std::io::{self, Error, ErrorKind};
 use std::process::ExitCode;
 use std::time::Instant;
 
@@ -60,28 +60,49 @@ fn expressions(alloc: Global) -> Result<Vec<u8>, AllocError> {
     Ok(source)
 }
 
-/// The microseconds that one round takes, or nothing where it can't be done.
-fn round(rt: &HostRuntime, source: &[u8]) -> io::Result<u128> {
-    let mut listing = Memory::new(rt.alloc(), LISTING_BYTES)?;
-    let start = Instant::now(rt)?;
-    if let Ok(program) = assemble(rt.alloc(), source) {
-        let _ = write_listing(&mut Counted::new(&mut listing), &program, source);
-    }
-    Ok(start.elapsed(rt)?.as_micros())
+/// What a round made, and the microseconds that it took.
+#[derive(Drop)]
+struct Made {
+    time: u128,
+    symbols: usize,
+    listing: u64,
 }
 
-/// Tells the least time of some rounds.
-fn measure(rt: &HostRuntime, name: &str, source: &[u8], rounds: u32) -> io::Result<()> {
-    let mut least = round(rt, source)?;
-    for _ in 1..rounds {
-        least = least.min(round(rt, source)?);
+/// One round, or an error where the source isn't assembled or its listing isn't taken whole.
+fn round(rt: &HostRuntime, source: &[u8]) -> io::Result<Made> {
+    let mut memory = Memory::new(rt.alloc(), LISTING_BYTES)?;
+    let mut listing = Counted::new(&mut memory);
+    let start = Instant::now(rt)?;
+    let Ok(program) = assemble(rt.alloc(), source) else {
+        return Err(Error::new(ErrorKind::InvalidData, "the source is refused"));
+    };
+    if write_listing(&mut listing, &program, source).is_err() {
+        return Err(Error::new(ErrorKind::WriteZero, "the listing isn't taken whole"));
     }
-    let rate = if least == 0 {
+    Ok(Made {
+        time: start.elapsed(rt)?.as_micros(),
+        symbols: program.symbols().len(),
+        listing: listing.count,
+    })
+}
+
+/// Tells the least time of some rounds, with what each of them makes.
+fn measure(rt: &HostRuntime, name: &str, source: &[u8], rounds: u32) -> io::Result<()> {
+    let Made {
+        mut time,
+        symbols,
+        listing,
+    } = round(rt, source)?;
+    for _ in 1..rounds {
+        time = time.min(round(rt, source)?.time);
+    }
+    let rate = if time == 0 {
         0
     } else {
-        u128::from(LINES) * 1_000_000 / least
+        u128::from(LINES) * 1_000_000 / time
     };
-    let _ = eprintln!(rt; "{name}: {LINES} lines in {least} microseconds, {rate} lines a second");
+    let _ = eprintln!(rt; "{name}: {LINES} lines in {time} microseconds, {rate} lines a second");
+    let _ = eprintln!(rt; "{name}: {symbols} symbols, {listing} bytes of listing");
     Ok(())
 }
 
@@ -95,6 +116,9 @@ fn run(rt: &HostRuntime) -> io::Result<()> {
 fn main(rt: HostRuntime) -> ExitCode {
     match run(&rt) {
         Ok(()) => ExitCode::from(0),
-        Err(_) => ExitCode::from(1),
+        Err(error) => {
+            let _ = eprintln!(&rt; "pacbench: {error}");
+            ExitCode::from(1)
+        }
     }
 }
