@@ -42,10 +42,13 @@ fn add_printed<D: Display + Drop>(kept: &RefCell<Memory>, value: D, end: &str) -
     Ok(())
 }
 
-/// Whether bytes are these pieces, one after another.
+/// Whether bytes are these pieces, one after another; `ANY_TEXT` is any text to the end.
 fn is_joined(bytes: &[u8], pieces: &[&str]) -> bool {
     let mut rest = bytes;
     for piece in pieces {
+        if *piece == ANY_TEXT {
+            return !rest.is_empty();
+        }
         match rest.strip_prefix(piece.as_bytes()) {
             Some(after) => rest = after,
             None => return false,

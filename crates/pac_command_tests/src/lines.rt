@@ -37,7 +37,7 @@ pub struct Line {
     pub room: usize,
     /// The exit status.
     pub status: u8,
-    /// What standard output has then, as pieces.
+    /// What standard output has then, as pieces; the last may be `ANY_TEXT`.
     pub output: &'static [&'static str],
     /// What standard error has; `ANY_TEXT` for any but none.
     pub error: &'static str,

@@ -24,6 +24,11 @@ fn has_nothing(rt: &(impl Files + AllocGlobal), name: &str) -> bool {
     is_left(rt, "scarce", name, &Left::Absent) || is_left(rt, "scarce", name, &Left::Bytes(b""))
 }
 
+/// Whether a first refusal has told that there is no memory; what later ones tell follows it.
+fn is_told(console: &Console, turn: usize) -> bool {
+    turn != 0 || console.has(&[], "out of memory\n")
+}
+
 /// Whether none of the outputs has a byte.
 fn is_unwritten(rt: &(impl Files + AllocGlobal)) -> bool {
     has_nothing(rt, "f") && has_nothing(rt, "w") && has_nothing(rt, "l")
@@ -42,7 +47,7 @@ fn refusals(
         if status == 0 {
             return Some(turn);
         }
-        if status != 4 || !is_unwritten(rt) || !hoard.release() {
+        if status != 4 || !is_told(console, turn) || !is_unwritten(rt) || !hoard.release() {
             return None;
         }
     }

@@ -148,3 +148,32 @@ static NO_COMMANDS: [Line; 11] = [
 fn words_that_are_no_command_line(rt: HostRuntime) {
     hold(&rt, "words", &NO_COMMANDS);
 }
+
+/// What is told of the program itself, on standard output: what it is for and how it is called, and its version.
+static TOLD: [Line; 3] = [
+    Line {
+        words: "--help",
+        room: 2000,
+        output: &[
+            "Assembles and runs programs for Namco's Pac-Man main board\n",
+            ANY_TEXT,
+        ],
+        ..LINE
+    },
+    Line {
+        words: "dis --help",
+        room: 2000,
+        output: &[ANY_TEXT],
+        ..LINE
+    },
+    Line {
+        words: "--version",
+        output: &["pacboard 0.1\n"],
+        ..LINE
+    },
+];
+
+#[test]
+fn help_and_version(rt: HostRuntime) {
+    hold(&rt, "helped", &TOLD);
+}

@@ -33,8 +33,42 @@ const UNMADE: Line = Line {
     ..LINE
 };
 
-/// A source that is assembled, and those that aren't.
-static ASSEMBLED: [Line; 7] = [
+/// A source in which a line has seven bytes, after an ORG and a name for a number.
+const TABLE: &[u8] = b"SIZE EQU 9\nORG 10H\nTAB: DEFB SIZE,'AB',TAB,1,2\nDEFW TAB+1\n";
+
+/// Its program: the ORG leaves sixteen bytes as they are.
+const TABLE_ROM: &[u8] = &[
+    0, 0, 0, 0, 0, 0, 0, 0, 0, 0, 0, 0, 0, 0, 0, 0, 0x09, 0x41, 0x42, 0x10, 0x01, 0x02, 0x11, 0x00,
+];
+
+/// Its listing: four bytes a row, and the names in the order in which they are defined.
+const TABLE_LISTING: &[u8] = b"00001               SIZE EQU 9
+00002               ORG 10H
+00003 0010 09414210 TAB: DEFB SIZE,'AB',TAB,1,2
+      0014 0102    
+00004 0016 1100     DEFW TAB+1
+SYMBOLS
+SIZE 9
+TAB 16
+";
+
+/// A source in which a line that isn't judged is no instruction.
+const CHOICE: &[u8] = b"FLAG EQU 1\nIF FLAG\nLD A,42H\nELSE\nLD A,\nENDIF\nHALT\n";
+
+/// Its listing: that line is marked.
+const CHOICE_LISTING: &[u8] = b"00001               FLAG EQU 1
+00002               IF FLAG
+00003 0000 3E42     LD A,42H
+00004               ELSE
+00005      -        LD A,
+00006               ENDIF
+00007 0002 76       HALT
+SYMBOLS
+FLAG 1
+";
+
+/// Sources that are assembled, and those that aren't.
+static ASSEMBLED: [Line; 10] = [
     Line {
         words: "asm @/cell.asm --rom @/r.rom --listing @/l.txt",
         left: &[
@@ -44,6 +78,34 @@ static ASSEMBLED: [Line; 7] = [
             ),
             ("l.txt", Left::Bytes(CELL_LISTING)),
         ],
+        ..LINE
+    },
+    Line {
+        files: &[("table.asm", TABLE)],
+        words: "asm @/table.asm --rom @/r.rom --listing @/l.txt",
+        left: &[
+            ("r.rom", Left::Program(TABLE_ROM)),
+            ("l.txt", Left::Bytes(TABLE_LISTING)),
+        ],
+        ..LINE
+    },
+    Line {
+        files: &[("choice.asm", CHOICE)],
+        words: "asm @/choice.asm --rom @/r.rom --listing @/l.txt",
+        left: &[
+            ("r.rom", Left::Program(&[0x3E, 0x42, 0x76])),
+            ("l.txt", Left::Bytes(CHOICE_LISTING)),
+        ],
+        ..LINE
+    },
+    Line {
+        files: &[(
+            "other.asm",
+            b"FLAG EQU 0\nIF FLAG\nLD A,42H\nELSE\nLD A,\nENDIF\nHALT\n",
+        )],
+        words: "asm @/other.asm --rom @/r.rom --listing @/l.txt",
+        status: 1,
+        error: "refused A2 line 5\n",
         ..LINE
     },
     Line {
