@@ -15,7 +15,7 @@ use pac_cpu::{Once, Stop};
 const LATEST: u64 = 1 << 52;
 
 /// The most microseconds that are asked of a board (this profile).
-const MOST_ASKED: u64 = 1 << 50;
+pub(crate) const MOST_ASKED: u64 = 1 << 50;
 
 /// What a call for some microseconds came to.
 #[derive(Clone, Copy)]

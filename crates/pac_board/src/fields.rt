@@ -7,6 +7,7 @@ ghost use Rattle.pac_board.specs.Fields.{moment_of, state_of, AreInRange, ArePar
 
 use crate::board::Board;
 use crate::due::Due;
+use crate::exec::MOST_ASKED;
 use crate::fault::InitRefused;
 use crate::machine::Machine;
 use pac_cpu::Cpu;
@@ -47,9 +48,6 @@ fn fit(accumulators: &[u32; 3]) -> bool
 
 /// The time, in T-states, at which the latest step has ended (this profile).
 const LATEST_END: u64 = (1 << 52) + 22;
-
-/// The most microseconds that are asked of a board (this profile).
-const MOST_ASKED: u64 = 1 << 50;
 
 impl Fields<'_> {
     /// Whether a board can have these: each field is in its range.

@@ -128,7 +128,7 @@ impl Memory {
 
     /// The byte that a place gives, with the program ROM's 16,384 bytes.
     #[inline(always)]
-    pub fn byte_of(&self, program: &[u8], place: BusPlace) -> u8
+    pub(crate) fn byte_of(&self, program: &[u8], place: BusPlace) -> u8
         requires program { length program.now ≡ program_size }
         requires place { IsInRange place }
         ensures { result ≡ answer (lookups_of program.now self.now) place }
@@ -148,7 +148,7 @@ impl Memory {
 
     /// Writes a byte to a place.
     #[inline(always)]
-    pub fn write(&mut self, place: BusPlace, byte: u8)
+    pub(crate) fn write(&mut self, place: BusPlace, byte: u8)
         requires { IsInRange place }
         ensures { self.new ≡ written self.old place byte }
     {

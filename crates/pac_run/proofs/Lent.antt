@@ -12,13 +12,14 @@ use Rattle.pac_session.specs.Running.{Setting, whole_run}
 use Rattle.pac_media.specs.Samples.{wav_header, samples_text, header_size}
 use Rattle.pac_media.specs.Sound.{HasText, Delivers, Fails, Finishes}
 use Rattle.pac_media.specs.Sound as media
+use Rattle.pac_step.specs.Laws.{frame_samples}
 use Rattle.pac_step.specs.Output.{Output, Sound, Show}
 use Rattle.pac_run.specs.declared.fault.Output.{Output as Which}
 use Rattle.pac_run.specs.declared.fault.Output.TheVariants as which
 use Rattle.pac_run.specs.declared.film.Film.{Film}
 use Rattle.pac_run.specs.Recorded.{sound_text, IsRecorded, Performs, Breaks, Records, RecordsBroken, Written}
 use Rattle.pac_run.specs.Run.{Writing, Took, TookSome, Stopped}
-use Rattle.pac_run.specs.Texts.{samples_in, frames_text, wave_text, wave_so_far, frame_samples}
+use Rattle.pac_run.specs.Texts.{samples_in, frames_text, wave_text, wave_so_far}
 use Rattle.pac_run.specs.Watched.{AllTold, HeldUp, LastBroke, BreaksOff, StopsFilm, FilmToldTill, FilmTold, CutBy, Films, FilmedTill, Filmed}
 use Rattle.pac_run.specs.Watched.{TookOrRefused, StopsAt, ToldTill, Told}
 

@@ -7,6 +7,7 @@ use Rattle.pac_cpu.specs.declared.once.Cause.{Cause}
 use Rattle.pac_cpu.specs.declared.once.Cause.TheVariants.{Opcode, Vector}
 use Rattle.pac_media.specs.Images.{ppm_of}
 use Rattle.pac_media.specs.Samples.{wav_header, samples_text}
+use Rattle.pac_step.specs.Laws.{frame_samples}
 use Rattle.pac_step.specs.Output.{Output, Image, Sound, Show}
 use Rattle.pac_run.specs.declared.outcome.Outcome.{Outcome}
 
@@ -24,10 +25,6 @@ samples_in (Show image ∷ more) = samples_in more
 -- the images of the pictures, one after another
 abbrev pub frames_text : List Output → List ℕ
 frames_text outputs = flat_map (λ (image : Image). ppm_of image.lines image.palette) (pictures_in outputs)
-
--- the samples of so many frames
-abbrev pub frame_samples : ℕ
-frame_samples = 1584
 
 -- a wave file of so many frames: after a stop zeros stand in for the samples that never came
 abbrev pub filled : ℕ → List ℤ → List ℤ
