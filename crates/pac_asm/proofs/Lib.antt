@@ -6,5 +6,6 @@ pub mod LineCounts
 pub mod Filling
 pub mod Skipping
 pub mod Sizes
+pub mod LeftOut
 pub mod Assigned
 pub mod Unique

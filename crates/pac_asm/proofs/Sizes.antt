@@ -20,25 +20,25 @@ use Rattle.pac_asm.specs.Phase1.{after_line, phase1}
 use Rattle.pac_asm.specs.Items.{IsSized, Fits, AllFit}
 
 -- a line adds a place that fits it
-record Adds (old new : Standing) (line : List ℕ) : Type 0 where
-  place : Place
-  added : new.places ≡ old.places ++ place ∷ []
-  fit : Fits line place
+pub record Adds (old new : Standing) (line : List ℕ) : Type 0 where
+  pub place : Place
+  pub added : new.places ≡ old.places ++ place ∷ []
+  pub fit : Fits line place
 
 -- ---- a step that went well was one after another
 
 -- what two steps say, where both went well
-then-ok : {E A B : Type 0} (P : B → Type 0) (r : Result A E) (f : A → Result B E) → ((x : A) (y : B) → r ≡ Ok x → f x ≡ Ok y → P y)
+pub then-ok : {E A B : Type 0} (P : B → Type 0) (r : Result A E) (f : A → Result B E) → ((x : A) (y : B) → r ≡ Ok x → f x ≡ Ok y → P y)
     → (y : B) → (r >>= f) ≡ Ok y → P y
 then-ok P (Ok x) f each y e = each x y refl e
 then-ok P (Err error) f each y e = absurd (cc)
 
-if-ok : {E A : Type 0} (P : A → Type 0) (b : Bool) (r s : Result A E) → ((y : A) → r ≡ Ok y → P y) → ((y : A) → s ≡ Ok y → P y)
+pub if-ok : {E A : Type 0} (P : A → Type 0) (b : Bool) (r s : Result A E) → ((y : A) → r ≡ Ok y → P y) → ((y : A) → s ≡ Ok y → P y)
     → (y : A) → cond b r s ≡ Ok y → P y
 if-ok P true r s first second y e = first y e
 if-ok P false r s first second y e = second y e
 
-none-ok : {E A : Type 0} (P : A → Type 0) (error : E) → (y : A) → Err error ≡ Ok y → P y
+pub none-ok : {E A : Type 0} (P : A → Type 0) (error : E) → (y : A) → Err error ≡ Ok y → P y
 none-ok P error y e = absurd (cc)
 
 ok-same : {A : Type 0} (x y : A) → ◌≡◌ {A = Result A AsmCode} (Ok x) (Ok y) → x ≡ y
@@ -120,28 +120,28 @@ passed old line word new e =
       fit = tt;
     }) new e
 
-text : (old : Standing) (line : List ℕ) (new : Standing) → after_text old line ≡ Ok new → Adds old new line
+pub text : (old : Standing) (line : List ℕ) (new : Standing) → after_text old line ≡ Ok new → Adds old new line
 unfolding after_text
 text old line new e =
     if-ok (λ (new : Standing). Adds old new line) (is_judged old.conditions (word_of line)) (after_judged old line)
     (after_passed old (word_of line)) (judged old line) (passed old line (word_of line)) new e
 
-closed-ok : (is_open : Bool) (r : Result Standing AsmCode) (new : Standing) → closed is_open r ≡ Ok new → r ≡ Ok new
+pub closed-ok : (is_open : Bool) (r : Result Standing AsmCode) (new : Standing) → closed is_open r ≡ Ok new → r ≡ Ok new
 closed-ok true (Ok after) new e = absurd (cc)
 closed-ok false (Ok after) new e = e
 closed-ok is_open (Err code) new e = absurd (cc)
 
-in_line-ok : (number : ℕ) (r : Result Standing AsmCode) (new : Standing) → in_line number r ≡ Ok new → r ≡ Ok new
+pub in_line-ok : (number : ℕ) (r : Result Standing AsmCode) (new : Standing) → in_line number r ≡ Ok new → r ≡ Ok new
 in_line-ok number (Ok after) new e = let same : after ≡ new = cc in ap (λ (s : Standing). Ok s) same
 in_line-ok number (Err code) new e = absurd (cc)
 
 -- all lines
-record Lays (old new : Standing) (lines : List (List ℕ)) : Type 0 where
-  places : List Place
-  added : new.places ≡ old.places ++ places
-  fit : AllFit lines places
+pub record Lays (old new : Standing) (lines : List (List ℕ)) : Type 0 where
+  pub places : List Place
+  pub added : new.places ≡ old.places ++ places
+  pub fit : AllFit lines places
 
-laid : (number : ℕ) (old : Standing) (lines : List (List ℕ)) (new : Standing) → phase1 number old lines ≡ Ok new → Lays old new lines
+pub laid : (number : ℕ) (old : Standing) (lines : List (List ℕ)) (new : Standing) → phase1 number old lines ≡ Ok new → Lays old new lines
 unfolding phase1
 laid number old [] new e =
     let same : old ≡ new = cc in

@@ -24,7 +24,7 @@ passed-with above after (Ok conditions) is =
       places = ap (λ (some : Standing). some.places) same;
     }
 
-passed-over : (above after : Standing) (line : List ℕ) → is_judged above.conditions (word_of line) ≡ false →
+pub passed-over : (above after : Standing) (line : List ℕ) → is_judged above.conditions (word_of line) ≡ false →
     after_text above line ≡ Ok after → IsPassedOver above after
 unfolding after_text
 passed-over above after line skipped is =

@@ -12,9 +12,9 @@ use Rattle.pac_asm.specs.declared.fault.AsmCode.{AsmCode}
 use Rattle.pac_asm.specs.Conditions.{is_judged, condition_of}
 use Rattle.pac_asm.specs.Unclosed.{word_of}
 use Rattle.pac_asm.specs.Phase1.{read}
-use Rattle.pac_asm.specs.Assignments.{Spot, Step, labelled, counted, valued, with_bytes, step_by, step_read, step_if, step_of, defined_after}
-use Rattle.pac_asm.specs.Assignments.{defined_in, first_spot, NamesStand, StatementStands, ReadStands, LineStands, RestStands, AreDefinedAbove}
-use Rattle.pac_asm.specs.Assignments.{AtMostOneIsRight}
+use Rattle.pac_asm.specs.Assignments.{Spot, Step, labelled, counted, valued, with_bytes, step_by, step_read, step_if, step_of}
+use Rattle.pac_asm.specs.Assignments.{defined_after, defined_in, first_spot, NamesStand, StatementStands, ReadStands, LineStands}
+use Rattle.pac_asm.specs.Assignments.{RestStands, AreDefinedAbove, AtMostOneIsRight}
 use Rattle.pac_asm.proofs.Assigned.{Extends, found-first, mapped, some-same}
 
 -- ---- one value

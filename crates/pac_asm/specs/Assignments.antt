@@ -92,14 +92,16 @@ pub record IsRight (lines : List (List ℕ)) (names : List ℕ → Option ℤ) :
   pub defined : defined_in names first_spot lines ≡ Some definitions
   pub assigned : (name : List ℕ) → names name ≡ number_of definitions name
 
+-- these symbols are right, and no other assignment is
+pub record OneIsRight (lines : List (List ℕ)) (symbols : List Named) : Type 0 where
+  pub right : IsRight lines (number_of symbols)
+  pub only : (names : List ℕ → Option ℤ) → IsRight lines names → (name : List ℕ) → names name ≡ number_of symbols name
+
 -- The law. The first phase needs each name of an ORG, an EQU, a DEFS size or an IF defined above. Where it finds no fault,
 -- the symbols that it found are right, and no other assignment is.
-pub record OneIsRight (lines : List (List ℕ)) (after : Standing) : Type 0 where
-  pub right : IsRight lines (number_of after.symbols)
-  pub only : (names : List ℕ → Option ℤ) → IsRight lines names → (name : List ℕ) → names name ≡ number_of after.symbols name
-
 abbrev pub SymbolsAreRight : Type 0
-SymbolsAreRight = (lines : List (List ℕ)) (after : Standing) → phase1 1 start lines ≡ Ok after → OneIsRight lines after
+SymbolsAreRight = (lines : List (List ℕ)) (after : Standing) → phase1 1 start lines ≡ Ok after →
+    OneIsRight lines after.symbols
 
 -- ---- and of any source
 

@@ -1,9 +1,11 @@
 //! A source as a whole.
 
 ghost use Rattle.std.specs.Prelude.{◌≡◌, IfOk};
+ghost use Rattle.std.specs.Str.Lines.{lines as text_lines};
 ghost use Rattle.pac_code.specs.Items.{AllLie};
 ghost use Rattle.pac_program.specs.Programs.{items_of};
 ghost use Rattle.pac_program.specs.Rom.{AreApart, IsZeroElsewhere};
+ghost use Rattle.pac_asm.specs.Assignments.{OneIsRight};
 ghost use Rattle.pac_asm.specs.Errors.{Gives};
 ghost use Rattle.pac_asm.specs.Programs.{program_of};
 
@@ -27,6 +29,9 @@ pub fn assemble(alloc: Global, source: &[u8]) -> Result<Program, AsmError>
     ensures apart { IfOk result (λ program. AreApart (items_of program)) }
     ensures lie { IfOk result (λ program. AllLie program.rom (items_of program)) }
     ensures zero { IfOk result (λ program. IsZeroElsewhere program.rom (items_of program)) }
+    // The symbols are right: they have the names that the lines define, each with the number that its line gives it. No
+    // other assignment of numbers to names is right.
+    ensures right { IfOk result (λ program. OneIsRight (text_lines source.now) program.symbols) }
 {
     if has_too_many_lines(source) {
         return Err(LineError::Code(AsmCode::TooManyLines).in_line(MOST_LINES + 1));

@@ -21,7 +21,7 @@ fn has_bytes(alloc: Global, source: &str, at: usize, bytes: &[u8]) -> bool {
 }
 
 /// Sources, an address of the ROM, and the bytes there.
-static BYTES: [(&str, usize, &[u8]); 11] = [
+static BYTES: [(&str, usize, &[u8]); 12] = [
     ("", 0, &[0; 3]),
     ("JR 129", 0, &[0x18, 0x7F, 0]),
     ("ORG 200\nJR 74", 199, &[0, 0x18, 0x80, 0]),
@@ -48,6 +48,11 @@ static BYTES: [(&str, usize, &[u8]); 11] = [
         "IF 1\nDEFB 1\nELSE\nORG 5\nELSE\nDEFB 2\nENDIF\nDEFB 3",
         0,
         &[1, 3, 0],
+    ),
+    (
+        "DEFS 1,LATER\nIM MODE\nLATER EQU 7\nMODE EQU 1",
+        0,
+        &[7, 0xED, 0x56, 0],
     ),
 ];
 

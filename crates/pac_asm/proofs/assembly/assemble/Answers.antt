@@ -2,10 +2,13 @@ use Rattle.std.proofs.Common.{ℕ, List, sym, ◌∙◌, ap, subst}
 use Rattle.std.specs.List.{flat_map}
 use Rattle.std.specs.Str.Lines.{lines}
 use Rattle.pac_code.specs.Items.{AllLie}
+use Rattle.pac_program.specs.Names.{Named}
 use Rattle.pac_program.specs.Programs.{Assembled, items_in, items_of}
 use Rattle.pac_program.specs.Rom.{rom_of, AreApart, IsZeroElsewhere}
 use Rattle.pac_program.specs.declared.line.Line.{Line}
+use Rattle.pac_asm.specs.Assignments.{OneIsRight}
 use Rattle.pac_asm.specs.Items.{AllFit}
+use Rattle.pac_asm.proofs.Assigned.{symbols-are-right}
 use Rattle.pac_asm.proofs.Sizes.{all-fit}
 use Rattle.pac_asm.proofs.assembly.assemble.Goals as goal
 
@@ -32,3 +35,9 @@ returns-clause-zero c =
     subst (λ (program : Assembled). IsZeroElsewhere program.rom (items_of program)) (sym c.new.ensures)
     (subst (λ (filled : List Line). IsZeroElsewhere c.in_ok-rom.rom.value (flat_map items_in filled)) c.deref.ensures.value
     c.in_ok-rom.ensures.zero)
+
+pub returns-clause-right : goal.returns-clause-right
+returns-clause-right c =
+    subst (λ (program : Assembled). OneIsRight (lines c.args.source.now) program.symbols) (sym c.new.ensures)
+    (subst (λ (symbols : List Named). OneIsRight (lines c.args.source.now) symbols) (sym c.parts-symbols.ensures.symbols)
+    (symbols-are-right (lines c.args.source.now) c.in_ok-lay_out.field-0 c.in_ok-lay_out.ensures))
