@@ -3,3 +3,4 @@ pub mod RoundTrip
 pub mod Prefixes
 pub mod Decoding
 pub mod ByEntry
+pub mod ByRow

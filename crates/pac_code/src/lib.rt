@@ -7,7 +7,7 @@ mod decoder;
 mod encoder;
 mod entries;
 
-pub use decoder::{decode, decode_plain};
+pub use decoder::{decode, decode_plain, decode_row};
 pub use encoder::{Code, encode};
 
 /// Bytes whose prefix is the code of an instruction hold that instruction.
