@@ -2,4 +2,4 @@ pub mod Reading
 pub mod RoundTrip
 pub mod Prefixes
 pub mod Decoding
-pub mod ByEntry
+pub mod ByRow

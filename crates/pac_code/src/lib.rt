@@ -5,9 +5,8 @@ ghost use Rattle.pac_code.specs.Codes.{DecodesPrefix, DecodesBack};
 
 mod decoder;
 mod encoder;
-mod entries;
 
-pub use decoder::{decode, decode_plain};
+pub use decoder::{decode, decode_row};
 pub use encoder::{Code, encode};
 
 /// Bytes whose prefix is the code of an instruction hold that instruction.

@@ -20,6 +20,6 @@ mod special_loads;
 mod word_arithmetic;
 mod word_loads;
 
-pub use instructions::{perform, perform_inlined};
+pub use instructions::{perform, perform_arithmetic_row, perform_row};
 pub use pairs::push_word;
 pub use regs::{Alternate, Regs};

@@ -13,7 +13,7 @@ mod operands;
 mod patterns;
 mod table;
 
-pub use dispatch::matching_row;
+pub use dispatch::{matching_row, plain_row};
 pub use effects::{
     BitOperation, Block, BlockOperation, ByteArithmetic, ByteLoad, Call, Control, Direction,
     Effect, Exchange, InterruptMode, Jump, Pair, Place, Port, RotateAndShift, Rotation, Special,
