@@ -6,8 +6,8 @@ ghost use Rattle.pac_asm.specs.Programs.{most_lines};
 ghost use Rattle.pac_asm.specs.Pairing.{after_word};
 ghost use Rattle.pac_asm.specs.Unclosed.{first_unclosed};
 
-use pac_lex::{first_line, first_word};
-use pac_source::{Conditional, conditional_word};
+use pac_lex::first_line;
+use pac_source::{Conditional, conditional_of};
 
 /// The most lines that a source may have (this profile).
 pub(crate) const MOST_LINES: u32 = 65535;
@@ -77,7 +77,7 @@ pub(crate) fn first_unclosed(source: &[u8]) -> Option<u32>
     };
     let mut rest = source;
     while let Some((line, below)) = first_line(rest) {
-        pairing = after_word(pairing, conditional_word(first_word(line)));
+        pairing = after_word(pairing, conditional_of(line));
         rest = below;
     }
     if pairing.depth == 0 {

@@ -12,8 +12,8 @@ use crate::condition::Condition;
 use crate::fault::{AsmCode, LineError};
 use crate::place::Place;
 use crate::standing::{Standing, within_rom};
-use pac_lex::{first_word, tokens};
-use pac_source::{Conditional, Expression, Form, Statement, conditional_word, form};
+use pac_lex::tokens;
+use pac_source::{Conditional, Expression, Form, Statement, conditional_of, form};
 use std::alloc::Global;
 
 impl Standing {
@@ -22,7 +22,7 @@ impl Standing {
     pub(crate) fn after_text(&mut self, alloc: Global, line: &[u8]) -> Result<(), LineError>
         ensures { Becomes result (spec.after_text self.old line.now) self.new }
     {
-        let word = conditional_word(first_word(line));
+        let word = conditional_of(line);
         if self.is_judged(word) {
             self.after_judged(alloc, line)
         } else {

@@ -1,6 +1,6 @@
 //! The value of an expression, straight from its tokens.
 
-ghost use Rattle.std.specs.Prelude.{◌≡◌, ◌<◌, ◌≤◌, ◌∷◌, List, length, option_map, IfSome, MatchOption};
+ghost use Rattle.std.specs.Prelude.{◌≡◌, ◌<◌, ◌≤◌, ◌-◌, ◌∷◌, List, length, option_map, IfSome, MatchOption};
 ghost use Rattle.pac_lex.specs.Tokens.{views};
 ghost use Rattle.pac_expr.specs.Trees.{Mark, atom_of, closing, mark, marks, operator_mark, rank as rank_of};
 ghost use Rattle.pac_expr.specs.Parsing.{tree_in};
@@ -42,11 +42,31 @@ fn part<'t, 'a, S: Symbols>(
 {
     let (mut left, mut rest) = operand(tokens, symbols, here)?;
     while let Some((operator, after)) = operator_up_to(rank, rest) {
-        let (right, after_right) = part(operator_rank(operator) - 1, after, symbols, here)?;
+        let (right, after_right) = right_of(operator, after, symbols, here)?;
         left = joined(operator, left, right);
         rest = after_right;
     }
     Some((left, rest))
+}
+
+/// The value of what an operator takes at its right, and the tokens after it: a product takes an operand by itself.
+#[cycle(reading)]
+#[inline]
+fn right_of<'t, 'a, S: Symbols>(
+    operator: Operator,
+    tokens: &'t [Token<'a>],
+    symbols: &S,
+    here: u16,
+) -> Option<(Result<i32, ValueError>, &'t [Token<'a>])>
+    ensures value { MatchOption result (Refuses (rank_of operator - 1) (marks tokens.now))
+        (λ r. Begins (S.lookup symbols.now) here (rank_of operator - 1) (marks tokens.now) r.0 (marks r.1.now)) }
+    ensures ends { IfSome result (λ r. Ends (rank_of operator - 1) (marks r.1.now)) }
+    ensures shorter { IfSome result (λ r. length r.1.now < length tokens.now) }
+{
+    match operator {
+        Operator::Add | Operator::Subtract => part(SUM_RANK - 1, tokens, symbols, here),
+        Operator::Multiply | Operator::Divide => operand(tokens, symbols, here),
+    }
 }
 
 /// The value of the operand at the left, with the signs before it, and the tokens after it.

@@ -15,4 +15,4 @@ pub use line::first_line;
 pub use quote::{character_count, characters, one_character};
 pub use reading::{LINE_LIMIT, tokens};
 pub use token::{Kind, Token};
-pub use words::{first_word, next_word};
+pub use words::{first_byte, first_word, next_word};

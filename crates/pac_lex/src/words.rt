@@ -1,8 +1,8 @@
 //! The words of a line.
 
-ghost use Rattle.std.specs.Prelude.{◌≡◌, ◌<◌, ◌≤◌, [], ◌∷◌, length, IfSome, IfNone, not, option_map};
+ghost use Rattle.std.specs.Prelude.{◌≡◌, ◌<◌, ◌≤◌, [], ◌∷◌, length, slice_get, IfSome, IfNone, not, option_map};
 ghost use Rattle.std.specs.List.{prefix_len};
-ghost use Rattle.pac_lex.specs.Bytes.{is_blank};
+ghost use Rattle.pac_lex.specs.Bytes.{is_blank, after_gap};
 ghost use Rattle.pac_lex.specs.Words.{words, next_word, first_word};
 
 use crate::bytes::{after_gap, is_blank, name_len};
@@ -22,6 +22,14 @@ pub fn next_word(line: &[u8]) -> Option<(&[u8], &[u8])>
         return None;
     }
     Some(rest.split_at(word_len(rest)))
+}
+
+/// The first byte of a line after its blanks and tabs, if there is one.
+#[inline]
+pub fn first_byte(line: &[u8]) -> Option<u8>
+    ensures { result ≡ slice_get (after_gap line.now) 0 }
+{
+    after_gap(line).first().copied()
 }
 
 /// The word that a source line begins with: after blanks and tabs, the longest run of letters, digits and

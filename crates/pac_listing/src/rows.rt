@@ -1,9 +1,9 @@
 //! The rows of a line.
 
-ghost use Rattle.std.specs.Prelude.{◌≡◌, ◌-◌, length, drop};
+ghost use Rattle.std.specs.Prelude.{◌≡◌, ◌-◌, [], ◌∷◌, length, drop, codes};
 ghost use Rattle.pac_out.specs.Pending.{Gathers};
 ghost use Rattle.pac_listing.specs.Texts.{row_bytes};
-ghost use Rattle.pac_listing.specs.Listing.{first_row, further_row, all_rows, item_rows, line_rows};
+ghost use Rattle.pac_listing.specs.Listing.{joined, first_row, further_row, all_rows, item_rows, line_rows};
 
 use crate::digits::{byte_columns, five_digits};
 use pac_num::hex_word;
@@ -23,17 +23,25 @@ fn put_first_row<W: Out>(
 ) -> Result<(), WriteFault>
     ensures { Gathers W.took W.refused pending.old file.old (first_row number address columns text.now) result pending.new file.new }
 {
-    let pieces: [&[u8]; 8] = [
-        &five_digits(number),
-        b" ",
-        &address,
-        b" ",
-        &columns,
-        b" ",
+    let pieces: [&[u8]; 3] = [
+        &row_head(five_digits(number), address, columns),
         text,
         b"\n",
     ];
     pending.put_pieces(file, &pieces)
+}
+
+/// What stands before the text in a first row, with a blank after each piece.
+#[inline]
+fn row_head(digits: [u8; 5], address: [u8; 4], columns: [u8; 8]) -> [u8; 20]
+    ensures { result ≡ joined (digits ∷ codes " " ∷ address ∷ codes " " ∷ columns ∷ codes " " ∷ []) }
+{
+    let [n0, n1, n2, n3, n4] = digits;
+    let [a0, a1, a2, a3] = address;
+    let [c0, c1, c2, c3, c4, c5, c6, c7] = columns;
+    [
+        n0, n1, n2, n3, n4, b' ', a0, a1, a2, a3, b' ', c0, c1, c2, c3, c4, c5, c6, c7, b' ',
+    ]
 }
 
 /// A row with the first four of further bytes.

@@ -85,7 +85,7 @@ starts b rest (suc n) (letter ∷ letters) is =
 text-begins : (b : ℕ) (rest : List ℕ) (word : Word) → is_text (b ∷ rest) word ≡ true → begins_with b word ≡ true
 text-begins b rest word is = starts b rest word.length word.letters is
 
-find-filter : {X : Type 0} (p q : X → Bool) (xs : List X) → ((x : X) → p x ≡ true → q x ≡ true) → find p (filter q xs) ≡ find p xs
+pub find-filter : {X : Type 0} (p q : X → Bool) (xs : List X) → ((x : X) → p x ≡ true → q x ≡ true) → find p (filter q xs) ≡ find p xs
 find-filter p q [] implied = refl
 find-filter p q (x ∷ xs) implied =
     elim (cases_Bool (q x)) [

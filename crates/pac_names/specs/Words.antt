@@ -5,7 +5,8 @@ use Rattle.std.specs.Prelude.{codes}
 use Rattle.std.specs.List.{filter, flat_map, range_with_len}
 use Rattle.std.specs.Char.{to_ascii_lowercase}
 use Rattle.pac_names.specs.declared.by_name.Word.{Word}
-use Rattle.pac_names.specs.Names.{is_written}
+use Rattle.pac_names.specs.declared.names.Name.{Name}
+use Rattle.pac_names.specs.Names.{is_written, text}
 use Rattle.pac_names.specs.ByName.{rows_named, family_value}
 
 -- the names
@@ -57,6 +58,10 @@ letters_of name = take name.length name.letters
 -- whether a name begins with a letter, in either case
 abbrev pub begins_with : ℕ → Word → Bool
 begins_with letter name = to_ascii_lowercase (slice_index name.letters 0) == to_ascii_lowercase letter
+
+-- the same for the name of a register, a pair or a condition
+abbrev pub begins_name : ℕ → Name → Bool
+begins_name letter name = to_ascii_lowercase (slice_index (text name) 0) == to_ascii_lowercase letter
 
 -- whether bytes are the name, in either case
 abbrev pub is_text : List ℕ → Word → Bool

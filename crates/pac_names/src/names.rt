@@ -2,7 +2,9 @@
 //! serve to read a source and to print.
 
 ghost use Rattle.std.specs.Prelude.{◌≡◌, find};
-ghost use Rattle.pac_names.specs.Names.{text, name_at, value_of, name_of, is_written, is_same};
+ghost use Rattle.std.specs.List.{filter};
+ghost use Rattle.pac_names.specs.Words.{begins_name};
+ghost use Rattle.pac_names.specs.Names.{text, every_name, name_at, value_of, name_of, is_written, is_same};
 
 use crate::by_name::is_written;
 
@@ -323,34 +325,30 @@ fn relative_condition_value(name: Name) -> Option<u8>
     }
 }
 
-/// All the names of registers, pairs and conditions.
-static NAMES: [Name; 23] = [
-    Name::A,
-    Name::B,
-    Name::C,
-    Name::D,
-    Name::E,
-    Name::H,
-    Name::L,
-    Name::I,
-    Name::R,
-    Name::Af,
-    Name::Bc,
-    Name::De,
-    Name::Hl,
-    Name::Sp,
-    Name::Ix,
-    Name::Iy,
-    Name::Nz,
-    Name::Z,
-    Name::Nc,
-    Name::Po,
-    Name::Pe,
-    Name::P,
-    Name::M,
-];
+/// The names that begin with a letter, in either case.
+fn names_with(first: u8) -> &'static [Name]
+    ensures { result.now ≡ filter (begins_name first) every_name }
+{
+    match first.to_ascii_uppercase() {
+        b'A' => &[Name::A, Name::Af],
+        b'B' => &[Name::B, Name::Bc],
+        b'C' => &[Name::C],
+        b'D' => &[Name::D, Name::De],
+        b'E' => &[Name::E],
+        b'H' => &[Name::H, Name::Hl],
+        b'I' => &[Name::I, Name::Ix, Name::Iy],
+        b'L' => &[Name::L],
+        b'M' => &[Name::M],
+        b'N' => &[Name::Nz, Name::Nc],
+        b'P' => &[Name::Po, Name::Pe, Name::P],
+        b'R' => &[Name::R],
+        b'S' => &[Name::Sp],
+        b'Z' => &[Name::Z],
+        _ => &[],
+    }
+}
 
-/// The bytes of the longest of them; a longer word is none.
+/// The bytes of the longest name; a longer word is none.
 const LONGEST: usize = 2;
 
 /// The register, pair or condition that a word names, in either case.
@@ -358,10 +356,11 @@ const LONGEST: usize = 2;
 pub fn name_of(word: &[u8]) -> Option<Name>
     ensures { result ≡ name_of word.now }
 {
+    let first = word.first()?;
     if word.len() > LONGEST {
         return None;
     }
-    name_among(word, &NAMES)
+    name_among(word, names_with(*first))
 }
 
 /// The one of some names that a word is.

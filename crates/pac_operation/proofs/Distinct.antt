@@ -1,11 +1,11 @@
 -- The reserved words are distinct, and all that are reserved.
-use Rattle.std.proofs.Common.{◌≡◌, ℕ, Bool, true, ◌||◌, List, ◌++◌, map, refl, sym, ◌∙◌, ap}
+use Rattle.std.proofs.Common.{◌≡◌, ℕ, true, ◌||◌, List, ◌++◌, map, refl, sym, ◌∙◌, ap}
 use Rattle.std.specs.Prelude.{is_some}
 use Rattle.std.specs.List.{list_any}
 use Rattle.std.specs.Map.{keys_of}
 use Rattle.std.proofs.lemmas.List.Folds.{list_any-append}
 use Rattle.std.proofs.lemmas.Map.Made.{is_some-lookup}
-use Rattle.pac_names.specs.Names.{is_written, is_operation, name_of, text, every_name}
+use Rattle.pac_names.specs.Names.{is_written, name_of, text, every_name}
 use Rattle.pac_names.specs.Words.{names}
 use Rattle.pac_names.proofs.Distinct.{is_distinct, distinct-by-test, any-found, any-map, operation_names_are_distinct}
 use Rattle.pac_operation.specs.Directives.{directive_names, directive_of, is_directive}

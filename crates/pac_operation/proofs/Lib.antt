@@ -8,3 +8,4 @@ pub mod Held
 pub mod Found
 pub mod Distinct
 pub mod Longer
+pub mod FirstLetter

@@ -1,9 +1,10 @@
 //! The directives by their names.
 
 ghost use Rattle.std.specs.Prelude.{◌≡◌, map};
+ghost use Rattle.std.specs.List.{filter};
 ghost use Rattle.std.specs.Map.{lookup};
 ghost use Rattle.std.specs.Str.{str_eq_ignore_ascii_case};
-ghost use Rattle.pac_operation.specs.Directives.{directive_of};
+ghost use Rattle.pac_operation.specs.Directives.{begins_directive, directive_names, directive_of};
 
 /// A directive of the source (this profile).
 #[derive(Clone, Copy)]
@@ -28,10 +29,8 @@ pub enum Directive {
     EndCondition,
 }
 
-/// The names of the directives.
-static NAMES: [(&[u8], Directive); 13] = [
-    (b"ORG", Directive::Origin),
-    (b"EQU", Directive::Equate),
+/// The directives whose names begin with D.
+static WITH_D: [(&[u8], Directive); 8] = [
     (b"DEFB", Directive::Bytes),
     (b"DB", Directive::Bytes),
     (b"DEFW", Directive::Words),
@@ -40,12 +39,35 @@ static NAMES: [(&[u8], Directive); 13] = [
     (b"DS", Directive::Space),
     (b"DEFM", Directive::Text),
     (b"DM", Directive::Text),
-    (b"IF", Directive::Condition),
+];
+
+/// Those whose names begin with E.
+static WITH_E: [(&[u8], Directive); 3] = [
+    (b"EQU", Directive::Equate),
     (b"ELSE", Directive::Otherwise),
     (b"ENDIF", Directive::EndCondition),
 ];
 
-/// The bytes of the longest of them; a longer word is none.
+/// That whose name begins with I.
+static WITH_I: [(&[u8], Directive); 1] = [(b"IF", Directive::Condition)];
+
+/// That whose name begins with O.
+static WITH_O: [(&[u8], Directive); 1] = [(b"ORG", Directive::Origin)];
+
+/// The directives whose names begin with a letter, in either case.
+fn directives_with(first: u8) -> &'static [(&'static [u8], Directive)]
+    ensures { map (λ entry. (entry.0.now, entry.1)) result.now ≡ filter (begins_directive first) directive_names }
+{
+    match first.to_ascii_uppercase() {
+        b'D' => &WITH_D,
+        b'E' => &WITH_E,
+        b'I' => &WITH_I,
+        b'O' => &WITH_O,
+        _ => &[],
+    }
+}
+
+/// The bytes of the longest name; a longer word is none.
 const LONGEST: usize = 5;
 
 /// The directive that a word is, in either case, if it is one.
@@ -53,10 +75,11 @@ const LONGEST: usize = 5;
 pub fn directive_of(word: &[u8]) -> Option<Directive>
     ensures { result ≡ directive_of word.now }
 {
+    let first = word.first()?;
     if word.len() > LONGEST {
         return None;
     }
-    found(word, &NAMES)
+    found(word, directives_with(*first))
 }
 
 /// The first of some directives whose name a word is.

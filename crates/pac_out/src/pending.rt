@@ -55,12 +55,21 @@ impl Pending {
 
     /// Gathers bytes after those that wait. Where there is no room, what waits is written; bytes that are more than the
     /// whole room go straight to the file.
+    #[inline]
     pub fn put<W: Out>(&mut self, file: &mut Counted<W>, bytes: &[u8]) -> Result<(), WriteFault>
         ensures { Gathers W.took W.refused self.old file.old bytes.now result self.new file.new }
     {
         if self.keep(bytes) {
             return Ok(());
         }
+        self.put_full(file, bytes)
+    }
+
+    /// The same where there is no room, apart from the usual way, so that that one is short.
+    #[inline(never)]
+    fn put_full<W: Out>(&mut self, file: &mut Counted<W>, bytes: &[u8]) -> Result<(), WriteFault>
+        ensures { Gathers W.took W.refused self.old file.old bytes.now result self.new file.new }
+    {
         self.flush(file)?;
         if self.keep(bytes) {
             return Ok(());

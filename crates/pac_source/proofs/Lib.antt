@@ -1,3 +1,4 @@
 pub mod Parts
 pub mod Joins
 pub mod Sizes
+pub mod FirstByte

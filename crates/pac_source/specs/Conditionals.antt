@@ -1,5 +1,5 @@
 -- The directives by whose first word a line tells which lines count (this profile).
-use Rattle.std.specs.Prelude.{ℕ, List, Option, None, Some}
+use Rattle.std.specs.Prelude.{ℕ, ◌==◌, Bool, ◌||◌, List, Option, None, Some}
 use Rattle.pac_operation.specs.declared.directive.Directive.{Directive}
 use Rattle.pac_operation.specs.declared.directive.Directive.TheVariants as directives
 use Rattle.pac_operation.specs.Directives.{directive_of}
@@ -15,3 +15,7 @@ conditional other = None
 -- what a line's first word opens, parts or closes, in either case, whatever follows it
 abbrev pub conditional_word : List ℕ → Option Conditional
 conditional_word word = conditional (directive_of word)
+
+-- whether one of these words begins with a byte: E or I, in either case
+abbrev pub may_begin : ℕ → Bool
+may_begin b = b == 69 || b == 101 || b == 73 || b == 105

@@ -1,8 +1,10 @@
 //! The directives that tell which lines count, by a line's first word.
 
 ghost use Rattle.std.specs.Prelude.{◌≡◌};
-ghost use Rattle.pac_source.specs.Conditionals.{conditional_word};
+ghost use Rattle.pac_lex.specs.Words.{first_word};
+ghost use Rattle.pac_source.specs.Conditionals.{conditional_word, may_begin};
 
+use pac_lex::{first_byte, first_word};
 use pac_operation::{Directive, directive_of};
 
 /// A directive that tells which of the lines after it count.
@@ -27,4 +29,25 @@ pub fn conditional_word(word: &[u8]) -> Option<Conditional>
         Some(Directive::EndCondition) => Some(Conditional::EndIf),
         _ => None,
     }
+}
+
+/// What a line opens, parts or closes by its first word. Most lines begin with another letter, and their words aren't
+/// looked for.
+pub fn conditional_of(line: &[u8]) -> Option<Conditional>
+    ensures { result ≡ conditional_word (first_word line.now) }
+{
+    let first = first_byte(line)?;
+    if may_begin(first) {
+        conditional_word(first_word(line))
+    } else {
+        None
+    }
+}
+
+/// Whether IF, ELSE or ENDIF begins with a byte, in either case.
+#[inline]
+fn may_begin(first: u8) -> bool
+    ensures { result ≡ may_begin first }
+{
+    matches!(first, b'E' | b'e' | b'I' | b'i')
 }

@@ -11,7 +11,7 @@ mod numbers;
 mod operands;
 mod statement;
 
-pub use conditional::{Conditional, conditional_word};
+pub use conditional::{Conditional, conditional_of, conditional_word};
 pub use expression::Expression;
 pub use gathered::ContentError;
 pub use line::form;

@@ -48,6 +48,6 @@ part-loop-operator-preserved g t c =
       begins = rw c.joined-left.ensures
           (joined-begins _ _ c.args.rank c.in-Some.operator (marks c.args.tokens.now) c.loop-operator.left c.in_ok-right.right after rest
           (rw c.in-Some.ensures.0 at c.loop-operator.invariant.begins) c.in-Some.ensures.1
-          (rw c.operator_rank.ensures at c.in_ok-right.ensures.value) (rw c.operator_rank.ensures at c.in_ok-right.ensures.ends));
+          c.in_ok-right.ensures.value c.in_ok-right.ensures.ends);
       shorter = omega (arith, c.in-Some.ensures.2, c.in_ok-right.ensures.shorter);
     }

@@ -9,6 +9,9 @@ decreases-operand g l = 2 * length l.tokens.now
 abbrev pub decreases-part : goal.decreases-part
 decreases-part g l = 2 * length l.tokens.now + 1
 
+abbrev pub decreases-right_of : goal.decreases-right_of
+decreases-right_of g l = 2 * length l.tokens.now + 2
+
 abbrev pub invariant-part-loop-operator : goal.invariant-part-loop-operator
 invariant-part-loop-operator g l = record {
   begins : Begins (g.S.Symbols.lookup l.symbols) l.here l.rank (marks l.tokens) l.left (marks l.rest);
