@@ -1,4 +1,4 @@
-//! Prints, on standard error, how many lines a second are assembled and listed: the least time of some rounds over two
+//! Prints, on standard error, how many lines a second are assembled and listed: the least time of some rounds over three
 //! sources of 65,535 lines, the most that a source may have. `pacbench N` does N rounds, 1 to 9; without N there is one.
 #![tactic(auto)]
 
@@ -18,8 +18,14 @@ const LINES: u32 = 65_535;
 /// The lines that have room for an instruction of one byte.
 const INSTRUCTIONS: u32 = 16_384;
 
-/// The most bytes of a listing of such a source: 64 a line are more than enough.
-const LISTING_BYTES: usize = 8_388_608;
+/// The most bytes of a listing of such a source: 384 a line are more than enough.
+const LISTING_BYTES: usize = 25_165_824;
+
+/// How often `SUM` stands in each of the longest lines.
+const SUMS: u32 = 30;
+
+/// Four names with their operators, which come to 0.
+const SUM: &[u8] = b"+V*V-V*V";
 
 /// `L` and five digits.
 fn push_label(source: &mut Vec<u8>, number: u32) -> Result<(), AllocError> {
@@ -56,6 +62,22 @@ fn expressions(alloc: Global) -> Result<Vec<u8>, AllocError> {
         source.extend_from_slice(b" EQU (L00001+3)*2-")?;
         push_label(&mut source, number - 1)?;
         source.extend_from_slice(b"/3+$ ; of the line above\n")?;
+    }
+    Ok(source)
+}
+
+/// The longest lines, of 255 bytes, and of these the dearest that were found: a label with a space of no bytes, whose fill is
+/// an expression with 122 names of one letter. Such a line is read in both phases.
+fn longest(alloc: Global) -> Result<Vec<u8>, AllocError> {
+    let mut rest = Vec::from_slice(alloc, b":DS 0,V")?;
+    for _ in 0..SUMS {
+        rest.extend_from_slice(SUM)?;
+    }
+    rest.extend_from_slice(b"+V\n")?;
+    let mut source = Vec::from_slice(alloc, b"V EQU 1\n")?;
+    for number in 2..LINES + 1 {
+        push_label(&mut source, number)?;
+        source.extend_from_slice(&rest)?;
     }
     Ok(source)
 }
@@ -106,11 +128,12 @@ fn measure(rt: &HostRuntime, name: &str, source: &[u8], rounds: u32) -> io::Resu
     Ok(())
 }
 
-/// Both sources.
+/// All three sources.
 fn run(rt: &HostRuntime) -> io::Result<()> {
     let rounds = rounds(rt)?.unwrap_or(1);
     measure(rt, "labels", &labels(rt.alloc())?, rounds)?;
-    measure(rt, "expressions", &expressions(rt.alloc())?, rounds)
+    measure(rt, "expressions", &expressions(rt.alloc())?, rounds)?;
+    measure(rt, "longest", &longest(rt.alloc())?, rounds)
 }
 
 fn main(rt: HostRuntime) -> ExitCode {
