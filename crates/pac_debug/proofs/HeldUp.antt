@@ -6,6 +6,7 @@ use mathlib.Core.Logic.{inl, inr}
 use Rattle.pac_step.specs.Output.{Output}
 use Rattle.pac_step.proofs.Walks.{not-both}
 use Rattle.pac_board.specs.State.{nothing_due}
+use Rattle.pac_out.specs.declared.WriteFault.{WriteFault}
 use Rattle.pac_debug_text.specs.declared.command.NoCommand.{NoCommand}
 use Rattle.pac_debug_text.specs.declared.command.Command.{Command}
 use Rattle.pac_debug_text.specs.Commands.{command_of}
@@ -17,7 +18,7 @@ use Rattle.pac_session.proofs.Forwards.{between-joined, joined-to-end}
 use Rattle.pac_debug.specs.declared.answer.Answer.TheVariants as answers
 use Rattle.pac_debug.specs.Answers.{ending_of, answer_text}
 use Rattle.pac_debug.specs.Obeying.{Scene, Performed, Obeyed, cleared}
-use Rattle.pac_debug.specs.Watched.{takes_all, TellsOf, TellsAll, HasGiven, RefusedOf, RefusedAt, IsWatchRefused}
+use Rattle.pac_debug.specs.Watched.{takes_all, TellsOf, TellsAll, HasGiven, RefusedOf, RefusedAt, IsWatchRefused, IsWatchUntold}
 use Rattle.pac_debug.specs.Watched.{given_by, FirstGivesMore, ToldUpTo}
 use Rattle.pac_debug.proofs.Giving.{nothing-given, obeyed}
 use Rattle.pac_debug.proofs.Resting.{ComesToRest, comes-to-rest}
@@ -214,6 +215,17 @@ module _ {S W : Type 0} (took refused : S → Output → S → Type 0) (wrote : 
         no_more = here.no_more;
         next = here.next;
       }
+
+-- where a text was refused, the sink took what the lines till then give
+pub untold-gives : {S W : Type 0} (took : S → Output → S → Type 0) (wrote : W → List ℕ → W → Type 0) (balked : W → W → Type 0)
+    (lines : List (List ℕ)) (old new : Scene S W) (fault : WriteFault) → old.session ≡ begun old.session.setting 0
+    → (halt : IsWatchUntold took wrote balked lines old fault new) → halt.taken ≡ given_by new.session
+untold-gives took wrote balked lines old new fault fresh halt =
+    let given = halt.given in
+    let first = subst (λ (s : SessionValue). HasGiven s halt.taken new.session) fresh given in
+    let parts : (run old.session.setting new.session.furthest).outputs ≡ halt.taken ++ due_outputs new.session = first.parts in
+    sym (parts ∙ ap (λ xs. halt.taken ++ xs) (nothing-given new.session halt.none_due) ∙ append-nil halt.taken)
+    ∙ ap (λ (it : Setting). (run it new.session.furthest).outputs) (sym given.setting)
 
 -- where all lines were told, and the run came to its end, all outputs are enough
 pub all-told : (lines : List (List ℕ)) (old left : SessionValue) (told : List ℕ) → old ≡ begun old.setting 0

@@ -1,12 +1,15 @@
 -- What lines tell doesn't hang on the sink: it is said of the run alone.
-use Rattle.std.proofs.Common.{◌≡◌, ℕ, Option, None, Some, Result, Ok, Err, List, [], ◌∷◌, ◌++◌, refl, sym, ap, subst, append-nil}
+use Rattle.std.proofs.Common.{◌≡◌, ℕ, Option, None, Some, Result, Ok, Err, List, [], ◌∷◌, ◌++◌, refl, sym, ap, subst, ◌∙◌}
+use Rattle.std.proofs.Common.{true, true≢false}
+use Rattle.std.proofs.lemmas.List.Elements.{All-nil, All-cons}
 use mathlib.Core.Logic.{inl, inr}
 use Rattle.pac_step.specs.Output.{Output}
 use Rattle.pac_board.specs.Sinks.{TookAll}
+use Rattle.pac_board.specs.State.{nothing_due}
 use Rattle.pac_out.specs.declared.counted.Counted.{Counted}
 use Rattle.pac_out.specs.declared.WriteFault.{WriteFault}
 use Rattle.pac_out.specs.Counted.{Takes, Refuses}
-use Rattle.pac_out.proofs.Files.{takes-nothing, takes-joined, refuses-after}
+use Rattle.pac_out.proofs.Files.{takes-nothing, takes-joined}
 use Rattle.pac_debug_text.specs.declared.command.Command.{Command}
 use Rattle.pac_debug_text.specs.declared.command.NoCommand.{NoCommand}
 use Rattle.pac_debug_text.specs.Commands.{command_of}
@@ -15,8 +18,9 @@ use Rattle.pac_session.specs.Session.{SessionValue}
 use Rattle.pac_debug.specs.declared.answer.Answer.{Answer}
 use Rattle.pac_debug.specs.declared.line.CommandFault.TheVariants as faults
 use Rattle.pac_debug.specs.Answers.{answer_text}
-use Rattle.pac_debug.specs.Obeying.{HasMoved, Performed, Obeyed, Did, Scene, Asks, ObeysLines, motion_of}
-use Rattle.pac_debug.specs.Watched.{takes_all, Told, TellsOf, TellsAll, RefusedOf, RefusedAt}
+use Rattle.pac_debug.specs.Obeying.{HasMoved, Performed, Obeyed, Did, Scene, Asks, ObeysLines, cleared, motion_of}
+use Rattle.pac_debug.specs.Watched.{takes_all, Told, TellsOf, TellsAll, TookTold, RefusedOf, RefusedAt}
+use Rattle.pac_debug.proofs.Giving.{obeyed as done-after}
 
 -- ---- any sink for another
 
@@ -67,11 +71,6 @@ pub told-then : (line : List ℕ) (more : List (List ℕ)) (old mid new : Sessio
 told-then line more old mid new one other first rest =
     record { text_before = one; between = mid; text_after = other; before = first; after = rest; text_is = refl }
 
-told-alone : (line : List ℕ) (old new : SessionValue) (text : List ℕ) → TellsOf (command_of line) old text new
-    → TellsAll (line ∷ []) old text new
-told-alone line old new text tells =
-    record { text_before = text; between = new; text_after = []; before = tells; after = (refl, refl); text_is = sym (append-nil text) }
-
 module _ {S W : Type 0} (took refused : S → Output → S → Type 0) (wrote : W → List ℕ → W → Type 0) (balked : W → W → Type 0) where
   takes-same : (old new : Counted W) → new ≡ old → Takes wrote old [] new
   takes-same old new same = subst (λ (file : Counted W). Takes wrote old [] file) (sym same) (takes-nothing old)
@@ -80,23 +79,25 @@ module _ {S W : Type 0} (took refused : S → Output → S → Type 0) (wrote : 
     pub text : List ℕ
     pub tells : TellsOf found old.session text new.session
     pub takes : Takes wrote old.text text new.text
+    pub later : old.text.failed ≡ true → found ≡ None
 
   line-told : {A : Type 0} (done : A) (found : Option (Result Command NoCommand)) (old new : Scene S W)
       → Asks {A = A} took refused wrote balked found old (Ok done) new → LineTold found old new
   line-told done None old new skipped =
-      record { text = []; tells = (refl, skipped.0); takes = takes-same old.text new.text skipped.2 }
+      record { text = []; tells = (refl, skipped.0); takes = takes-same old.text new.text skipped.2; later = λ failed. refl }
   line-told done (Some asked) old new answered =
       record {
         text = answer_text new.session answered.answer;
         tells = told took old.session asked old.sink answered.answer new.session new.sink answered.did;
-        takes = answered.told;
+        takes = answered.told.takes;
+        later = λ failed. absurd (true≢false (sym failed ∙ answered.told.was_open));
       }
 
   -- all lines were answered
   pub record LinesTold (lines : List (List ℕ)) (old new : Scene S W) : Type 0 where
     pub text : List ℕ
     pub tells : TellsAll lines old.session text new.session
-    pub takes : Takes wrote old.text text new.text
+    pub words : TookTold wrote lines old.text text new.text
 
   pub lines-told : (lines : List (List ℕ)) (done : Unit {0}) (old new : Scene S W)
       → ObeysLines took refused wrote balked lines old (Ok done) new → LinesTold lines old new
@@ -104,7 +105,10 @@ module _ {S W : Type 0} (took refused : S → Output → S → Type 0) (wrote : 
       record {
         text = [];
         tells = (refl, ap (λ (scene : Scene S W). scene.session) same);
-        takes = takes-same old.text new.text (ap (λ (scene : Scene S W). scene.text) same);
+        words = record {
+          takes = takes-same old.text new.text (ap (λ (scene : Scene S W). scene.text) same);
+          later = λ failed. All-nil (λ line. command_of line ≡ None);
+        };
       }
   lines-told (line ∷ more) done old new obeyed =
       let mid = obeyed.between in
@@ -113,7 +117,11 @@ module _ {S W : Type 0} (took refused : S → Output → S → Type 0) (wrote : 
       record {
         text = first.text ++ rest.text;
         tells = told-then line more old.session mid.session new.session first.text rest.text first.tells rest.tells;
-        takes = takes-joined first.takes rest.takes;
+        words = record {
+          takes = takes-joined first.takes rest.words.takes;
+          later = λ failed. All-cons (λ line. command_of line ≡ None) line more (first.later failed)
+              (rest.words.later (first.takes.failed_is ∙ failed));
+        };
       }
 
   -- at one of them the sink refused
@@ -159,27 +167,30 @@ module _ {S W : Type 0} (took refused : S → Output → S → Type 0) (wrote : 
       }
 
   -- the text of one of them couldn't be written
+  pub record LineUntold (found : Option (Result Command NoCommand)) (old : Scene S W) (fault : WriteFault) (new : Scene S W) : Type 0 where
+    pub text : List ℕ
+    pub tells : TellsOf found old.session text new.session
+    pub due : new.session.due ≡ nothing_due
+    pub refuses : Refuses wrote balked old.text text fault new.text
+
   pub record LinesUntold (lines : List (List ℕ)) (old : Scene S W) (fault : WriteFault) (new : Scene S W) : Type 0 where
     pub before : List (List ℕ)
     pub line : List ℕ
     pub after : List (List ℕ)
     pub parts : lines ≡ before ++ line ∷ after
-    pub text : List ℕ
-    pub tells : TellsAll (before ++ line ∷ []) old.session text new.session
-    pub refuses : Refuses wrote balked old.text text fault new.text
-
-  record LineUntold (found : Option (Result Command NoCommand)) (old : Scene S W) (fault : WriteFault) (new : Scene S W) : Type 0 where
-    pub text : List ℕ
-    pub tells : TellsOf found old.session text new.session
-    pub refuses : Refuses wrote balked old.text text fault new.text
+    pub mid : Scene S W
+    pub obeyed : ObeysLines took refused wrote balked before old (Ok tt) mid
+    pub here : LineUntold (command_of line) mid fault new
 
   line-untold : (found : Option (Result Command NoCommand)) (fault : WriteFault) (old new : Scene S W)
       → Asks {A = Unit {0}} took refused wrote balked found old (Err (faults.Text fault)) new → LineUntold found old fault new
   line-untold None fault old new skipped = absurd skipped
   line-untold (Some asked) fault old new answered =
+      let did = answered.did in
       record {
         text = answer_text new.session answered.answer;
-        tells = told took old.session asked old.sink answered.answer new.session new.sink answered.did;
+        tells = told took old.session asked old.sink answered.answer new.session new.sink did;
+        due = (done-after took (cleared old.session) asked did.between answered.answer new.session new.sink refl did.obeyed).due;
         refuses = answered.told;
       }
 
@@ -187,26 +198,23 @@ module _ {S W : Type 0} (took refused : S → Output → S → Type 0) (wrote : 
       → ObeysLines took refused wrote balked lines old (Err (faults.Text fault)) new → LinesUntold lines old fault new
   lines-untold [] fault old new obeyed = absurd obeyed
   lines-untold (line ∷ more) fault old new (inl here) =
-      let one = line-untold (command_of line) fault old new here in
       record {
         before = [];
         line = line;
         after = more;
         parts = refl;
-        text = one.text;
-        tells = told-alone line old.session new.session one.text one.tells;
-        refuses = one.refuses;
+        mid = old;
+        obeyed = refl;
+        here = line-untold (command_of line) fault old new here;
       }
   lines-untold (line ∷ more) fault old new (inr later) =
-      let mid = later.between in
-      let first = line-told tt (command_of line) old mid later.before in
-      let rest = lines-untold more fault mid new later.after in
+      let rest = lines-untold more fault later.between new later.after in
       record {
         before = line ∷ rest.before;
         line = rest.line;
         after = rest.after;
         parts = ap (λ ls. line ∷ ls) rest.parts;
-        text = first.text ++ rest.text;
-        tells = told-then line _ old.session mid.session new.session first.text rest.text first.tells rest.tells;
-        refuses = refuses-after first.takes rest.refuses;
+        mid = rest.mid;
+        obeyed = record { between = later.between; before = later.before; after = rest.obeyed };
+        here = rest.here;
       }

@@ -6,7 +6,6 @@ use Rattle.pac_step.specs.Step.{frame_ticks}
 use Rattle.pac_board.specs.Sinks.{TookAll}
 use Rattle.pac_board.proofs.Sinks.{took-both}
 use Rattle.pac_out.specs.declared.counted.Counted.{Counted}
-use Rattle.pac_out.specs.Counted.{Takes}
 use Rattle.pac_session.specs.declared.motion.Outcome.{Outcome}
 use Rattle.pac_session.specs.Motions.{IsOutcome, IsFinished, IsFinishRefused}
 use Rattle.pac_session.specs.Running.{IsLeast, Setting, whole_run, goes_at, outputs_from}
@@ -14,7 +13,7 @@ use Rattle.pac_session.specs.Session.{SessionValue, IsOfferRefused, due_outputs}
 use Rattle.pac_debug.specs.declared.line.CommandFault.{CommandFault}
 use Rattle.pac_debug.specs.declared.line.CommandFault.TheVariants as faults
 use Rattle.pac_debug.specs.Obeying.{Scene, ObeysLines}
-use Rattle.pac_debug.specs.Watched.{HasGiven, GaveAll, Gave, to_give, Watched, IsWatchRefused, Watches}
+use Rattle.pac_debug.specs.Watched.{HasGiven, GaveAll, Gave, TookTold, to_give, Watched, IsWatchRefused, Watches}
 use Rattle.pac_debug.proofs.Giving.{all-to-give, some-after, finish-given, lines-given}
 use Rattle.pac_debug.proofs.Telling.{lines-told, lines-refused, lines-untold}
 
@@ -57,7 +56,7 @@ module _ {S W : Type 0} (took refused : S → Output → S → Type 0) (wrote : 
         between = mid.session;
         told = told.text;
         lines = told.tells;
-        text = told.takes;
+        text = told.words;
         outcome = outcome-of mid.session old.session outcome same finish.outcome_is;
         sink =
             subst (λ xs. TookAll took old.sink xs later) all
@@ -84,7 +83,7 @@ module _ {S W : Type 0} (took refused : S → Output → S → Type 0) (wrote : 
         sink_between = mid.sink;
         told = told.text;
         lines = told.tells;
-        text = told.takes;
+        text = told.words;
         gave = gave;
         refusal = refusal;
         taken = some.taken;
@@ -110,7 +109,7 @@ module _ {S W : Type 0} (took refused : S → Output → S → Type 0) (wrote : 
         sink_between = halt.mid.sink;
         told = told.text;
         lines = told.tells;
-        text = subst (λ (file : Counted W). Takes wrote old.text told.text file) (sym halt.text) told.takes;
+        text = subst (λ (file : Counted W). TookTold wrote halt.before old.text told.text file) (sym halt.text) told.words;
         gave = lines-given took refused wrote balked halt.before (Ok tt) old halt.mid halt.obeyed;
         refusal = halt.refusal;
         taken = gave.taken;
@@ -121,19 +120,24 @@ module _ {S W : Type 0} (took refused : S → Output → S → Type 0) (wrote : 
         refuses = gave.refuses;
       }
   ended-early (faults.Text fault) obeyed gave =
-      let told = lines-untold took refused wrote balked lines fault old mid obeyed in
+      let halt = lines-untold took refused wrote balked lines fault old mid obeyed in
+      let told = lines-told took refused wrote balked halt.before tt old halt.mid halt.obeyed in
       record {
-        before = told.before;
-        line = told.line;
-        after = told.after;
-        parts = told.parts;
+        before = halt.before;
+        line = halt.line;
+        after = halt.after;
+        parts = halt.parts;
+        between = halt.mid.session;
+        file_between = halt.mid.text;
         told = told.text;
-        between = mid.session;
         lines = told.tells;
-        session = refl;
-        text = told.refuses;
+        text = told.words;
+        more = halt.here.text;
+        tells = halt.here.tells;
+        refuses = halt.here.refuses;
         taken = gave.taken;
         given = gave.given;
+        none_due = halt.here.due;
         among = taken-among old.session mid.session gave.taken gave.given;
         sink = gave.sink_is;
       }

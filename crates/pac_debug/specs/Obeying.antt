@@ -4,7 +4,7 @@ use Rattle.pac_step.specs.Output.{Output}
 use Rattle.pac_board.specs.Sinks.{TookAll, Then}
 use Rattle.pac_board.specs.State.{nothing_due}
 use Rattle.pac_out.specs.declared.counted.Counted.{Counted}
-use Rattle.pac_out.specs.Counted.{Takes, Refuses}
+use Rattle.pac_out.specs.Counted.{HasPut, Refuses}
 use Rattle.pac_debug_text.specs.declared.command.Command.{Command}
 use Rattle.pac_debug_text.specs.declared.command.Command.TheVariants as commands
 use Rattle.pac_debug_text.specs.declared.command.NoCommand.{NoCommand}
@@ -160,10 +160,10 @@ pub record HasAnswered {S W : Type 0} (took : S → Output → S → Type 0) (To
   pub did : Did took old.session asked old.sink answer new.session new.sink
   pub told : Told old.text (answer_text new.session answer) new.text
 
--- a line with words: it is answered; or the sink refused, and nothing is told; or its text's writer refused
+-- a line with words: it is answered; or the sink refused, and nothing is told; or its text's writer refused, now or before
 abbrev pub Answers : {S W A : Type 0} → (took refused : S → Output → S → Type 0) → (wrote : W → List ℕ → W → Type 0)
     → (balked : W → W → Type 0) → Result Command NoCommand → Scene S W → Result A CommandFault → Scene S W → Type 0
-Answers took refused wrote balked asked old (Ok done) new = HasAnswered took (Takes wrote) asked old new
+Answers took refused wrote balked asked old (Ok done) new = HasAnswered took (HasPut wrote) asked old new
 Answers took refused wrote balked asked old (Err faults.Refused) new =
     IsRefused took refused old.session asked old.sink new.session new.sink × (new.text ≡ old.text)
 Answers took refused wrote balked asked old (Err (faults.Text fault)) new =

@@ -1,9 +1,12 @@
 -- A whole session: what the lines of a text are answered with, and what a sink is given, up to the end of the run. What is told is
 -- said of the run alone, without any sink; and whatever the lines ask, a sink is given each output of the run once, in order.
-use Rattle.std.specs.Prelude.{◌≡◌, ◌<◌, ◌≤◌, ℕ, not, List, [], ◌∷◌, ◌++◌, length, Option, None, Some, Result, Ok, Err, ◌⊎◌}
+use Rattle.std.specs.Prelude.{◌≡◌, ◌<◌, ◌≤◌, ℕ, not, true, List, [], ◌∷◌, ◌++◌, length, All, Option, None, Some, Result, Ok, Err}
+use Rattle.std.specs.Prelude.{◌⊎◌}
 use mathlib.Core.List.{IsPrefix}
 use Rattle.pac_step.specs.Output.{Output}
 use Rattle.pac_board.specs.Sinks.{TookAll, RefusesAt}
+use Rattle.pac_board.specs.State.{nothing_due}
+use Rattle.pac_out.specs.declared.counted.Counted.{Counted}
 use Rattle.pac_out.specs.declared.WriteFault.{WriteFault}
 use Rattle.pac_out.specs.Counted.{Takes, Refuses}
 use Rattle.pac_debug_text.specs.declared.command.Command.{Command}
@@ -114,6 +117,12 @@ Gave took refused old sink (Err (faults.Text fault)) new later = GaveAll took ol
 
 -- ---- a whole session
 
+-- The file took what these lines tell. Where it had failed, none of them has words, for a line with words isn't answered there.
+pub record TookTold {W : Type 0} (wrote : W → List ℕ → W → Type 0) (lines : List (List ℕ)) (old : Counted W) (told : List ℕ)
+    (new : Counted W) : Type 0 where
+  pub takes : Takes wrote old told new
+  pub later : old.failed ≡ true → All (λ line. command_of line ≡ None) lines
+
 -- what a session has still to give, in order: what is due, and what the run gives from the furthest index on
 abbrev pub to_give : SessionValue → List Output
 to_give s = due_outputs s ++ outputs_from s.setting s.furthest
@@ -126,7 +135,7 @@ pub record Watched {S W : Type 0} (took : S → Output → S → Type 0) (wrote 
   pub between : SessionValue
   pub told : List ℕ
   pub lines : TellsAll asked old.session told between
-  pub text : Takes wrote old.text told new.text
+  pub text : TookTold wrote asked old.text told new.text
   pub outcome : IsOutcome old.session result
   pub sink : TookAll took old.sink (to_give old.session) new.sink
   -- from there it went on to the first index at which the run goes no further
@@ -159,7 +168,7 @@ pub record IsWatchRefused {S W : Type 0} (took refused : S → Output → S → 
   pub sink_between : S
   pub told : List ℕ
   pub lines : TellsAll before old.session told between
-  pub text : Takes wrote old.text told new.text
+  pub text : TookTold wrote before old.text told new.text
   pub gave : GaveAll took old.session old.sink between sink_between
   pub refusal : RefusedAt took refused after between sink_between new.session new.sink
   -- what the sink took in all, and what is due
@@ -170,7 +179,8 @@ pub record IsWatchRefused {S W : Type 0} (took refused : S → Output → S → 
   pub among : IsPrefix (taken ++ left) (to_give old.session)
   pub refuses : RefusesAt took refused old.sink taken left new.sink
 
--- The writer refused the text of a line: the lines up to that one are done, that one too. The sink took outputs, once and in order.
+-- The writer refused the text of a line. The lines before were answered, and that one is done, too. The sink took the outputs that these
+-- lines give, once and in order, and nothing is due.
 pub record IsWatchUntold {S W : Type 0} (took : S → Output → S → Type 0) (wrote : W → List ℕ → W → Type 0) (balked : W → W → Type 0)
     (asked : List (List ℕ)) (old : Scene S W) (fault : WriteFault) (new : Scene S W)
     : Type 0 where
@@ -178,13 +188,19 @@ pub record IsWatchUntold {S W : Type 0} (took : S → Output → S → Type 0) (
   pub line : List ℕ
   pub after : List (List ℕ)
   pub parts : asked ≡ before ++ line ∷ after
-  pub told : List ℕ
+  -- where the lines before leave the session and the file, and what they tell
   pub between : SessionValue
-  pub lines : TellsAll (before ++ line ∷ []) old.session told between
-  pub session : new.session ≡ between
-  pub text : Refuses wrote balked old.text told fault new.text
+  pub file_between : Counted W
+  pub told : List ℕ
+  pub lines : TellsAll before old.session told between
+  pub text : TookTold wrote before old.text told file_between
+  -- what that one tells
+  pub more : List ℕ
+  pub tells : Tells line between more new.session
+  pub refuses : Refuses wrote balked file_between more fault new.text
   pub taken : List Output
   pub given : HasGiven old.session taken new.session
+  pub none_due : new.session.due ≡ nothing_due
   pub among : IsPrefix taken (to_give old.session)
   pub sink : TookAll took old.sink taken new.sink
 

@@ -1,11 +1,11 @@
 -- What a file took, and where it stopped, in a text that is put together of parts.
-use Rattle.std.proofs.Common.{◌≡◌, ℕ, ◌+◌, ◌^◌, ◌<◌, ◌≤◌, List, [], ◌++◌, length, sym, subst, ◌∙◌, append_assoc, append-nil, length-append}
-use Rattle.std.proofs.Common.{arith}
+use Rattle.std.proofs.Common.{◌≡◌, ℕ, ◌+◌, ◌^◌, ◌<◌, ◌≤◌, List, [], ◌++◌, length, refl, sym, ap, subst, ◌∙◌, append_assoc, append-nil}
+use Rattle.std.proofs.Common.{length-append, arith, true, Result, Ok, Err}
 use Rattle.std.proofs.Math.Seq.{take-append-add}
 use Rattle.std.proofs.lemmas.List.{take-append-le}
 use Rattle.pac_out.specs.declared.counted.Counted.{Counted}
 use Rattle.pac_out.specs.declared.WriteFault.{WriteFault}
-use Rattle.pac_out.specs.Counted.{HasTaken, HasStopped, Takes, Refuses}
+use Rattle.pac_out.specs.Counted.{HasTaken, HasStopped, Takes, HasPut, Refuses, Puts}
 use Rattle.std.specs.Borrow.{MutBor}
 use Rattle.pac_out.specs.Writes.{StopsAfter, lent_took, lent_refused}
 
@@ -45,6 +45,8 @@ module _ {W : Type 0} {took : W → List ℕ → W → Type 0} where
     at_least = omega arith;
     after = λ start text taken. subst (λ (all : List ℕ). HasTaken took start all file)
         (sym (append-nil text)) taken;
+    failed_is = refl;
+    later = λ failed. (refl, refl);
   }
 
   -- some bytes, and then others
@@ -55,7 +57,17 @@ module _ {W : Type 0} {took : W → List ℕ → W → Type 0} where
         at_least = let e = first.at_least in let f = second.at_least in omega (arith, e, f);
         after = λ start text taken. subst (λ (all : List ℕ). HasTaken took start all new) (append_assoc text one other)
             (second.after start (text ++ one) (first.after start text taken));
+        failed_is = second.failed_is ∙ first.failed_is;
+        later = λ failed.
+            let none = first.later failed in
+            let more = second.later (first.failed_is ∙ failed) in
+            (ap (λ text. text ++ other) none.0 ∙ more.0, more.1 ∙ none.1);
       }
+
+  -- some bytes, and then others that are put
+  pub put-after : {old mid new : Counted W} {one other : List ℕ} → Takes took old one mid → HasPut took mid other new
+      → HasPut took old (one ++ other) new
+  put-after first second = record { was_open = sym first.failed_is ∙ second.was_open; takes = takes-joined first second.takes }
 
   module _ {refused : W → W → Type 0} where
     -- a refusal after some bytes
@@ -68,6 +80,8 @@ module _ {W : Type 0} {took : W → List ℕ → W → Type 0} where
           at_least = let e = first.at_least in let f = second.at_least in omega (arith, e, f);
           after = λ start text taken. subst (λ (all : List ℕ). HasStopped took refused start all new) (append_assoc text one other)
               (second.after start (text ++ one) (first.after start text taken));
+          closed = second.closed;
+          later = λ failed. second.later (first.failed_is ∙ failed) ∙ (first.later failed).1;
         }
 
     -- a refusal within a longer text
@@ -86,6 +100,8 @@ module _ {W : Type 0} {took : W → List ℕ → W → Type 0} where
                 count_is = stopped.count_is;
                 closed = stopped.closed;
               });
+          closed = stop.closed;
+          later = stop.later;
         }
 
     -- a new file that refused within a text of fewer than 2^64 bytes: the fault's count is exact
@@ -97,6 +113,13 @@ module _ {W : Type 0} {took : W → List ℕ → W → Type 0} where
         let inside = stopped.stopped.some_left in
         let exact : stopped.taken ≡ fault.count = omega (arith, stopped.count_is, stop.told, inside, short) in
         subst (λ (count : ℕ). StopsAfter took refused start text count new.writer) exact stopped.stopped
+
+-- some bytes, and then others that are put or refused
+pub puts-after : {W A : Type 0} {took : W → List ℕ → W → Type 0} (refused : W → W → Type 0) {old mid : Counted W} {one : List ℕ}
+    → Takes took old one mid → (other : List ℕ) (result : Result A WriteFault) (new : Counted W) → Puts took refused mid other result new
+    → Puts took refused old (one ++ other) result new
+puts-after refused takes other (Ok done) new puts = put-after takes puts
+puts-after refused takes other (Err fault) new puts = refuses-after takes puts
 
 -- A new file over a writer that is lent, and that writer when the loan ends: what it took, and where it stopped.
 module _ {W : Type 0} (took : W → List ℕ → W → Type 0) {owner : MutBor W} {file new : Counted (MutBor W)} {text : List ℕ} {left : W} where

@@ -2,9 +2,9 @@
 use Rattle.std.proofs.Common.{◌≡◌, ℕ, List, [], ◌++◌, sym, ap, subst, ◌∙◌, append_assoc, append-nil, refl, Result, Ok, Err}
 use Rattle.pac_out.specs.declared.counted.Counted.{Counted}
 use Rattle.pac_out.specs.declared.WriteFault.{WriteFault}
-use Rattle.pac_out.specs.Counted.{Takes, Refuses, Puts}
+use Rattle.pac_out.specs.Counted.{Takes, HasPut, Refuses, Puts}
 use Rattle.pac_out.specs.Pending.{Holds, Gathers}
-use Rattle.pac_out.proofs.Files.{takes-nothing, takes-joined, refuses-after, refuses-within}
+use Rattle.pac_out.proofs.Files.{takes-nothing, takes-joined, put-after, refuses-after, refuses-within}
 
 -- Of this text a part is gathered, after what waited, and the rest is left.
 pub record Leaves {W : Type 0} (took : W → List ℕ → W → Type 0) (waiting : List ℕ) (old : Counted W) (text rest later : List ℕ)
@@ -28,14 +28,14 @@ module _ {W : Type 0} {took : W → List ℕ → W → Type 0} {old : Counted W}
       {waiting later : List ℕ} {mid : Counted W} → Takes took old waiting mid → Puts took refused mid bytes result new → later ≡ []
       → Gathers took refused waiting old bytes result later new
   gathers-put refused (Ok done) bytes new {waiting} takes puts empty =
-      subst (λ (later : List ℕ). Holds took old (waiting ++ bytes) later new) (sym empty) (holds-written (takes-joined takes puts))
+      subst (λ (later : List ℕ). Holds took old (waiting ++ bytes) later new) (sym empty) (holds-written (takes-joined takes puts.takes))
   gathers-put refused (Err fault) bytes new takes puts empty = refuses-after takes puts
 
   -- what waits of a gathered text is written
   pub puts-gathered : {A : Type 0} (refused : W → W → Type 0) (result : Result A WriteFault) (new : Counted W) {text waiting : List ℕ}
       {mid : Counted W} → Holds took old text waiting mid → Puts took refused mid waiting result new → Puts took refused old text result new
   puts-gathered refused (Ok done) new holds puts =
-      subst (λ (text : List ℕ). Takes took old text new) (sym holds.parts) (takes-joined holds.takes puts)
+      subst (λ (text : List ℕ). HasPut took old text new) (sym holds.parts) (put-after holds.takes puts)
   puts-gathered refused (Err fault) new holds puts =
       subst (λ (text : List ℕ). Refuses took refused old text fault new) (sym holds.parts) (refuses-after holds.takes puts)
 

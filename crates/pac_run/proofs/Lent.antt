@@ -1,14 +1,14 @@
 -- Writers that are lent to a film and a wave file, and what they have when the loans end.
-use Rattle.std.proofs.Common.{◌≡◌, ℕ, ◌*◌, ◌<◌, ◌≤◌, List, length, [], ◌∷◌, ◌++◌, Result, Ok, Err, inl, inr, refl, sym, ap, subst, ◌∙◌, append_assoc}
-use Rattle.std.proofs.Common.{append-nil, length-append, arith}
+use Rattle.std.proofs.Common.{◌≡◌, ℕ, ◌*◌, ◌-◌, ◌<◌, ◌≤◌, pos, List, length, replicate, [], ◌∷◌, ◌++◌, Result, Ok, Err}
+use Rattle.std.proofs.Common.{inl, inr, refl, sym, ap, subst, ◌∙◌, append_assoc, append-nil, arith}
 use Rattle.std.specs.Borrow.{MutBor}
-use mathlib.Core.List.{IsPrefix}
 use Rattle.pac_out.specs.declared.counted.Counted.{Counted}
 use Rattle.pac_out.specs.declared.WriteFault.{WriteFault}
 use Rattle.pac_out.specs.Counted.{HasTaken, HasStopped, Takes, Puts}
 use Rattle.pac_out.specs.Writes.{lent_took, lent_refused}
 use Rattle.pac_out.proofs.Files.{stops-within}
 use Rattle.pac_session.specs.Running.{Setting, whole_run}
+use Rattle.pac_debug.specs.Watched.{given_by}
 use Rattle.pac_media.specs.Samples.{wav_header, samples_text, header_size}
 use Rattle.pac_media.specs.Sound.{HasText, Delivers, Fails, Finishes}
 use Rattle.pac_media.specs.Sound as media
@@ -17,11 +17,11 @@ use Rattle.pac_step.specs.Output.{Output, Sound, Show}
 use Rattle.pac_run.specs.declared.fault.Output.{Output as Which}
 use Rattle.pac_run.specs.declared.fault.Output.TheVariants as which
 use Rattle.pac_run.specs.declared.film.Film.{Film}
-use Rattle.pac_run.specs.Recorded.{sound_text, IsRecorded, Performs, Breaks, Records, RecordsBroken, Written}
-use Rattle.pac_run.specs.Run.{Writing, Took, TookSome, Stopped}
+use Rattle.pac_run.specs.Recorded.{sound_text, IsRecorded, StopsFilm, StopsAmong, Performs, Records, FilmStops, Written}
+use Rattle.pac_run.specs.Run.{Writing, Took, Stopped, TookOrRefused, StopsAt, HeldUp, FramesStop, WaveStops}
 use Rattle.pac_run.specs.Texts.{samples_in, frames_text, wave_text, wave_so_far}
-use Rattle.pac_run.specs.Watched.{AllTold, HeldUp, LastBroke, BreaksOff, StopsFilm, FilmToldTill, FilmTold, CutBy, Films, FilmedTill, Filmed}
-use Rattle.pac_run.specs.Watched.{TookOrRefused, StopsAt, ToldTill, Told}
+use Rattle.pac_run.specs.Watched.{AllTold, ToldTill, BreaksOff, Stumbled, IsCutShort, TookOutputs, FilmsTill, Films, WatchedTill, Watched}
+use Rattle.pac_run.proofs.Filmed.{frames-append, sound-append}
 
 -- a writer before a run and after it
 abbrev pub writing : {W : Type 0} → (W → List ℕ → W → Type 0) → (W → W → Type 0) → W → W → Writing W
@@ -56,25 +56,20 @@ module _ {W : Type 0} (took : W → List ℕ → W → Type 0) (refused : W → 
   pub written : {A : Type 0} (result : Result A WriteFault) (text : List ℕ) (file new : Counted (MutBor W))
       → HasTaken (lent_took took) owner [] file → Puts (lent_took took) (lent_refused refused) file text result new
       → Ends owner new.writer left → Written (writing took refused owner.now left) text result
-  written (Ok done) text file new fresh puts ends = has-taken new text (puts.after owner [] fresh) ends
+  written (Ok done) text file new fresh puts ends = has-taken new text (puts.takes.after owner [] fresh) ends
   written (Err fault) text file new fresh puts ends = has-stopped new text fault.count (puts.after owner [] fresh) puts.told ends
 
   -- what a session told, put into a new file
   module _ (setting : Setting) (lines : List (List ℕ)) (file new : Counted (MutBor W)) (fresh : HasTaken (lent_took took) owner [] file)
       (ends : Ends owner new.writer left) where
-    pub last-broke : (count : ℕ)
-        → LastBroke (λ told count. BreaksOff (lent_took took) (lent_refused refused) file told count new) setting lines count
-        → LastBroke (Stopped (writing took refused owner.now left)) setting lines count
-    last-broke count last =
+    -- it refused within a line's text
+    pub broke-off : (told more : List ℕ) (count : ℕ) → BreaksOff (lent_took took) (lent_refused refused) file told more count new
+        → Stumbled (writing took refused owner.now left) count told more
+    broke-off told more count broke =
+        let before = broke.takes.after owner [] fresh in
         record {
-          before = last.before;
-          line = last.line;
-          after = last.after;
-          parts = last.parts;
-          told = last.told;
-          tells = last.tells;
-          broke = has-stopped new last.told count (last.broke.refuses.after owner [] fresh) (last.broke.count_is ∙ last.broke.refuses.told)
-              ends;
+          stopped = has-stopped new (told ++ more) count (broke.refuses.after owner told before) (broke.count_is ∙ broke.refuses.told) ends;
+          least = let long = before.count_is in let after = broke.refuses.at_least in omega (arith, long, after, broke.count_is);
         }
 
     pub all-told : AllTold (λ told. Takes (lent_took took) file told new) setting lines
@@ -99,30 +94,6 @@ module _ {W : Type 0} (took : W → List ℕ → W → Type 0) (refused : W → 
       fails.told ends
 
   -- the sound so far after the header, written where its writer doesn't refuse
-  flushed : {A : Type 0} (answer : Result A WriteFault) (head bytes all : List ℕ) (old new : media.Sound (MutBor W))
-      → HasText (lent_took took) owner head old → Finishes (lent_took took) (lent_refused refused) old bytes answer new → IsPrefix bytes all
-      → Ends owner new.file.writer left → header_size ≤ length head → header_size ≤ old.file.count
-      → TookSome (writing took refused owner.now left) header_size (head ++ all)
-  flushed (Ok done) head bytes all old new has finishes among ends long headed =
-      inl (
-        record {
-          taken = head ++ bytes;
-          is_prefix = (among.0, append_assoc head bytes among.0 ∙ ap (λ rest. head ++ rest) among.1);
-          took = has-taken new.file (head ++ bytes) (finishes.after owner head has) ends;
-        },
-        let parts = length-append head bytes in omega (arith, long, parts),
-      )
-  flushed (Err fault) head bytes all old new has finishes among ends long headed =
-      inr (
-        record {
-          count = fault.count;
-          stopped = stopped-early head bytes among.0 (head ++ all) old new fault has finishes
-              (append_assoc head bytes among.0 ∙ ap (λ rest. head ++ rest) among.1) ends;
-        },
-        let after = finishes.at_least in omega (arith, headed, after),
-      )
-
-  -- the same, where the sound so far is all
   flushed-all : {A : Type 0} (answer : Result A WriteFault) (head bytes : List ℕ) (old new : media.Sound (MutBor W))
       → HasText (lent_took took) owner head old → Finishes (lent_took took) (lent_refused refused) old bytes answer new
       → Ends owner new.file.writer left → TookOrRefused (writing took refused owner.now left) (head ++ bytes)
@@ -159,24 +130,6 @@ header-counted {start = start} samples has done =
     let whole = ap length (append-nil (wav_header samples)) in
     omega (arith, taken.count_is, long, whole)
 
--- the writer of the wave file refused within the header, and that of the film was asked for nothing
-pub header-broke : {F W : Type 0} (took_f : F → List ℕ → F → Type 0) (refused_f : F → F → Type 0) (took_w : W → List ℕ → W → Type 0)
-    (refused_w : W → W → Type 0) (frames : F) (wave : MutBor W) (left_w : W) (count total : ℕ) (outputs : List Output)
-    (old new : media.Sound (MutBor W)) (fault : WriteFault) (writer : MutBor W)
-    → took_f frames [] frames → HasText (lent_took took_w) wave (wav_header (frame_samples * count)) old → count ≡ total
-    → Fails (lent_took took_w) (lent_refused refused_w) old [] fault new → writer ≡ new.file.writer → Ends wave writer left_w
-    → RecordsBroken (writing took_f refused_f frames frames) (writing took_w refused_w wave.now left_w) total outputs which.Wave fault.count
-header-broke {W = W} took_f refused_f took_w refused_w frames wave left_w count total outputs old new fault writer nothing text same fails is
-    ends = (
-      record { taken = []; is_prefix = (frames_text outputs, refl); took = nothing },
-      stopped-early took_w refused_w wave left_w (wav_header (frame_samples * count)) [] (sound_text (frame_samples * total) outputs)
-          (wave_text total outputs) old new fault text fails
-          (ap (λ head. head ++ sound_text (frame_samples * total) outputs) (append-nil (wav_header (frame_samples * count)))
-          ∙ ap (λ (n : ℕ). wav_header (frame_samples * n) ++ sound_text (frame_samples * total) outputs) same)
-          (subst (λ (it : MutBor W). Ends wave it left_w) is ends),
-      λ few. refl,
-    )
-
 -- and it took less than the header
 pub header-short : {W : Type 0} (took : W → List ℕ → W → Type 0) (refused : W → W → Type 0) (owner : MutBor W) (samples : ℕ)
     (old new : media.Sound (MutBor W)) (fault : WriteFault) → HasText (lent_took took) owner (wav_header samples) old
@@ -188,9 +141,60 @@ header-short took refused owner samples old new fault text fails =
     let whole = ap length (append-nil (wav_header samples)) in
     omega (arith, less, long, whole, stop.count_is, fails.told)
 
+-- the writer of the wave file refused within the header, and that of the film was asked for nothing
+pub header-broke : {F W : Type 0} (took_f : F → List ℕ → F → Type 0) (refused_f : F → F → Type 0) (took_w : W → List ℕ → W → Type 0)
+    (refused_w : W → W → Type 0) (frames : F) (wave : MutBor W) (left_w : W) (count total : ℕ) (outputs : List Output)
+    (old new : media.Sound (MutBor W)) (fault : WriteFault) (writer : MutBor W)
+    → HasText (lent_took took_w) wave (wav_header (frame_samples * count)) old → count ≡ total
+    → Fails (lent_took took_w) (lent_refused refused_w) old [] fault new → writer ≡ new.file.writer → Ends wave writer left_w
+    → WaveStops (writing took_f refused_f frames frames) (writing took_w refused_w wave.now left_w) total outputs fault.count
+header-broke {W = W} took_f refused_f took_w refused_w frames wave left_w count total outputs old new fault writer text same fails is ends =
+    record {
+      wave_stops =
+          stopped-early took_w refused_w wave left_w (wav_header (frame_samples * count)) [] (sound_text (frame_samples * total) outputs)
+          (wave_text total outputs) old new fault text fails
+          (ap (λ head. head ++ sound_text (frame_samples * total) outputs) (append-nil (wav_header (frame_samples * count)))
+          ∙ ap (λ (n : ℕ). wav_header (frame_samples * n) ++ sound_text (frame_samples * total) outputs) same)
+          (subst (λ (it : MutBor W). Ends wave it left_w) is ends);
+      header_first = λ few. refl;
+      held_up = λ enough. let few = header-short took_w refused_w wave (frame_samples * count) old new fault text fails in
+          absurd (omega (arith, enough, few));
+    }
+
+-- so much of all images, and of the whole wave file
+module _ {F W : Type 0} (frames : Writing F) (wave : Writing W) (total : ℕ) where
+  longer : {T : Type 0} (writer : Writing T) (text more all : List ℕ) (count : ℕ) → Stopped writer text count → text ++ more ≡ all
+      → Stopped writer all count
+  longer writer text more all count stopped whole =
+      subst (λ all. Stopped writer all count) whole
+      (record { taken = stopped.taken; stopped = stops-within stopped.stopped more; count_is = stopped.count_is })
+
+  whole-frames : (taken left : List Output) (count : ℕ) → StopsAt frames wave total taken left which.Frames count
+      → Stopped frames (frames_text (taken ++ left)) count
+  whole-frames taken (Show image ∷ more) count stops =
+      longer frames (frames_text (taken ++ Show image ∷ [])) (frames_text more) _ count stops.film
+      (sym (frames-append (taken ++ Show image ∷ []) more) ∙ ap frames_text (append_assoc taken (Show image ∷ []) more))
+  whole-frames taken (Sound sample ∷ more) count stops = absurd stops
+  whole-frames taken [] count stops = absurd stops
+
+  whole-wave : (taken left : List Output) (count : ℕ) → StopsAt frames wave total taken left which.Wave count
+      → Stopped wave (wave_text total (taken ++ left)) count
+  whole-wave taken (Show image ∷ more) count stops = absurd stops
+  whole-wave taken (Sound sample ∷ more) count stops =
+      let header = wav_header (frame_samples * total) in
+      let till = taken ++ Sound sample ∷ [] in
+      let rest =
+      samples_text (samples_in more ++ replicate (frame_samples * total - length (samples_in (till ++ more))) (pos 0)) in
+      longer wave (wave_so_far total till) rest _ count stops.1
+      (append_assoc header (samples_text (samples_in till)) rest
+      ∙ ap (λ sound. header ++ sound) (sound-append (frame_samples * total) till more)
+      ∙ ap (λ outputs. wave_text total outputs) (append_assoc taken (Sound sample ∷ []) more))
+  whole-wave taken [] count stops =
+      subst (λ outputs. Stopped wave (wave_text total outputs) count) (sym (append-nil taken)) stops.1
+
 -- film and wave file together
 module _ {F W : Type 0} (took_f : F → List ℕ → F → Type 0) (refused_f : F → F → Type 0) (took_w : W → List ℕ → W → Type 0)
-    (refused_w : W → W → Type 0) (frames : MutBor F) (wave : MutBor W) (left_f : F) (left_w : W) (count total : ℕ) (outputs : List Output)
+    (refused_w : W → W → Type 0) (frames : MutBor F) (wave : MutBor W) (left_f : F) (left_w : W) (count total : ℕ)
     (old new : Film (MutBor F) (MutBor W))
     (fresh : HasTaken (lent_took took_f) frames [] old.frames)
     (text : HasText (lent_took took_w) wave (wav_header (frame_samples * count)) old.wave)
@@ -214,72 +218,15 @@ module _ {F W : Type 0} (took_f : F → List ℕ → F → Type 0) (refused_f : 
   owed : old.wave.owed ≡ frame_samples * total
   owed = owes ∙ ap (λ (n : ℕ). frame_samples * n) count_is
 
-  broken : (output : Which) (count : ℕ)
-      → Breaks (lent_took took_f) (lent_refused refused_f) (lent_took took_w) (lent_refused refused_w) outputs old output count new
-      → RecordsBroken (writing took_f refused_f frames.now left_f) (writing took_w refused_w wave.now left_w) total outputs output count
-  broken which.Frames count breaks = (
-    has-stopped took_f refused_f frames left_f new.frames (frames_text outputs) count (breaks.frames.after frames [] fresh)
-        (breaks.count_is ∙ breaks.frames.told) ends_f,
-    flushed took_w refused_w wave left_w breaks.wave.answer header breaks.sound (sound_text (frame_samples * total) outputs) old.wave
-        new.wave
-        begun breaks.wave.written (subst (λ n. IsPrefix breaks.sound (sound_text n outputs)) owed breaks.is_prefix) ends_w
-        (let long = header-long (frame_samples * total) in omega (arith, long)) headed,
-  )
-  broken which.Wave count breaks = (
-    record {
-      taken = breaks.images;
-      is_prefix = breaks.is_prefix;
-      took = has-taken took_f refused_f frames left_f new.frames breaks.images (breaks.frames.after frames [] fresh) ends_f;
-    },
-    has-stopped took_w refused_w wave left_w new.wave.file (wave_text total outputs) count
-        (subst (λ n. HasStopped (lent_took took_w) (lent_refused refused_w) wave (header ++ sound_text n outputs) new.wave.file) owed
-        (breaks.wave.after wave header begun))
-        (breaks.count_is ∙ breaks.wave.told) ends_w,
-    λ few. let told = breaks.count_is in let after = breaks.wave.at_least in absurd (omega (arith, few, headed, told, after)),
-  )
-  broken which.Listing count breaks = absurd breaks
-  broken which.Report count breaks = absurd breaks
-  broken which.Text count breaks = absurd breaks
-
-  films-till : (output : Which) (count : ℕ)
-      → CutBy (lent_took took_f) (lent_refused refused_f) (lent_took took_w) (lent_refused refused_w) outputs old output count new
-      → FilmedTill (writing took_f refused_f frames.now left_f) (writing took_w refused_w wave.now left_w) total outputs output count
-  films-till which.Text count cut = (
-    record {
-      taken = cut.images;
-      is_prefix = cut.images_among;
-      took = has-taken took_f refused_f frames left_f new.frames cut.images (cut.frames.after frames [] fresh) ends_f;
-    },
-    flushed took_w refused_w wave left_w cut.wave.answer header cut.sound (sound_text (frame_samples * total) outputs) old.wave new.wave
-        begun cut.wave.written (subst (λ n. IsPrefix cut.sound (sound_text n outputs)) owed cut.sound_among) ends_w
-        (let long = header-long (frame_samples * total) in omega (arith, long)) headed,
-  )
-  films-till which.Frames count cut = broken which.Frames count cut
-  films-till which.Wave count cut = broken which.Wave count cut
-  films-till which.Listing count cut = broken which.Listing count cut
-  films-till which.Report count cut = broken which.Report count cut
-
-  whole : IsRecorded (lent_took took_f) (lent_took took_w) outputs old new
+  whole : (outputs : List Output) → IsRecorded (lent_took took_f) (lent_took took_w) outputs old new
       → Took (writing took_f refused_f frames.now left_f) (frames_text outputs)
       × Took (writing took_w refused_w wave.now left_w) (wave_text total outputs)
-  whole performs = (
+  whole outputs performs = (
     has-taken took_f refused_f frames left_f new.frames (frames_text outputs) (performs.frames.after frames [] fresh) ends_f,
     has-taken took_w refused_w wave left_w new.wave.file (wave_text total outputs)
         (subst (λ n. HasTaken (lent_took took_w) wave (header ++ sound_text n outputs) new.wave.file) owed
         (performs.wave.after wave header begun)) ends_w,
   )
-
-  pub films : {A : Type 0} (result : Result A (Which × ℕ))
-      → Films (lent_took took_f) (lent_refused refused_f) (lent_took took_w) (lent_refused refused_w) outputs old result new
-      → Filmed (writing took_f refused_f frames.now left_f) (writing took_w refused_w wave.now left_w) total outputs result
-  films (Ok done) performs = whole performs
-  films (Err fault) cut = films-till fault.0 fault.1 cut
-
-  pub records : {A : Type 0} (result : Result A (Which × ℕ))
-      → Performs (lent_took took_f) (lent_refused refused_f) (lent_took took_w) (lent_refused refused_w) outputs old result new
-      → Records (writing took_f refused_f frames.now left_f) (writing took_w refused_w wave.now left_w) total outputs result
-  records (Ok done) performs = whole performs
-  records (Err fault) performs = broken fault.0 fault.1 performs
 
   -- ---- where they stopped
 
@@ -316,45 +263,140 @@ module _ {F W : Type 0} (took_f : F → List ℕ → F → Type 0) (refused_f : 
   past-header taken (Sound sample ∷ more) count stops = let after = stops.wave.at_least in omega (arith, headed, after, stops.count_is)
   past-header taken [] count stops = let after = stops.wave.at_least in omega (arith, headed, after, stops.count_is)
 
+  abbrev held-up : (outputs : List Output) (output : Which) (count : ℕ)
+      → StopsAmong (lent_took took_f) (lent_refused refused_f) (lent_took took_w) (lent_refused refused_w) outputs old output count new
+      → HeldUp (writing took_f refused_f frames.now left_f) (writing took_w refused_w wave.now left_w) total outputs output count
+  held-up outputs output count stops =
+      record {
+        taken = stops.taken;
+        left = stops.left;
+        parts = stops.parts;
+        stops = stops-at stops.taken stops.left output count stops.film;
+      }
+
+  abbrev frames-stop : (outputs : List Output) (count : ℕ)
+      → StopsAmong (lent_took took_f) (lent_refused refused_f) (lent_took took_w) (lent_refused refused_w) outputs old which.Frames count new
+      → FramesStop (writing took_f refused_f frames.now left_f) (writing took_w refused_w wave.now left_w) total outputs count
+  frames-stop outputs count stops =
+      let held = held-up outputs which.Frames count stops in
+      record {
+        frames_stop = subst (λ all. Stopped (writing took_f refused_f frames.now left_f) (frames_text all) count) (sym stops.parts)
+            (whole-frames (writing took_f refused_f frames.now left_f) (writing took_w refused_w wave.now left_w) total stops.taken
+            stops.left count held.stops);
+        held_up = held;
+      }
+
+  abbrev wave-stops : (outputs : List Output) (count : ℕ)
+      → StopsAmong (lent_took took_f) (lent_refused refused_f) (lent_took took_w) (lent_refused refused_w) outputs old which.Wave count new
+      → WaveStops (writing took_f refused_f frames.now left_f) (writing took_w refused_w wave.now left_w) total outputs count
+  wave-stops outputs count stops =
+      let held = held-up outputs which.Wave count stops in
+      let enough = past-header stops.taken stops.left count stops.film in
+      record {
+        wave_stops = subst (λ all. Stopped (writing took_w refused_w wave.now left_w) (wave_text total all) count) (sym stops.parts)
+            (whole-wave (writing took_f refused_f frames.now left_f) (writing took_w refused_w wave.now left_w) total stops.taken
+            stops.left count held.stops);
+        header_first = λ few. absurd (omega (arith, few, enough));
+        held_up = λ past. held;
+      }
+
+  film-stops : (outputs : List Output) (output : Which) (count : ℕ)
+      → StopsAmong (lent_took took_f) (lent_refused refused_f) (lent_took took_w) (lent_refused refused_w) outputs old output count new
+      → FilmStops (writing took_f refused_f frames.now left_f) (writing took_w refused_w wave.now left_w) total outputs output count
+  film-stops outputs which.Frames count stops = frames-stop outputs count stops
+  film-stops outputs which.Wave count stops = wave-stops outputs count stops
+  film-stops outputs which.Listing count stops = absurd (no-listing stops.taken stops.left count stops.film)
+    where
+      no-listing : (taken left : List Output) (count : ℕ)
+          → StopsFilm (lent_took took_f) (lent_refused refused_f) (lent_took took_w) (lent_refused refused_w) taken left old which.Listing
+          count new → ⊥
+      no-listing taken [] count stops = stops
+      no-listing taken (Show image ∷ more) count stops = stops
+      no-listing taken (Sound sample ∷ more) count stops = stops
+  film-stops outputs which.Report count stops = absurd (no-report stops.taken stops.left count stops.film)
+    where
+      no-report : (taken left : List Output) (count : ℕ)
+          → StopsFilm (lent_took took_f) (lent_refused refused_f) (lent_took took_w) (lent_refused refused_w) taken left old which.Report
+          count new → ⊥
+      no-report taken [] count stops = stops
+      no-report taken (Show image ∷ more) count stops = stops
+      no-report taken (Sound sample ∷ more) count stops = stops
+  film-stops outputs which.Text count stops = absurd (no-words stops.taken stops.left count stops.film)
+    where
+      no-words : (taken left : List Output) (count : ℕ)
+          → StopsFilm (lent_took took_f) (lent_refused refused_f) (lent_took took_w) (lent_refused refused_w) taken left old which.Text
+          count new → ⊥
+      no-words taken [] count stops = stops
+      no-words taken (Show image ∷ more) count stops = stops
+      no-words taken (Sound sample ∷ more) count stops = stops
+
+  pub records : {A : Type 0} (outputs : List Output) (result : Result A (Which × ℕ))
+      → Performs (lent_took took_f) (lent_refused refused_f) (lent_took took_w) (lent_refused refused_w) outputs old result new
+      → Records (writing took_f refused_f frames.now left_f) (writing took_w refused_w wave.now left_w) total outputs result
+  records outputs (Ok done) performs = whole outputs performs
+  records outputs (Err fault) performs = film-stops outputs fault.0 fault.1 performs
+
+  cut-short : (taken : List Output) → IsCutShort (lent_took took_f) (lent_took took_w) (lent_refused refused_w) taken old new
+      → TookOutputs (writing took_f refused_f frames.now left_f) (writing took_w refused_w wave.now left_w) total taken
+  cut-short taken cut = (
+    has-taken took_f refused_f frames left_f new.frames (frames_text taken) (cut.frames.after frames [] fresh) ends_f,
+    flushed-all took_w refused_w wave left_w cut.wave.answer header (samples_text (samples_in taken)) old.wave new.wave begun
+        cut.wave.written ends_w,
+  )
+
   -- and what a session has told
   module _ {T : Type 0} (took : T → List ℕ → T → Type 0) (refused : T → T → Type 0) (owner : MutBor T) (left : T) (setting : Setting)
       (lines : List (List ℕ)) (words later : Counted (MutBor T)) (fresh_t : HasTaken (lent_took took) owner [] words)
       (ends_t : Ends owner later.writer left) where
-    held-up : (output : Which) (count : ℕ)
-        → HeldUp
-        (λ taken left. StopsFilm (lent_took took_f) (lent_refused refused_f) (lent_took took_w) (lent_refused refused_w) taken left old output
-        count new) (λ told. Takes (lent_took took) words told later) (whole_run setting).outputs setting lines
-        → HeldUp
-        (λ taken left_over. StopsAt (writing took_f refused_f frames.now left_f) (writing took_w refused_w wave.now left_w) total taken
-        left_over output count) (Took (writing took refused owner.now left)) (whole_run setting).outputs setting lines
-    held-up output count held =
+    abbrev shown : List Output
+    shown = (whole_run setting).outputs
+
+    told-till : (taken : List Output) → ToldTill (λ told. Takes (lent_took took) words told later) setting lines taken
+        → ToldTill (Took (writing took refused owner.now left)) setting lines taken
+    told-till taken till =
         record {
-          taken = held.taken;
-          left = held.left;
-          parts = held.parts;
-          film = stops-at held.taken held.left output count held.film;
-          told = held.told;
-          tells = held.tells;
-          words = has-taken took refused owner left later held.told (held.words.after owner [] fresh_t) ends_t;
+          told = till.told;
+          tells = till.tells;
+          words = has-taken took refused owner left later till.told (till.words.after owner [] fresh_t) ends_t;
         }
 
-    told-till : (output : Which) (count : ℕ)
-        → FilmToldTill (lent_took took_f) (lent_refused refused_f) (lent_took took_w) (lent_refused refused_w) (lent_took took)
+    films-till : (output : Which) (count : ℕ)
+        → FilmsTill (lent_took took_f) (lent_refused refused_f) (lent_took took_w) (lent_refused refused_w) (lent_took took)
         (lent_refused refused) setting lines old words output count new later
-        → ToldTill (writing took_f refused_f frames.now left_f) (writing took_w refused_w wave.now left_w)
-        (writing took refused owner.now left) total (whole_run setting).outputs setting lines output count
-    told-till which.Text count last = last-broke took refused owner left setting lines words later fresh_t ends_t count last
-    told-till which.Wave count held =
-        let enough = past-header held.taken held.left count held.film in
-        record { header_first = λ few. absurd (omega (arith, few, enough)); held_up = λ there. held-up which.Wave count held }
-    told-till which.Frames count held = held-up which.Frames count held
-    told-till which.Listing count held = held-up which.Listing count held
-    told-till which.Report count held = held-up which.Report count held
+        → WatchedTill (writing took_f refused_f frames.now left_f) (writing took_w refused_w wave.now left_w)
+        (writing took refused owner.now left) total shown setting lines output count
+    films-till which.Frames count films = (frames-stop shown count films.0, told-till films.0.taken films.1)
+    films-till which.Wave count films = (
+      wave-stops shown count films.0,
+      λ few. let enough = past-header films.0.taken films.0.left count films.0.film in absurd (omega (arith, few, enough)),
+      λ past. told-till films.0.taken films.1,
+    )
+    films-till which.Listing count films = film-stops shown which.Listing count films.0
+    films-till which.Report count films = film-stops shown which.Report count films.0
+    films-till which.Text count films =
+        record {
+          before = films.before;
+          line = films.line;
+          after = films.after;
+          parts = films.parts;
+          between = films.between;
+          told = films.told;
+          tells = films.tells;
+          left = films.left;
+          more = films.more;
+          tells_more = films.tells_more;
+          text = broke-off took refused owner left setting lines words later fresh_t ends_t films.told films.more count films.text;
+          rest = films.rest;
+          among = films.among;
+          film = cut-short (given_by films.left) films.film;
+        }
 
-    pub told : {A : Type 0} (result : Result A (Which × ℕ))
-        → FilmTold (lent_took took_f) (lent_refused refused_f) (lent_took took_w) (lent_refused refused_w) (lent_took took)
+    pub films : {A : Type 0} (result : Result A (Which × ℕ))
+        → Films (lent_took took_f) (lent_refused refused_f) (lent_took took_w) (lent_refused refused_w) (lent_took took)
         (lent_refused refused) setting lines old words result new later
-        → Told (writing took_f refused_f frames.now left_f) (writing took_w refused_w wave.now left_w)
-        (writing took refused owner.now left) total (whole_run setting).outputs setting lines result
-    told (Ok done) all = all-told took refused owner left setting lines words later fresh_t ends_t all
-    told (Err fault) till = told-till fault.0 fault.1 till
+        → Watched (writing took_f refused_f frames.now left_f) (writing took_w refused_w wave.now left_w)
+        (writing took refused owner.now left) total shown setting lines result
+    films (Ok done) watched =
+        let film = whole shown watched.0 in
+        (film.0, film.1, all-told took refused owner left setting lines words later fresh_t ends_t watched.1)
+    films (Err fault) till = films-till fault.0 fault.1 till

@@ -1,5 +1,5 @@
 -- A board that plays a plan, and the plan's trace.
-use Rattle.std.proofs.Common.{◌≡◌, ℕ, ◌*◌, ◌/◌, ◌^◌, ◌<◌, ◌≤◌, List, Option, refl, sym, ap, subst, ◌∙◌, arith}
+use Rattle.std.proofs.Common.{◌≡◌, ℕ, ◌*◌, ◌/◌, ◌^◌, ◌<◌, ◌≤◌, List, [], Option, refl, sym, ap, subst, ◌∙◌, arith}
 use Rattle.pac_cpu.specs.declared.once.Stop.{Stop}
 use Rattle.pac_inputs.specs.Stretches.{total, held, most_frames}
 use Rattle.pac_inputs.specs.declared.line.Stretch.{Stretch}
@@ -10,9 +10,10 @@ use Rattle.pac_step.specs.BoardView.{BoardView, power_on}
 use Rattle.pac_step.specs.Carried.{walk_view}
 use Rattle.pac_step.specs.History.{board_of}
 use Rattle.pac_step.specs.Step.{Moment, frame_ticks}
-use Rattle.pac_step.specs.Trace.{by_view, play_step, start, trace, frame_steps}
+use Rattle.pac_step.specs.Trace.{by_history, by_view, play_step, start, run_at, trace, frame_steps}
 use Rattle.pac_step.specs.Walk.{Walk}
-use Rattle.pac_step.proofs.Agreed.{runs-agree}
+use Rattle.pac_step.proofs.Agreed.{runs-agree, power-on-board}
+use Rattle.pac_step.proofs.HostCarried.{steps-agree}
 use Rattle.pac_step.proofs.Outputs.{outputs-timed}
 use Rattle.pac_step.proofs.Runs.{walk-near}
 use Rattle.pac_step.proofs.Walks.{play-timely}
@@ -109,7 +110,18 @@ module _ (inputs : RunInputs) (program : Option Assembled) (session : SessionVal
 
     pub seen-through : IsSeenThrough session_plan inputs.dip
     seen-through index =
-        sym (runs-agree session.setting.set (items_in program) inputs.dip index (play_of session.setting.script) ready.whole ready.lie)
+        let set = session.setting.set in
+        let script = session.setting.script in
+        let items = items_in program in
+        let first = power_on inputs.dip in
+        let told = run_at (by_history set items first) (play_of script) [] index in
+        let same = sym (runs-agree set items inputs.dip index (play_of script) ready.whole ready.lie) in
+        let next = steps-agree set items first told.now ready.whole ready.lie (power-on-board inputs.dip) in
+        record {
+          run_is = same;
+          next_is =
+              ap (λ (run : Walk BoardView). play_step (by_view set) (held script) run.now) same ∙ sym (next.with_script (held script));
+        }
 
     pub same-setting : setting_of session_plan inputs.dip ≡ session.setting
     same-setting = λ i. record { set = session.setting.set; switches = sym ready.switches i; script = session.setting.script }

@@ -1,17 +1,19 @@
 -- What a run under a debugger writes, tells and answers.
 use Rattle.std.specs.Prelude.{◌≡◌, ℕ, ◌<◌, ◌≤◌, List, [], Option, Result, Ok, Err}
 use Rattle.std.specs.Str.Lines.{lines}
-use Rattle.pac_inputs.specs.Stretches.{total}
+use Rattle.pac_inputs.specs.Stretches.{total, held}
 use Rattle.pac_media.specs.Samples.{header_size}
 use Rattle.pac_map.specs.Entry.{Entry}
 use Rattle.pac_program.specs.Programs.{Assembled}
 use Rattle.pac_roms.specs.Parts.{IsWhole as HasAllParts}
-use Rattle.pac_session.specs.Running.{Setting, play_of, run}
+use Rattle.pac_session.specs.Running.{Setting, play_of, run, next_at}
 use Rattle.pac_session.specs.Session.{SessionValue, begun}
 use Rattle.pac_step.specs.BoardView.{power_on}
-use Rattle.pac_step.specs.Carried.{walk_view}
+use Rattle.pac_step.specs.Carried.{next_view, walk_view}
 use Rattle.pac_step.specs.History.{board_of}
-use Rattle.pac_step.specs.Trace.{by_history, run_at}
+use Rattle.pac_step.specs.Output.{Output as Given}
+use Rattle.pac_step.specs.Step.{Next}
+use Rattle.pac_step.specs.Trace.{by_history, run_at, play_step}
 use Rattle.pac_step.specs.Walk.{Walk}
 use Rattle.pac_run.specs.declared.fault.Output.{Output}
 use Rattle.pac_run.specs.declared.fault.Output.TheVariants.{Frames, Wave, Listing, Report, Text}
@@ -20,9 +22,8 @@ use Rattle.pac_run.specs.declared.fault.RunFault.TheVariants as fault
 use Rattle.pac_run.specs.declared.inputs.RunInputs.{RunInputs}
 use Rattle.pac_run.specs.declared.outcome.Outcome.{Outcome}
 use Rattle.pac_run.specs.Plan.{Plan, Plays, plan_of, planned}
-use Rattle.pac_run.specs.Run.{Writing, Writers, Took, TookPrefix, TookSome, Stopped, Untouched, NothingWritten, IsWhole, IsCutAt, WithPlan}
-use Rattle.pac_run.specs.Run.{trace_of, frames_text, wave_text}
-use Rattle.pac_run.specs.Watched.{AllTold, HeldUp, LastBroke, StopsAt}
+use Rattle.pac_run.specs.Run.{Writing, Writers, Took, Untouched, NothingWritten, IsWhole, IsCutAt, WithPlan, trace_of}
+use Rattle.pac_run.specs.Watched.{AllTold, ToldTill, TextStops}
 
 -- the run that its session looks at
 abbrev pub setting_of : Plan → ℕ → Setting
@@ -32,10 +33,19 @@ setting_of plan dip = record { set = plan.set; switches = dip; script = plan.scr
 abbrev pub trace_up_to : Plan → ℕ → (index : ℕ) → Walk (List Entry)
 trace_up_to plan dip index = run_at (by_history plan.set plan.items (power_on dip)) (play_of plan.script) [] index
 
--- At each index that run is the trace of the plan, seen as a board keeps it.
+-- what its next step from an index comes to: the instruction is that of the source's item that begins at PC, where one does
+abbrev pub trace_next : Plan → ℕ → (index : ℕ) → Next (List Entry)
+trace_next plan dip index =
+    play_step (by_history plan.set plan.items (power_on dip)) (held plan.script) (trace_up_to plan dip index).now
+
+-- At an index that run is the trace of the plan, seen as a board keeps it; and so is its next step, with the kind of it and the
+-- instruction that is told.
+pub record IsSeenAt (plan : Plan) (dip index : ℕ) : Type 0 where
+  pub run_is : run (setting_of plan dip) index ≡ walk_view (board_of plan.set (power_on dip)) (trace_up_to plan dip index)
+  pub next_is : next_at (setting_of plan dip) index ≡ next_view (board_of plan.set (power_on dip)) (trace_next plan dip index)
+
 abbrev pub IsSeenThrough : Plan → ℕ → Type 0
-IsSeenThrough plan dip =
-    (index : ℕ) → run (setting_of plan dip) index ≡ walk_view (board_of plan.set (power_on dip)) (trace_up_to plan dip index)
+IsSeenThrough plan dip = (index : ℕ) → IsSeenAt plan dip index
 
 -- what a session is made from, and that it stands at the beginning of its run of so many frames
 pub record IsReady (inputs : RunInputs) (program : Option Assembled) (session : SessionValue) (frames : ℕ) : Type 0 where
@@ -52,18 +62,15 @@ pub record IsReady (inputs : RunInputs) (program : Option Assembled) (session : 
 abbrev pub HasTold : {T : Type 0} → Plan → ℕ → (commands : List ℕ) → Writing T → Type 0
 HasTold plan dip commands text = AllTold (Took text) (setting_of plan dip) (lines commands)
 
--- it refused within what they tell up to one of them
-abbrev pub HasBroken : {T : Type 0} → Plan → ℕ → (commands : List ℕ) → Writing T → ℕ → Type 0
-HasBroken plan dip commands text count = LastBroke (Stopped text) (setting_of plan dip) (lines commands) count
+-- it has what those lines tell that need no more of the run's outputs than these; the next one needs more
+abbrev pub HasToldTill : {T : Type 0} → Plan → ℕ → (commands : List ℕ) → Writing T → (taken : List Given) → Type 0
+HasToldTill plan dip commands text taken = ToldTill (Took text) (setting_of plan dip) (lines commands) taken
 
--- ---- a film that is held up
-
--- Frames or wave refused. Both have what some first outputs of the run give them and no more, and the text has what those lines of the
--- commands tell that need no more outputs than these; the next line needs more.
-abbrev pub IsHeldUp : {F W L R T : Type 0} → Plan → ℕ → (commands : List ℕ) → Writers F W L R → Writing T → Output → ℕ → Type 0
-IsHeldUp plan dip commands to text output count =
-    HeldUp (λ taken left. StopsAt to.frames to.wave (total plan.script) taken left output count) (Took text) (trace_of plan dip).outputs
-    (setting_of plan dip) (lines commands)
+-- It refused within what one line tells, after all that those before tell. Frames and wave have exactly the outputs that these lines
+-- give, that one too.
+abbrev pub IsUntold : {F W L R T : Type 0} → Plan → ℕ → (commands : List ℕ) → Writers F W L R → Writing T → ℕ → Type 0
+IsUntold plan dip commands to text count =
+    TextStops to.frames to.wave text (total plan.script) (trace_of plan dip).outputs (setting_of plan dip) (lines commands) count
 
 -- ---- the run, by its answer
 
@@ -80,20 +87,14 @@ IsBrokenAt plan dip commands to text Listing count = IsCutAt plan dip to Listing
 IsBrokenAt plan dip commands to text Report count = IsCutAt plan dip to Report count × HasTold plan dip commands text
 IsBrokenAt plan dip commands to text Text count = record {
   listing : Took to.listing plan.listing;
-  frames : TookPrefix to.frames (frames_text plan dip);
-  wave : TookSome to.wave header_size (wave_text plan dip);
   report : Untouched to.report;
-  told : HasBroken plan dip commands text count;
+  untold : IsUntold plan dip commands to text count;
 }
-IsBrokenAt plan dip commands to text Frames count = record {
-  files : IsCutAt plan dip to Frames count;
-  held_up : IsHeldUp plan dip commands to text Frames count;
-}
-IsBrokenAt plan dip commands to text Wave count = record {
-  files : IsCutAt plan dip to Wave count;
-  header_first : count < header_size → Untouched text;
-  held_up : header_size ≤ count → IsHeldUp plan dip commands to text Wave count;
-}
+IsBrokenAt plan dip commands to text Frames count =
+    (files : IsCutAt plan dip to Frames count) × HasToldTill plan dip commands text files.film.held_up.taken
+IsBrokenAt plan dip commands to text Wave count =
+    (files : IsCutAt plan dip to Wave count) × (count < header_size → Untouched text)
+    × ((past : header_size ≤ count) → HasToldTill plan dip commands text (files.film.held_up past).taken)
 
 abbrev pub Debugs : {F W L R T : Type 0} → RunInputs → (commands : List ℕ) → Writers F W L R → Writing T → Result Outcome RunFault → Type 0
 Debugs inputs commands to text (Ok outcome) = WithPlan inputs (λ plan. IsWatched plan inputs.dip commands to text outcome)

@@ -1,17 +1,17 @@
 -- What a run writes and answers.
-use Rattle.std.specs.Prelude.{◌≡◌, ℕ, ◌<◌, ◌≤◌, List, [], length, Result, Ok, Err, ◌⊎◌}
-use mathlib.Core.List.{IsPrefix}
+use Rattle.std.specs.Prelude.{◌≡◌, ℕ, ◌<◌, ◌≤◌, List, [], ◌∷◌, ◌++◌, length, Result, Ok, Err, ◌⊎◌}
 use Rattle.pac_out.specs.Counted.{counted}
 use Rattle.pac_out.specs.Writes.{StopsAfter}
 use Rattle.pac_inputs.specs.Stretches.{total}
 use Rattle.pac_map.specs.Entry.{Entry}
 use Rattle.pac_media.specs.Samples.{header_size}
 use Rattle.pac_step.specs.BoardView.{power_on}
+use Rattle.pac_step.specs.Output.{Output, Image, Sound, Show}
 use Rattle.pac_step.specs.Shown.{blanks}
 use Rattle.pac_step.specs.Trace.{by_history, trace}
 use Rattle.pac_step.specs.Walk.{Walk}
 use Rattle.pac_session.specs.Running.{play_of}
-use Rattle.pac_run.specs.declared.fault.Output.{Output}
+use Rattle.pac_run.specs.declared.fault.Output.{Output as Which}
 use Rattle.pac_run.specs.declared.fault.Output.TheVariants.{Frames, Wave, Listing, Report, Text}
 use Rattle.pac_run.specs.declared.fault.RunFault.{RunFault}
 use Rattle.pac_run.specs.declared.fault.RunFault.TheVariants as fault
@@ -47,15 +47,9 @@ pub record Writing (W : Type 0) : Type 1 where
   pub old : W
   pub new : W
 
--- it took this text and nothing else; it took some prefix of it; it took so many bytes of it and then refused; nothing was
--- written to it
+-- it took this text and nothing else; it took so many bytes of it and then refused; nothing was written to it
 abbrev pub Took : {W : Type 0} → Writing W → List ℕ → Type 0
 Took writer text = writer.took writer.old text writer.new
-
-pub record TookPrefix {W : Type 0} (writer : Writing W) (text : List ℕ) : Type 0 where
-  pub taken : List ℕ
-  pub is_prefix : IsPrefix taken text
-  pub took : Took writer taken
 
 -- the count is what a file tells: exact below 2^64
 pub record Stopped {W : Type 0} (writer : Writing W) (text : List ℕ) (count : ℕ) : Type 0 where
@@ -66,20 +60,57 @@ pub record Stopped {W : Type 0} (writer : Writing W) (text : List ℕ) (count : 
 abbrev pub Untouched : {W : Type 0} → Writing W → Type 0
 Untouched writer = writer.new ≡ writer.old
 
--- it took some prefix of it, of at least so many bytes, and may have refused then
+-- it took the whole text, or so many bytes of it and then refused
 pub record WasCut {W : Type 0} (writer : Writing W) (text : List ℕ) : Type 0 where
   pub count : ℕ
   pub stopped : Stopped writer text count
 
-abbrev pub TookSome : {W : Type 0} → Writing W → ℕ → List ℕ → Type 0
-TookSome writer least text =
-    ((whole : TookPrefix writer text) × (least ≤ length whole.taken)) ⊎ ((cut : WasCut writer text) × (least ≤ cut.count))
+abbrev pub TookOrRefused : {W : Type 0} → Writing W → List ℕ → Type 0
+TookOrRefused writer text = Took writer text ⊎ WasCut writer text
 
 pub record Writers (F W L R : Type 0) : Type 1 where
   pub frames : Writing F
   pub wave : Writing W
   pub listing : Writing L
   pub report : Writing R
+
+-- ---- a film that is held up: frames and wave, which are written side by side as the run gives pictures and samples
+
+-- The frames' writer refused within an image, after all those before it; the wave's has the sound till then, unless it refused too.
+pub record StopsAtImage {F W : Type 0} (frames : Writing F) (wave : Writing W) (total : ℕ) (taken : List Output) (image : Image) (count : ℕ)
+    : Type 0 where
+  pub film : Stopped frames (text.frames_text (taken ++ Show image ∷ [])) count
+  pub images : counted (length (text.frames_text taken)) ≤ count
+  pub sound : TookOrRefused wave (text.wave_so_far total taken)
+
+-- Frames and wave of a run of so many frames took these outputs, and one of the two refused then: the frames' at the next picture; the
+-- wave's at the next sample, or at what waited before it; or after all outputs at the zeros, or at what waited before them.
+abbrev pub StopsAt : {F W : Type 0} → Writing F → Writing W → (total : ℕ) → (taken left : List Output) → Which → ℕ → Type 0
+StopsAt frames wave total taken (Show image ∷ more) Frames count = StopsAtImage frames wave total taken image count
+StopsAt frames wave total taken (Sound sample ∷ more) Wave count =
+    Took frames (text.frames_text taken) × Stopped wave (text.wave_so_far total (taken ++ Sound sample ∷ [])) count
+StopsAt frames wave total taken [] Wave count = Took frames (text.frames_text taken) × Stopped wave (text.wave_text total taken) count
+StopsAt frames wave total taken left other count = ⊥
+
+-- Of all outputs of a run they took these first ones and no more.
+pub record HeldUp {F W : Type 0} (frames : Writing F) (wave : Writing W) (total : ℕ) (outputs : List Output) (output : Which) (count : ℕ)
+    : Type 0 where
+  pub taken : List Output
+  pub left : List Output
+  pub parts : outputs ≡ taken ++ left
+  pub stops : StopsAt frames wave total taken left output count
+
+-- so many bytes of all images were taken
+pub record FramesStop {F W : Type 0} (frames : Writing F) (wave : Writing W) (total : ℕ) (outputs : List Output) (count : ℕ) : Type 0 where
+  pub frames_stop : Stopped frames (text.frames_text outputs) count
+  pub held_up : HeldUp frames wave total outputs Frames count
+
+-- So many bytes of the whole wave file were. Its header is written before the first image: where that is refused nothing is written to
+-- the frames.
+pub record WaveStops {F W : Type 0} (frames : Writing F) (wave : Writing W) (total : ℕ) (outputs : List Output) (count : ℕ) : Type 0 where
+  pub wave_stops : Stopped wave (text.wave_text total outputs) count
+  pub header_first : count < header_size → Untouched frames
+  pub held_up : header_size ≤ count → HeldUp frames wave total outputs Wave count
 
 -- ---- the run, by its answer
 
@@ -99,9 +130,8 @@ pub record IsWhole {F W L R : Type 0} (plan : Plan) (dip : ℕ) (to : Writers F 
   pub report : Took to.report (report_text plan dip)
 
 -- a refused write, by its output: that one took so many bytes of its text; those before it are whole, those after it untouched,
--- and of frames and wave, which are written side by side, the other one has a prefix. The wave's header is written before the
--- first frame: where it is refused nothing is written to the frames, and where a frame is refused the wave has it.
-abbrev pub IsCutAt : {F W L R : Type 0} → Plan → ℕ → Writers F W L R → Output → ℕ → Type 0
+-- and of frames and wave, which are written side by side, the other one has what was given till then
+abbrev pub IsCutAt : {F W L R : Type 0} → Plan → ℕ → Writers F W L R → Which → ℕ → Type 0
 IsCutAt plan dip to Listing count = record {
   listing : Stopped to.listing plan.listing count;
   frames : Untouched to.frames;
@@ -110,15 +140,12 @@ IsCutAt plan dip to Listing count = record {
 }
 IsCutAt plan dip to Frames count = record {
   listing : Took to.listing plan.listing;
-  frames : Stopped to.frames (frames_text plan dip) count;
-  wave : TookSome to.wave header_size (wave_text plan dip);
+  film : FramesStop to.frames to.wave (total plan.script) (trace_of plan dip).outputs count;
   report : Untouched to.report;
 }
 IsCutAt plan dip to Wave count = record {
   listing : Took to.listing plan.listing;
-  frames : TookPrefix to.frames (frames_text plan dip);
-  wave : Stopped to.wave (wave_text plan dip) count;
-  header_first : count < header_size → Untouched to.frames;
+  film : WaveStops to.frames to.wave (total plan.script) (trace_of plan dip).outputs count;
   report : Untouched to.report;
 }
 IsCutAt plan dip to Report count = record {

@@ -6,12 +6,13 @@ ghost use Rattle.pac_out.specs.Counted.{Puts};
 use pac_out::counted::Counted;
 use pac_out::{Out, WriteFault};
 
-/// Writes pieces one after another.
+/// Writes pieces one after another. Nothing is put at last, so that a file that has failed tells its fault where there are no pieces,
+/// too.
 pub fn put_pieces<W: Out>(output: &mut Counted<W>, pieces: &[&[u8]]) -> Result<(), WriteFault>
     ensures { Puts W.took W.refused output.old (flat_map (λ piece. piece.now) pieces.now) result output.new }
 {
     for piece in pieces {
         output.put(piece)?;
     }
-    Ok(())
+    output.put(&[])
 }

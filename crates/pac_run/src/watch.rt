@@ -6,7 +6,7 @@ ghost use Rattle.pac_inputs.specs.Stretches.{total};
 ghost use Rattle.pac_session.specs.Motions.{IsOutcome};
 ghost use Rattle.pac_session.specs.Running.{whole_run};
 ghost use Rattle.pac_session.specs.Session.{begun};
-ghost use Rattle.pac_run.specs.Watched.{FilmTold, Told, Films, Filmed};
+ghost use Rattle.pac_run.specs.Watched.{Films, Watched};
 
 use crate::fault::Output;
 use crate::film::{FRAME_SAMPLES, Film};
@@ -27,8 +27,7 @@ impl<F: Out, W: Out> Film<F, W> {
     ) -> Result<Outcome, (Output, u64)>
         requires { session.old ≡ begun session.old.setting 0 }
         ensures outcome { IfOk result (IsOutcome session.old) }
-        ensures film { Films F.took F.refused W.took W.refused (whole_run session.old.setting).outputs self.old result self.new }
-        ensures told { FilmTold F.took F.refused W.took W.refused T.took T.refused session.old.setting (lines commands.now)
+        ensures film { Films F.took F.refused W.took W.refused T.took T.refused session.old.setting (lines commands.now)
             self.old text.old result self.new text.new }
     {
         match watch(session, commands, self, text) {
@@ -59,11 +58,7 @@ pub fn watch_run<F: Out, W: Out, T: Out>(
     requires begun { session.old ≡ begun session.old.setting 0 }
     requires count { frame_count ≡ total session.old.setting.script }
     ensures outcome { IfOk result (IsOutcome session.old) }
-    ensures texts { Filmed
-        (record { took = F.took; refused = F.refused; old = frames.old; new = frames.new })
-        (record { took = W.took; refused = W.refused; old = wave.old; new = wave.new })
-        (total session.old.setting.script) (whole_run session.old.setting).outputs result }
-    ensures told { Told
+    ensures texts { Watched
         (record { took = F.took; refused = F.refused; old = frames.old; new = frames.new })
         (record { took = W.took; refused = W.refused; old = wave.old; new = wave.new })
         (record { took = T.took; refused = T.refused; old = text.old; new = text.new })

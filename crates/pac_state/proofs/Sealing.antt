@@ -1,18 +1,11 @@
--- What is put after what was taken.
-use Rattle.std.proofs.Common.{◌≡◌, ℕ, List, [], ◌++◌, Result, Ok, Err, OnOk, sym, ◌∙◌, subst}
+-- A state's text put into a new file.
+use Rattle.std.proofs.Common.{◌≡◌, ℕ, List, [], Result, Ok, Err, OnOk, sym, ◌∙◌, subst}
 use Rattle.std.specs.Borrow.{MutBor}
 use Rattle.pac_out.specs.declared.counted.Counted.{Counted}
 use Rattle.pac_out.specs.declared.WriteFault.{WriteFault}
-use Rattle.pac_out.specs.Counted.{HasTaken, Takes, Puts}
+use Rattle.pac_out.specs.Counted.{HasTaken, Puts}
 use Rattle.pac_out.specs.Writes.{lent_took, lent_refused}
-use Rattle.pac_out.proofs.Files.{takes-joined, refuses-after}
 use Rattle.pac_state.specs.Saves.{Saves}
-
-pub puts-after : {W A : Type 0} {took : W → List ℕ → W → Type 0} (refused : W → W → Type 0) {old mid : Counted W} {one : List ℕ}
-    → Takes took old one mid → (other : List ℕ) (result : Result A WriteFault) (new : Counted W) → Puts took refused mid other result new
-    → Puts took refused old (one ++ other) result new
-puts-after refused takes other (Ok done) new puts = takes-joined takes puts
-puts-after refused takes other (Err fault) new puts = refuses-after takes puts
 
 pub on-ok : {A E P Q : Type 0} → (result : Result A E) → (P → Q) → OnOk result P → OnOk result Q
 on-ok (Ok done) next given = next given
@@ -24,7 +17,7 @@ pub saves : {W A : Type 0} (took : W → List ℕ → W → Type 0) (refused : W
     → Puts (lent_took took) (lent_refused refused) file text result new
     → (owner.ghost_name ≡ new.writer.ghost_name → left ≡ new.writer.now) → Saves took refused owner.now text result left
 saves took refused {owner} fresh text (Ok done) new left puts ends =
-    let written = (puts.after owner [] fresh).written in
+    let written = (puts.takes.after owner [] fresh).written in
     subst (λ last. took owner.now text last) (sym (ends (sym written.0))) written.1
 saves took refused {owner} fresh text (Err fault) new left puts ends =
     let stop = puts.after owner [] fresh in

@@ -30,7 +30,8 @@ fn put<W: Out>(file: &mut Counted<W>, hasher: &mut Sha1, bytes: &[u8]) -> Result
     file.put(bytes)
 }
 
-/// Writes pieces one after another, and takes them into a digest.
+/// Writes pieces one after another, and takes them into a digest. Nothing is put at last, so that a file that has failed tells its
+/// fault where there are no pieces, too.
 fn put_pieces<W: Out>(
     file: &mut Counted<W>,
     hasher: &mut Sha1,
@@ -42,7 +43,7 @@ fn put_pieces<W: Out>(
     for piece in pieces {
         put(file, hasher, piece)?;
     }
-    Ok(())
+    file.put(&[])
 }
 
 /// Writes what stands before the memory: what a file begins with, version and digest, processor and counters.
@@ -138,7 +139,7 @@ fn put_lines<W: Out>(
     for y in 0..224u8 {
         put(file, hasher, lines.row(y))?;
     }
-    Ok(())
+    file.put(&[])
 }
 
 /// Writes the state that has these fields, and the digest of what was written.

@@ -26,7 +26,7 @@ returns-in-Err-watch_run g c =
     })
     (writing g.T.Out.took g.T.Out.refused c.args.text.now c.watch_run.new.text)
     c.args.program.now c.args.session.now c.args.total c.requires c.in-Err-watch_run.output c.in-Err-watch_run.count
-    c.in-Err-watch_run.ensures.texts c.in-Err-watch_run.ensures.told c.in_default.ensures refl
+    c.in-Err-watch_run.ensures.texts c.in_default.ensures refl
 
 pub returns-in-Ok-report_on : goal.returns-in-Ok-report_on
 returns-in-Ok-report_on g c =
@@ -39,7 +39,7 @@ returns-in-Ok-report_on g c =
     })
     (writing g.T.Out.took g.T.Out.refused c.args.text.now c.watch_run.new.text)
     c.args.program.now c.args.session.now c.args.total c.requires _ c.in-Ok.ensures.outcome
-    c.in-Ok.ensures.texts c.in-Ok.ensures.told c.in_default.ensures c.outcome_of-outcome.result c.outcome_of-outcome.ensures
+    c.in-Ok.ensures.texts c.in_default.ensures c.outcome_of-outcome.result c.outcome_of-outcome.ensures
     c.in-Ok-report_on.ensures
 
 pub returns-in-Err-report_on : goal.returns-in-Err-report_on
@@ -53,5 +53,5 @@ returns-in-Err-report_on g c =
     })
     (writing g.T.Out.took g.T.Out.refused c.args.text.now c.watch_run.new.text)
     c.args.program.now c.args.session.now c.args.total c.requires _ c.in-Ok.ensures.outcome
-    c.in-Ok.ensures.texts c.in-Ok.ensures.told c.in_default.ensures c.outcome_of-outcome.result c.outcome_of-outcome.ensures
+    c.in-Ok.ensures.texts c.in_default.ensures c.outcome_of-outcome.result c.outcome_of-outcome.ensures
     c.in-Err-report_on.fault.count c.in-Err-report_on.ensures

@@ -8,16 +8,15 @@ pub returns-in-Err-clause-texts : goal.returns-in-Err-clause-texts
 returns-in-Err-clause-texts g c =
     header-broke g.F.Out.took g.F.Out.refused g.W.Out.took g.W.Out.refused _ _ _ c.frames.result (total c.args.script.now)
     (run_of c.args.board.now c.args.script.now).outputs
-    c.begin-wave.result c.flush.new.self c.in-Err.fault _ (g.met.F.Out.nothing _) c.begin-wave.ensures.text c.frames.ensures.count
+    c.begin-wave.result c.flush.new.self c.in-Err.fault _ c.begin-wave.ensures.text c.frames.ensures.count
     c.in-Err.ensures.written c.into_writer.ensures (assumption)
 
 pub returns-clause-texts : goal.returns-clause-texts
 returns-clause-texts g c =
     records g.F.Out.took g.F.Out.refused g.W.Out.took g.W.Out.refused _ _ _ _ c.frames.result (total c.args.script.now)
-    (run_of c.args.board.now c.args.script.now).outputs
     (record { frames = c.new.result; wave = c.flush.new.self; fault = None }) c.perform-recorded.new.self c.new.ensures
     (delivered c.begin-wave.ensures.text c.in_default.ensures.written)
     (header-counted _ c.begin-wave.ensures.text c.in_default.ensures.written)
     (c.flush.ensures.owed ∙ c.begin-wave.ensures.owed) c.frames.ensures.count
     _ _ c.into_writer-2.ensures c.into_writer-3.ensures (assumption) (assumption)
-    c.perform-recorded.result c.perform-recorded.ensures.film
+    (run_of c.args.board.now c.args.script.now).outputs c.perform-recorded.result c.perform-recorded.ensures.film

@@ -2,7 +2,7 @@ use Rattle.std.proofs.Common.{None, ◌∙◌, arith, refl, sym}
 use Rattle.std.specs.Str.Lines.{lines}
 use Rattle.pac_inputs.specs.Stretches.{total}
 use Rattle.pac_session.specs.Running.{whole_run}
-use Rattle.pac_run.proofs.Lent.{delivered, header-broke, header-short, header-counted, films, told}
+use Rattle.pac_run.proofs.Lent.{delivered, header-broke, header-short, header-counted, films}
 use Rattle.pac_run.proofs.watch.watch_run.Goals as goal
 
 pub overflow_mul-frame_count : goal.overflow_mul-frame_count
@@ -13,38 +13,25 @@ begin-wave-requires g c = omega (arith, c.requires.count, c.facts.ensures.short)
 
 pub returns-in-Err-clause-texts : goal.returns-in-Err-clause-texts
 returns-in-Err-clause-texts g c =
-    header-broke g.F.Out.took g.F.Out.refused g.W.Out.took g.W.Out.refused _ _ _ c.args.frame_count
-    (total c.args.session.now.setting.script)
-    (whole_run c.args.session.now.setting).outputs
-    c.begin-wave.result c.flush.new.self c.in-Err.fault _ (g.met.F.Out.nothing _) c.begin-wave.ensures.text c.requires.count
-    c.in-Err.ensures.written c.into_writer.ensures (assumption)
-
-pub returns-in-Err-clause-told : goal.returns-in-Err-clause-told
-returns-in-Err-clause-told g c =
     let few =
     header-short g.W.Out.took g.W.Out.refused _ _ c.begin-wave.result c.flush.new.self c.in-Err.fault c.begin-wave.ensures.text
-    c.in-Err.ensures.written in
-    record { header_first = λ early. refl; held_up = λ enough. absurd (omega (arith, enough, few)) }
+    c.in-Err.ensures.written in (
+      header-broke g.F.Out.took g.F.Out.refused g.W.Out.took g.W.Out.refused _ _ _ c.args.frame_count
+          (total c.args.session.now.setting.script)
+          (whole_run c.args.session.now.setting).outputs
+          c.begin-wave.result c.flush.new.self c.in-Err.fault _ c.begin-wave.ensures.text c.requires.count
+          c.in-Err.ensures.written c.into_writer.ensures (assumption),
+      λ early. refl,
+      λ enough. absurd (omega (arith, enough, few)),
+    )
 
 pub returns-clause-texts : goal.returns-clause-texts
 returns-clause-texts g c =
     films g.F.Out.took g.F.Out.refused g.W.Out.took g.W.Out.refused _ _ _ _ c.args.frame_count (total c.args.session.now.setting.script)
-    (whole_run c.args.session.now.setting).outputs
-    (record { frames = c.new.result; wave = c.flush.new.self; fault = None }) c.watch-watched.new.self c.new.ensures
-    (delivered c.begin-wave.ensures.text c.in_default.ensures.written)
-    (header-counted _ c.begin-wave.ensures.text c.in_default.ensures.written)
-    (c.flush.ensures.owed ∙ c.begin-wave.ensures.owed) c.requires.count
-    _ _ c.into_writer-2.ensures c.into_writer-3.ensures (assumption) (assumption)
-    c.watch-watched.result c.watch-watched.ensures.film
-
-pub returns-clause-told : goal.returns-clause-told
-returns-clause-told g c =
-    told g.F.Out.took g.F.Out.refused g.W.Out.took g.W.Out.refused _ _ _ _ c.args.frame_count (total c.args.session.now.setting.script)
-    (whole_run c.args.session.now.setting).outputs
     (record { frames = c.new.result; wave = c.flush.new.self; fault = None }) c.watch-watched.new.self c.new.ensures
     (delivered c.begin-wave.ensures.text c.in_default.ensures.written)
     (header-counted _ c.begin-wave.ensures.text c.in_default.ensures.written)
     (c.flush.ensures.owed ∙ c.begin-wave.ensures.owed) c.requires.count
     _ _ c.into_writer-2.ensures c.into_writer-3.ensures (assumption) (assumption)
     g.T.Out.took g.T.Out.refused _ _ c.args.session.now.setting (lines c.args.commands.now) c.new-words.result c.watch-watched.new.text
-    c.new-words.ensures (assumption) c.watch-watched.result c.watch-watched.ensures.told
+    c.new-words.ensures (assumption) c.watch-watched.result c.watch-watched.ensures.film

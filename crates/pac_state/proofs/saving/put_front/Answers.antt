@@ -1,10 +1,10 @@
 use Rattle.std.proofs.Common.{List, ℕ, ◌++◌, subst, sym, ap, ◌∙◌, append_assoc}
 use Rattle.std.proofs.lemmas.Result.{err_from_is_err_and}
 use Rattle.sha1.specs.Sha1.{Holds}
-use Rattle.pac_out.proofs.Files.{refuses-after, refuses-within, takes-joined}
+use Rattle.pac_out.proofs.Files.{refuses-after, refuses-within, takes-joined, puts-after}
 use Rattle.pac_board.specs.Fields.{state_of}
 use Rattle.pac_state.specs.Text.{joined, head, ram, devices, written_version}
-use Rattle.pac_state.proofs.Sealing.{puts-after, on-ok}
+use Rattle.pac_state.proofs.Sealing.{on-ok}
 use Rattle.pac_state.proofs.saving.put_front.Goals as goal
 
 pub returns-in_err-put_head-clause-put : goal.returns-in_err-put_head-clause-put
@@ -16,12 +16,12 @@ returns-in_err-put_head-clause-put g c =
 pub returns-in_err-put_ram-clause-put : goal.returns-in_err-put_ram-clause-put
 returns-in_err-put_ram-clause-put g c =
     let p = err_from_is_err_and c.from_residual-in_err-put_ram.result c.from_residual-in_err-put_ram.ensures.1 in
-    rw (p.1, p.2) (refuses-within (refuses-after c.in_ok-put_head.ensures.put c.in_err-put_ram.ensures.put)
+    rw (p.1, p.2) (refuses-within (refuses-after c.in_ok-put_head.ensures.put.takes c.in_err-put_ram.ensures.put)
     (joined (devices (state_of c.args.fields.now))))
 
 pub returns-clause-put : goal.returns-clause-put
 returns-clause-put g c =
-    puts-after g.W.Out.refused (takes-joined c.in_ok-put_head.ensures.put c.in_ok-put_ram.ensures.put)
+    puts-after g.W.Out.refused (takes-joined c.in_ok-put_head.ensures.put.takes c.in_ok-put_ram.ensures.put.takes)
     (joined (devices (state_of c.args.fields.now))) c.put_devices.result c.put_devices.new.file c.put_devices.ensures.put
 
 pub returns-clause-hashed : goal.returns-clause-hashed

@@ -28,7 +28,7 @@ loop-y-preserved g c =
     ∙ pieces-more (λ piece. piece) c.args.lines.now c.loop-y.y [] inside in
     record {
       put = subst (λ (text : List ℕ). Takes g.W.Out.took c.args.file.now text c.put.new.file) more
-          (takes-joined c.loop-y.invariant.put c.in_ok-put.ensures.put);
+          (takes-joined c.loop-y.invariant.put c.in_ok-put.ensures.put.takes);
       hashed = λ m holds. subst (λ (text : List ℕ). Holds c.put.new.hasher text)
           (append_assoc m (joined (take c.loop-y.y c.args.lines.now)) c.row.result.now ∙ ap (λ text. m ++ text) more)
           (c.put.ensures.hashed _ (c.loop-y.invariant.hashed m holds));

@@ -2,10 +2,9 @@ use Rattle.std.proofs.Common.{◌≡◌, List, ℕ, [], ◌++◌, subst, sym, ap
 use Rattle.std.proofs.lemmas.Result.{err_from_is_err_and}
 use Rattle.sha1.specs.Sha1.{Holds, sha1}
 use Rattle.pac_out.specs.Counted.{Refuses, Puts}
-use Rattle.pac_out.proofs.Files.{refuses-after, refuses-within, takes-joined}
+use Rattle.pac_out.proofs.Files.{refuses-after, refuses-within, takes-joined, puts-after}
 use Rattle.pac_board.specs.Fields.{state_of}
 use Rattle.pac_state.specs.Text.{joined, front, body, written_version}
-use Rattle.pac_state.proofs.Sealing.{puts-after}
 use Rattle.pac_state.proofs.saving.put_state.Goals as goal
 
 pub returns-in_err-put_front : goal.returns-in_err-put_front
@@ -23,7 +22,7 @@ pub returns-in_err-put_lines : goal.returns-in_err-put_lines
 returns-in_err-put_lines g c =
     let p = err_from_is_err_and c.from_residual-in_err-put_lines.result c.from_residual-in_err-put_lines.ensures.1 in
     rw (p.1, p.2)
-    (refuses-within (refuses-after c.in_ok-put_front.ensures.put c.in_err-put_lines.ensures.put)
+    (refuses-within (refuses-after c.in_ok-put_front.ensures.put.takes c.in_err-put_lines.ensures.put)
     (sha1 (body written_version c.args.digest.now (state_of c.args.fields.now))))
 
 pub returns : goal.returns
@@ -33,6 +32,6 @@ returns g c =
     c.in_ok-put_lines.ensures.hashed _ (c.in_ok-put_front.ensures.hashed [] c.new-hasher.ensures) in
     let digest : c.finalize.result ≡ sha1 text = c.finalize.ensures text held in
     subst (λ (digest : List ℕ). Puts g.W.Out.took g.W.Out.refused c.args.file.now (text ++ digest) c.put.result c.put.new.self) digest
-    (puts-after g.W.Out.refused (takes-joined c.in_ok-put_front.ensures.put c.in_ok-put_lines.ensures.put) c.finalize.result
+    (puts-after g.W.Out.refused (takes-joined c.in_ok-put_front.ensures.put.takes c.in_ok-put_lines.ensures.put.takes) c.finalize.result
     c.put.result c.put.new.self
     c.put.ensures.put)

@@ -1,15 +1,20 @@
-use Rattle.std.proofs.Common.{refl, arith, length-append}
+use Rattle.std.proofs.Common.{refl, sym, ◌∙◌, true≢false, arith, length-append}
 use Rattle.pac_out.proofs.Files.{stops-after}
 use Rattle.pac_out.proofs.counted.Counted.put.Goals as goal
 
 pub returns-in-Ok-clause-put : goal.returns-in-Ok-clause-put
 returns-in-Ok-clause-put g c =
     record {
-      at_least = omega arith;
-      after = λ start text taken. record {
-        written = g.met.W.Out.joined _ _ _ _ _ taken.written c.in-Ok.ensures.ok;
-        count_is = rw length-append (omega (arith, taken.count_is));
-        open_yet = taken.open_yet;
+      was_open = c.if-self.false;
+      takes = record {
+        at_least = omega arith;
+        after = λ start text taken. record {
+          written = g.met.W.Out.joined _ _ _ _ _ taken.written c.in-Ok.ensures.ok;
+          count_is = rw length-append (omega (arith, taken.count_is));
+          open_yet = taken.open_yet;
+        };
+        failed_is = refl;
+        later = λ failed. absurd (true≢false (sym failed ∙ c.if-self.false));
       };
     }
 
@@ -24,4 +29,6 @@ returns-in-Err-clause-put g c =
         count_is = omega (arith, taken.count_is);
         closed = refl;
       };
+      closed = refl;
+      later = λ failed. absurd (true≢false (sym failed ∙ c.if-self.false));
     }

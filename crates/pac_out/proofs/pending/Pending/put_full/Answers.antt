@@ -11,5 +11,5 @@ returns-in_err-flush g c =
 
 pub returns : goal.returns
 returns g c =
-    gathers-put g.W.Out.refused c.put.result c.args.bytes.now c.put.new.self c.in_ok-flush.ensures.put c.put.ensures.put
+    gathers-put g.W.Out.refused c.put.result c.args.bytes.now c.put.new.self c.in_ok-flush.ensures.put.takes c.put.ensures.put
     (c.if-keep.ensures ∙ c.in_ok-flush.ensures.emptied)
