@@ -7,3 +7,4 @@ pub mod Walked
 pub mod Turns
 pub mod Pieces
 pub mod Parts
+pub mod Hosts

@@ -3,6 +3,7 @@ use Rattle.std.specs.Prelude.{◌≡◌, ◌*◌, ◌≤◌, ◌<◌}
 use Rattle.pac_latch.specs.Latched.{watchdog_limit}
 use Rattle.pac_map.specs.Fields.{view_of}
 use Rattle.pac_map.specs.View.{View, HoldWhatTheyCan}
+use Rattle.pac_picture.specs.Layer.{AreStale}
 use Rattle.pac_picture.specs.State.{palette_of}
 use Rattle.pac_picture.specs.State as picture
 use Rattle.pac_roms.specs.Parts.{Parts}
@@ -36,9 +37,10 @@ pub record AreInRange (fields : Fields) : Type 0 where
   pub time : fields.time ≤ latest_end
   pub asked : fields.asked ≤ most_asked
 
--- a set's picture with the lines of these fields, and their memory
+-- a set's picture with the lines of these fields, of which no cell is drawn yet, and their memory
 pub record AreParts (set : Parts) (fields : Fields) (picture : picture.State) (memory : View) : Type 0 where
   pub roms : picture.roms ≡ video_roms set
   pub palette : picture.palette ≡ palette_of set.colours
   pub lines : picture.lines ≡ fields.lines.now
+  pub stale : AreStale picture.shadows
   pub memory_is : memory ≡ view_of fields.memory

@@ -6,3 +6,4 @@ pub mod Turns
 pub mod Laws
 pub mod Fields
 pub mod Kept
+pub mod Hosts

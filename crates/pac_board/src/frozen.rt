@@ -1,13 +1,14 @@
 //! The moment that a machine stands at, kept beside it.
 
 ghost use Rattle.std.specs.Prelude.{◌≡◌, IfOk};
+ghost use Rattle.pac_picture.specs.Layer.{AreStale};
 ghost use Rattle.pac_step.specs.Trace.{start};
 ghost use Rattle.pac_step.specs.BoardView.{power_on};
 
 use crate::machine::Machine;
 use pac_cpu::Cpu;
 use pac_map::Memory;
-use pac_picture::Lines;
+use pac_picture::{Lines, Picture};
 use pac_wave::Wave;
 use std::alloc::{AllocError, Global};
 use std::marker::Model;
@@ -63,6 +64,14 @@ impl Frozen {
     }
 }
 
+/// Takes the lines of a moment that was kept; every cell counts as differing then, so each is drawn again when it is first composed.
+fn bring_back(picture: &mut Picture, frozen: &Frozen)
+    ensures lines { picture.new ≡ record picture.old { lines = frozen.now.board.lines; shadows = picture.new.shadows } }
+    ensures stale { AreStale picture.new.shadows }
+{
+    picture.copy_from(&frozen.lines);
+}
+
 impl Machine {
     /// Writes the moment over one that was kept.
     pub fn freeze(&self, frozen: &mut Frozen)
@@ -83,7 +92,7 @@ impl Machine {
         self.cpu = Cpu::with_regs(frozen.cpu.regs());
         self.map.memory.copy_from(&frozen.memory);
         self.wave.copy_from(&frozen.wave);
-        self.picture.copy_from(&frozen.lines);
+        bring_back(&mut self.picture, frozen);
         self.clock = frozen.clock;
         self.steps = frozen.steps;
     }

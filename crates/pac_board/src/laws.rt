@@ -1,6 +1,7 @@
 //! Laws of the calls.
 
 ghost use Rattle.pac_board.specs.Laws.{TimeCanBeCut, RefusalsAreTakenUp, StepsAreDoneAgain, StepsArePartsOfRuns};
+ghost use Rattle.pac_board.specs.Hosts.{CallsAreOfTheHistory};
 
 use crate::sink::Sink;
 
@@ -22,4 +23,10 @@ pub fn steps_are_done_again()
 /// Single steps and offers are parts of a run: from the board that they leave it goes on to the same board with the same outputs.
 pub fn steps_are_parts_of_runs<S: Sink>()
     ensures { StepsArePartsOfRuns S.took S.refused }
+{}
+
+/// Whatever a host calls, in whichever order, and whatever its sinks refuse: the board stands where its history says, and lines of
+/// its picture were composed at their moments and at no others.
+pub fn calls_are_of_the_history<S: Sink>()
+    ensures { CallsAreOfTheHistory S.took S.refused }
 {}

@@ -10,7 +10,7 @@ use Rattle.pac_tiles.specs.Tabulate.{tabulate}
 use Rattle.pac_picture.specs.declared.shadow.Shadow.{Shadow}
 use Rattle.pac_picture.specs.Layer.{differs, differing, shadow_from}
 
-count-more : (test : ℕ → Bool) (count : ℕ) →
+pub count-more : (test : ℕ → Bool) (count : ℕ) →
     count_by test (tabulate (suc count) (λ k. k)) ≡ count_by test (tabulate count (λ k. k)) + cond (test count) 1 0
 unfolding tabulate
 count-more test count = sum_by_push (λ x. cond (test x) 1 0) (tabulate count (λ k. k)) count

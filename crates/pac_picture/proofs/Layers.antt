@@ -41,11 +41,11 @@ made-end old now long made =
     get_or_default now k d (shadow_from [] []) inside ∙ (made k inside ∙ sym (get_or-map made_stale old k (shadow_from [] []) d within)))
 
 -- shadows of rows that were never drawn
-stale-at : (row : ℕ) → row < 28 → shadow_at stale row ≡ stale_row
+pub stale-at : (row : ℕ) → row < 28 → shadow_at stale row ≡ stale_row
 unfolding stale
 stale-at row below = get_or-tabulate 28 (λ _. stale_row) row (shadow_from [] []) below
 
-length-stale : length stale ≡ 28
+pub length-stale : length stale ≡ 28
 unfolding stale
 length-stale = length-tabulate 28 (λ _. stale_row)
 
@@ -108,7 +108,7 @@ pub row-step : (memory : VideoMemory) (now : List Shadow) (row : ℕ) → row < 
     (k : ℕ) → k < row + 1 → shadow_at (set now row (drawn_from memory row)) k ≡ drawn_from memory k
 row-step memory now row inside done = set-step now (drawn_from memory) row (drawn_from memory row) (shadow_from [] []) inside refl done
 
-sum-more : (value : ℕ → ℕ) (count : ℕ) → sum (tabulate (suc count) value) ≡ sum (tabulate count value) + value count
+pub sum-more : (value : ℕ → ℕ) (count : ℕ) → sum (tabulate (suc count) value) ≡ sum (tabulate count value) + value count
 unfolding tabulate
 sum-more value count = sum_by_push (λ x. x) (tabulate count value) (value count)
 

@@ -7,3 +7,4 @@ pub mod Masks
 pub mod Counts
 pub mod Layers
 pub mod Composed
+pub mod Stale

@@ -71,6 +71,11 @@ stale = tabulate rows (λ _. stale_row)
 abbrev pub made_stale : Shadow → Shadow
 made_stale shadow = record shadow { stale = true }
 
+-- every cell of the picture counts as differing
+pub record AreStale (shadows : List Shadow) : Type 0 where
+  pub high : length shadows ≡ rows
+  pub each : (row : ℕ) → row < rows → (shadow_at shadows row).stale ≡ true
+
 -- what clauses see of the layer: the ROMs that it is drawn from, and the shadows of its 28 rows
 pub record LayerState : Type 0 where
   pub roms : VideoRoms

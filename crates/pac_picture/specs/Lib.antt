@@ -2,3 +2,4 @@ pub mod Picture
 pub mod Layer
 pub mod State
 pub mod Painting
+pub mod Laws

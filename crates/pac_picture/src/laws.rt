@@ -2,6 +2,7 @@
 
 ghost use Rattle.std.specs.Prelude.{◌≡◌, ◌≤◌, ◌<◌, ◌+◌, ◌*◌, ◌/◌, ◌%◌, ◌^◌, ℕ};
 ghost use Rattle.std.specs.Prelude.{◌==◌, if◌then◌else◌, Bool, true, false, not, length, slice_index, slice_index_or, EachIndex};
+ghost use Rattle.pac_picture.specs.Laws.{StaleCellsAreDrawn};
 
 use std::simd::prelude::*;
 
@@ -69,3 +70,8 @@ fn changed_lanes(now: &[u8], shadow: &[u8], mask: &mut [bool], vectors: usize)
         spread(sixteen(now, shadow, 16 * vector), mask, 16 * vector);
     }
 }
+
+/// Where all cells count as differing, composing the picture draws all of them, and composing a line those of its row.
+pub fn stale_cells_are_drawn()
+    ensures { StaleCellsAreDrawn }
+{}

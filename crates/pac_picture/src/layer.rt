@@ -206,7 +206,8 @@ impl Layer {
 
     /// Makes every cell count as differing.
     pub(crate) fn set_stale(&mut self)
-        ensures { self.new ≡ record self.old { shadows = map made_stale self.old.shadows } }
+        ensures layer { self.new ≡ record self.old { shadows = map made_stale self.old.shadows } }
+        ensures high { length self.old.shadows ≡ tile.rows }
     {
         make_stale(&mut self.shadows);
     }

@@ -3,7 +3,7 @@
 ghost use Rattle.std.specs.Prelude.{◌≡◌, ◌<◌, ◌/◌, ℕ, [], false, IfOk, length, map, slice_index, slice_index_or, slice_set, EachIndex};
 ghost use Rattle.pac_tiles.specs.Tiles as tile;
 ghost use Rattle.pac_colour.specs.Colours as colour;
-ghost use Rattle.pac_picture.specs.Layer.{made_stale, stale, differs, shadow_at, cells_of};
+ghost use Rattle.pac_picture.specs.Layer.{AreStale, made_stale, stale, differs, shadow_at, cells_of};
 ghost use Rattle.pac_picture.specs.State.{IsPicture, black, palette_of, composed, line_composed};
 
 use crate::graphics::Graphics;
@@ -59,13 +59,14 @@ impl Picture {
     /// cell drawn. Refused for want of memory alone.
     pub fn new(alloc: Global, graphics: Graphics, colours: &[u8]) -> Result<Picture, AllocError>
         requires { length colours.now ≡ 32 }
-        ensures { IfOk result (λ picture. picture ≡ record {
+        ensures picture { IfOk result (λ picture. picture ≡ record {
           roms = graphics;
           palette = palette_of colours.now;
           lines = black;
           shadows = stale;
           drawn = 0;
         }) }
+        ensures stale { IfOk result (λ picture. AreStale picture.shadows) }
     {
         let layer = Layer::new(alloc, graphics)?;
         let palette = palette(alloc, colours)?;
@@ -126,14 +127,16 @@ impl Picture {
 
     /// Makes every cell count as differing until it is drawn.
     pub fn set_stale(&mut self)
-        ensures { self.new ≡ record self.old { shadows = map made_stale self.old.shadows } }
+        ensures picture { self.new ≡ record self.old { shadows = map made_stale self.old.shadows } }
+        ensures stale { AreStale self.new.shadows }
     {
         self.layer.set_stale();
     }
 
     /// Takes its lines from others; every cell counts as differing then.
     pub fn copy_from(&mut self, lines: &Lines)
-        ensures { self.new ≡ record self.old { lines = lines.now; shadows = map made_stale self.old.shadows } }
+        ensures picture { self.new ≡ record self.old { lines = lines.now; shadows = map made_stale self.old.shadows } }
+        ensures stale { AreStale self.new.shadows }
     {
         self.lines.copy_from(lines);
         self.layer.set_stale();

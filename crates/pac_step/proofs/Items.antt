@@ -2,7 +2,7 @@
 -- decoded to its instruction whatever follows.
 use Rattle.std.proofs.Common.{◌≡◌, ℕ, zero, suc, ◌+◌, ◌-◌, ◌%◌, ◌<◌, ◌≤◌, ◌==◌, nat_lt, List, [], ◌∷◌, Option, None, Some, Bool, true}
 use Rattle.std.proofs.Common.{false, cond}
-use Rattle.std.proofs.Common.{length, take, drop, slice_index, unwrap_or, refl, sym, ap, ◌∙◌, arith}
+use Rattle.std.proofs.Common.{length, take, drop, slice_index, refl, sym, ap, ◌∙◌, arith}
 use Rattle.std.proofs.lemmas.Bool.Decides.{nat_tests}
 use Rattle.std.proofs.lemmas.Grind.{same_number_lists}
 use Rattle.std.proofs.lemmas.List.{get_or-take, get_or-drop, length-take}
@@ -34,8 +34,8 @@ use Rattle.pac_step.proofs.Told.{view-answers, view-tells}
 program-place : (at : ℕ) → at % 32768 < program_size → read_place at ≡ Program (at % 32768)
 program-place at lt =
     let test : nat_lt (at % 32768) 16384 ≡ true = grind (arith, nat_tests) in
-    let ram = cond (nat_lt (at % 8192) 4096) (Some (ram_place (at % 8192))) None in
-    ap (λ b. unwrap_or (cond b (Some (Program (at % 32768))) ram) (read_port (at % 256))) test
+    let other = cond (nat_lt (at % 8192) 4096) (ram_place (at % 8192)) (read_port (at % 256)) in
+    ap (λ b. cond b (Program (at % 32768)) other) test
 
 -- a read k bytes after a cell of the ROM
 program-read : (program : List ℕ) (view : View) (at k : ℕ) → at % 32768 + k < program_size
@@ -108,7 +108,7 @@ port_by f g h = cond f Inputs0 (cond g Inputs1 (cond h Switches Kick))
 
 abbrev place_by : ℕ → Bool → Bool → Bool → Bool → Bool → Bool → Bool → Bool → BusPlace
 place_by at a b c d e f g h =
-    unwrap_or (cond a (Some (Program (at % 32768))) (cond b (Some (ram_by at c d e)) None)) (port_by f g h)
+    cond a (Program (at % 32768)) (cond b (ram_by at c d e) (port_by f g h))
 
 module _ (again : DecodesPrefix) (short : (instruction : Instruction) → IsInstruction instruction → length (code instruction) ≤ 4) where
   -- an item is the instruction that its bytes hold, where it is one

@@ -13,5 +13,8 @@ pub mod Walks
 pub mod Runs
 pub mod RunsKeep
 pub mod Outputs
+pub mod LinesPlaced
 pub mod LinesComposed
 pub mod FrameSamples
+pub mod HostCarried
+pub mod HostKeeps

@@ -7,19 +7,20 @@ use Rattle.pac_code.specs.Items.{Item}
 use Rattle.pac_roms.specs.Parts.{Parts}
 use Rattle.pac_tiles.specs.Tiles.{height}
 use Rattle.pac_tiles.proofs.Tabulated.{get_or-tabulate}
-use Rattle.pac_map.specs.Entry.{Entry, Line, Blank}
+use Rattle.pac_map.specs.Entry.{Entry, Sample, Line, Blank}
 use Rattle.pac_picture.specs.Picture.{line_of}
 use Rattle.pac_step.specs.BoardView.{BoardView, power_on, video_roms}
-use Rattle.pac_step.specs.Laws.{IsComposed, PicturesAreLineExact}
+use Rattle.pac_step.specs.Laws.{IsComposed, PicturesAreLineExact, line_moment}
 use Rattle.pac_step.specs.Shown.{memory_at, line_at}
 use Rattle.pac_step.specs.Step.{Questions, Met, sampled, lined, blanked, at_moment, scan_line, scan_frame}
-use Rattle.pac_step.specs.Step.{line_ticks, frame_ticks, hidden_lines}
+use Rattle.pac_step.specs.Step.{sample_ticks, line_ticks, frame_ticks, hidden_lines}
 use Rattle.pac_step.specs.Trace.{by_history}
+use Rattle.pac_step.proofs.LinesPlaced.{IsPlaced, is-end, quiet-placed, placed-later, placed-now, sampled-now}
 use Rattle.pac_step.proofs.RunsKeep.{is_quiet, ends_line, sampled-holds, lined-holds, blanked-holds, run-told}
 use Rattle.pac_step.proofs.Walks.{not-both}
 
 -- the frame for which a line was last composed, 0 where it never was
-abbrev composed_frame : ℕ → List Entry → ℕ
+abbrev pub composed_frame : ℕ → List Entry → ℕ
 composed_frame y [] = 0
 composed_frame y (Line frame line ∷ older) = if line == y then frame else composed_frame y older
 composed_frame y (entry ∷ older) = composed_frame y older
@@ -30,7 +31,7 @@ quiet-composed y (Line frame line) entries h = not-both (sym h)
 quiet-composed y entry entries h = refl
 
 -- how many of the moments at which line y is composed have come
-abbrev compositions : ℕ → ℕ → ℕ
+abbrev pub compositions : ℕ → ℕ → ℕ
 compositions y time = (time / line_ticks + (223 - y)) / 264
 
 -- ---- a line that was composed is among the entries
@@ -88,20 +89,24 @@ found-composed set start frame y entries below found =
 
 -- ---- each blank finds all lines composed for its frame
 
-abbrev IsExact : List Entry → Type 0
-IsExact [] = Unit {0}
-IsExact (Blank frame ∷ older) = (1 ≤ frame) × ((y : ℕ) → y < height → composed_frame y older ≡ frame) × IsExact older
-IsExact (entry ∷ older) = IsExact older
+abbrev pub IsExact : (from : ℕ) → List Entry → Type 0
+IsExact from [] = Unit {0}
+IsExact from (Blank frame ∷ older) =
+    (1 ≤ frame)
+    × ((y : ℕ) → y < height → compositions y from < frame → composed_frame y older ≡ frame)
+    × IsExact from older
+IsExact from (entry ∷ older) = IsExact from older
 
-quiet-exact : (entry : Entry) (entries : List Entry) → is_quiet entry ≡ true → IsExact entries → IsExact (entry ∷ entries)
-quiet-exact (Blank frame) entries h exact = not-both (sym h)
-quiet-exact entry entries h exact = exact
+quiet-exact : (from : ℕ) (entry : Entry) (entries : List Entry) → is_quiet entry ≡ true → IsExact from entries
+    → IsExact from (entry ∷ entries)
+quiet-exact from (Blank frame) entries h exact = not-both (sym h)
+quiet-exact from entry entries h exact = exact
 
-exact-at : (later older : List Entry) (frame : ℕ) → IsExact (later ++ Blank frame ∷ older)
-    → (1 ≤ frame) × ((y : ℕ) → y < height → composed_frame y older ≡ frame)
-exact-at [] older frame exact = (exact.0, exact.1)
-exact-at (Blank other ∷ later) older frame exact = exact-at later older frame exact.2
-exact-at (entry ∷ later) older frame exact = exact-at later older frame exact
+pub exact-at : (from : ℕ) (later older : List Entry) (frame : ℕ) → IsExact from (later ++ Blank frame ∷ older)
+    → (1 ≤ frame) × ((y : ℕ) → y < height → compositions y from < frame → composed_frame y older ≡ frame)
+exact-at from [] older frame exact = (exact.0, exact.1)
+exact-at from (Blank other ∷ later) older frame exact = exact-at from later older frame exact.2
+exact-at from (entry ∷ later) older frame exact = exact-at from later older frame exact
 
 -- ---- from one moment to the next
 
@@ -117,16 +122,6 @@ line-over time moment next over = omega arith
 
 line-stays : (time moment : ℕ) → moment ≡ suc time → moment % line_ticks ≢ 0 → moment / line_ticks ≡ time / line_ticks
 line-stays time moment next over = omega arith
-
--- the test of a line's end, as numbers
-is-end : (moment : ℕ) → ends_line moment ≡ true → (moment % line_ticks ≡ 0) × (hidden_lines ≤ scan_line moment)
-is-end moment h = choose (moment % line_ticks == 0) refl (nat_le hidden_lines (scan_line moment)) refl h
-  where
-    choose : (a : Bool) → (moment % line_ticks == 0) ≡ a → (b : Bool) → nat_le hidden_lines (scan_line moment) ≡ b → (a && b) ≡ true
-        → (moment % line_ticks ≡ 0) × (hidden_lines ≤ scan_line moment)
-    choose true e true f both = (grind (arith, nat_tests), grind (arith, nat_tests))
-    choose true e false f both = not-both (sym both)
-    choose false e b f both = not-both (sym both)
 
 no-end : (moment : ℕ) → ends_line moment ≡ false → (moment % line_ticks ≢ 0) ⊎ (scan_line moment < hidden_lines)
 no-end moment h = choose (moment % line_ticks == 0) refl (nat_le hidden_lines (scan_line moment)) refl h
@@ -167,69 +162,119 @@ frame-done moment y below ends = omega arith
 
 -- ---- the run
 
-record IsTold (time : ℕ) (entries : List Entry) : Type 0 where
-  composed : (y : ℕ) → y < height → composed_frame y entries ≡ compositions y time
-  exact : IsExact entries
+-- what a history from a time on says of its lines at a later time
+pub record IsTold (from time : ℕ) (entries : List Entry) : Type 0 where
+  pub since : from ≤ time
+  pub composed : (y : ℕ) → y < height → compositions y from < compositions y time → composed_frame y entries ≡ compositions y time
+  pub exact : IsExact from entries
+  pub placed : IsPlaced from time entries
 
-quiet-kept : (time : ℕ) (entry : Entry) (entries : List Entry) → is_quiet entry ≡ true → IsTold time entries
-    → IsTold time (entry ∷ entries)
-quiet-kept time entry entries quiet told =
+pub nothing-told : (time : ℕ) → IsTold time time []
+nothing-told time = record { since = omega arith; composed = λ y below grown. absurd (omega (arith, grown)); exact = tt; placed = tt }
+
+pub quiet-kept : (from time : ℕ) (entry : Entry) (entries : List Entry) → is_quiet entry ≡ true → IsTold from time entries
+    → IsTold from time (entry ∷ entries)
+quiet-kept from time entry entries quiet told =
     record {
-      composed = λ y below. quiet-composed y entry entries quiet ∙ told.composed y below;
-      exact = quiet-exact entry entries quiet told.exact;
+      since = told.since;
+      composed = λ y below grown. quiet-composed y entry entries quiet ∙ told.composed y below grown;
+      exact = quiet-exact from entry entries quiet told.exact;
+      placed = quiet-placed from time entry entries quiet told.placed;
     }
 
-composed-now : (time moment y : ℕ) (entries : List Entry) → moment ≡ suc time → y < height → ends_line moment ≡ true
-    → composed_frame y entries ≡ compositions y time
+composed-now : (from time moment y : ℕ) (entries : List Entry) → moment ≡ suc time → y < height → ends_line moment ≡ true
+    → compositions y from < compositions y moment
+    → (compositions y from < compositions y time → composed_frame y entries ≡ compositions y time)
     → composed_frame y (Line (scan_frame moment) (scan_line moment - hidden_lines) ∷ entries) ≡ compositions y moment
-composed-now time moment y entries next below ends h = choose (scan_line moment - hidden_lines == y) refl
+composed-now from time moment y entries next below ends grown h = choose (scan_line moment - hidden_lines == y) refl
   where
     choose : (b : Bool) → (scan_line moment - hidden_lines == y) ≡ b
         → (if b then scan_frame moment else composed_frame y entries) ≡ compositions y moment
     choose true e = line-ends moment y ends (grind (arith, nat_tests))
-    choose false e = h ∙ line-lasts time moment y next below ends (grind (arith, nat_tests))
+    choose false e =
+        let same = line-lasts time moment y next below ends (grind (arith, nat_tests)) in
+        h (subst (λ n. compositions y from < n) (sym same) grown) ∙ same
 
-module _ (set : Parts) (items : List Item) (start : BoardView) where
+module _ (set : Parts) (items : List Item) (start : BoardView) (from : ℕ) where
   abbrev ask : Questions (List Entry)
   ask = by_history set items start
 
-  lined-kept : (time moment : ℕ) (met : Met (List Entry)) → moment ≡ suc time → IsTold time met.board
-      → IsTold moment (lined ask moment met).board
-  lined-kept time moment met next told =
-      lined-holds ask (λ after. IsTold moment after.board) moment met
+  lined-kept : (time moment : ℕ) (met : Met (List Entry)) (before : List Entry) → moment ≡ suc time → IsTold from time met.board
+      → (ends_line moment ≡ true → met.board ≡ Sample (moment / sample_ticks) ∷ before)
+      → IsTold from moment (lined ask moment met).board
+  lined-kept time moment met before next told sample =
+      let since : from ≤ moment = let so_far = told.since in omega arith in
+      let later : time ≤ moment = omega arith in
+      let placed = placed-later from time moment met.board later told.placed in
+      lined-holds ask (λ after. IsTold from moment after.board) moment met
       (λ ends. record {
-        composed = λ y below. composed-now time moment y met.board next below ends (told.composed y below);
+        since = since;
+        composed = λ y below grown. composed-now from time moment y met.board next below ends grown (told.composed y below);
         exact = told.exact;
+        placed = (
+          placed-now from moment met.board before (let so_far = told.since in omega arith) ends (sample ends),
+          placed,
+        );
       })
       (λ none. record {
-        composed = λ y below. told.composed y below ∙ no-line time moment y next below none;
+        since = since;
+        composed = λ y below grown.
+            let same = no-line time moment y next below none in
+            told.composed y below (subst (λ n. compositions y from < n) (sym same) grown) ∙ same;
         exact = told.exact;
+        placed = placed;
       })
 
-  blank-kept : (time moment : ℕ) (met : Met (List Entry)) → moment ≡ suc time → IsTold moment met.board
-      → IsTold moment (blanked ask moment met).board
+  blank-kept : (time moment : ℕ) (met : Met (List Entry)) → moment ≡ suc time → IsTold from moment met.board
+      → IsTold from moment (blanked ask moment met).board
   blank-kept time moment met next told =
-      blanked-holds ask (λ after. IsTold moment after.board) moment met
+      blanked-holds ask (λ after. IsTold from moment after.board) moment met
       (λ ends.
-      let exact : IsExact (Blank (moment / frame_ticks) ∷ met.board) =
-      (omega arith, λ y below. told.composed y below ∙ frame-done moment y below ends, told.exact) in
-      (record { composed = told.composed; exact = exact }, record { composed = told.composed; exact = exact }))
+      let exact : IsExact from (Blank (moment / frame_ticks) ∷ met.board) = (
+        omega arith,
+        λ y below grown.
+            let done = frame-done moment y below ends in
+            told.composed y below (subst (λ n. compositions y from < n) (sym done) grown) ∙ done,
+        told.exact,
+      ) in (
+        record { since = told.since; composed = told.composed; exact = exact; placed = told.placed },
+        record { since = told.since; composed = told.composed; exact = exact; placed = told.placed },
+      ))
       (λ none. told)
 
-  moment-kept : (time moment : ℕ) (met : Met (List Entry)) → moment ≡ suc time → IsTold time met.board
-      → IsTold moment (at_moment ask moment met).board
+  pub moment-kept : (time moment : ℕ) (met : Met (List Entry)) → moment ≡ suc time → IsTold from time met.board
+      → IsTold from moment (at_moment ask moment met).board
   moment-kept time moment met next told =
-      let sounded = sampled-holds ask (λ after. IsTold time after.board) moment met
-      (λ _. record { composed = told.composed; exact = told.exact }) (λ _. told) in
+      let sounded = sampled-holds ask (λ after. IsTold from time after.board) moment met
+      (λ _. record { since = told.since; composed = told.composed; exact = told.exact; placed = told.placed }) (λ _. told) in
       let after = sampled ask moment met in
-      blank-kept time moment (lined ask moment after) next (lined-kept time moment after next sounded)
+      blank-kept time moment (lined ask moment after) next
+      (lined-kept time moment after met.board next sounded
+      (λ ends. sampled-now ask moment met (λ entries entry. refl) ends))
+
+-- ---- what it says of a line
+
+-- the moment of a line has come as often as its frame's number says
+pub before-frame : (from frame y : ℕ) → 1 ≤ frame → y < height → from < line_moment frame y → compositions y from < frame
+before-frame from frame y some below early = omega arith
+
+pub shown-composed : (set : Parts) (start : BoardView) (from frame y : ℕ) (later older : List Entry)
+    → IsExact from (later ++ Blank frame ∷ older) → y < height → (1 ≤ frame → compositions y from < frame)
+    → IsComposed set start frame y older
+shown-composed set start from frame y later older exact below early =
+    let blank = exact-at from later older frame exact in
+    found-composed set start frame y older below
+    (composed-found set start frame y older blank.0 (blank.1 y below (early blank.0)))
+
+pub standing-composed : (set : Parts) (start : BoardView) (frame y : ℕ) (entries : List Entry) → y < height → 1 ≤ frame
+    → composed_frame y entries ≡ frame → IsComposed set start frame y entries
+standing-composed set start frame y entries below some is =
+    found-composed set start frame y entries below (composed-found set start frame y entries some is)
 
 pub pictures-are-line-exact : PicturesAreLineExact
 pictures-are-line-exact set items switches index frame play later older e y below =
     let first = power_on switches in
-    let run = run-told (by_history set items first) (λ time given entries. IsTold time entries)
-    (λ time given entries entry quiet told. quiet-kept time entry entries quiet told)
-    (λ time moment given met next told. moment-kept set items first time moment met next told) play [] index
-    (record { composed = λ y below. omega arith; exact = tt }) in
-    let blank = exact-at later older frame (subst IsExact e run.exact) in
-    found-composed set first frame y older below (composed-found set first frame y older blank.0 (blank.1 y below))
+    let run = run-told (by_history set items first) (λ time given entries. IsTold 0 time entries)
+    (λ time given entries entry quiet told. quiet-kept 0 time entry entries quiet told)
+    (λ time moment given met next told. moment-kept set items first 0 time moment met next told) play [] index (nothing-told 0) in
+    shown-composed set first 0 frame y later older (subst (IsExact 0) e run.exact) below (λ some. omega arith)

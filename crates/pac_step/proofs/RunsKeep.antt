@@ -127,6 +127,20 @@ module _ {Board : Type 0} (ask : Questions Board) (Told : ℕ → List Output �
       (actions-told now.time given (put_kind ask now.board kind) actions (kind-told now.time given now.board kind told)))
   cpu-step-told now given (Stops stop) told = tt
 
+  -- so a step goes on to where it is kept, or stops
+  pub step-told-then : {C : Type 0} (now : Moment Board) (given : List Output) → Told now.time given now.board
+      → ((after : Moment Board) (outputs : List Output) (kind : Kind) → step ask now ≡ Goes after outputs kind
+      → Told after.time (given ++ outputs) after.board → C)
+      → ((stop : Stop) → step ask now ≡ Ends stop → C) → C
+  unfolding NextTold
+  step-told-then {C = C} now given told goes_on ends =
+      let part = cpu_step (surroundings ask now.board) now.regs (ask.request now.board) in
+      choose (step ask now) refl (cpu-step-told now given part told)
+    where
+      choose : (h : Next Board) → step ask now ≡ h → NextTold given h → C
+      choose (Goes after outputs kind) e kept = goes_on after outputs kind e kept
+      choose (Ends stop) e kept = ends stop e
+
   played-told : (held : ℕ → ℕ) (time : ℕ) (given : List Output) (h : Next Board) → NextTold given h
       → NextTold given (played ask held time h)
   unfolding NextTold

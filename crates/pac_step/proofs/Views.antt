@@ -1,6 +1,6 @@
 -- The view that a history leaves answers as the history does.
 use Rattle.std.proofs.Common.{◌≡◌, ◌≢◌, ℕ, ◌<◌, ◌-◌, ◌%◌, ◌==◌, nat_lt, List, [], ◌∷◌, Bool}
-use Rattle.std.proofs.Common.{true, false, cond, Option, Some, None, unwrap_or, refl, sym, ap, ◌∙◌, slice_index, slice_set, length, arith}
+use Rattle.std.proofs.Common.{true, false, cond, Option, Some, unwrap_or, refl, sym, ap, ◌∙◌, slice_index, slice_set, length, arith}
 use Rattle.std.proofs.lemmas.Bool.Decides.{nat_tests}
 use Rattle.std.proofs.lemmas.Grind.{get_or-set_at}
 use Rattle.std.proofs.lemmas.List.{get_or-set_other}
@@ -211,8 +211,7 @@ read-in-range : (address : ℕ) → IsInRange (read_place address)
 read-in-range address = choose (nat_lt (address % 32768) 16384) refl (nat_lt (address % 8192) 4096) refl
   where
     choose : (a : Bool) → nat_lt (address % 32768) 16384 ≡ a → (b : Bool) → nat_lt (address % 8192) 4096 ≡ b
-        → IsInRange (unwrap_or (cond a (Some (Program (address % 32768))) (cond b (Some (ram_place (address % 8192))) None))
-        (read_port (address % 256)))
+        → IsInRange (cond a (Program (address % 32768)) (cond b (ram_place (address % 8192)) (read_port (address % 256))))
     choose true p b q = ltb-true (address % 32768) 16384 p
     choose false p true q = ram-in-range (address % 8192) (ltb-true (address % 8192) 4096 q)
     choose false p false q = port-in-range (address % 256)

@@ -1,16 +1,17 @@
 -- Laws of the board's definitions, each proved on a public function of the crate.
-use Rattle.std.specs.Prelude.{◌≡◌, ◌<◌, ◌≤◌, ℕ, zero, suc, ◌+◌, ◌*◌, ◌/◌, Option, None, Some, true, min}
+use Rattle.std.specs.Prelude.{◌≡◌, ◌≢◌, ◌<◌, ◌≤◌, ℕ, zero, suc, ◌+◌, ◌-◌, ◌*◌, ◌/◌, Option, None, Some, true, min}
 use Rattle.std.specs.Prelude.{List, [], ◌++◌, ◌∷◌, slice_index, slice_index_or}
 use mathlib.Core.List.{IsPrefix}
 use Rattle.pac_code.specs.Items.{Item, AllLie}
 use Rattle.pac_cpu.specs.declared.once.Stop.{Stop}
+use Rattle.pac_exec.specs.declared.regs.Regs.{Regs}
 use Rattle.pac_table.specs.Instructions.{least_ticks, most_ticks}
 use Rattle.pac_roms.specs.Parts.{Parts, IsWhole}
 use Rattle.pac_latch.specs.Latched.{is_set, request_of, watchdog_limit}
 use Rattle.pac_latch.specs.Latched as latch
 use Rattle.pac_tiles.specs.Tiles.{height}
 use Rattle.pac_map.specs.Contents.{read_of}
-use Rattle.pac_map.specs.Entry.{Entry, Line, Blank, Hold}
+use Rattle.pac_map.specs.Entry.{Entry, Sample, Line, Blank, Hold}
 use Rattle.pac_map.specs.Place.{ram_size}
 use Rattle.pac_map.specs.View as view
 use Rattle.pac_picture.specs.Picture.{line_of}
@@ -20,7 +21,8 @@ use Rattle.pac_step.specs.Queries.{bit_at, vector, request, blanks_since, is_due
 use Rattle.pac_step.specs.Shown.{accumulators_at, memory_at, lines_at, outputs_of, samples, blanks}
 use Rattle.pac_step.specs.Step.{Questions, Moment, Next, Goes, Ends, Met, note, lined, step, line_ticks, frame_ticks, sample_ticks}
 use Rattle.pac_step.specs.Walk.{Walk, walk, walk_to, begun, has_ended}
-use Rattle.pac_step.specs.Carried.{walk_view}
+use Rattle.pac_step.specs.Carried.{moment_view, next_view, walk_view}
+use Rattle.pac_step.specs.Host.{Host, Act, account_by_history, account_by_view, host_at, after_acts, host_view}
 use Rattle.pac_step.specs.Trace.{Play, by_history, by_view, run_at, trace, start, turned, play_step}
 
 -- ---- history and view
@@ -56,12 +58,35 @@ pub record Tells (set : Parts) (start : BoardView) (entries : List Entry) : Type
 abbrev pub ViewTells : Type 0
 ViewTells = (set : Parts) (start : BoardView) (entries : List Entry) → IsBoard start → Tells set start entries
 
+-- A step told by the source's items and the history, seen as the board keeps it, is the step told by the bytes and the view: the
+-- same instruction, time and outputs. So is a step of a run with a script.
+pub record StepAgrees (set : Parts) (items : List Item) (start : BoardView) (now : Moment (List Entry)) : Type 0 where
+  pub alone :
+      next_view (board_of set start) (step (by_history set items start) now) ≡ step (by_view set) (moment_view (board_of set start) now)
+  pub with_script : (held : ℕ → ℕ)
+      → next_view (board_of set start) (play_step (by_history set items start) held now)
+      ≡ play_step (by_view set) held (moment_view (board_of set start) now)
+
+abbrev pub StepsAgree : Type 0
+StepsAgree =
+    (set : Parts) (items : List Item) (start : BoardView) (now : Moment (List Entry)) → IsWhole set → AllLie set.program items
+    → IsBoard start → StepAgrees set items start now
+
 -- A run told by the source's items and the history is the run told by the bytes and the view, at each index.
 abbrev pub RunsAgree : Type 0
 RunsAgree =
     (set : Parts) (items : List Item) (switches index : ℕ) (play : Play) → IsWhole set → AllLie set.program items
     → walk_view (board_of set (power_on switches)) (run_at (by_history set items (power_on switches)) play [] index)
     ≡ run_at (by_view set) play (power_on switches) index
+
+-- Whatever a host does, in whichever order, from any view of a board on and after any entries: what its acts make of the history, seen
+-- as the board keeps it, is what they make of the view.
+abbrev pub HostsAgree : Type 0
+HostsAgree =
+    (set : Parts) (items : List Item) (start : BoardView) (host : Host (List Entry)) (acts : List Act) → IsWhole set
+    → AllLie set.program items → IsBoard start
+    → host_view (board_of set start) (after_acts (account_by_history set items start) host acts)
+    ≡ after_acts (account_by_view set) (host_view (board_of set start) host) acts
 
 -- ---- what a run gives out
 
@@ -102,6 +127,16 @@ LinesHaveTheirMoments Board =
     (ask : Questions Board) (earlier y : ℕ) (met : Met Board) → y < height
     → lined ask (frame_ticks * earlier + line_ticks * (41 + y)) met ≡ note ask (Line (earlier + 1) y) met
 
+-- the moment of line y of a frame, the first of which is 1
+abbrev pub line_moment : (frame y : ℕ) → ℕ
+line_moment frame y = frame_ticks * (frame - 1) + line_ticks * (41 + y)
+
+-- At no other moment is a line composed.
+abbrev pub LinesHaveNoOtherMoments : Type 0 → Type 0
+LinesHaveNoOtherMoments Board =
+    (ask : Questions Board) (moment : ℕ) (met : Met Board) → 1 ≤ moment
+    → ((frame y : ℕ) → 1 ≤ frame → y < height → moment ≢ line_moment frame y) → lined ask moment met ≡ met
+
 -- the entries among which a line of a frame was composed, and that the picture has this line
 pub record IsComposed (set : Parts) (start : BoardView) (frame y : ℕ) (entries : List Entry) : Type 0 where
   pub after : List Entry
@@ -115,6 +150,35 @@ PicturesAreLineExact =
     (set : Parts) (items : List Item) (switches index frame : ℕ) (play : Play) (later older : List Entry)
     → (run_at (by_history set items (power_on switches)) play [] index).now.board ≡ later ++ Blank frame ∷ older
     → (y : ℕ) → y < height → IsComposed set (power_on switches) frame y older
+
+-- That line y of a frame was composed among these older entries: at its own moment, after one time and not after another, right after
+-- that moment's sound sample.
+pub record IsInTime (from to frame y : ℕ) (older : List Entry) : Type 0 where
+  pub frame_is : 1 ≤ frame
+  pub line_is : y < height
+  pub after : from < line_moment frame y
+  pub not_after : line_moment frame y ≤ to
+  pub before : List Entry
+  pub sample : older ≡ Sample (line_moment frame y / sample_ticks) ∷ before
+
+-- Of the history that a board has at a moment, from a time on.
+pub record HasLinesInTime (set : Parts) (start : BoardView) (from : ℕ) (now : Moment (List Entry)) : Type 0 where
+  -- lines were composed at their own moments and at no others
+  pub in_time : (frame y : ℕ) (later older : List Entry) → now.board ≡ later ++ Line frame y ∷ older → IsInTime from now.time frame y older
+  -- the picture that a frame's blank shows has each line of this frame whose moment came after that time
+  pub shown : (frame y : ℕ) (later older : List Entry) → now.board ≡ later ++ Blank frame ∷ older → y < height
+      → from < line_moment frame y → IsComposed set start frame y older
+  -- the picture as it stands has each line of the last frame in which the line's moment has come
+  pub standing : (frame y : ℕ) → 1 ≤ frame → y < height → from < line_moment frame y → line_moment frame y ≤ now.time
+      → now.time < line_moment (frame + 1) y → IsComposed set start frame y now.board
+
+-- So it is from any moment on, whatever a host does.
+abbrev pub HostsAreLineExact : Type 0
+HostsAreLineExact =
+    (set : Parts) (items : List Item) (start : BoardView) (regs : Regs) (time steps : ℕ) (acts : List Act)
+    → HasLinesInTime set start time
+    (after_acts (account_by_history set items start)
+    (host_at (record { regs = regs; board = []; time = time; steps = steps })) acts).now
 
 -- ---- steps and walks
 

@@ -7,4 +7,5 @@ pub mod Step
 pub mod Walk
 pub mod Carried
 pub mod Trace
+pub mod Host
 pub mod Laws

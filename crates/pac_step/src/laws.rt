@@ -1,7 +1,7 @@
 //! Laws of the board's definitions.
 
 ghost use Rattle.pac_step.specs.Laws.{ViewAnswers, ViewTells, RunsAgree, OutputsAreOfTheHistory, OutputsAreTimed, LinesHaveTheirMoments};
-ghost use Rattle.pac_step.specs.Laws.{FramesHaveTheirSamples};
+ghost use Rattle.pac_step.specs.Laws.{FramesHaveTheirSamples, StepsAgree, HostsAgree, LinesHaveNoOtherMoments, HostsAreLineExact};
 ghost use Rattle.pac_step.specs.Laws.{PicturesAreLineExact, StepsAreTimely, RunsEnd, RunsAreJoined, WalksEnd, WalksJoin, WalksGoOn, RunsGoByFrames};
 
 /// The view that a history leaves answers each read as the history does.
@@ -12,6 +12,16 @@ pub fn view_answers()
 /// It tells RAM, registers, inputs, latch, request, watchdog, voices and picture as the history does.
 pub fn view_tells()
     ensures { ViewTells }
+{}
+
+/// A step of the source's items over the history is the step of the bytes of the ROM over the view.
+pub fn steps_agree()
+    ensures { StepsAgree }
+{}
+
+/// Whatever a host does to the history, it does to the view.
+pub fn hosts_agree()
+    ensures { HostsAgree }
 {}
 
 /// Running the source's items over the history is running the bytes of the ROM over the view.
@@ -37,6 +47,17 @@ pub fn frames_have_their_samples()
 /// A line of the picture is composed as its line of the scan ends.
 pub fn lines_have_their_moments<Board>()
     ensures { LinesHaveTheirMoments Board }
+{}
+
+/// No line is composed at another moment.
+pub fn lines_have_no_other_moments<Board>()
+    ensures { LinesHaveNoOtherMoments Board }
+{}
+
+/// Whatever a host does, each line of a frame's picture is that of the entries before its own moment, and lines are composed at no
+/// other moments.
+pub fn hosts_are_line_exact()
+    ensures { HostsAreLineExact }
 {}
 
 /// Each line of a frame's picture is that of the entries before its own moment.

@@ -1,7 +1,13 @@
+use Rattle.std.proofs.Common.{ap}
+use Rattle.pac_picture.specs.Layer.{LayerState}
 use Rattle.pac_picture.specs.State.{palette_of}
 use Rattle.pac_picture.proofs.Places.{length-is}
+use Rattle.pac_picture.proofs.Stale.{new-stale}
 use Rattle.pac_picture.proofs.picture.Picture.new.Goals as goal
 
 pub invariant_of-result : goal.invariant_of-result
 unfolding palette_of
 invariant_of-result c = length-is c.in_ok-palette.palette.items 16 _ c.in_ok-palette.ensures
+
+pub returns-clause-stale : goal.returns-clause-stale
+returns-clause-stale c = new-stale c.in_ok-layer.layer.shadows (ap (λ (layer : LayerState). layer.shadows) c.in_ok-layer.ensures)

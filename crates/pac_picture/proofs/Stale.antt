@@ -1,0 +1,68 @@
+-- Where all cells count as differing, all are counted.
+use Rattle.std.proofs.Common.{◌≡◌, ℕ, zero, suc, ◌+◌, ◌*◌, ◌<◌, Bool, true, List, [], length, map, refl, sym, ap, ◌∙◌, arith}
+use Rattle.std.proofs.Common.{get_or-set_other, sum}
+use Rattle.std.specs.Prelude.{count_by}
+use Rattle.std.proofs.lemmas.List.{get_or-map, length-map}
+use Rattle.pac_tiles.specs.Tabulate.{tabulate}
+use Rattle.pac_picture.specs.declared.shadow.Shadow.{Shadow}
+use Rattle.pac_picture.specs.Picture.{VideoMemory}
+use Rattle.pac_picture.specs.Layer.{AreStale, cells_of, differs, differing, differing_in, all_differing, drawn_from, made_stale, shadow_at}
+use Rattle.pac_picture.specs.Layer.{shadow_from, stale}
+use Rattle.pac_picture.specs.Laws.{StaleCellsAreDrawn, row_of}
+use Rattle.pac_picture.proofs.Counts.{count-more, count-none}
+use Rattle.pac_picture.proofs.Layers.{sum-more, sum-none, stale-at, length-stale}
+
+count-always : (test : ℕ → Bool) (count : ℕ) → ((k : ℕ) → test k ≡ true) → count_by test (tabulate count (λ k. k)) ≡ count
+count-always test zero always = sym (count-none test)
+count-always test (suc count) always =
+    let before = count-always test count always in
+    let last = always count in
+    let next : suc count ≡ count + 1 = omega arith in
+    rw (count-more test count, before, last) (sym next)
+
+-- the 36 cells of a row
+row-counts : (shadow : Shadow) (tiles colours : List ℕ) → shadow.stale ≡ true → differing shadow tiles colours ≡ 36
+unfolding differing
+row-counts shadow tiles colours is = count-always (differs shadow tiles colours) 36 (λ k. rw is refl)
+
+sum-always : (value : ℕ → ℕ) (each count : ℕ) → ((k : ℕ) → k < count → value k ≡ each) → sum (tabulate count value) ≡ each * count
+sum-always value each zero always = sym (sum-none value) ∙ omega arith
+sum-always value each (suc count) always =
+    let before = sum-always value each count (λ k below. always k (omega arith)) in
+    let last = always count (omega arith) in
+    let next : each * count + each ≡ each * suc count = omega arith in
+    rw (sum-more value count, before, last) next
+
+-- the 1,008 cells of all rows
+all-count : (shadows : List Shadow) (memory : VideoMemory) → AreStale shadows → all_differing shadows memory ≡ 1008
+unfolding all_differing
+all-count shadows memory are =
+    sum-always (differing_in shadows memory) 36 28
+    (λ row below. row-counts (shadow_at shadows row) (cells_of memory.tile_ram row) (cells_of memory.colour_ram row) (are.each row below))
+
+pub stale-cells-are-drawn : StaleCellsAreDrawn
+stale-cells-are-drawn memory state = record {
+  whole = λ are. all-count state.shadows memory are;
+  line = λ y is.
+      let row = row_of memory y in
+      row-counts (shadow_at state.shadows row) (cells_of memory.tile_ram row) (cells_of memory.colour_ram row) is;
+  others = λ y row apart.
+      get_or-set_other state.shadows (row_of memory y) row (drawn_from memory (row_of memory y)) (shadow_from [] []) apart;
+}
+
+-- ---- where they do
+
+pub new-stale : (shadows : List Shadow) → shadows ≡ stale → AreStale shadows
+new-stale shadows is = record {
+  high = ap length is ∙ length-stale;
+  each = λ row below. ap (λ shadows. (shadow_at shadows row).stale) is ∙ ap (λ (shadow : Shadow). shadow.stale) (stale-at row below);
+}
+
+pub made-are-stale : (old new : List Shadow) → new ≡ map made_stale old → length old ≡ 28 → AreStale new
+made-are-stale old new is high = record {
+  high = ap length is ∙ length-map old made_stale ∙ high;
+  each = λ row below.
+      let inside : row < length old = omega (arith, below, high) in
+      ap (λ shadows. (shadow_at shadows row).stale) is
+      ∙ ap (λ (shadow : Shadow). shadow.stale) (get_or-map made_stale old row (shadow_from [] []) (shadow_from [] []) inside);
+}
