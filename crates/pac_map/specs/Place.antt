@@ -1,7 +1,7 @@
--- What the board's address decoder selects (Namco Pac-Man service schematics, CPU board). A15 isn't wired.
+-- to be believed: what the board's address decoder selects (Namco Pac-Man service schematics, CPU board). A15 isn't wired.
 -- A14 low is the program ROM. A14 high leaves out A13: A12 low is the RAM page, A12 high the port page, which
 -- leaves out A11 to A8 too.
-use Rattle.std.specs.Prelude.{ℕ, ◌-◌, ◌%◌, ◌<◌, nat_lt, if◌then◌else◌, Option, Some, None, unwrap_or}
+use Rattle.std.specs.Prelude.{ℕ, ◌-◌, ◌%◌, ◌<◌, nat_lt, if◌then◌else◌}
 use Rattle.pac_roms.specs.Parts.{program_size}
 use Rattle.pac_map.specs.declared.bus_table.BusPlace.{BusPlace}
 use Rattle.pac_map.specs.declared.bus_table.BusPlace.TheVariants.{Program, Tile, Colour, Work, Nothing}
@@ -46,20 +46,20 @@ write_port offset =
     else if nat_lt offset 0xC0 then Nothing
     else Kick
 
--- what an address selects in the ROM or in the RAM page; nothing of these where it selects a port
-abbrev pub memory_place : ℕ → Option BusPlace
-memory_place address =
-    if nat_lt (address % 0x8000) 0x4000 then Some (Program (address % 0x8000))
-    else if nat_lt (address % 0x2000) 0x1000 then Some (ram_place (address % 0x2000))
-    else None
+-- the place that an address selects; a page of ports tells what it selects there
+abbrev pub place : (ℕ → BusPlace) → ℕ → BusPlace
+place port address =
+    if nat_lt (address % 0x8000) 0x4000 then Program (address % 0x8000)
+    else if nat_lt (address % 0x2000) 0x1000 then ram_place (address % 0x2000)
+    else port (address % 0x100)
 
 -- the place that a read from an address asks
 abbrev pub read_place : ℕ → BusPlace
-read_place address = unwrap_or (memory_place address) (read_port (address % 0x100))
+read_place address = place read_port address
 
 -- the place that a write to an address reaches
 abbrev pub write_place : ℕ → BusPlace
-write_place address = unwrap_or (memory_place address) (write_port (address % 0x100))
+write_place address = place write_port address
 
 -- the cell, bit, register or byte lies in its place
 abbrev pub IsInRange : BusPlace → Type 0

@@ -1,6 +1,6 @@
 //! The address decoder: the place that an address selects, for a read and for a write.
 
-ghost use Rattle.std.specs.Prelude.{◌≡◌, ◌<◌, IfSome};
+ghost use Rattle.std.specs.Prelude.{◌≡◌, ◌%◌, ◌<◌, IfSome, unwrap_or};
 ghost use Rattle.pac_map.specs.Place as spec;
 
 /// A place on the bus (Namco Pac-Man service schematics). Numbers are cells, bits or registers of the place.
@@ -89,7 +89,8 @@ fn write_port(offset: u8) -> BusPlace
 /// The place of the ROM or of the RAM page that an address selects, none where it selects a port.
 #[inline(always)]
 pub(crate) fn memory_place(address: u16) -> Option<BusPlace>
-    ensures place { result ≡ spec.memory_place address }
+    ensures read { unwrap_or result (spec.read_port (address % 0x100)) ≡ spec.read_place address }
+    ensures written { unwrap_or result (spec.write_port (address % 0x100)) ≡ spec.write_place address }
     ensures in_range { IfSome result spec.IsInRange }
 {
     if address % 0x8000 < 0x4000 {

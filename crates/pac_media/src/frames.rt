@@ -1,6 +1,6 @@
 //! The film of a run.
 
-ghost use Rattle.std.specs.Prelude.{◌≡◌, [], true, IsErr};
+ghost use Rattle.std.specs.Prelude.{◌≡◌, []};
 ghost use Rattle.pac_out.specs.Counted.{HasTaken, Puts};
 ghost use Rattle.pac_media.specs.Images.{ppm_of};
 
@@ -39,9 +39,7 @@ impl<W: Out> Frames<W> {
     /// Writes the image of a picture after those before it, handed to the writer whole; it takes no memory. The fault
     /// has the count of all bytes that the file took. After it each call answers the same fault and writes nothing.
     pub fn put(&mut self, picture: &Picture) -> Result<(), WriteFault>
-        ensures put { Puts W.took W.refused self.old (ppm_of picture.now.lines picture.now.palette) result self.new }
-        ensures later_err { self.old.failed ≡ true → IsErr result }
-        ensures later_unchanged { self.old.failed ≡ true → self.new ≡ self.old }
+        ensures { Puts W.took W.refused self.old (ppm_of picture.now.lines picture.now.palette) result self.new }
     {
         self.image.draw(picture);
         self.file.put(self.image.bytes())

@@ -1,5 +1,5 @@
--- What the registers say of a voice.
-use Rattle.std.specs.Prelude.{ℕ, List}
+-- for proofs: what the code keeps of a voice, and the range of what a voice puts into the sound.
+use Rattle.std.specs.Prelude.{ℕ, ℤ, pos, negsuc, ◌≤ℤ◌, List}
 use Rattle.pac_wave.specs.declared.Voice.{Voice}
 use Rattle.pac_wave.specs.declared.settings.Setting.{Setting}
 use Rattle.pac_wave.specs.Wave.{waveform, volume, frequency}
@@ -10,3 +10,7 @@ setting_of registers voice = record {
   volume = volume registers voice;
   frequency = frequency registers voice;
 }
+
+-- from samples and volumes of four bits: from -8 * 15 to 7 * 15
+abbrev pub IsLevel : ℤ → Type 0
+IsLevel value = (negsuc 119 ≤ℤ value) × (value ≤ℤ pos 105)

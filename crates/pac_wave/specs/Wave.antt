@@ -1,8 +1,8 @@
--- The wave generator (Namco Pac-Man service schematics; the scale of a sample, what happens while sound is off
--- and that the accumulators can't be written are this profile's). It has 32 registers of four bits, and three
--- voices. Each voice walks through one of eight waveforms of 32 samples, as fast as its frequency tells.
-use Rattle.std.specs.Prelude.{ℕ, ℤ, pos, negsuc, ◌≤ℤ◌, ◌+◌, ◌*◌, ◌/◌, ◌%◌, ◌^◌, ◌<◌, ◌+ℤ◌, ◌-ℤ◌, ◌*ℤ◌, Bool, if◌then◌else◌}
-use Rattle.std.specs.Prelude.{List, slice_index}
+-- to be believed: the wave generator (Namco Pac-Man service schematics; the scale of a sample, what happens while sound is
+-- off and that the accumulators can't be written are this profile's). It has 32 registers of four bits, those at the addresses
+-- from 5040H on, and three voices. Each voice walks through one of eight waveforms of 32 samples, as fast as its frequency tells.
+use Rattle.std.specs.Prelude.{ℕ, ℤ, pos, negsuc, ◌≤ℤ◌, ◌+◌, ◌*◌, ◌/◌, ◌%◌, ◌^◌, ◌<◌, ◌+ℤ◌, ◌-ℤ◌, ◌*ℤ◌, ◌==◌, ◌&&◌, Bool}
+use Rattle.std.specs.Prelude.{nat_lt, if◌then◌else◌, List, slice_index}
 use Rattle.pac_wave.specs.declared.Voice.{Voice}
 use Rattle.pac_wave.specs.declared.Voice.TheVariants.{First, Second, Third}
 
@@ -18,30 +18,32 @@ accumulator_range = 2 ^ 20
 abbrev pub register : List ℕ → ℕ → ℕ
 register registers place = slice_index registers place % 16
 
+-- The voice table. The registers are two RAMs of 16, 00 to 0F and 10 to 1F, and the three voices share both alike: voice v
+-- ends at 5 + 5v in each, in the first with its waveform's number and in the second with its volume.
+abbrev pub number : Voice → ℕ
+number First = 0
+number Second = 1
+number Third = 2
+
 -- the number of a voice's waveform, three bits
 abbrev pub waveform : List ℕ → Voice → ℕ
-waveform registers First = register registers 0x05 % 8
-waveform registers Second = register registers 0x0A % 8
-waveform registers Third = register registers 0x0F % 8
+waveform registers voice = register registers (0x05 + 5 * number voice) % 8
 
 -- a voice's volume
 abbrev pub volume : List ℕ → Voice → ℕ
-volume registers First = register registers 0x15
-volume registers Second = register registers 0x1A
-volume registers Third = register registers 0x1F
+volume registers voice = register registers (0x15 + 5 * number voice)
 
--- five registers as one number of 20 bits, the lowest four bits first
-abbrev pub digits : ℕ → ℕ → ℕ → ℕ → ℕ → ℕ
-digits a b c d e = a + 16 * b + 256 * c + 4096 * d + 65536 * e
+-- a digit of a voice's frequency, four bits, counted from the lowest, 0: they stand before its volume, the highest, 4, next to it.
+-- Digit 0 of the second and the third voice isn't there, since the voice before ends in its place: it reads 0.
+abbrev pub digit : List ℕ → Voice → ℕ → ℕ
+digit registers voice k =
+    if k == 0 && nat_lt 0 (number voice) then 0 else register registers (0x10 + 5 * number voice + k)
 
--- a voice's frequency, 20 bits; the second and the third voice have no register for the lowest four
+-- a voice's frequency: 20 bits, by its five digits
 abbrev pub frequency : List ℕ → Voice → ℕ
-frequency registers First =
-    digits (register registers 0x10) (register registers 0x11) (register registers 0x12) (register registers 0x13) (register registers 0x14)
-frequency registers Second =
-    digits 0 (register registers 0x16) (register registers 0x17) (register registers 0x18) (register registers 0x19)
-frequency registers Third =
-    digits 0 (register registers 0x1B) (register registers 0x1C) (register registers 0x1D) (register registers 0x1E)
+frequency registers voice =
+    digit registers voice 0 + 16 * digit registers voice 1 + 16 ^ 2 * digit registers voice 2
+    + 16 ^ 3 * digit registers voice 3 + 16 ^ 4 * digit registers voice 4
 
 -- where each voice stands in its waveform: 20 bits, of which the top five number a sample
 pub record Accumulators : Type 0 where
@@ -81,10 +83,6 @@ amplified sample volume = (pos sample -ℤ pos 8) *ℤ pos volume
 abbrev pub level : List ℕ → List ℕ → Voice → ℕ → ℤ
 level prom registers voice accumulator =
     amplified (pointed prom (waveform registers voice) accumulator) (volume registers voice)
-
--- what it comes to from samples and volumes of four bits: from -8 * 15 to 7 * 15
-abbrev pub IsLevel : ℤ → Type 0
-IsLevel value = (negsuc 119 ≤ℤ value) × (value ≤ℤ pos 105)
 
 -- three voices together: 64 times their sum
 abbrev pub mixed : ℤ → ℤ → ℤ → ℤ

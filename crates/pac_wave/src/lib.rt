@@ -2,6 +2,7 @@
 #![tactic(auto)]
 
 ghost use Rattle.std.specs.Prelude.{◌≡◌, ◌<◌, ◌∷◌, [], length};
+ghost use Rattle.pac_wave.specs.Settings.{IsLevel};
 ghost use Rattle.pac_wave.specs.Wave.{Fit20Bits, power_on, of_list};
 ghost use Rattle.pac_wave.specs.Wave as spec;
 
@@ -48,7 +49,7 @@ pub(crate) fn amplified(sample: u8, volume: u8) -> i16
     requires sample { sample < 16 }
     requires volume { volume < 16 }
     ensures amplified { result ≡ spec.amplified sample volume }
-    ensures within { spec.IsLevel result }
+    ensures within { IsLevel result }
 {
     (i16::from(sample) - 8) * i16::from(volume)
 }
@@ -56,9 +57,9 @@ pub(crate) fn amplified(sample: u8, volume: u8) -> i16
 /// The sound sample that three voices add up to.
 #[inline]
 fn mixed(first: i16, second: i16, third: i16) -> i16
-    requires first { spec.IsLevel first }
-    requires second { spec.IsLevel second }
-    requires third { spec.IsLevel third }
+    requires first { IsLevel first }
+    requires second { IsLevel second }
+    requires third { IsLevel third }
     ensures mixed { result ≡ spec.mixed first second third }
     ensures within { spec.IsSample result }
 {

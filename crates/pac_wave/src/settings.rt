@@ -1,7 +1,7 @@
 //! What the registers say of the voices, told once for as many samples as they stay the same.
 
-ghost use Rattle.std.specs.Prelude.{◌≡◌, ◌<◌, length};
-ghost use Rattle.pac_wave.specs.Settings.{setting_of};
+ghost use Rattle.std.specs.Prelude.{◌≡◌, ◌<◌, ◌+◌, ◌*◌, length};
+ghost use Rattle.pac_wave.specs.Settings.{IsLevel, setting_of};
 ghost use Rattle.pac_wave.specs.Wave as spec;
 
 use crate::{Voice, amplified};
@@ -54,22 +54,21 @@ fn volume(registers: &[u8; 32], voice: Voice) -> u8
     }
 }
 
-/// Five digits of four bits as one number, the lowest first.
+/// A number of five digits of four bits: the lowest, and the registers from a place on.
 #[inline]
-fn digits(a: u8, b: u8, c: u8, d: u8, e: u8) -> u32
-    requires a { a < 16 }
-    requires b { b < 16 }
-    requires c { c < 16 }
-    requires d { d < 16 }
-    requires e { e < 16 }
-    ensures digits { result ≡ spec.digits a b c d e }
+fn digits(lowest: u8, registers: &[u8; 32], place: usize) -> u32
+    requires lowest { lowest < 16 }
+    requires place { place < 29 }
+    ensures digits { result ≡
+        lowest + 16 * spec.register registers.now place + 256 * spec.register registers.now (place + 1)
+        + 4096 * spec.register registers.now (place + 2) + 65536 * spec.register registers.now (place + 3) }
     ensures below { result < spec.accumulator_range }
 {
-    u32::from(a)
-        + 16 * u32::from(b)
-        + 256 * u32::from(c)
-        + 4096 * u32::from(d)
-        + 65536 * u32::from(e)
+    u32::from(lowest)
+        + 16 * u32::from(register(registers, place))
+        + 256 * u32::from(register(registers, place + 1))
+        + 4096 * u32::from(register(registers, place + 2))
+        + 65536 * u32::from(register(registers, place + 3))
 }
 
 /// A voice's frequency, 20 bits.
@@ -79,27 +78,9 @@ fn frequency(registers: &[u8; 32], voice: Voice) -> u32
     ensures below { result < spec.accumulator_range }
 {
     match voice {
-        Voice::First => digits(
-            register(registers, 0x10),
-            register(registers, 0x11),
-            register(registers, 0x12),
-            register(registers, 0x13),
-            register(registers, 0x14),
-        ),
-        Voice::Second => digits(
-            0,
-            register(registers, 0x16),
-            register(registers, 0x17),
-            register(registers, 0x18),
-            register(registers, 0x19),
-        ),
-        Voice::Third => digits(
-            0,
-            register(registers, 0x1B),
-            register(registers, 0x1C),
-            register(registers, 0x1D),
-            register(registers, 0x1E),
-        ),
+        Voice::First => digits(register(registers, 0x10), registers, 0x11),
+        Voice::Second => digits(0, registers, 0x16),
+        Voice::Third => digits(0, registers, 0x1B),
     }
 }
 
@@ -183,7 +164,7 @@ impl Settings {
         requires prom { length prom.now ≡ spec.prom_size }
         requires accumulator { accumulator < spec.accumulator_range }
         ensures level { result ≡ spec.level prom.now self.now voice accumulator }
-        ensures within { spec.IsLevel result }
+        ensures within { IsLevel result }
     {
         let Setting {
             waveform,
