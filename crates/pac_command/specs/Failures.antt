@@ -8,6 +8,7 @@ use Rattle.pac_asm.specs.Codes as asm
 use Rattle.pac_cpu.specs.declared.once.Stop.{Stop}
 use Rattle.pac_inputs.specs.Codes as inputs
 use Rattle.pac_manifest.specs.Codes as manifest
+use Rattle.pac_files.specs.Names.{told_name}
 use Rattle.pac_files.specs.declared.given.ReadFault.{ReadFault}
 use Rattle.pac_files.specs.declared.given.ReadFault.TheVariants as reading
 use Rattle.pac_run.specs.Names.{name_of}
@@ -25,7 +26,7 @@ target Rom = codes "rom"
 
 -- the line of a failure, without its line feed
 abbrev pub message : Failure → List ℕ
-message (Read name) = codes "read fault " ++ name.now
+message (Read name) = codes "read fault " ++ told_name name.now
 message (Source fault) = codes "refused " ++ asm.fault_text fault
 message (Set fault) = codes "refused " ++ manifest.fault_text fault
 message (Script fault) = codes "refused " ++ inputs.fault_text fault

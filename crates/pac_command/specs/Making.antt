@@ -7,6 +7,7 @@ use Rattle.pac_command.specs.declared.failure.Failure.{Failure}
 use Rattle.pac_command.specs.declared.failure.Failure.TheVariants.{Read, Write, Memory}
 use Rattle.pac_command.specs.declared.failure.Target.{Target}
 use Rattle.pac_command.specs.declared.failure.Target.TheVariants.{Of, Rom}
+use Rattle.pac_files.specs.declared.files.Kind.TheVariants.{Any}
 use Rattle.pac_files.specs.Files.{Finds, as_given, IsUnread, Handling, AllCreated, AllClosed, FirstUncreated}
 
 -- ROM and listing, in the order in which they are created
@@ -27,7 +28,7 @@ Assembling File = (source : List ℕ) → Result Unit Failure → (created left 
 pub record IsMade {Disk File : Type 0} (finds : Finds) (handling : Handling Disk File) (assembles : Assembling File) (asked : AskedAsm)
     (old : Disk) (answer : Result Unit Failure) (new : Disk) : Type 0 where
   pub source : List ℕ
-  pub source_is : finds asked.source (Some source)
+  pub source_is : finds Any asked.source (Some source)
   pub created : AsmOutputs File
   pub during : Disk
   pub all_created : AllCreated handling old (asm_paths asked) (both created) during
@@ -39,7 +40,7 @@ pub record IsMade {Disk File : Type 0} (finds : Finds) (handling : Handling Disk
 pub record IsUncreated {Disk File : Type 0} (finds : Finds) (handling : Handling Disk File) (asked : AskedAsm) (old : Disk)
     (answer : Result Unit Failure) (new : Disk) : Type 0 where
   pub source : List ℕ
-  pub source_is : finds asked.source (Some source)
+  pub source_is : finds Any asked.source (Some source)
   pub output : Target
   pub answer_is : answer ≡ Err (Write output 0)
   pub first : FirstUncreated handling old (asm_outputs asked) output new
@@ -60,7 +61,7 @@ Makes finds handling assembles asked old answer new =
 -- what `dis` does with the bytes of its file
 pub record IsTold (finds : Finds) (name : List ℕ) (disassembles : (bytes : List ℕ) → Type 0) : Type 0 where
   pub bytes : List ℕ
-  pub bytes_are : finds name (Some bytes)
+  pub bytes_are : finds Any name (Some bytes)
   pub told : disassembles bytes
 
 abbrev pub Tells : Finds → (disassembles : (bytes : List ℕ) → Result Unit Failure → Type 0) → (silent : Type 0) → List ℕ

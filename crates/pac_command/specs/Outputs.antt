@@ -1,5 +1,6 @@
 -- What the program does with the files of a run: which it reads, which it creates, what these have then, and how it ends.
 use Rattle.std.specs.Prelude.{◌≡◌, ◌⊎◌, ℕ, List, [], ◌∷◌, map, Some, option_map, Result, Err}
+use Rattle.pac_files.specs.declared.files.Kind.TheVariants.{Any}
 use Rattle.pac_files.specs.Files.{Finds, FirstUnread, Handling, AllCreated, AllClosed, FirstUncreated}
 use Rattle.pac_files.specs.Read.{HasRead, PartUnread, given_files, watched_files, told_file, told_part}
 use Rattle.pac_files.specs.declared.given.Given.{Given}
@@ -106,12 +107,12 @@ pub record IsWatched {Disk File C : Type 0} (finds : Finds) (handling : Handling
     (performs : (commands : List ℕ) → Result Outcome Failure → Performing File)
     (silent : Type 0) (ending : Ending C) (asked : AskedDebug) (old new : Disk) : Type 0 where
   pub commands : List ℕ
-  pub commands_are : finds asked.commands (Some commands)
+  pub commands_are : finds Any asked.commands (Some commands)
   pub run : IsRun finds handling (performs commands) silent ending asked.run old new
 
 pub record WatchedPartUnread (finds : Finds) (asked : AskedDebug) (name : List ℕ) : Type 0 where
   pub commands : List ℕ
-  pub commands_are : finds asked.commands (Some commands)
+  pub commands_are : finds Any asked.commands (Some commands)
   pub part : PartUnread finds asked.run name
 
 abbrev pub Watches : {Disk File C : Type 0} → Finds → Handling Disk File

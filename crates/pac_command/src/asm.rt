@@ -111,7 +111,7 @@ pub fn asm<'a, D: FileSystem>(
         (record { took = D.File.took; refused = D.File.refused; old = created.listing; new = left.listing }) answer)
         (told_asm files.now) disk.old result disk.new }
 {
-    let source = match read_file(alloc, disk, files.source, files.source) {
+    let source = match read_file(alloc, disk, files.source) {
         Ok(source) => source,
         Err(fault) => return Err(read_failure(fault)),
     };

@@ -50,7 +50,7 @@ pub fn dis<'a, D: FileSystem, W: Out>(
         (λ bytes answer. Disassembles bytes (record { took = W.took; refused = W.refused; old = text.old; new = text.new }) answer)
         (text.new ≡ text.old) name.now result }
 {
-    match read_file(alloc, disk, name, name) {
+    match read_file(alloc, disk, name) {
         Ok(bytes) => write_text(&bytes, text),
         Err(fault) => Err(read_failure(fault)),
     }

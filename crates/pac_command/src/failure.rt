@@ -5,7 +5,7 @@ ghost use Rattle.pac_command.specs.Failures as told;
 
 use pac_asm::AsmFault;
 use pac_cpu::Stop;
-use pac_files::ReadFault;
+use pac_files::{ReadFault, Told};
 use pac_inputs::ScriptFault;
 use pac_manifest::SetFault;
 use pac_run::{Output, RunFault};
@@ -20,7 +20,8 @@ pub enum Target {
     Rom,
 }
 
-/// What keeps the program from its work. It prints as the one line that goes to standard error.
+/// What keeps the program from its work. It prints as the one line that goes to standard error; in a name each control character is
+/// told by its digits.
 #[derive(Clone, Copy)]
 pub enum Failure<'a> {
     /// The file of this name can't be read, or has more than 16 MiB.
@@ -61,7 +62,7 @@ impl fmt::Display for Failure<'_> {
     /// Its line, without a line feed.
     fn fmt<W: fmt::Write>(&self, f: &mut fmt::Formatter<W>) -> fmt::Result {
         match self {
-            Failure::Read(name) => write!(f, "read fault {name}"),
+            Failure::Read(name) => write!(f, "read fault {}", Told { name }),
             Failure::Source(fault) => write!(f, "refused {fault}"),
             Failure::Set(fault) => write!(f, "refused {fault}"),
             Failure::Script(fault) => write!(f, "refused {fault}"),

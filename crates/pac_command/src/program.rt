@@ -12,14 +12,15 @@ ghost use Rattle.pac_command.specs.Works.{Works};
 use crate::asm::asm;
 use crate::debug::debug;
 use crate::dis::dis;
-use crate::failure::Failure;
+use crate::failure::{Failure, Target};
 use crate::play::play;
 use crate::teller::{HostConsole, Teller};
 use clap::error::ErrorKind;
-use pac_files::{FileSystem, HostFiles, standard_file};
+use pac_files::{FileSystem, HostFiles, keep_standard};
 use pac_options::{Request, options};
 use pac_out::Out;
 use pac_out::through::Through;
+use pac_run::Output;
 use std::alloc::Global;
 use std::rt::{Env, Files};
 use std::{env, io};
@@ -30,17 +31,32 @@ use std::{env, io};
 pub fn run<R: Env + Files + Print + Eprint + AllocGlobal>(rt: &R) -> u8
     ensures { result ≤ told.most_status }
 {
-    let input = standard_file(rt);
-    let output = standard_file(rt);
-    let error = standard_file(rt);
-    let status = match words_of(rt) {
-        Ok(words) => run_words(rt, rt, &words),
-        Err(error) => tell_words(rt, error.kind()),
+    let words = match words_of(rt) {
+        Ok(words) => words,
+        Err(error) => return tell_words(rt, error.kind()),
     };
-    drop(input);
-    drop(output);
-    drop(error);
+    let Ok(places) = keep_standard(rt) else {
+        return run_unkept(rt, &words);
+    };
+    let status = run_words(rt, rt, &words);
+    drop(places);
     status
+}
+
+/// Does what words ask where a file that is created might stand in the place of a standard stream: work that writes to standard
+/// output isn't begun, and its report or text is told as refused.
+fn run_unkept<R: Files + Print + Eprint + AllocGlobal>(rt: &R, words: &[String]) -> u8
+    ensures { result ≤ told.most_status }
+{
+    let output = match options(rt.alloc(), words) {
+        Ok(Request::Run(_)) | Ok(Request::Debug(_)) => Output::Report,
+        Ok(Request::Dis(_)) => Output::Text,
+        _ => return run_words(rt, rt, words),
+    };
+    tell(
+        &mut HostConsole { console: rt },
+        Failure::Write(Target::Of(output), 0),
+    )
 }
 
 /// The words of the command line, the program's name first.

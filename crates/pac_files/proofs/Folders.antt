@@ -5,10 +5,11 @@ use Rattle.std.proofs.lemmas.List.{take-append-drop}
 use Rattle.std.proofs.lemmas.Str.Pattern.{NoCharPasses-char, drop_at_char}
 use Rattle.std.specs.Borrow.{Bor}
 use Rattle.std.specs.Str.Pattern.{RFindsChar}
-use Rattle.pac_files.specs.Files.{slash, put_before, before_slash}
+use Rattle.pac_files.specs.Files.{put_before, before_slash}
+use Rattle.pac_files.specs.Names.{slash}
 
 -- no byte is a slash
-abbrev HasNone : List ℕ → Type 0
+abbrev pub HasNone : List ℕ → Type 0
 HasNone path = (i : ℕ) → i < length path → get_or path i 0 ≢ slash
 
 none-before : (path : List ℕ) → HasNone path → before_slash path ≡ None

@@ -1,2 +1,4 @@
 pub mod Folders
+pub mod NameParts
 pub mod Reading
+pub mod Whole

@@ -1,7 +1,11 @@
--- What reading the files of a command line comes to, and creating its outputs. A file system says by two relations what a read
--- of a path may find, `finds`, and what creating a file of a path, or failing to, leaves, `creates`.
-use Rattle.std.specs.Prelude.{◌≡◌, ◌≤◌, ◌⊎◌, ⊤, ℕ, List, [], ◌∷◌, ◌++◌, length, codes, unwrap_or, if◌then◌else◌, ◌==◌, Vec, Option, Some, None, Result, Ok, Err}
+-- To be believed: what reading the files of a command line comes to, and creating its outputs. A file system says by two relations
+-- what a read of a path may find, `finds`, and what creating a file of a path, or failing to, leaves, `creates`.
+use Rattle.std.specs.Prelude.{◌≡◌, ◌<◌, ◌≤◌, ◌⊎◌, ⊤, ℕ, List, [], ◌∷◌, ◌++◌, length, codes, unwrap_or, if◌then◌else◌, ◌==◌}
+use Rattle.std.specs.Prelude.{Vec, Option, Some, None, IfSome, Result, Ok, Err}
 use Rattle.std.specs.declared.alloc.Global.{Global}
+use Rattle.pac_files.specs.Names.{slash, is_within}
+use Rattle.pac_files.specs.declared.files.Kind.{Kind}
+use Rattle.pac_files.specs.declared.files.Kind.TheVariants.{Any, Plain}
 use Rattle.pac_files.specs.declared.files.ReadError.{ReadError}
 use Rattle.pac_files.specs.declared.files.ReadError.TheVariants as reading
 
@@ -9,22 +13,32 @@ use Rattle.pac_files.specs.declared.files.ReadError.TheVariants as reading
 abbrev pub most_read : ℕ
 most_read = 16777216
 
--- what a read of a path may find in one state of the files
+-- Reading all that a reader has left, as far as this is known: these bytes, and no more than may be; or they are more. For want of
+-- memory, or where the reader fails, anything may be left.
+abbrev pub IsWhole : (most : ℕ) → (left : Option (List ℕ)) → Result (Vec ℕ Global) ReadError → Type 0
+IsWhole most left (Ok bytes) = IfSome left (λ known. bytes.items ≡ known) × (length bytes.items ≤ most)
+IsWhole most left (Err reading.TooLong) = IfSome left (λ known. most < length known)
+IsWhole most left (Err other) = ⊤
+
+-- what a read of a path may find in one state of the files, where any kind of file will do or a plain one is wanted
 abbrev pub Finds : Type 1
-Finds = (path : List ℕ) → Option (List ℕ) → Type 0
+Finds = Kind → (path : List ℕ) → Option (List ℕ) → Type 0
 
 -- one read, by its answer; for want of memory anything may be there
-abbrev pub IsFound : Finds → List ℕ → Result (Vec ℕ Global) ReadError → Type 0
-IsFound finds path (Ok bytes) = finds path (Some bytes.items) × (length bytes.items ≤ most_read)
-IsFound finds path (Err reading.Unreadable) = finds path None
-IsFound finds path (Err reading.Memory) = ⊤
+abbrev pub IsFound : (found : Option (List ℕ) → Type 0) → Result (Vec ℕ Global) ReadError → Type 0
+IsFound found (Ok bytes) = found (Some bytes.items) × (length bytes.items ≤ most_read)
+IsFound found (Err reading.Memory) = ⊤
+IsFound found (Err other) = found None
+
+-- What a read of a file of the machine may find: the bytes that an opened file had left, as far as they are known. No contract says
+-- which file a path opens.
+abbrev pub IsOfMachine : {File : Type 0} → (left : File → Option (List ℕ)) → Option (List ℕ) → Type 0
+IsOfMachine {File} left (Some bytes) = (file : File) × IfSome (left file) (λ known. bytes ≡ known)
+IsOfMachine left None = ⊤
 
 -- ---- paths
 
 -- what stands before the last slash of a path, if it has one
-abbrev pub slash : ℕ
-slash = 47
-
 abbrev pub put_before : ℕ → Option (List ℕ) → Option (List ℕ)
 put_before byte (Some front) = Some (byte ∷ front)
 put_before byte None = if byte == slash then Some [] else None
@@ -41,30 +55,41 @@ folder_of path = unwrap_or (before_slash path) (codes ".")
 abbrev pub beside : (other name : List ℕ) → List ℕ
 beside other name = folder_of other ++ codes "/" ++ name
 
+-- the path of a file that a manifest names, where its name is that of a file of the manifest's folder
+abbrev pub path_in : (manifest name : List ℕ) → Option (List ℕ)
+path_in manifest name = if is_within name then Some (beside manifest name) else None
+
 -- ---- reading
 
--- a file that is to be read, and the name by which a fault tells it
+-- a file that is to be read: its kind, its path, if its name gives one, and the name by which a fault tells it
 pub record Wanted : Type 0 where
-  pub path : List ℕ
+  pub kind : Kind
+  pub path : Option (List ℕ)
   pub name : List ℕ
 
--- one whose path is the name that was given
+-- one whose path is the name that was given, of any kind
 abbrev pub as_given : List ℕ → Wanted
-as_given name = record { path = name; name = name }
+as_given name = record { kind = Any; path = Some name; name = name }
 
--- one that stands beside another
-abbrev pub standing_by : (other name : List ℕ) → Wanted
-standing_by other name = record { path = beside other name; name = name }
+-- a plain one that a manifest names
+abbrev pub standing_by : (manifest name : List ℕ) → Wanted
+standing_by manifest name = record { kind = Plain; path = path_in manifest name; name = name }
+
+-- what reading it may find; without a path there is nothing
+abbrev pub MayFind : Finds → Kind → Option (List ℕ) → Option (List ℕ) → Type 0
+MayFind finds kind (Some path) found = finds kind path found
+MayFind finds kind None None = ⊤
+MayFind finds kind None (Some bytes) = ⊥
 
 -- a file that can be read
 pub record IsReadable (finds : Finds) (file : Wanted) : Type 0 where
   pub bytes : List ℕ
-  pub found : finds file.path (Some bytes)
+  pub found : MayFind finds file.kind file.path (Some bytes)
 
 -- one that can't, of this name
 pub record IsUnread (finds : Finds) (file : Wanted) (name : List ℕ) : Type 0 where
   pub name_is : name ≡ file.name
-  pub found : finds file.path None
+  pub found : MayFind finds file.kind file.path None
 
 -- this is the name of the first of these files that can't be read
 abbrev pub FirstUnread : Finds → List Wanted → List ℕ → Type 0

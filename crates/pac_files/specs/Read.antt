@@ -11,7 +11,8 @@ use Rattle.pac_files.specs.declared.given.Given.{Given}
 use Rattle.pac_files.specs.declared.given.ReadFault.{ReadFault}
 use Rattle.pac_files.specs.declared.given.ReadFault.TheVariants.{Unreadable, Memory}
 use Rattle.pac_files.specs.declared.parts.NamedFile.{NamedFile}
-use Rattle.pac_files.specs.Files.{Finds, Wanted, as_given, standing_by, beside, FirstUnread}
+use Rattle.pac_files.specs.declared.files.Kind.TheVariants.{Any, Plain}
+use Rattle.pac_files.specs.Files.{Finds, Wanted, as_given, standing_by, path_in, MayFind, FirstUnread}
 
 -- by the answer: what was read; or the name of a file that can't be; or memory ran out
 abbrev pub Reads : {A : Type 0} → (A → Type 0) → (List ℕ → Type 0) → Result A ReadFault → Type 0
@@ -33,14 +34,14 @@ watched_files asked = given_files asked.run ++ as_given asked.commands ∷ []
 
 abbrev pub HasSource : Finds → Option (List ℕ) → Option (Vec ℕ Global) → Type 0
 HasSource finds None None = ⊤
-HasSource finds (Some name) (Some bytes) = finds name (Some bytes.items)
+HasSource finds (Some name) (Some bytes) = finds Any name (Some bytes.items)
 HasSource finds name bytes = ⊥
 
 -- what was read of them
 pub record HasGiven (finds : Finds) (asked : AskedRun) (given : Given) : Type 0 where
   pub source : HasSource finds asked.source given.source
-  pub manifest : finds asked.set (Some given.manifest.items)
-  pub script : finds asked.script (Some given.script.items)
+  pub manifest : finds Any asked.set (Some given.manifest.items)
+  pub script : finds Any asked.script (Some given.script.items)
 
 -- the names that a manifest gives, in the order of its parts; none where there is no manifest
 abbrev pub names_in : Option Manifest → List (List ℕ)
@@ -50,14 +51,14 @@ names_in (Some manifest) = filter_map (file_of manifest) in_order
 abbrev pub names_of : (manifest : List ℕ) → List (List ℕ)
 names_of manifest = names_in (result_ok (manifest_of manifest))
 
--- the files of these names, which stand in the manifest's folder
+-- the plain files of these names, which stand in the manifest's folder or below
 abbrev pub part_files : (set : List ℕ) → List (List ℕ) → List Wanted
 part_files set names = map (standing_by set) names
 
 -- what was read of them: each of these names has its file
 pub record IsPart (finds : Finds) (set name : List ℕ) (part : NamedFile) : Type 0 where
   pub name_is : string_bytes part.name ≡ name
-  pub found : finds (beside set name) (Some part.bytes.items)
+  pub found : MayFind finds Plain (path_in set name) (Some part.bytes.items)
 
 abbrev pub HasParts : Finds → (set : List ℕ) → List (List ℕ) → List NamedFile → Type 0
 HasParts finds set [] [] = ⊤

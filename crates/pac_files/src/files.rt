@@ -1,25 +1,58 @@
 //! Files, as the program sees them: they are read whole, up to a size, and created empty.
 
-ghost use Rattle.std.specs.Prelude.{ℕ, List, Option, ⊤};
-ghost use Rattle.pac_files.specs.Files.{IsFound};
+ghost use Rattle.std.specs.Prelude.{ℕ, ◌-◌, ◌<◌, ◌^◌, List, Option, ⊤};
+ghost use Rattle.pac_files.specs.declared.files.Kind.{Kind};
+ghost use Rattle.pac_files.specs.Files.{IsFound, IsOfMachine, IsWhole, most_read};
 
 use pac_out::Out;
 use pac_out::through::Through;
 use std::alloc::Global;
+use std::fs;
 use std::io::{ErrorKind, Read};
 use std::rt::Files;
-use std::{fs, io};
 
 /// The most bytes of a file that is read: 16 MiB.
 const MOST_BYTES: u64 = 16_777_216;
 
+/// What may stand where a file is read.
+#[derive(Clone, Copy)]
+pub enum Kind {
+    /// A file of any kind: a pipe or a device too, as far as it can be read to an end.
+    Any,
+    /// A plain file alone.
+    Plain,
+}
+
 /// Why a file's bytes can't be had.
 #[derive(Clone, Copy)]
 pub enum ReadError {
-    /// It isn't there, it can't be read, or it has more than 16 MiB.
+    /// It isn't there, or it can't be read.
     Unreadable,
+    /// It has more than 16 MiB.
+    TooLong,
     /// Memory ran out.
     Memory,
+}
+
+/// Reads all that a reader has left, or one byte more than may be.
+fn read_up_to<R: Read + Drop>(alloc: Global, reader: R, most: u64) -> Result<Vec<u8>, ReadError>
+    requires { most < 2 ^ 64 - 1 }
+    ensures { IsWhole most (R.remaining reader) result }
+{
+    let mut bytes = Vec::new(alloc);
+    match reader.take(most + 1).read_to_end(&mut bytes) {
+        Ok(count) if count as u64 <= most => Ok(bytes),
+        Ok(_) => Err(ReadError::TooLong),
+        Err(error) if error.kind() == ErrorKind::OutOfMemory => Err(ReadError::Memory),
+        Err(_) => Err(ReadError::Unreadable),
+    }
+}
+
+/// Reads all that a reader has left, up to 16 MiB. A reader's own error makes it unreadable.
+pub fn read_whole<R: Read + Drop>(alloc: Global, reader: R) -> Result<Vec<u8>, ReadError>
+    ensures { IsWhole most_read (R.remaining reader) result }
+{
+    read_up_to(alloc, reader, MOST_BYTES)
 }
 
 /// Where files are. Reading one changes nothing.
@@ -30,8 +63,8 @@ pub trait FileSystem {
     /// A file that was created.
     type File: Out + Drop;
 
-    /// A read of this path may find these bytes, or none that can be had.
-    ghost finds: { Self → List ℕ → Option (List ℕ) → Type 0 };
+    /// A read of this path may find these bytes, or none that can be had, where a file of this kind is wanted.
+    ghost finds: { Self → Kind → List ℕ → Option (List ℕ) → Type 0 };
 
     /// What is left where a file of this path was created, or couldn't be.
     ghost creates: { Self → List ℕ → Option Self.File → Self → Type 0 };
@@ -40,8 +73,8 @@ pub trait FileSystem {
     ghost closes: { Self → Self.File → Self → Type 0 };
 
     /// The bytes of a file of at most 16 MiB.
-    fn read(&self, alloc: Global, path: &str) -> Result<Vec<u8>, ReadError>
-        ensures { IsFound (finds self.now) path.now result };
+    fn read(&self, alloc: Global, kind: Kind, path: &str) -> Result<Vec<u8>, ReadError>
+        ensures { IsFound (finds self.now kind path.now) result };
 
     /// Creates a file, or empties it.
     fn create(&mut self, path: &str) -> Option<Self::File>
@@ -52,7 +85,7 @@ pub trait FileSystem {
         ensures { closes self.old file self.new };
 }
 
-/// The files of the machine that the program runs on, of which no contract says what they hold.
+/// The files of the machine that the program runs on. No contract says what they hold.
 #[derive(Clone, Copy)]
 pub struct HostFiles<'a, R> {
     /// The program's runtime.
@@ -62,22 +95,21 @@ pub struct HostFiles<'a, R> {
 impl<R: Files> FileSystem for HostFiles<'_, R> {
     type File = Through<R::File>;
 
-    ghost finds = { λ files path found. ⊤ };
+    ghost finds = { λ files kind path found. IsOfMachine R.File.remaining found };
 
     ghost creates = { λ old path file new. ⊤ };
 
     ghost closes = { λ old file new. ⊤ };
 
-    /// Reads it to its end, or one byte too far.
-    fn read(&self, alloc: Global, path: &str) -> Result<Vec<u8>, ReadError> {
-        let mut bytes = Vec::new(alloc);
-        let Ok(file) = fs::open(self.rt, path) else {
+    /// Opens it and reads it whole. Only a plain file is opened where one is wanted: the opening of a pipe may wait for a
+    /// writer.
+    fn read(&self, alloc: Global, kind: Kind, path: &str) -> Result<Vec<u8>, ReadError> {
+        if !is_of_kind(self.rt, kind, path) {
             return Err(ReadError::Unreadable);
-        };
-        match file.take(MOST_BYTES + 1).read_to_end(&mut bytes) {
-            Ok(count) if count as u64 <= MOST_BYTES => Ok(bytes),
-            Err(error) if error.kind() == ErrorKind::OutOfMemory => Err(ReadError::Memory),
-            _ => Err(ReadError::Unreadable),
+        }
+        match fs::open(self.rt, path) {
+            Ok(file) => read_whole(alloc, file),
+            Err(_) => Err(ReadError::Unreadable),
         }
     }
 
@@ -95,9 +127,13 @@ impl<R: Files> FileSystem for HostFiles<'_, R> {
     }
 }
 
-/// Opens the root folder for reading, which takes the least descriptor that is free: three calls take those of 0 to 2
-/// that were closed when the program began. As long as the three files live, no file that is created has such a
-/// descriptor, so no text for standard output or standard error goes into it; a text for a closed one is refused.
-pub fn standard_file<R: Files>(rt: &R) -> io::Result<R::File> {
-    fs::open(rt, "/")
+/// Whether what stands at a path is of this kind.
+fn is_of_kind<R: Files>(rt: &R, kind: Kind, path: &str) -> bool {
+    match kind {
+        Kind::Any => true,
+        Kind::Plain => match fs::metadata(rt, path) {
+            Ok(found) => found.is_file(),
+            Err(_) => false,
+        },
+    }
 }

@@ -2,10 +2,11 @@
 
 ghost use Rattle.std.specs.Prelude.{◌≤◌, IfOk, Some, length, option_copied};
 ghost use Rattle.pac_options.specs.CommandLine.{told_debug, told_run};
-ghost use Rattle.pac_files.specs.Files.{FirstUnread, IsUnread, most_read};
+ghost use Rattle.pac_files.specs.declared.files.Kind.TheVariants.{Any};
+ghost use Rattle.pac_files.specs.Files.{FirstUnread, IsUnread, as_given, most_read};
 ghost use Rattle.pac_files.specs.Read.{HasGiven, HasSource, Reads, given_files, source_files, watched_files};
 
-use crate::files::{FileSystem, ReadError};
+use crate::files::{FileSystem, Kind, ReadError};
 use pac_options::{DebugFiles, RunFiles};
 use std::alloc::Global;
 
@@ -30,21 +31,35 @@ pub struct Given {
 }
 
 /// Reads the file of a path; a fault tells this name.
-pub fn read_file<'a, D: FileSystem>(
+pub(crate) fn read_path<'a, D: FileSystem>(
     alloc: Global,
     disk: &D,
+    kind: Kind,
     path: &str,
     name: &'a str,
 ) -> Result<Vec<u8>, ReadFault<'a>>
-    ensures read { Reads (λ bytes. D.finds disk.now path.now (Some bytes.items))
-        (IsUnread (D.finds disk.now) (record { path = path.now; name = name.now })) result }
+    ensures read { Reads (λ bytes. D.finds disk.now kind path.now (Some bytes.items))
+        (IsUnread (D.finds disk.now) (record { kind = kind; path = Some path.now; name = name.now })) result }
     ensures size { IfOk result (λ bytes. length bytes.items ≤ most_read) }
 {
-    match disk.read(alloc, path) {
+    match disk.read(alloc, kind, path) {
         Ok(bytes) => Ok(bytes),
-        Err(ReadError::Unreadable) => Err(ReadFault::Unreadable(name)),
         Err(ReadError::Memory) => Err(ReadFault::Memory),
+        Err(_) => Err(ReadFault::Unreadable(name)),
     }
+}
+
+/// Reads a file that the command line names, of any kind.
+pub fn read_file<'a, D: FileSystem>(
+    alloc: Global,
+    disk: &D,
+    name: &'a str,
+) -> Result<Vec<u8>, ReadFault<'a>>
+    ensures read { Reads (λ bytes. D.finds disk.now Any name.now (Some bytes.items))
+        (IsUnread (D.finds disk.now) (as_given name.now)) result }
+    ensures size { IfOk result (λ bytes. length bytes.items ≤ most_read) }
+{
+    read_path(alloc, disk, Kind::Any, name, name)
 }
 
 /// Reads the source, where one is named.
@@ -59,7 +74,7 @@ fn read_source<'a, D: FileSystem>(
     let Some(name) = name else {
         return Ok(None);
     };
-    match read_file(alloc, disk, name, name) {
+    match read_file(alloc, disk, name) {
         Ok(source) => Ok(Some(source)),
         Err(fault) => Err(fault),
     }
@@ -78,11 +93,11 @@ pub fn read_given<'a, D: FileSystem>(
         Ok(source) => source,
         Err(fault) => return Err(fault),
     };
-    let manifest = match read_file(alloc, disk, files.set, files.set) {
+    let manifest = match read_file(alloc, disk, files.set) {
         Ok(manifest) => manifest,
         Err(fault) => return Err(fault),
     };
-    match read_file(alloc, disk, files.script, files.script) {
+    match read_file(alloc, disk, files.script) {
         Ok(script) => Ok(Given {
             source,
             manifest,
@@ -99,14 +114,14 @@ pub fn read_watched<'a, D: FileSystem>(
     files: &DebugFiles<'a>,
 ) -> Result<(Given, Vec<u8>), ReadFault<'a>>
     ensures { Reads
-        (λ read. HasGiven (D.finds disk.now) (told_run files.now.run) read.0 × D.finds disk.now files.now.commands.now (Some read.1.items))
+        (λ read. HasGiven (D.finds disk.now) (told_run files.now.run) read.0 × D.finds disk.now Any files.now.commands.now (Some read.1.items))
         (FirstUnread (D.finds disk.now) (watched_files (told_debug files.now))) result }
 {
     let given = match read_given(alloc, disk, &files.run) {
         Ok(given) => given,
         Err(fault) => return Err(fault),
     };
-    match read_file(alloc, disk, files.commands, files.commands) {
+    match read_file(alloc, disk, files.commands) {
         Ok(commands) => Ok((given, commands)),
         Err(fault) => Err(fault),
     }

@@ -1,13 +1,15 @@
 //! The files that a manifest names, as they are read.
 
-ghost use Rattle.std.specs.Prelude.{◌≡◌, IfOk, map, string_bytes};
+ghost use Rattle.std.specs.Prelude.{◌≡◌, IfOk, Some, map, option_map, string_bytes};
 ghost use Rattle.std.specs.Result.{result_ok};
 ghost use Rattle.pac_manifest.specs.Manifests.{manifest_of};
-ghost use Rattle.pac_files.specs.Files.{FirstUnread, IsUnread, beside, folder_of, standing_by};
+ghost use Rattle.pac_files.specs.declared.files.Kind.TheVariants.{Plain};
+ghost use Rattle.pac_files.specs.Files.{FirstUnread, IsUnread, MayFind, beside, folder_of, path_in, standing_by};
 ghost use Rattle.pac_files.specs.Read.{HasParts, IsPart, Reads, names_in, part_files, told_file, told_part};
 
-use crate::files::FileSystem;
-use crate::given::{ReadFault, read_file};
+use crate::files::{FileSystem, Kind};
+use crate::given::{ReadFault, read_path};
+use crate::names::is_within;
 use pac_manifest::{Manifest, Part, SetError, read_manifest};
 use std::alloc::{AllocError, Global};
 
@@ -51,7 +53,37 @@ fn path_beside(alloc: Global, other: &str, name: &str) -> Result<String, AllocEr
     Ok(path)
 }
 
-/// Reads a file that stands in the manifest's folder.
+/// The path of a file that a manifest names; none where its name isn't that of a file of the manifest's folder.
+fn path_in(alloc: Global, set: &str, name: &str) -> Result<Option<String>, AllocError>
+    ensures { IfOk result (λ path. option_map string_bytes path ≡ path_in set.now name.now) }
+{
+    if !is_within(name) {
+        return Ok(None);
+    }
+    match path_beside(alloc, set, name) {
+        Ok(path) => Ok(Some(path)),
+        Err(error) => Err(error),
+    }
+}
+
+/// Reads the bytes of a plain file that a manifest names.
+fn read_bytes<'a, D: FileSystem>(
+    alloc: Global,
+    disk: &D,
+    set: &str,
+    name: &'a str,
+) -> Result<Vec<u8>, ReadFault<'a>>
+    ensures { Reads (λ bytes. MayFind (D.finds disk.now) Plain (path_in set.now name.now) (Some bytes.items))
+        (IsUnread (D.finds disk.now) (standing_by set.now name.now)) result }
+{
+    match path_in(alloc, set, name) {
+        Ok(Some(path)) => read_path(alloc, disk, Kind::Plain, path.as_str(), name),
+        Ok(None) => Err(ReadFault::Unreadable(name)),
+        Err(_) => Err(ReadFault::Memory),
+    }
+}
+
+/// Reads a plain file that a manifest names.
 fn read_part<'a, D: FileSystem>(
     alloc: Global,
     disk: &D,
@@ -61,10 +93,7 @@ fn read_part<'a, D: FileSystem>(
     ensures { Reads (IsPart (D.finds disk.now) set.now name.now)
         (IsUnread (D.finds disk.now) (standing_by set.now name.now)) result }
 {
-    let Ok(path) = path_beside(alloc, set, name) else {
-        return Err(ReadFault::Memory);
-    };
-    let bytes = read_file(alloc, disk, path.as_str(), name)?;
+    let bytes = read_bytes(alloc, disk, set, name)?;
     match String::from_str(alloc, name) {
         Ok(name) => Ok(NamedFile { name, bytes }),
         Err(_) => Err(ReadFault::Memory),

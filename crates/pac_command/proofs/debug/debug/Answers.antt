@@ -1,6 +1,7 @@
 use Rattle.std.proofs.Common.{inl, inr, refl, sym, subst, Some, Vec, Global}
 use Rattle.pac_options.specs.CommandLine.{told_run}
 use Rattle.pac_files.specs.Read.{HasParts, names_in}
+use Rattle.pac_files.specs.declared.files.Kind.TheVariants.{Any}
 use Rattle.pac_files.specs.declared.parts.NamedFile.{NamedFile}
 use Rattle.pac_command.specs.declared.failure.Failure.TheVariants.{Memory}
 use Rattle.pac_command.proofs.Reading.{unread-reason, part-unread, all-read}
@@ -37,13 +38,14 @@ returns-clause-watches g c =
     let finds = g.D.FileSystem.finds c.args.disk.now in
     inr (record {
       commands = c.deref-2.result.now;
-      commands_are = subst (λ commands. finds c.args.files.now.commands.now (Some commands)) (sym c.deref-2.ensures.value) c.in-Ok.ensures.1;
+      commands_are = subst (λ commands. finds Any c.args.files.now.commands.now (Some commands)) (sym c.deref-2.ensures.value)
+          c.in-Ok.ensures.1;
       run = record {
         given = c.in-Ok.read.0;
         parts = c.deref-3.result.now;
         read = all-read finds (told_run c.args.files.now.run) c.in-Ok.read.0 c.in-Ok.ensures.0 c.deref.result.now
-            c.in-Ok-manifest_in.manifest c.deref.ensures.value c.in-Ok-manifest_in.ensures c.deref-3.result.now c.in-Ok-read_parts.named.items
-            c.deref-3.ensures.value c.in-Ok-read_parts.ensures;
+            c.in-Ok-manifest_in.manifest c.deref.ensures.value c.in-Ok-manifest_in.ensures c.deref-3.result.now
+            c.in-Ok-read_parts.named.items c.deref-3.ensures.value c.in-Ok-read_parts.ensures;
         answer = c.record_watched.result;
         records = c.record_watched.ensures;
         ends = c.end.ensures.ends;
