@@ -1,0 +1,114 @@
+/* What tools/refusals preloads into the program: it stands before malloc, realloc and write, and has each call refused in turn.
+ *
+ * At a call that may be refused the program forks. The child is the run in which it is refused: it goes on to its end, its status goes
+ * to tools/refusals, which looks at what it left and answers; then the files are put back as they were, and the parent goes on as if
+ * nothing had been. So one run tries every refusal of a kind, until there is none left. Memory that is asked for after the first byte
+ * of an output is told as the status -1. Only calls from the program's own code count, not those within the C library.
+ */
+#define _GNU_SOURCE
+#include <errno.h>
+#include <link.h>
+#include <stdlib.h>
+#include <string.h>
+#include <sys/auxv.h>
+#include <sys/socket.h>
+#include <sys/stat.h>
+#include <sys/syscall.h>
+#include <sys/wait.h>
+#include <unistd.h>
+
+enum { DESCRIPTORS = 64, ONE = '1', REST = 'r', WRITE = 'w' };
+
+void *__libc_malloc(size_t size);
+void *__libc_realloc(void *block, size_t size);
+
+static ElfW(Addr) first, last;    /* the program's own code */
+static int kind, talk;            /* what is refused: a call for memory, it and all after it, or a write; and to whom it is told */
+static const char *output;        /* the file whose writes are refused */
+static size_t most = (size_t)-1;  /* the bytes that a write takes */
+static int refused, begun;        /* whether a call was refused, and whether an output has a byte */
+
+__attribute__((constructor)) static void prepare(void)
+{
+    const ElfW(Phdr) *header = (const void *)getauxval(AT_PHDR);
+    ElfW(Addr) base = (ElfW(Addr))header - header->p_vaddr;
+    for (unsigned long left = getauxval(AT_PHNUM); left > 0; left--, header++)
+        if (header->p_type == PT_LOAD && header->p_flags & PF_X)
+            first = base + header->p_vaddr, last = first + header->p_memsz;
+    talk = atoi(getenv("REFUSALS_TALK"));
+    kind = *getenv("REFUSALS_KIND");
+    output = getenv("REFUSALS_OUTPUT");
+    if (*getenv("REFUSALS_MOST"))
+        most = atoi(getenv("REFUSALS_MOST"));
+}
+
+/* Tells a status, and waits for the answer. */
+static void tell(int status)
+{
+    char answer;
+    if (send(talk, &status, sizeof status, 0) < 0 || recv(talk, &answer, 1, 0) != 1)
+        _exit(120);
+}
+
+/* Whether this call is refused, which it is in the child. */
+static int is_refused(void)
+{
+    off_t at[DESCRIPTORS];
+    int status;
+    if (refused)
+        return kind == REST;
+    for (int file = 0; file < DESCRIPTORS; file++)
+        at[file] = lseek(file, 0, SEEK_CUR);
+    refused = 1;
+    pid_t child = fork();
+    if (child == 0)
+        return 1;
+    if (child < 0 || waitpid(child, &status, 0) < 0)
+        _exit(121);
+    refused = 0;
+    tell(status);
+    for (int file = 0; file < DESCRIPTORS; file++)
+        if (at[file] >= 0 && (ftruncate(file, at[file]) == 0 || errno == EINVAL))
+            lseek(file, at[file], SEEK_SET);
+    return 0;
+}
+
+/* Whether a call for memory from this place is refused. */
+static int is_scarce(void *from)
+{
+    if ((ElfW(Addr))from < first || (ElfW(Addr))from >= last)
+        return 0;
+    if (begun)
+        tell(-1);
+    return kind != WRITE && is_refused();
+}
+
+void *malloc(size_t size)
+{
+    return is_scarce(__builtin_return_address(0)) ? (errno = ENOMEM, NULL) : __libc_malloc(size);
+}
+
+void *realloc(void *block, size_t size)
+{
+    return is_scarce(__builtin_return_address(0)) ? (errno = ENOMEM, NULL) : __libc_realloc(block, size);
+}
+
+/* Whether a descriptor is that of the output whose writes are refused. */
+static int is_output(int file)
+{
+    struct stat here, there;
+    return fstat(file, &here) == 0 && stat(output, &there) == 0 && here.st_dev == there.st_dev && here.st_ino == there.st_ino;
+}
+
+ssize_t write(int file, const void *bytes, size_t count)
+{
+    begun |= file != STDERR_FILENO;
+    if (kind == WRITE && !refused && is_output(file) && is_refused())
+        return errno = ENOSPC, -1;
+    return syscall(SYS_write, file, bytes, count < most ? count : most);
+}
+
+ssize_t __write(int file, const void *bytes, size_t count)
+{
+    return write(file, bytes, count);
+}
