@@ -21,3 +21,5 @@ mod set;
 mod sinks;
 #[cfg(test)]
 mod sounds;
+#[cfg(test)]
+mod states;

@@ -4,7 +4,7 @@ use crate::rig::Rig;
 use crate::set::SWITCHES;
 use pac_board::Fields;
 use pac_board::kept::{Kept, Taken};
-use pac_picture::Picture;
+use pac_picture::{Lines, Picture};
 use std::ops::Range;
 
 impl Rig {
@@ -22,6 +22,16 @@ impl Rig {
     pub fn is_where(&self, other: &Rig) -> bool {
         self.counts(other.board().steps(), other.board().time())
             && self.board().regs() == other.board().regs()
+    }
+
+    /// Whether the whole state is that of another one.
+    pub fn has_state_of(&self, other: &Rig) -> bool {
+        are_same(&self.board().fields(), &other.board().fields())
+    }
+
+    /// Whether RAM, latches and inputs are those of another one.
+    pub fn has_memory_of(&self, other: &Rig) -> bool {
+        are_same_memories(&self.board().fields(), &other.board().fields())
     }
 
     /// The steps that the board did.
@@ -133,6 +143,36 @@ impl Rig {
 /// Whether fields are those of a board at power-on.
 fn are_at_power_on(fields: &Fields) -> bool {
     fields.time == 0 && fields.steps == 0 && fields.asked == 0 && fields.memory.switches == SWITCHES
+}
+
+/// Whether memories, latches and inputs are the same.
+fn are_same_memories(one: &Fields, other: &Fields) -> bool {
+    let (one, other) = (&one.memory, &other.memory);
+    one.tile == other.tile
+        && one.colour == other.colour
+        && one.work == other.work
+        && one.coordinates == other.coordinates
+        && one.registers == other.registers
+        && [one.latch, one.vector, one.count, one.switches]
+            == [other.latch, other.vector, other.count, other.switches]
+        && one.requested == other.requested
+        && one.held == other.held
+}
+
+/// Whether two boards' pictures have the same lines.
+fn are_same_lines(one: &Lines, other: &Lines) -> bool {
+    (0..224u8).all(|y| y >= 224 || one.row(y) == other.row(y))
+}
+
+/// Whether all fields of a state are the same.
+fn are_same(one: &Fields, other: &Fields) -> bool {
+    [one.time, one.steps, one.asked] == [other.time, other.steps, other.asked]
+        && one.regs == other.regs
+        && one.accumulators == other.accumulators
+        && one.due.sample == other.due.sample
+        && one.due.picture == other.due.picture
+        && are_same_memories(one, other)
+        && are_same_lines(one.lines, other.lines)
 }
 
 /// Whether a picture has one number in a rectangle, and 0 everywhere else.

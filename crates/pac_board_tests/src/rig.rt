@@ -132,6 +132,11 @@ impl Rig {
         self.board.snapshot(alloc)
     }
 
+    /// Writes the state as it is now over an old one.
+    pub fn snapshot_into(&self, snapshot: &mut Snapshot) {
+        self.board.snapshot_into(snapshot);
+    }
+
     /// Goes back to a state.
     pub fn restore(&mut self, snapshot: &Snapshot) {
         self.board.restore(snapshot);

@@ -219,3 +219,38 @@ fn a_request_between_two_repeats(rt: HostRuntime) -> Result<(), Fail> {
     assert!(rt; rig.pair(0x4C00) == [0x31, 0xF0]);
     Ok(())
 }
+
+/// Whether so many steps lead to a time and a PC.
+fn comes_to(rig: &mut Rig, steps: u8, time: u64, pc: u16) -> bool {
+    let mut is_stepped = true;
+    for _ in 0..steps {
+        is_stepped = rig.steps() && is_stepped;
+    }
+    is_stepped && rig.is_at(u64::from(steps), time, pc)
+}
+
+// LD A,55H / LD SP,1 / PUSH AF / HALT: the pushes go to 0000H, which is ROM, and to FFFFH, which is the watchdog's port: no RAM changes.
+#[test]
+fn a_stack_around_the_end_of_memory(rt: HostRuntime) -> Result<(), Fail> {
+    let mut rig = Rig::new(rt.alloc(), &[0x3E, 0x55, 0x31, 0x01, 0x00, 0xF5, 0x76])?;
+    assert!(rt; comes_to(&mut rig, 4, 7 + 10 + 11 + 4, 0x0007));
+    assert!(rt; rig.board().regs().sp == 0xFFFF && rig.peek(0x0000) == 0x3E);
+    let blank = Rig::new(rt.alloc(), &[])?;
+    assert!(rt; rig.has_memory_of(&blank));
+    Ok(())
+}
+
+// LD SP,4FF0H / LD HL,0FFFFH / LD (4FEEH),HL / JP 0FFFFH: a port is read as FFH, which is RST 38H, and 0000H is pushed over FFFFH.
+#[test]
+fn code_in_a_port(rt: HostRuntime) -> Result<(), Fail> {
+    let bytes = [
+        0x31, 0xF0, 0x4F, 0x21, 0xFF, 0xFF, 0x22, 0xEE, 0x4F, 0xC3, 0xFF, 0xFF,
+    ];
+    let mut rig = Rig::new(rt.alloc(), &bytes)?;
+    assert!(rt; comes_to(&mut rig, 4, 10 + 10 + 16 + 10, 0xFFFF));
+    assert!(rt; rig.pair(0x4FEE) == [0xFF, 0xFF]);
+    assert!(rt; rig.steps());
+    assert!(rt; rig.is_at(5, 57, 0x0038));
+    assert!(rt; rig.pair(0x4FEE) == [0x00, 0x00]);
+    Ok(())
+}

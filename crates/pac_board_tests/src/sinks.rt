@@ -2,7 +2,8 @@
 
 use crate::rig::Rig;
 use crate::set::FRAME;
-use pac_board::Fault;
+use pac_board::{Fault, Snapshot};
+use std::alloc::{AllocError, Global};
 use std::test::Fail;
 
 // No program: the first sample is refused.
@@ -35,28 +36,50 @@ fn a_refused_picture_is_offered_again(rt: HostRuntime) -> Result<(), Fail> {
     Ok(())
 }
 
-// A tile and three voices; offers of a frame are refused, one each turn, up to its picture, the 1,585th, and past it.
-#[test]
-fn offers_refused_in_turn(rt: HostRuntime) -> Result<(), Fail> {
-    let bytes = [
+/// LD A,42H / LD (4040H),A / HALT; and the same with three voices between.
+static PROGRAMS: [&[u8]; 2] = [
+    &[0x3E, 0x42, 0x32, 0x40, 0x40, 0x76],
+    &[
         0x3E, 0x42, 0x32, 0x40, 0x40, 0x32, 0x01, 0x50, 0x32, 0x55, 0x50, 0x76,
-    ];
-    let mut whole = Rig::new(rt.alloc(), &bytes)?;
-    let start = whole.snapshot(rt.alloc())?;
-    assert!(rt; whole.ticks(FRAME).is_some());
-    let mut rig = Rig::new(rt.alloc(), &bytes)?;
-    for refusal in [1u64, 2, 3, 40, 792, 1583, 1584, 1585, 1586, 1600] {
-        rig.restore(&start);
-        rig.refuse(rt.alloc(), refusal);
-        assert!(rt;
-            rig.ticks(FRAME).is_some() == (refusal > 1585),
-            "offer {refusal}"
-        );
-        assert!(rt; rig.ticks(0).is_some(), "offer {refusal}");
-        assert!(rt;
-            rig.is_where(&whole) && rig.gave_the_same(&whole),
-            "offer {refusal}"
-        );
+    ],
+];
+
+/// Whether a frame from a state on, an offer of which is refused once, leaves the board and the outputs of another one.
+fn is_taken_up(alloc: Global, rig: &mut Rig, start: &Snapshot, refusal: u64, whole: &Rig) -> bool {
+    rig.restore(start);
+    rig.refuse(alloc, refusal);
+    let is_refused = rig.ticks(FRAME).is_none();
+    is_refused == (refusal <= 1585)
+        && rig.ticks(0).is_some()
+        && rig.has_state_of(whole)
+        && rig.gave_the_same(whole)
+}
+
+/// The first offer of a frame whose refusal isn't taken up; 0 where each one is.
+fn not_taken_up(alloc: Global, rig: &mut Rig, whole: &mut Rig) -> u64 {
+    let Ok(start) = whole.snapshot(alloc) else {
+        return 1;
+    };
+    if whole.ticks(FRAME).is_none() {
+        return 1;
+    }
+    for refusal in 1..=1600u64 {
+        if !is_taken_up(alloc, rig, &start, refusal, whole) {
+            return refusal;
+        }
+    }
+    0
+}
+
+// Offers of a frame are refused, one each turn, up to its picture, the 1,585th, and past it: calls for no time lead to the same
+// state, and each output is taken once.
+#[test]
+fn offers_refused_in_turn(rt: HostRuntime) -> Result<(), AllocError> {
+    for program in &PROGRAMS {
+        let mut rig = Rig::new(rt.alloc(), program)?;
+        let mut whole = Rig::new(rt.alloc(), program)?;
+        let offer = not_taken_up(rt.alloc(), &mut rig, &mut whole);
+        assert!(rt; offer == 0, "{offer} of {program:?}");
     }
     Ok(())
 }

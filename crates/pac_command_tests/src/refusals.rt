@@ -15,14 +15,19 @@ const UNREAD: Line = Line {
             "wave.toml",
             b"tiles.file = 'tiles.rom'\nwave.file = '/none.prom'\n",
         ),
+        ("empty.toml", b"tiles.file = ''\n"),
+        ("above.toml", b"tiles.file = '../unread/tiles.rom'\n"),
+        ("round.toml", b"tiles.file = 'a/../tiles.rom'\n"),
+        ("sly.toml", b"tiles.file = \"\\u001B[2J\\u007F.rom\\n\"\n"),
     ],
     status: 3,
     left: NONE,
     ..RUN
 };
 
-/// Source, manifest, script, then the manifest's files in the order of the parts; nothing is created before all is read.
-static UNREADABLE: [Line; 6] = [
+/// Source, manifest, script, then the manifest's files in the order of the parts; nothing is created before all is read. A name in a
+/// manifest is none of its folder where it is empty, begins with a slash or climbs, be the file there or not.
+static UNREADABLE: [Line; 10] = [
     Line {
         words: "run --source @/none.asm --set @/no.toml --script @/no.script",
         error: "read fault unread/none.asm\n",
@@ -53,6 +58,26 @@ static UNREADABLE: [Line; 6] = [
         error: "read fault /none.prom\n",
         ..UNREAD
     },
+    Line {
+        words: "run --set @/empty.toml --script @/one.script",
+        error: "read fault \n",
+        ..UNREAD
+    },
+    Line {
+        words: "run --set @/above.toml --script @/one.script",
+        error: "read fault ../unread/tiles.rom\n",
+        ..UNREAD
+    },
+    Line {
+        words: "run --set @/round.toml --script @/one.script",
+        error: "read fault a/../tiles.rom\n",
+        ..UNREAD
+    },
+    Line {
+        words: "run --set @/sly.toml --script @/one.script",
+        error: "read fault \\x1B[2J\\x7F.rom\\x0A\n",
+        ..UNREAD
+    },
 ];
 
 #[test]
@@ -66,6 +91,7 @@ const REFUSED: Line = Line {
         ("fault.asm", b"NOP\nLD A,2B\n"),
         ("far.asm", b"LD A,256\n"),
         ("form.toml", b"tiles = 3\n"),
+        ("named.toml", b"tiles.file = 'none.rom'\nwave = 3\n"),
         ("bad.script", b"1 -\n1 up\n"),
         (
             "digest.toml",
@@ -94,8 +120,8 @@ wave.file = 'wave.prom'
     ..RUN
 };
 
-/// The first fault of source, set and script is told, and the outputs are there, empty.
-static REFUSALS: [Line; 8] = [
+/// The first fault of source, set and script is told, and the outputs are there, empty. Of a manifest that has no form no file is read.
+static REFUSALS: [Line; 9] = [
     Line {
         words: "run --source @/fault.asm --set @/form.toml --script @/bad.script",
         error: "refused A1 L2 line 2\n",
@@ -108,6 +134,11 @@ static REFUSALS: [Line; 8] = [
     },
     Line {
         words: "run --source @/cell.asm --set @/form.toml --script @/bad.script",
+        error: "refused M1\n",
+        ..REFUSED
+    },
+    Line {
+        words: "run --source @/cell.asm --set @/named.toml --script @/one.script",
         error: "refused M1\n",
         ..REFUSED
     },

@@ -10,6 +10,8 @@ mod flat;
 #[cfg(test)]
 mod machine;
 #[cfg(test)]
+mod mode_0;
+#[cfg(test)]
 mod registers;
 #[cfg(test)]
 mod vectors;

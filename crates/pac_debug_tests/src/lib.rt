@@ -6,4 +6,6 @@ mod refusals;
 #[cfg(test)]
 mod rows;
 #[cfg(test)]
+mod scarce;
+#[cfg(test)]
 mod set;

@@ -43,6 +43,22 @@ fn refused_by_the_writer(rt: HostRuntime) {
     assert!(rt; is_cut(rt.alloc()));
 }
 
+/// Whether a text that was cut is told so again at each further line with words, which is done all the same, and takes nothing more.
+fn stays_cut(alloc: Global) -> bool {
+    match Rig::new(alloc, &CELL, b"1 -", 0) {
+        Some(mut rig) => {
+            rig.stay_cut(alloc, &[b"step 2", b"step 1", b"history 1"], b"step") && rig.index() == 3
+        }
+        None => false,
+    }
+}
+
+// A command after a text that was cut answers the same fault with the same count, and nothing more is written.
+#[test]
+fn refused_by_the_writer_for_good(rt: HostRuntime) {
+    assert!(rt; stays_cut(rt.alloc()));
+}
+
 /// Sets 64 breakpoints; whether each was set.
 fn fills(rig: &mut Rig) -> bool {
     let mut is_set = true;

@@ -8,6 +8,7 @@ use pac_board::kept::Kept;
 use pac_debug::{CommandFault, command, commands};
 use pac_inputs::read_script;
 use pac_out::counted::Counted;
+use pac_out::faulty::Faulty;
 use pac_out::memory::Memory;
 use pac_roms::{Raw, RomSet};
 use pac_session::Session;
@@ -47,7 +48,7 @@ fn board(alloc: Global, bytes: &[u8]) -> Result<Board, AllocError>
 }
 
 /// A session on it, with a script.
-fn session(alloc: Global, bytes: &[u8], script: &[u8]) -> Result<Session, AllocError> {
+pub fn session(alloc: Global, bytes: &[u8], script: &[u8]) -> Result<Session, AllocError> {
     let board = board(alloc, bytes)?;
     let Ok(script) = read_script(alloc, script) else {
         return Err(AllocError);
@@ -59,7 +60,7 @@ fn session(alloc: Global, bytes: &[u8], script: &[u8]) -> Result<Session, AllocE
 }
 
 /// A text that takes so many bytes.
-fn text_of(alloc: Global, room: usize) -> Option<Counted<Memory>> {
+pub fn text_of(alloc: Global, room: usize) -> Option<Counted<Memory>> {
     match Memory::new(alloc, room) {
         Ok(memory) => Some(Counted::new(memory)),
         Err(_) => None,
@@ -174,6 +175,37 @@ impl Rig {
             Some(CommandFault::Text(fault)) => Some(fault.count),
             _ => None,
         }
+    }
+
+    /// How a text is told to be refused at a command line, by a writer that refuses one call.
+    fn cut_at(&mut self, line: &[u8], text: &mut Counted<Faulty>) -> Option<u64> {
+        match command(&mut self.session, line, &mut self.kept, text) {
+            Err(CommandFault::Text(fault)) => Some(fault.count),
+            _ => None,
+        }
+    }
+
+    /// Whether each of these command lines is told to be refused after so many bytes.
+    fn are_cut_at(&mut self, lines: &[&[u8]], count: u64, text: &mut Counted<Faulty>) -> bool {
+        for line in lines {
+            if self.cut_at(line, text) != Some(count) {
+                return false;
+            }
+        }
+        true
+    }
+
+    /// Whether command lines are each told to be refused after these bytes, and no more are written, by a writer that takes so many
+    /// bytes a call, refuses its second call, and would take those after it.
+    pub fn stay_cut(&mut self, alloc: Global, lines: &[&[u8]], wanted: &[u8]) -> bool {
+        let Ok(writer) = Faulty::new(alloc, 1000, wanted.len(), 2) else {
+            return false;
+        };
+        let mut text = Counted::new(writer);
+        self.are_cut_at(lines, wanted.len() as u64, &mut text)
+            && text.writer.bytes() == wanted
+            && text.count == wanted.len() as u64
+            && text.failed
     }
 
     /// Whether a file with room for these bytes alone takes them of the answer to a command line, and their count is told.

@@ -2,8 +2,16 @@
 #![tactic(auto)]
 
 #[cfg(test)]
+mod ample;
+#[cfg(test)]
+mod cut_texts;
+#[cfg(test)]
+mod once;
+#[cfg(test)]
 mod outputs;
 #[cfg(test)]
 mod runs;
+#[cfg(test)]
+mod scarce;
 #[cfg(test)]
 mod writers;

@@ -56,16 +56,26 @@ impl Drop for Outputs {
 impl Outputs {
     /// Empty ones of these rooms, that take at most so many bytes a call.
     pub fn new(alloc: Global, rooms: &Lengths, most: usize) -> Result<Outputs, AllocError> {
+        Outputs::refusing(alloc, rooms, most, &[0; 4])
+    }
+
+    /// The same, each of which refuses the call of its number, once; 0 is none.
+    pub fn refusing(
+        alloc: Global,
+        rooms: &Lengths,
+        most: usize,
+        refusals: &[u64; 4],
+    ) -> Result<Outputs, AllocError> {
         Ok(Outputs {
-            frames: Faulty::new(alloc, rooms[0], most, 0)?,
-            wave: Faulty::new(alloc, rooms[1], most, 0)?,
-            listing: Faulty::new(alloc, rooms[2], most, 0)?,
-            report: Faulty::new(alloc, rooms[3], most, 0)?,
+            frames: Faulty::new(alloc, rooms[0], most, refusals[0])?,
+            wave: Faulty::new(alloc, rooms[1], most, refusals[1])?,
+            listing: Faulty::new(alloc, rooms[2], most, refusals[2])?,
+            report: Faulty::new(alloc, rooms[3], most, refusals[3])?,
         })
     }
 
     /// Runs these inputs; why there is no outcome, if there is none.
-    fn take(&mut self, alloc: Global, inputs: &RunInputs) -> Option<RunFault> {
+    pub fn take(&mut self, alloc: Global, inputs: &RunInputs) -> Option<RunFault> {
         run_all(
             alloc,
             inputs,
@@ -77,14 +87,14 @@ impl Outputs {
         .err()
     }
 
-    /// Runs these inputs under a debugger; whether they come to an outcome.
-    fn watch(
+    /// Runs these inputs under a debugger; why there is no outcome.
+    pub fn watch(
         &mut self,
         alloc: Global,
         inputs: &RunInputs,
         commands: &[u8],
         text: &mut Faulty,
-    ) -> bool {
+    ) -> Option<RunFault> {
         debug_all(
             alloc,
             inputs,
@@ -95,7 +105,7 @@ impl Outputs {
             &mut self.report,
             text,
         )
-        .is_ok()
+        .err()
     }
 
     /// Runs what is given; why there is no outcome, if there is none.
@@ -115,8 +125,19 @@ impl Outputs {
         commands: &[u8],
         text: &mut Faulty,
     ) -> bool {
+        self.debug_fault(alloc, given, commands, text).is_none()
+    }
+
+    /// Runs what is given under a debugger; why there is no outcome, if there is none.
+    pub fn debug_fault(
+        &mut self,
+        alloc: Global,
+        given: &Given,
+        commands: &[u8],
+        text: &mut Faulty,
+    ) -> Option<RunFault> {
         let Ok(manifest) = text_of(alloc, &given.tables) else {
-            return false;
+            return Some(RunFault::NoMemory);
         };
         let files = Files::new();
         self.watch(

@@ -7,3 +7,5 @@ mod memory;
 mod rig;
 #[cfg(test)]
 mod rows;
+#[cfg(test)]
+mod scarce;

@@ -16,7 +16,7 @@ use std::marker::Model;
 pub const CELL: [u8; 6] = [0x3E, 0x42, 0x32, 0x40, 0x40, 0x76];
 
 /// A board at power-on whose program begins with these bytes.
-fn board(alloc: Global, bytes: &[u8]) -> Result<Board, AllocError>
+pub fn board(alloc: Global, bytes: &[u8]) -> Result<Board, AllocError>
     ensures { IfOk result (λ board. IsNew board) }
 {
     let mut program = [0u8; 16384];

@@ -184,7 +184,7 @@ fn devices_of_a_file(rt: HostRuntime) -> Result<(), Fail> {
 }
 
 /// LD A,1 / LD (5003H),A / LD (4040H),A / HALT.
-const FLIP: [u8; 9] = [0x3E, 1, 0x32, 0x03, 0x50, 0x32, 0x40, 0x40, 0x76];
+pub const FLIP: [u8; 9] = [0x3E, 1, 0x32, 0x03, 0x50, 0x32, 0x40, 0x40, 0x76];
 
 /// Whether a file has no latch bit, and a picture alone that is due.
 fn has_picture_due(file: &[u8]) -> bool {
@@ -192,7 +192,7 @@ fn has_picture_due(file: &[u8]) -> bool {
 }
 
 /// Whether all that was taken is a picture with number 1 in the flipped cell of 4040H.
-fn is_flipped(taken: &[Taken]) -> bool {
+pub fn is_flipped(taken: &[Taken]) -> bool {
     taken.len() == 1
         && match taken.first() {
             Some(Taken::Picture(shown)) => {

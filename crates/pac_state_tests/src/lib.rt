@@ -12,4 +12,6 @@ mod refusals;
 #[cfg(test)]
 mod rig;
 #[cfg(test)]
+mod scarce;
+#[cfg(test)]
 mod sets;
