@@ -17,19 +17,32 @@ use Rattle.pac_program.specs.Names.{Named, number_of}
 use Rattle.pac_program.specs.Programs.{rom_size}
 use Rattle.pac_source.specs.Statements.{Statement, nothing, origin, equate, bytes, words, space, condition, otherwise, end_condition}
 use Rattle.pac_source.specs.Statements.{operation, Form}
-use Rattle.pac_source.specs.Contents.{size_of}
+use Rattle.pac_source.specs.Contents.{Given, size_of, content_of}
 use Rattle.pac_asm.specs.declared.condition.Condition.{Condition}
+use Rattle.pac_asm.specs.declared.place.Span.{Span}
+use Rattle.pac_asm.specs.declared.place.Place.{Place}
+use Rattle.pac_asm.specs.declared.place.Place.TheVariants.{Blank, Skipped, Placed}
 use Rattle.pac_asm.specs.declared.fault.AsmCode.{AsmCode}
-use Rattle.pac_asm.specs.declared.fault.AsmCode.TheVariants.{OutsideRom, DefinedBefore}
+use Rattle.pac_asm.specs.declared.fault.AsmCode.TheVariants.{OutsideRom, Overlap, DefinedBefore}
 use Rattle.pac_asm.specs.declared.fault.AsmFault.{AsmFault}
 use Rattle.pac_asm.specs.Results.{◌>>=◌, in_line}
-use Rattle.pac_asm.specs.Conditions.{is_judged, most_open, condition_of, after_else, after_end, after_skipped}
+use Rattle.pac_asm.specs.Conditions.{is_judged, most_open, after_else, after_end, after_skipped}
+use Rattle.pac_asm.specs.Counting.{OpenIf, counts, is_read, inside_if}
 use Rattle.pac_asm.specs.Unclosed.{word_of, is_never_closed}
-use Rattle.pac_asm.specs.Standings.{Standing, start, value_above, within_rom, is_new, with_label, room_for}
-use Rattle.pac_asm.specs.Phase1.{read, after_item, after_statement, after_form, after_judged, after_passed, after_text, closed}
+use Rattle.pac_asm.specs.Standings.{Standing, start, value_above, within_rom, is_new, with_label, overlaps, room_for}
+use Rattle.pac_asm.specs.Reading.{read}
+use Rattle.pac_asm.specs.Phase1.{after_item, after_statement, after_form, after_judged, after_passed, after_text, closed}
 use Rattle.pac_asm.specs.Phase1.{after_line, phase1}
-use Rattle.pac_asm.specs.Assignments.{Spot, Step, labelled, counted, valued, with_conditions, with_bytes, step_by, step_read, step_if}
-use Rattle.pac_asm.specs.Assignments.{step_of, defined_after, defined_in, SymbolsAreRight}
+use Rattle.pac_asm.specs.Assignments.{Spot, Step, labelled, counted, valued, with_open, is_nonzero, with_bytes, step_by, step_read, step_if}
+use Rattle.pac_asm.specs.Assignments.{step_of, defined_after, defined_in, first_spot, SymbolsAreRight}
+use Rattle.pac_asm.specs.Entries.{count_of, entry_sized, entry_by, entry_read, entry_if, entry_of}
+use Rattle.pac_asm.specs.Entries as entering
+use Rattle.pac_asm.specs.Phase2.{placed}
+use Rattle.pac_program.specs.declared.line.Line.{Line}
+use Rattle.pac_program.specs.declared.line.Line.TheVariants as entries
+use Rattle.pac_code.specs.Items.{Content}
+use Rattle.pac_asm.proofs.FirstWords.{is_if, word-of-if}
+use Rattle.pac_asm.proofs.OpenIfs.{opens, AreNested, AreOpen, none-nested, read-same, counts-if, counts-none, open-else, open-end, open-skipped, open-if}
 
 -- ---- answers
 
@@ -116,19 +129,74 @@ value-extends symbols names extends at (joined operator left right) z e =
 
 -- ---- steps
 
-abbrev spot_of : Standing → Spot
-spot_of standing = record { at = standing.at; conditions = standing.conditions }
+abbrev pub spot_of : Standing → Spot
+spot_of standing = record { at = standing.at; ifs = opens standing.conditions }
 
--- what a line defines goes to the symbols, and the next line stands where the next standing has it
-record Agrees (above : Standing) (step : Option Step) (next : Standing) : Type 0 where
-  new : List Named
-  stepped : step ≡ Some (new, spot_of next)
-  grown : next.symbols ≡ above.symbols ++ new
+-- What a line defines goes to the symbols, its place to the places, and the next line stands where the next standing has it.
+pub record Agrees (above : Standing) (step : Option Step) (Fills : Place → Type 0) (next : Standing) : Type 0 where
+  pub new : List Named
+  pub stepped : step ≡ Some (new, spot_of next)
+  pub grown : next.symbols ≡ above.symbols ++ new
+  pub nested : AreNested next.conditions
+  pub place : Place
+  pub added : next.places ≡ above.places ++ place ∷ []
+  pub fills : Fills place
 
 -- the same, for a standing that is known
-agrees-at : (above : Standing) (step : Option Step) (made next : Standing) → ◌≡◌ {A = Result Standing AsmCode} (Ok made) (Ok next)
-    → Agrees above step made → Agrees above step next
-agrees-at above step made next e h = subst (Agrees above step) (ok-same made next e) h
+agrees-at : (above : Standing) (step : Option Step) (Fills : Place → Type 0) (made next : Standing)
+    → ◌≡◌ {A = Result Standing AsmCode} (Ok made) (Ok next) → Agrees above step Fills made → Agrees above step Fills next
+agrees-at above step Fills made next e h = subst (Agrees above step Fills) (ok-same made next e) h
+
+-- ---- entries
+
+-- what a statement puts into a program at a place
+abbrev pub placed_by : (List ℕ → Option ℤ) → Statement → Place → Result Line AsmCode
+placed_by names statement Blank = Ok entries.Blank
+placed_by names statement Skipped = Ok entries.Skipped
+placed_by names statement (Placed span) = placed span.at (content_of names span.at span.size statement)
+
+-- the place of a statement is one at which it has its entry
+abbrev pub Fills : (List ℕ → Option ℤ) → Spot → Statement → Place → Type 0
+Fills names spot statement place = (here : Line) → placed_by names statement place ≡ Ok here → entry_by names spot statement ≡ Some here
+
+placed-is : (at : ℕ) (content : Given (Option Content)) (here : Line) → placed at content ≡ Ok here → entering.entry_at at content ≡ Some here
+placed-is at (Ok None) here e = ap Some (ok-same _ here e)
+placed-is at (Ok (Some content)) here e = ap Some (ok-same _ here e)
+placed-is at (Err fault) here e = absurd (err-ok _ here e)
+
+fills-item : (names : List ℕ → Option ℤ) (spot : Spot) (statement : Statement) (size : ℕ)
+    → count_of names spot.at statement ≡ Some size → Fills names spot statement (Placed (record { at = spot.at; size = size }))
+fills-item names spot statement size e here is =
+    ap (entry_sized names spot.at statement) e ∙ placed-is spot.at (content_of names spot.at size statement) here is
+
+fills-blank : (names : List ℕ → Option ℤ) (spot : Spot) (statement : Statement) (size : ℕ) → count_of names spot.at statement ≡ Some size
+    → content_of names spot.at size statement ≡ Ok None → Fills names spot statement Blank
+fills-blank names spot statement size e none here is =
+    ap (entry_sized names spot.at statement) e ∙ ap (entering.entry_at spot.at) none ∙ ap Some (ok-same _ here is)
+
+blank-nothing : (names : List ℕ → Option ℤ) (spot : Spot) → Fills names spot nothing Blank
+unfolding content_of
+blank-nothing names spot = fills-blank names spot nothing 0 refl refl
+
+blank-origin : (names : List ℕ → Option ℤ) (spot : Spot) (place : Tree) → Fills names spot (origin place) Blank
+unfolding content_of
+blank-origin names spot place = fills-blank names spot (origin place) 0 refl refl
+
+blank-equate : (names : List ℕ → Option ℤ) (spot : Spot) (number : Tree) → Fills names spot (equate number) Blank
+unfolding content_of
+blank-equate names spot number = fills-blank names spot (equate number) 0 refl refl
+
+blank-condition : (names : List ℕ → Option ℤ) (spot : Spot) (test : Tree) → Fills names spot (condition test) Blank
+unfolding content_of
+blank-condition names spot test = fills-blank names spot (condition test) 0 refl refl
+
+blank-otherwise : (names : List ℕ → Option ℤ) (spot : Spot) → Fills names spot otherwise Blank
+unfolding content_of
+blank-otherwise names spot = fills-blank names spot otherwise 0 refl refl
+
+blank-end : (names : List ℕ → Option ℤ) (spot : Spot) → Fills names spot end_condition Blank
+unfolding content_of
+blank-end names spot = fills-blank names spot end_condition 0 refl refl
 
 record Known (answer : Answer) (go : ℤ → Result Standing AsmCode) (next : Standing) : Type 0 where
   number : ℤ
@@ -194,105 +262,211 @@ new-label : (symbols : List Named) (label : Option (List ℕ)) (number : ℤ) �
 new-label symbols None number e = sym (append-nil symbols)
 new-label symbols (Some name) number e = new-name symbols name number (number_of symbols name) e
 
+room-by : (outside taken : Bool) (made span : Span) (one other : AsmCode)
+    → (if outside then Err one else (if taken then Err other else Ok made)) ≡ Ok span → made ≡ span
+room-by true taken made span one other e = absurd (err-ok _ span e)
+room-by false true made span one other e = absurd (err-ok _ span e)
+room-by false false made span one other e = ok-same made span e
+
+room-is : (above : Standing) (size : ℕ) (span : Span) → room_for above size ≡ Ok span → record { at = above.at; size = size } ≡ span
+room-is above size span e =
+    let made : Span = record { at = above.at; size = size } in
+    room-by (nat_lt rom_size (above.at + size)) (overlaps above.places made) made span OutsideRom Overlap e
+
 -- an item of so many bytes
-agree-item : (above : Standing) (label : Option (List ℕ)) (size : ℕ) (next : Standing) → is_new above.symbols label ≡ true
-    → after_item above label size ≡ Ok next → Agrees above (Some (with_bytes (spot_of above) label size)) next
-agree-item above label size next is-new e =
+agree-item : (above : Standing) → AreNested above.conditions → (label : Option (List ℕ)) (size : ℕ) (shows : Place → Type 0)
+    → shows (Placed (record { at = above.at; size = size })) → (next : Standing) → is_new above.symbols label ≡ true
+    → after_item above label size ≡ Ok next → Agrees above (Some (with_bytes (spot_of above) label size)) shows next
+agree-item above nest label size shows here next is-new e =
     let g = gone (room_for above size) _ next e in
-    agrees-at above _ _ next g.goes (record {
+    agrees-at above _ shows _ next g.goes (record {
       new = labelled label (pos above.at);
       stepped = refl;
       grown = new-label above.symbols label (pos above.at) is-new;
+      nested = nest;
+      place = Placed g.found;
+      added = refl;
+      fills = subst (λ (span : Span). shows (Placed span)) (room-is above size g.found g.is) here;
     })
 
 -- other open IFs
-agree-conditions : (above : Standing) (answer : Result (List Condition) AsmCode) (places : _) (next : Standing)
-    → (answer >>= λ conditions. Ok (record above { conditions = conditions; places = places })) ≡ Ok next
-    → Agrees above (with_conditions (spot_of above) answer) next
-agree-conditions above answer places next e =
+agree-conditions : (above : Standing) (answer : Result (List Condition) AsmCode) (now : Option (List OpenIf)) (place : Place)
+    (shows : Place → Type 0) → shows place → ((conditions : List Condition) → answer ≡ Ok conditions → AreOpen now conditions)
+    → (next : Standing) → (answer >>= λ conditions. Ok (record above { conditions = conditions; places = above.places ++ place ∷ [] })) ≡ Ok next
+    → Agrees above (with_open (spot_of above) now) shows next
+agree-conditions above answer now place shows here each next e =
     let g = gone answer _ next e in
-    agrees-at above _ _ next g.goes (record {
+    let o = each g.found g.is in
+    agrees-at above _ shows _ next g.goes (record {
       new = [];
-      stepped = ap (with_conditions (spot_of above)) g.is;
+      stepped = ap (with_open (spot_of above)) o.are;
       grown = sym (append-nil above.symbols);
+      nested = o.nested;
+      place = place;
+      added = refl;
+      fills = here;
     })
 
-agree-statement : (names : List ℕ → Option ℤ) (above : Standing) → Extends above.symbols names →
-    (label : Option (List ℕ)) (statement : Statement)
+agree-statement : (names : List ℕ → Option ℤ) (above : Standing) → Extends above.symbols names → AreNested above.conditions →
+    (label : Option (List ℕ)) (statement : Statement) → (is_if statement ≡ true → counts (opens above.conditions) ≡ true)
     → is_new above.symbols label ≡ true → (next : Standing) → after_statement above label statement ≡ Ok next
-    → Agrees above (step_by names (spot_of above) label statement) next
-agree-statement names above extends label nothing is-new next e =
-    agrees-at above _ _ next e (record {
+    → Agrees above (step_by names (spot_of above) label statement) (Fills names (spot_of above) statement) next
+agree-statement names above extends nest label nothing inside is-new next e =
+    agrees-at above _ _ _ next e (record {
       new = labelled label (pos above.at);
       stepped = refl;
       grown = new-label above.symbols label (pos above.at) is-new;
+      nested = nest;
+      place = Blank;
+      added = refl;
+      fills = blank-nothing names (spot_of above);
     })
-agree-statement names above extends label (origin place) is-new next e =
+agree-statement names above extends nest label (origin place) inside is-new next e =
     let k = known-ok (value_of (number_of above.symbols) above.at place) _ next e in
     let w = within-ok k.number _ next k.goes in
     let value : value_of names above.at place ≡ Ok (pos w.count) =
     value-extends above.symbols names extends above.at place k.number k.is ∙ ap Ok w.is in
-    agrees-at above _ _ next w.goes (record {
+    agrees-at above _ _ _ next w.goes (record {
       new = [];
       stepped = ap (λ answer. option_map (λ at. ([], record (spot_of above) { at = at })) (counted answer)) value;
       grown = sym (append-nil above.symbols);
+      nested = nest;
+      place = Blank;
+      added = refl;
+      fills = blank-origin names (spot_of above) place;
     })
-agree-statement names above extends label (equate number) is-new next e =
+agree-statement names above extends nest label (equate number) inside is-new next e =
     let k = known-ok (value_of (number_of above.symbols) above.at number) _ next e in
-    agrees-at above _ _ next k.goes (record {
+    agrees-at above _ _ _ next k.goes (record {
       new = labelled label k.number;
       stepped = ap (λ answer. option_map (λ value. (labelled label value, spot_of above)) (valued answer))
           (value-extends above.symbols names extends above.at number k.number k.is);
       grown = new-label above.symbols label k.number is-new;
+      nested = nest;
+      place = Blank;
+      added = refl;
+      fills = blank-equate names (spot_of above) number;
     })
-agree-statement names above extends label (condition test) is-new next e =
+agree-statement names above extends nest label (condition test) inside is-new next e =
     let inner = if-ok (nat_lt (length above.conditions) most_open) _ _ next e in
     let k = known-ok (value_of (number_of above.symbols) above.at test) _ next inner in
-    agrees-at above _ _ next k.goes (record {
+    let o = open-if k.number above.conditions nest (inside refl) in
+    agrees-at above _ _ _ next k.goes (record {
       new = [];
-      stepped = ap (λ answer. option_map (λ value. ([], record (spot_of above) { conditions = condition_of value ∷ above.conditions }))
-          (valued answer))
-          (value-extends above.symbols names extends above.at test k.number k.is);
+      stepped = ap (λ answer. with_open (spot_of above)
+          (option_map (λ value. inside_if (is_nonzero value) (opens above.conditions)) (valued answer)))
+          (value-extends above.symbols names extends above.at test k.number k.is) ∙ ap (with_open (spot_of above)) o.are;
       grown = sym (append-nil above.symbols);
+      nested = o.nested;
+      place = Blank;
+      added = refl;
+      fills = blank-condition names (spot_of above) test;
     })
-agree-statement names above extends label otherwise is-new next e = agree-conditions above (after_else above.conditions) _ next e
-agree-statement names above extends label end_condition is-new next e = agree-conditions above (after_end above.conditions) _ next e
-agree-statement names above extends label (space size fill) is-new next e =
+agree-statement names above extends nest label otherwise inside is-new next e =
+    agree-conditions above (after_else above.conditions) _ Blank _ (blank-otherwise names (spot_of above))
+    (λ conditions is. open-else above.conditions conditions nest is) next e
+agree-statement names above extends nest label end_condition inside is-new next e =
+    agree-conditions above (after_end above.conditions) _ Blank _ (blank-end names (spot_of above))
+    (λ conditions is. open-end above.conditions conditions nest is) next e
+agree-statement names above extends nest label (space size fill) inside is-new next e =
     let k = counted-ok (value_of (number_of above.symbols) above.at size) (after_item above label) next e in
-    let item = agree-item above label k.count next is-new k.goes in
+    let count : counted (value_of names above.at size) ≡ Some k.count =
+    ap counted (value-extends above.symbols names extends above.at size (pos k.count) k.is) in
+    let item = agree-item above nest label k.count (Fills names (spot_of above) (space size fill))
+    (fills-item names (spot_of above) (space size fill) k.count count) next is-new k.goes in
     record {
       new = item.new;
-      stepped = ap (λ answer. option_map (with_bytes (spot_of above) label) (counted answer))
-          (value-extends above.symbols names extends above.at size (pos k.count) k.is) ∙ item.stepped;
+      stepped = ap (option_map (with_bytes (spot_of above) label)) count ∙ item.stepped;
       grown = item.grown;
+      nested = item.nested;
+      place = item.place;
+      added = item.added;
+      fills = item.fills;
     }
-agree-statement names above extends label (bytes parts) is-new next e = agree-item above label (size_of (bytes parts)) next is-new e
-agree-statement names above extends label (words numbers) is-new next e = agree-item above label (size_of (words numbers)) next is-new e
-agree-statement names above extends label (operation written) is-new next e =
-    agree-item above label (size_of (operation written)) next is-new e
+agree-statement names above extends nest label (bytes parts) inside is-new next e =
+    agree-item above nest label (size_of (bytes parts)) (Fills names (spot_of above) (bytes parts))
+    (fills-item names (spot_of above) (bytes parts) (size_of (bytes parts)) refl) next is-new e
+agree-statement names above extends nest label (words numbers) inside is-new next e =
+    agree-item above nest label (size_of (words numbers)) (Fills names (spot_of above) (words numbers))
+    (fills-item names (spot_of above) (words numbers) (size_of (words numbers)) refl) next is-new e
+agree-statement names above extends nest label (operation written) inside is-new next e =
+    agree-item above nest label (size_of (operation written)) (Fills names (spot_of above) (operation written))
+    (fills-item names (spot_of above) (operation written) (size_of (operation written)) refl) next is-new e
 
-agree-new : (names : List ℕ → Option ℤ) (above : Standing) → Extends above.symbols names → (form : Form) (b : Bool)
-    → is_new above.symbols form.label ≡ b → (next : Standing)
+agree-new : (names : List ℕ → Option ℤ) (above : Standing) → Extends above.symbols names → AreNested above.conditions → (form : Form) (b : Bool)
+    → (is_if form.statement ≡ true → counts (opens above.conditions) ≡ true) → is_new above.symbols form.label ≡ b → (next : Standing)
     → (if b then after_statement above form.label form.statement else Err DefinedBefore) ≡ Ok next
-    → Agrees above (step_by names (spot_of above) form.label form.statement) next
-agree-new names above extends form true is-new next e = agree-statement names above extends form.label form.statement is-new next e
-agree-new names above extends form false is-new next e = absurd (err-ok _ next e)
+    → Agrees above (step_by names (spot_of above) form.label form.statement) (Fills names (spot_of above) form.statement) next
+agree-new names above extends nest form true inside is-new next e =
+    agree-statement names above extends nest form.label form.statement inside is-new next e
+agree-new names above extends nest form false inside is-new next e = absurd (err-ok _ next e)
 
-agree-read : (names : List ℕ → Option ℤ) (above : Standing) → Extends above.symbols names → (answer : Result Form AsmCode) (next : Standing)
-    → (answer >>= after_form above) ≡ Ok next → Agrees above (step_read names (spot_of above) answer) next
-agree-read names above extends (Ok form) next e = agree-new names above extends form (is_new above.symbols form.label) refl next e
-agree-read names above extends (Err code) next e = absurd (err-ok code next e)
+-- what a line puts into a program at a place
+abbrev pub line_by : (List ℕ → Option ℤ) → List ℕ → Place → Result Line AsmCode
+line_by names line Blank = Ok entries.Blank
+line_by names line Skipped = Ok entries.Skipped
+line_by names line (Placed span) = read line >>= λ form. placed span.at (content_of names span.at span.size form.statement)
 
-agree-if : (names : List ℕ → Option ℤ) (above : Standing) → Extends above.symbols names → (line : List ℕ) (b : Bool) (next : Standing)
-    → (if b then after_judged above line else after_passed above (word_of line)) ≡ Ok next →
-    Agrees above (step_if names (spot_of above) line b) next
-agree-if names above extends line true next e = agree-read names above extends (read line) next e
-agree-if names above extends line false next e = agree-conditions above (after_skipped (word_of line) above.conditions) _ next e
+abbrev pub FillsLine : (List ℕ → Option ℤ) → Spot → List ℕ → Bool → Place → Type 0
+FillsLine names spot line b place = (here : Line) → line_by names line place ≡ Ok here → entry_if names spot line b ≡ Some here
 
-agree-text : (names : List ℕ → Option ℤ) (above : Standing) → Extends above.symbols names → (line : List ℕ) (next : Standing)
-    → after_text above line ≡ Ok next → Agrees above (step_of names (spot_of above) line) next
-unfolding after_text step_of
-agree-text names above extends line next e = agree-if names above extends line (is_judged above.conditions (word_of line)) next e
+line-reads : (names : List ℕ → Option ℤ) (line : List ℕ) (form : Form) → read line ≡ Ok form → (place : Place)
+    → line_by names line place ≡ placed_by names form.statement place
+line-reads names line form e Blank = refl
+line-reads names line form e Skipped = refl
+line-reads names line form e (Placed span) =
+    ap (λ (answer : Result Form AsmCode). answer >>= λ form. placed span.at (content_of names span.at span.size form.statement)) e
+
+agree-read : (names : List ℕ → Option ℤ) (above : Standing) → Extends above.symbols names → AreNested above.conditions → (line : List ℕ)
+    → is_judged above.conditions (word_of line) ≡ true → (answer : Result Form AsmCode) → read line ≡ answer → (next : Standing)
+    → (answer >>= after_form above) ≡ Ok next
+    → Agrees above (step_read names (spot_of above) answer) (FillsLine names (spot_of above) line true) next
+agree-read names above extends nest line judged (Ok form) is next e =
+    let inside : is_if form.statement ≡ true → counts (opens above.conditions) ≡ true =
+    λ h. counts-if (opens above.conditions)
+    (ap (is_read (opens above.conditions)) (sym (word-of-if line form is h)) ∙ sym (read-same above.conditions (word_of line) nest) ∙ judged) in
+    let a = agree-new names above extends nest form (is_new above.symbols form.label) inside refl next e in
+    record {
+      new = a.new;
+      stepped = a.stepped;
+      grown = a.grown;
+      nested = a.nested;
+      place = a.place;
+      added = a.added;
+      fills = λ here shown.
+          ap (entry_read names (spot_of above)) is ∙ a.fills here (sym (line-reads names line form is a.place) ∙ shown);
+    }
+agree-read names above extends nest line judged (Err code) is next e = absurd (err-ok code next e)
+
+agree-if : (names : List ℕ → Option ℤ) (above : Standing) → Extends above.symbols names → AreNested above.conditions → (line : List ℕ)
+    (b : Bool) → is_judged above.conditions (word_of line) ≡ b → (next : Standing)
+    → (if b then after_judged above line else after_passed above (word_of line)) ≡ Ok next
+    → Agrees above (step_if names (spot_of above) line b) (FillsLine names (spot_of above) line b) next
+agree-if names above extends nest line true is next e = agree-read names above extends nest line is (read line) refl next e
+agree-if names above extends nest line false is next e =
+    let out = counts-none (opens above.conditions) (word_of line) (sym (read-same above.conditions (word_of line) nest) ∙ is) in
+    agree-conditions above (after_skipped (word_of line) above.conditions) _ Skipped _
+    (λ here shown. ap Some (ok-same _ here shown))
+    (λ conditions is. open-skipped (word_of line) above.conditions conditions nest out is) next e
+
+pub agree-text : (names : List ℕ → Option ℤ) (above : Standing) → Extends above.symbols names → AreNested above.conditions → (line : List ℕ)
+    (next : Standing) → after_text above line ≡ Ok next
+    → Agrees above (step_of names (spot_of above) line)
+    (λ place. (here : Line) → line_by names line place ≡ Ok here → entry_of names (spot_of above) line ≡ Some here) next
+unfolding after_text step_of entry_of
+agree-text names above extends nest line next e =
+    let judged = is_judged above.conditions (word_of line) in
+    let same = read-same above.conditions (word_of line) nest in
+    let a = agree-if names above extends nest line judged refl next e in
+    record {
+      new = a.new;
+      stepped = ap (step_if names (spot_of above) line) (sym same) ∙ a.stepped;
+      grown = a.grown;
+      nested = a.nested;
+      place = a.place;
+      added = a.added;
+      fills = λ here shown. ap (entry_if names (spot_of above) line) (sym same) ∙ a.fills here shown;
+    }
 
 -- ---- lines
 
@@ -306,43 +480,43 @@ in-line-ok : (number : ℕ) (answer : Result Standing AsmCode) (go : Standing �
 in-line-ok number (Ok next) go end e = (next, refl, e)
 in-line-ok number (Err code) go end e = absurd (err-ok _ end e)
 
-record First (number : ℕ) (above : Standing) (line : List ℕ) (below : List (List ℕ)) (end : Standing) : Type 0 where
-  next : Standing
-  after : after_text above line ≡ Ok next
-  others : phase1 (number + 1) next below ≡ Ok end
+pub record First (number : ℕ) (above : Standing) (line : List ℕ) (below : List (List ℕ)) (end : Standing) : Type 0 where
+  pub next : Standing
+  pub after : after_text above line ≡ Ok next
+  pub others : phase1 (number + 1) next below ≡ Ok end
 
-first-line : (number : ℕ) (above : Standing) (line : List ℕ) (below : List (List ℕ)) (end : Standing)
+pub first-line : (number : ℕ) (above : Standing) (line : List ℕ) (below : List (List ℕ)) (end : Standing)
     → phase1 number above (line ∷ below) ≡ Ok end → First number above line below end
 unfolding phase1
 first-line number above line below end e =
     let h = in-line-ok number (after_line above line below) _ end e in
     record { next = h.0; after = open-ok (is_never_closed (word_of line) below) (after_text above line) h.0 h.1; others = h.2 }
 
-no-line : (number : ℕ) (above end : Standing) → phase1 number above [] ≡ Ok end → above ≡ end
+pub no-line : (number : ℕ) (above end : Standing) → phase1 number above [] ≡ Ok end → above ≡ end
 unfolding phase1
 no-line number above end e = ok-same above end e
 
-record Grown (before after : List Named) : Type 0 where
-  more : List Named
-  is : after ≡ before ++ more
+pub record Grown (before after : List Named) : Type 0 where
+  pub more : List Named
+  pub is : after ≡ before ++ more
 
-grows : (number : ℕ) (above : Standing) (lines : List (List ℕ)) (end : Standing) → phase1 number above lines ≡ Ok end
-    → Grown above.symbols end.symbols
-grows number above [] end e =
+pub grows : (number : ℕ) (above : Standing) → AreNested above.conditions → (lines : List (List ℕ)) (end : Standing)
+    → phase1 number above lines ≡ Ok end → Grown above.symbols end.symbols
+grows number above nest [] end e =
     record {
       more = [];
       is = ap (λ (standing : Standing). standing.symbols) (sym (no-line number above end e)) ∙
           sym (append-nil above.symbols);
     }
-grows number above (line ∷ below) end e =
+grows number above nest (line ∷ below) end e =
     let f = first-line number above line below end e in
-    let a = agree-text (number_of above.symbols) above (λ some z h. h) line f.next f.after in
-    let g = grows (number + 1) f.next below end f.others in
+    let a = agree-text (number_of above.symbols) above (λ some z h. h) nest line f.next f.after in
+    let g = grows (number + 1) f.next a.nested below end f.others in
     record { more = a.new ++ g.more; is = g.is ∙ ap (λ xs. xs ++ g.more) a.grown ∙ append_assoc above.symbols a.new g.more }
 
 -- ---- the symbols are right
 
-extends-less : (before more : List Named) (names : List ℕ → Option ℤ) → Extends (before ++ more) names → Extends before names
+pub extends-less : (before more : List Named) (names : List ℕ → Option ℤ) → Extends (before ++ more) names → Extends before names
 extends-less before more names extends some z e = extends some z (found-first before more some z e)
 
 record Defined (names : List ℕ → Option ℤ) (above : Standing) (lines : List (List ℕ)) (end : Standing) : Type 0 where
@@ -350,20 +524,20 @@ record Defined (names : List ℕ → Option ℤ) (above : Standing) (lines : Lis
   defined : defined_in names (spot_of above) lines ≡ Some more
   is : end.symbols ≡ above.symbols ++ more
 
-defines : (names : List ℕ → Option ℤ) (number : ℕ) (above : Standing) (lines : List (List ℕ)) (end : Standing)
-    → phase1 number above lines ≡ Ok end → Extends end.symbols names → Defined names above lines end
+defines : (names : List ℕ → Option ℤ) (number : ℕ) (above : Standing) → AreNested above.conditions → (lines : List (List ℕ))
+    (end : Standing) → phase1 number above lines ≡ Ok end → Extends end.symbols names → Defined names above lines end
 unfolding defined_in
-defines names number above [] end e extends = record {
+defines names number above nest [] end e extends = record {
   more = [];
   defined = refl;
   is = ap (λ (standing : Standing). standing.symbols) (sym (no-line number above end e)) ∙ sym (append-nil above.symbols);
 }
-defines names number above (line ∷ below) end e extends =
+defines names number above nest (line ∷ below) end e extends =
     let f = first-line number above line below end e in
-    let g = grows number above (line ∷ below) end e in
+    let g = grows number above nest (line ∷ below) end e in
     let here = extends-less above.symbols g.more names (subst (λ symbols. Extends symbols names) g.is extends) in
-    let a = agree-text names above here line f.next f.after in
-    let d = defines names (number + 1) f.next below end f.others extends in
+    let a = agree-text names above here nest line f.next f.after in
+    let d = defines names (number + 1) f.next a.nested below end f.others extends in
     record {
       more = a.new ++ d.more;
       defined = ap (λ step. defined_after step (λ next. defined_in names next below)) a.stepped
@@ -378,32 +552,37 @@ pub mapped : (new rest : List Named) (o : Option (List Named)) → option_map (�
 mapped new rest None e = absurd (none-some rest e)
 mapped new rest (Some more) e = (more, refl, some-same (new ++ more) rest e)
 
-agree-all : (names : List ℕ → Option ℤ) (number : ℕ) (above : Standing) (lines : List (List ℕ)) (end : Standing) (rest : List Named)
+agree-all : (names : List ℕ → Option ℤ) (number : ℕ) (above : Standing) → AreNested above.conditions → (lines : List (List ℕ)) (end : Standing) (rest : List Named)
     → phase1 number above lines ≡ Ok end → defined_in names (spot_of above) lines ≡ Some rest
     → ((some : List ℕ) → names some ≡ number_of (above.symbols ++ rest) some)
     → (some : List ℕ) → names some ≡ number_of end.symbols some
 unfolding defined_in
-agree-all names number above [] end rest e d assigned some =
+agree-all names number above nest [] end rest e d assigned some =
     let none : [] ≡ rest = some-same [] rest d in
     let same : above.symbols ++ rest ≡ end.symbols =
     ap (λ xs. above.symbols ++ xs) (sym none) ∙ append-nil above.symbols
     ∙ ap (λ (standing : Standing). standing.symbols) (no-line number above end e) in
     assigned some ∙ ap (λ symbols. number_of symbols some) same
-agree-all names number above (line ∷ below) end rest e d assigned some =
+agree-all names number above nest (line ∷ below) end rest e d assigned some =
     let f = first-line number above line below end e in
     let here : Extends above.symbols names = λ n z h. assigned n ∙ found-first above.symbols rest n z h in
-    let a = agree-text names above here line f.next f.after in
+    let a = agree-text names above here nest line f.next f.after in
     let m = mapped a.new rest (defined_in names (spot_of f.next) below)
     (sym (ap (λ step. defined_after step (λ next. defined_in names next below)) a.stepped) ∙ d) in
     let same : above.symbols ++ rest ≡ f.next.symbols ++ m.0 =
     ap (λ xs. above.symbols ++ xs) (sym m.2) ∙ sym (append_assoc above.symbols a.new m.0) ∙ ap (λ xs. xs ++ m.0) (sym a.grown) in
-    agree-all names (number + 1) f.next below end m.0 f.others m.1
+    agree-all names (number + 1) f.next a.nested below end m.0 f.others m.1
     (λ n. assigned n ∙ ap (λ symbols. number_of symbols n) same) some
+
+-- the first line stands at address 0, and no IF is open
+pub start-spot : first_spot ≡ spot_of start
+start-spot = refl
 
 pub symbols-are-right : SymbolsAreRight
 symbols-are-right lines after e =
-    let d = defines (number_of after.symbols) 1 start lines after e (λ some z h. h) in
+    let d = defines (number_of after.symbols) 1 start none-nested lines after e (λ some z h. h) in
     record {
-      right = record { definitions = d.more; defined = d.defined; assigned = λ some. ap (λ symbols. number_of symbols some) d.is };
-      only = λ names right some. agree-all names 1 start lines after right.definitions e right.defined right.assigned some;
+      right = record { definitions = d.more; defined = ap (λ spot. defined_in (number_of after.symbols) spot lines) start-spot ∙ d.defined; assigned = λ some. ap (λ symbols. number_of symbols some) d.is };
+      only = λ names right some. agree-all names 1 start none-nested lines after right.definitions e
+          (ap (λ spot. defined_in names spot lines) (sym start-spot) ∙ right.defined) right.assigned some;
     }

@@ -31,7 +31,7 @@ use Rattle.pac_asm.specs.Results.{◌>>=◌, in_line}
 use Rattle.pac_asm.specs.Standings.{has_byte, is_taken, overlaps}
 use Rattle.pac_asm.specs.Standings as standings
 use Rattle.pac_asm.specs.Layouts.{IsFree, IsFreePlace, AreApart}
-use Rattle.pac_asm.specs.Phase1.{read, form_in, formed}
+use Rattle.pac_asm.specs.Reading.{read, form_in, formed}
 use Rattle.pac_asm.specs.Phase2.{line_at, phase2}
 use Rattle.pac_program.specs.Rom.{covers, IsApartFrom, IsFit}
 use Rattle.pac_program.specs.Rom as rom

@@ -7,5 +7,8 @@ pub mod Filling
 pub mod Skipping
 pub mod Sizes
 pub mod LeftOut
+pub mod FirstWords
+pub mod OpenIfs
 pub mod Assigned
 pub mod Unique
+pub mod Entered

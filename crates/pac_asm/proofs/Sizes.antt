@@ -15,7 +15,8 @@ use Rattle.pac_asm.specs.Conditions.{is_judged, after_else, after_end, after_ski
 use Rattle.pac_asm.specs.Unclosed.{word_of, is_never_closed}
 use Rattle.pac_asm.specs.Standings.{Standing, start, known, within_rom, is_new, room_for, overlaps}
 use Rattle.pac_program.specs.Programs.{rom_size}
-use Rattle.pac_asm.specs.Phase1.{read, after_item, after_statement, after_form, after_judged, after_passed, after_text, closed}
+use Rattle.pac_asm.specs.Reading.{read}
+use Rattle.pac_asm.specs.Phase1.{after_item, after_statement, after_form, after_judged, after_passed, after_text, closed}
 use Rattle.pac_asm.specs.Phase1.{after_line, phase1}
 use Rattle.pac_asm.specs.Items.{IsSized, Fits, AllFit}
 

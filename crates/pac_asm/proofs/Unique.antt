@@ -9,10 +9,10 @@ use Rattle.pac_program.specs.Names.{Named, number_of}
 use Rattle.pac_source.specs.Statements.{Statement, nothing, origin, equate, bytes, words, space, condition, otherwise, end_condition}
 use Rattle.pac_source.specs.Statements.{operation, Form}
 use Rattle.pac_asm.specs.declared.fault.AsmCode.{AsmCode}
-use Rattle.pac_asm.specs.Conditions.{is_judged, condition_of}
+use Rattle.pac_asm.specs.Counting.{is_read, inside_if}
 use Rattle.pac_asm.specs.Unclosed.{word_of}
-use Rattle.pac_asm.specs.Phase1.{read}
-use Rattle.pac_asm.specs.Assignments.{Spot, Step, labelled, counted, valued, with_bytes, step_by, step_read, step_if, step_of}
+use Rattle.pac_asm.specs.Reading.{read}
+use Rattle.pac_asm.specs.Assignments.{Spot, Step, labelled, counted, valued, with_open, is_nonzero, with_bytes, step_by, step_read, step_if, step_of}
 use Rattle.pac_asm.specs.Assignments.{defined_after, defined_in, first_spot, NamesStand, StatementStands, ReadStands, LineStands}
 use Rattle.pac_asm.specs.Assignments.{RestStands, AreDefinedAbove, AtMostOneIsRight}
 use Rattle.pac_asm.proofs.Assigned.{Extends, found-first, mapped, some-same}
@@ -54,7 +54,7 @@ same-statement above a b ea eb spot label (origin place) h =
 same-statement above a b ea eb spot label (equate number) h =
     ap (λ answer. option_map (λ value. (labelled label value, spot)) (valued answer)) (same-value above a b ea eb spot.at number h)
 same-statement above a b ea eb spot label (condition test) h =
-    ap (λ answer. option_map (λ value. ([], record spot { conditions = condition_of value ∷ spot.conditions })) (valued answer))
+    ap (λ answer. with_open spot (option_map (λ value. inside_if (is_nonzero value) spot.ifs) (valued answer)))
     (same-value above a b ea eb spot.at test h)
 same-statement above a b ea eb spot label otherwise h = refl
 same-statement above a b ea eb spot label end_condition h = refl
@@ -75,9 +75,9 @@ same-if above a b ea eb spot line true h = same-read above a b ea eb spot (read 
 same-if above a b ea eb spot line false h = refl
 
 same-step : (above : List Named) (a b : List ℕ → Option ℤ) → Extends above a → Extends above b → (spot : Spot) (line : List ℕ)
-    → LineStands above line (is_judged spot.conditions (word_of line)) → step_of a spot line ≡ step_of b spot line
+    → LineStands above line (is_read spot.ifs (word_of line)) → step_of a spot line ≡ step_of b spot line
 unfolding step_of
-same-step above a b ea eb spot line h = same-if above a b ea eb spot line (is_judged spot.conditions (word_of line)) h
+same-step above a b ea eb spot line h = same-if above a b ea eb spot line (is_read spot.ifs (word_of line)) h
 
 -- ---- all lines
 

@@ -1,24 +1,25 @@
--- Which numbers the names of a source stand for, told of all names at once: every expression is valued by the assignment
--- that is judged, wherever its names are defined.
-use Rattle.std.specs.Prelude.{◌≡◌, ℕ, ℤ, pos, ◌+◌, Bool, true, false, List, [], ◌∷◌, ◌++◌, Option, Some, None, option_map, Result}
+-- To be believed: which numbers the names of a source stand for, told of all names at once: every expression is valued by the
+-- assignment that is judged, wherever its names are defined (this profile).
+use Rattle.std.specs.Prelude.{◌≡◌, ℕ, ℤ, pos, ◌+◌, Bool, true, false, not, List, [], ◌∷◌, ◌++◌, Option, Some, None, option_map, Result}
 use Rattle.std.specs.Prelude.{Ok, Err}
+use Rattle.std.specs.Ordering.{int_eq}
 use Rattle.pac_expr.specs.Trees.{Tree}
 use Rattle.pac_expr.specs.Values.{Answer, value_of, HasUndefined}
 use Rattle.pac_program.specs.Names.{Named, number_of}
 use Rattle.pac_source.specs.Statements.{Statement, nothing, origin, equate, space, condition, otherwise, end_condition}
 use Rattle.pac_source.specs.Statements.{Form}
 use Rattle.pac_source.specs.Contents.{size_of}
-use Rattle.pac_asm.specs.declared.condition.Condition.{Condition}
 use Rattle.pac_asm.specs.declared.fault.AsmCode.{AsmCode}
-use Rattle.pac_asm.specs.Conditions.{is_judged, condition_of, after_else, after_end, after_skipped}
+use Rattle.pac_asm.specs.Counting.{OpenIf, is_read, inside_if, behind_else, behind_endif, behind_skipped}
 use Rattle.pac_asm.specs.Unclosed.{word_of}
 use Rattle.pac_asm.specs.Standings.{Standing, start}
-use Rattle.pac_asm.specs.Phase1.{read, phase1}
+use Rattle.pac_asm.specs.Reading.{read}
+use Rattle.pac_asm.specs.Phase1.{phase1}
 
 -- where a line stands: its address, and the open IFs, the innermost first
 pub record Spot : Type 0 where
   pub at : ℕ
-  pub conditions : List Condition
+  pub ifs : List OpenIf
 
 -- the names that a line defines, with their numbers, and where the next line stands
 abbrev pub Step : Type 0
@@ -38,15 +39,18 @@ abbrev pub valued : Answer → Option ℤ
 valued (Ok z) = Some z
 valued (Err fault) = None
 
-abbrev pub with_conditions : Spot → Result (List Condition) AsmCode → Option Step
-with_conditions spot (Ok conditions) = Some ([], record spot { conditions = conditions })
-with_conditions spot (Err code) = None
+abbrev pub with_open : Spot → Option (List OpenIf) → Option Step
+with_open spot ifs = option_map (λ ifs. ([], record spot { ifs = ifs })) ifs
+
+-- an IF is true where its value isn't 0
+abbrev pub is_nonzero : ℤ → Bool
+is_nonzero value = not (int_eq value (pos 0))
 
 -- so many bytes, from the address reached
 abbrev pub with_bytes : Spot → Option (List ℕ) → ℕ → Step
 with_bytes spot label size = (labelled label (pos spot.at), record spot { at = spot.at + size })
 
--- A line that counts: a label is its address, and the name of an EQU the value of its expression.
+-- A line that is read whole: a label is its address, and the name of an EQU the value of its expression.
 abbrev pub step_by : (List ℕ → Option ℤ) → Spot → Option (List ℕ) → Statement → Option Step
 step_by names spot label nothing = Some (labelled label (pos spot.at), spot)
 step_by names spot label (origin place) =
@@ -54,9 +58,9 @@ step_by names spot label (origin place) =
 step_by names spot label (equate number) =
     option_map (λ value. (labelled label value, spot)) (valued (value_of names spot.at number))
 step_by names spot label (condition test) =
-    option_map (λ value. ([], record spot { conditions = condition_of value ∷ spot.conditions })) (valued (value_of names spot.at test))
-step_by names spot label otherwise = with_conditions spot (after_else spot.conditions)
-step_by names spot label end_condition = with_conditions spot (after_end spot.conditions)
+    with_open spot (option_map (λ value. inside_if (is_nonzero value) spot.ifs) (valued (value_of names spot.at test)))
+step_by names spot label otherwise = with_open spot (behind_else spot.ifs)
+step_by names spot label end_condition = with_open spot (behind_endif spot.ifs)
 step_by names spot label (space size fill) = option_map (with_bytes spot label) (counted (value_of names spot.at size))
 step_by names spot label statement = Some (with_bytes spot label (size_of statement))
 
@@ -64,13 +68,13 @@ abbrev pub step_read : (List ℕ → Option ℤ) → Spot → Result Form AsmCod
 step_read names spot (Ok form) = step_by names spot form.label form.statement
 step_read names spot (Err code) = None
 
--- a line that counts, and one that is skipped
+-- a line that is read whole, and one that is skipped
 abbrev pub step_if : (List ℕ → Option ℤ) → Spot → List ℕ → Bool → Option Step
 step_if names spot line true = step_read names spot (read line)
-step_if names spot line false = with_conditions spot (after_skipped (word_of line) spot.conditions)
+step_if names spot line false = with_open spot (Some (behind_skipped (word_of line) spot.ifs))
 
 unfoldable pub step_of : (List ℕ → Option ℤ) → Spot → List ℕ → Option Step
-step_of names spot line = step_if names spot line (is_judged spot.conditions (word_of line))
+step_of names spot line = step_if names spot line (is_read spot.ifs (word_of line))
 
 -- what lines define, in order, where the first of them stands here
 abbrev pub defined_after : Option Step → (Spot → Option (List Named)) → Option (List Named)
@@ -83,7 +87,7 @@ defined_in names spot (line ∷ below) = defined_after (step_of names spot line)
 
 -- the first line stands at address 0, and no IF is open
 abbrev pub first_spot : Spot
-first_spot = record { at = 0; conditions = [] }
+first_spot = record { at = 0; ifs = [] }
 
 -- An assignment of numbers to names is right where it has exactly the names that the lines define, each with the number
 -- that its line gives it, the first line where two define a name.
@@ -121,7 +125,7 @@ abbrev pub ReadStands : List Named → Result Form AsmCode → Type 0
 ReadStands above (Ok form) = StatementStands above form.statement
 ReadStands above (Err code) = Unit {0}
 
--- a line that counts; one that is skipped names nothing
+-- a line that is read whole; one that is skipped names nothing
 abbrev pub LineStands : List Named → List ℕ → Bool → Type 0
 LineStands above line true = ReadStands above (read line)
 LineStands above line false = Unit {0}
@@ -135,7 +139,7 @@ RestStands (Some step) below = below step
 abbrev pub AreDefinedAbove : (List ℕ → Option ℤ) → List Named → Spot → List (List ℕ) → Type 0
 AreDefinedAbove names above spot [] = Unit {0}
 AreDefinedAbove names above spot (line ∷ below) =
-    LineStands above line (is_judged spot.conditions (word_of line)) ×
+    LineStands above line (is_read spot.ifs (word_of line)) ×
     RestStands (step_of names spot line) (λ step. AreDefinedAbove names (above ++ step.0) step.1 below)
 
 -- The law. Where each name of an ORG, an EQU, the size of a DEFS and an IF is defined above, at most one assignment is right,

@@ -7,8 +7,6 @@ use Rattle.pac_asm.specs.declared.fault.AsmCode.TheVariants.{Token, Syntax, Defi
 use Rattle.pac_asm.specs.declared.fault.AsmCode.TheVariants.{TooManyLines, Undefined, OutOfRange, Arithmetic, TooDeep, NoOpenIf}
 use Rattle.pac_asm.specs.declared.fault.AsmCode.TheVariants.{NeverClosed}
 use Rattle.pac_asm.specs.declared.fault.AsmFault.{AsmFault}
-use Rattle.pac_asm.specs.declared.fault.AsmError.{AsmError}
-use Rattle.pac_asm.specs.declared.fault.AsmError.TheVariants.{Memory, Fault}
 
 -- what is wrong, as a code; that of a token has the code of what is wrong with it
 abbrev pub code_text : AsmCode → List ℕ
@@ -29,8 +27,3 @@ code_text NeverClosed = codes "A14"
 -- a fault: its code, and its line as a decimal number
 abbrev pub fault_text : AsmFault → List ℕ
 fault_text fault = code_text fault.code ++ codes " line " ++ decimal fault.line
-
--- why there is no program
-abbrev pub error_text : AsmError → List ℕ
-error_text Memory = codes "out of memory"
-error_text (Fault fault) = fault_text fault

@@ -9,7 +9,7 @@ use Rattle.pac_source.specs.Contents.{size_of}
 use Rattle.pac_asm.specs.declared.place.Span.{Span}
 use Rattle.pac_asm.specs.declared.place.Place.{Place}
 use Rattle.pac_asm.specs.declared.place.Place.TheVariants.{Blank, Skipped, Placed}
-use Rattle.pac_asm.specs.Phase1.{read}
+use Rattle.pac_asm.specs.Reading.{read}
 
 -- ---- places that fit their lines
 

@@ -7,8 +7,11 @@ pub mod Pairing
 pub mod Skipping
 pub mod Standings
 pub mod Layouts
+pub mod Reading
 pub mod Phase1
 pub mod Phase2
 pub mod Items
 pub mod Programs
+pub mod Counting
 pub mod Assignments
+pub mod Entries

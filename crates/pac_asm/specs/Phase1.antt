@@ -1,35 +1,20 @@
 -- The first phase: line by line, from the first on, up to the first fault. In a line the faults come in the order A1, A2, A12,
 -- A13, A3, A4, A10, A5, A6, A14 (this profile).
-use Rattle.std.specs.Prelude.{ℕ, Bool, pos, ◌+◌, List, [], ◌∷◌, ◌++◌, length, nat_lt, Option, Some, None, Result, Ok, Err}
+use Rattle.std.specs.Prelude.{ℕ, Bool, pos, ◌+◌, List, [], ◌∷◌, ◌++◌, length, nat_lt, Option, Result, Ok, Err}
 use Rattle.std.specs.Prelude.{if◌then◌else◌}
-use Rattle.pac_lex.specs.Scan.{tokens_of}
-use Rattle.pac_lex.specs.Tokens.{Lexeme}
-use Rattle.pac_lex.specs.declared.fault.Fault.{Fault}
 use Rattle.pac_source.specs.declared.conditional.Conditional.{Conditional}
 use Rattle.pac_source.specs.Statements.{Statement, nothing, origin, equate, space, condition, otherwise, end_condition}
 use Rattle.pac_source.specs.Statements.{Form}
-use Rattle.pac_source.specs.Forms.{form_of}
 use Rattle.pac_source.specs.Contents.{size_of}
 use Rattle.pac_asm.specs.Results.{◌>>=◌, in_line}
+use Rattle.pac_asm.specs.Reading.{read}
 use Rattle.pac_asm.specs.Conditions.{is_judged, most_open, condition_of, after_else, after_end, after_skipped}
 use Rattle.pac_asm.specs.Unclosed.{word_of, is_never_closed}
 use Rattle.pac_asm.specs.Standings.{Standing, known, within_rom, is_new, with_label, room_for}
 use Rattle.pac_asm.specs.declared.place.Place.TheVariants.{Blank, Skipped, Placed}
 use Rattle.pac_asm.specs.declared.fault.AsmCode.{AsmCode}
-use Rattle.pac_asm.specs.declared.fault.AsmCode.TheVariants.{Token, Syntax, DefinedBefore, TooDeep, NeverClosed}
+use Rattle.pac_asm.specs.declared.fault.AsmCode.TheVariants.{DefinedBefore, TooDeep, NeverClosed}
 use Rattle.pac_asm.specs.declared.fault.AsmFault.{AsmFault}
-
--- A1 and A2: the form of a line
-abbrev pub formed : Option Form → Result Form AsmCode
-formed None = Err Syntax
-formed (Some form) = Ok form
-
-abbrev pub form_in : Result (List Lexeme) Fault → Result Form AsmCode
-form_in (Err fault) = Err (Token fault)
-form_in (Ok tokens) = formed (form_of tokens)
-
-unfoldable pub read : List ℕ → Result Form AsmCode
-read line = form_in (tokens_of line)
 
 -- how many bytes a statement takes: the value of its first expression where it is a DEFS
 abbrev pub sized : Standing → Statement → Result ℕ AsmCode

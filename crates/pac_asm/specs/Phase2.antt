@@ -9,7 +9,7 @@ use Rattle.pac_program.specs.Names.{Named, number_of}
 use Rattle.pac_program.specs.declared.line.Line.{Line}
 use Rattle.pac_program.specs.declared.line.Line.TheVariants as lines
 use Rattle.pac_asm.specs.Results.{◌>>=◌, in_line}
-use Rattle.pac_asm.specs.Phase1.{read}
+use Rattle.pac_asm.specs.Reading.{read}
 use Rattle.pac_asm.specs.declared.place.Place.{Place}
 use Rattle.pac_asm.specs.declared.place.Place.TheVariants.{Blank, Skipped, Placed}
 use Rattle.pac_asm.specs.declared.fault.AsmCode.{AsmCode}

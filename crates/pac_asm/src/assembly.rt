@@ -6,6 +6,7 @@ ghost use Rattle.pac_code.specs.Items.{AllLie};
 ghost use Rattle.pac_program.specs.Programs.{items_of};
 ghost use Rattle.pac_program.specs.Rom.{AreApart, IsZeroElsewhere};
 ghost use Rattle.pac_asm.specs.Assignments.{OneIsRight};
+ghost use Rattle.pac_asm.specs.Entries.{HasEntriesOf};
 ghost use Rattle.pac_asm.specs.Errors.{Gives};
 ghost use Rattle.pac_asm.specs.Programs.{program_of};
 
@@ -32,6 +33,9 @@ pub fn assemble(alloc: Global, source: &[u8]) -> Result<Program, AsmError>
     // The symbols are right: they have the names that the lines define, each with the number that its line gives it. No
     // other assignment of numbers to names is right.
     ensures right { IfOk result (λ program. OneIsRight (text_lines source.now) program.symbols) }
+    // The program has one entry for each line: of a line that counts the item that its form has under the symbols, at the
+    // address where it stands.
+    ensures entries { IfOk result (λ program. HasEntriesOf (text_lines source.now) program) }
 {
     if has_too_many_lines(source) {
         return Err(LineError::Code(AsmCode::TooManyLines).in_line(MOST_LINES + 1));

@@ -55,7 +55,7 @@ pub struct AsmFault {
 }
 
 /// Why a source became no program.
-#[derive(Clone, Copy, Debug, PartialEq, Eq, Error)]
+#[derive(Clone, Copy, Debug, PartialEq, Eq)]
 pub enum AsmError {
     /// Memory ran out.
     Memory,
@@ -98,20 +98,6 @@ impl fmt::Display for AsmFault {
         let code = self.code;
         let line = self.line;
         write!(f, "{code} line {line}")
-    }
-}
-
-impl fmt::Display for AsmError {
-    ghost use Rattle.pac_asm.specs.Codes.{error_text};
-
-    ghost output = { λ error. Some (error_text error) };
-
-    /// The fault, or that memory ran out.
-    fn fmt<W: fmt::Write>(&self, f: &mut fmt::Formatter<W>) -> fmt::Result {
-        match self {
-            AsmError::Memory => f.write_str("out of memory"),
-            AsmError::Fault(fault) => write!(f, "{fault}"),
-        }
     }
 }
 

@@ -76,7 +76,7 @@ fn line_at(alloc: Global, symbols: &Symbols, line: &[u8], place: Place) -> Resul
 }
 
 /// A line with its item.
-#[tactic(auto, unfolding(crate::specs::Phase1::read))]
+#[tactic(auto, unfolding(crate::specs::Reading::read))]
 fn placed_line(alloc: Global, symbols: &Symbols, line: &[u8], span: Span) -> Result<Line, LineError>
     requires { Fits line.now (Placed span) }
     ensures exact { Answers result (spec.line_at symbols.now line.now (Placed span)) }

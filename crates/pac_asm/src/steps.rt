@@ -31,7 +31,7 @@ impl Standing {
     }
 
     /// After a line that is judged whole.
-    #[tactic(auto, unfolding(crate::specs::Phase1::read))]
+    #[tactic(auto, unfolding(crate::specs::Reading::read))]
     fn after_judged(&mut self, alloc: Global, line: &[u8]) -> Result<(), LineError>
         ensures { Becomes result (spec.after_judged self.old line.now) self.new }
     {

@@ -1,14 +1,18 @@
-use Rattle.std.proofs.Common.{ℕ, List, sym, ◌∙◌, ap, subst}
+use Rattle.std.proofs.Common.{◌≡◌, ℕ, List, [], Some, Ok, sym, ◌∙◌, ap, subst}
 use Rattle.std.specs.List.{flat_map}
 use Rattle.std.specs.Str.Lines.{lines}
 use Rattle.pac_code.specs.Items.{AllLie}
-use Rattle.pac_program.specs.Names.{Named}
+use Rattle.pac_program.specs.Names.{Named, number_of}
 use Rattle.pac_program.specs.Programs.{Assembled, items_in, items_of}
 use Rattle.pac_program.specs.Rom.{rom_of, AreApart, IsZeroElsewhere}
 use Rattle.pac_program.specs.declared.line.Line.{Line}
-use Rattle.pac_asm.specs.Assignments.{OneIsRight}
+use Rattle.pac_asm.specs.declared.place.Place.{Place}
+use Rattle.pac_asm.specs.Assignments.{first_spot, OneIsRight}
+use Rattle.pac_asm.specs.Entries.{entries_in, HasEntriesOf}
+use Rattle.pac_asm.specs.Phase2.{phase2}
 use Rattle.pac_asm.specs.Items.{AllFit}
 use Rattle.pac_asm.proofs.Assigned.{symbols-are-right}
+use Rattle.pac_asm.proofs.Entered.{has-entries}
 use Rattle.pac_asm.proofs.Sizes.{all-fit}
 use Rattle.pac_asm.proofs.assembly.assemble.Goals as goal
 
@@ -41,3 +45,18 @@ returns-clause-right c =
     subst (λ (program : Assembled). OneIsRight (lines c.args.source.now) program.symbols) (sym c.new.ensures)
     (subst (λ (symbols : List Named). OneIsRight (lines c.args.source.now) symbols) (sym c.parts-symbols.ensures.symbols)
     (symbols-are-right (lines c.args.source.now) c.in_ok-lay_out.field-0 c.in_ok-lay_out.ensures))
+
+pub returns-clause-entries : goal.returns-clause-entries
+returns-clause-entries c =
+    let texts = lines c.args.source.now in
+    let after = c.in_ok-lay_out.field-0 in
+    let filled = c.in_ok-lines.lines.items in
+    let second : phase2 after.symbols 1 [] texts after.places ≡ Ok filled =
+    subst (λ (places : List Place). phase2 after.symbols 1 [] texts places ≡ Ok filled)
+    (c.places.ensures.value ∙ c.parts-symbols.ensures.places)
+    (subst (λ (symbols : List Named). phase2 symbols 1 [] texts c.places.result.now ≡ Ok filled) c.parts-symbols.ensures.symbols
+    c.in_ok-lines.ensures.exact) in
+    subst (λ (program : Assembled). HasEntriesOf texts program) (sym c.new.ensures)
+    (subst (λ (symbols : List Named). entries_in (number_of symbols) first_spot texts ≡ Some filled)
+    (sym c.parts-symbols.ensures.symbols)
+    (has-entries texts after filled c.in_ok-lay_out.ensures second))
