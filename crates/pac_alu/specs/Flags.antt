@@ -1,5 +1,5 @@
--- The flag byte F (UM0080, "Z80 Status Indicator Flags"): S is bit 7, Z bit 6, H bit 4, P/V bit 2, N bit 1
--- and C bit 0. Bits 5 and 3 have no meaning; in this profile no operation here changes them.
+-- To be believed: the flag byte F (UM0080, "Z80 Status Indicator Flags"): S is bit 7, Z bit 6, H bit 4, P/V bit 2, N bit 1 and
+-- C bit 0. Bits 5 and 3 have no meaning; in this profile no operation here changes them.
 use Rattle.std.specs.Prelude.{ℕ, ℤ, pos, negsuc, Bool, not, false, ◌+◌, ◌*◌, ◌/◌, ◌%◌, ◌<◌, ◌==◌, ◌||◌, nat_le, int_lt, if◌then◌else◌}
 use Rattle.pac_alu.specs.declared.flag_byte.Flags.{Flags}
 use Rattle.pac_alu.specs.declared.flag_byte.Condition.{Condition}

@@ -1,4 +1,4 @@
--- Rotations and shifts (UM0080, "Rotate and Shift Group").
+-- To be believed: rotations and shifts (UM0080, "Rotate and Shift Group").
 use Rattle.std.specs.Prelude.{ℕ, false, ◌+◌, ◌*◌, ◌/◌, ◌%◌, ◌==◌, if◌then◌else◌}
 use Rattle.pac_alu.specs.declared.bytes.Outcome.{Outcome}
 use Rattle.pac_alu.specs.declared.shifts.Digits.{Digits}

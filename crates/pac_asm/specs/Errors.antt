@@ -1,4 +1,5 @@
--- What the code answers where a line or a source can't be assembled, in the words of the definitions.
+-- To be believed: what `assemble` answers where a source can't be assembled, in the words of the definitions (`Fails`,
+-- `Gives`). What is said of a line, and of a value that a call changes, is for proofs.
 use Rattle.std.specs.Prelude.{◌≡◌, ℕ, Result, Ok, Err}
 use Rattle.pac_lex.specs.declared.fault.LexError.{LexError}
 use Rattle.pac_lex.specs.declared.fault.LexError.TheVariants as lexing

@@ -1,4 +1,4 @@
--- Places that fit their lines, and lines at their places.
+-- For proofs: places that fit their lines, and lines at their places.
 use Rattle.std.specs.Prelude.{◌≡◌, ℕ, List, [], ◌∷◌, length, Ok}
 use Rattle.pac_code.specs.Items.{Item, bytes_of, IsValid}
 use Rattle.pac_program.specs.declared.line.Line.{Line}

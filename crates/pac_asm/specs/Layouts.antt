@@ -1,4 +1,4 @@
--- Lines whose bytes lie apart, as a layout keeps them.
+-- For proofs: lines whose bytes lie apart, as a layout keeps them.
 use Rattle.std.specs.Prelude.{◌≡◌, ℕ, ◌+◌, ◌≤◌, Bool, false, List, [], ◌∷◌, ◌++◌, map}
 use Rattle.std.specs.List.{range_with_len}
 use Rattle.pac_program.specs.Programs.{rom_size}

@@ -1,4 +1,4 @@
--- The pairing of IF and ENDIF line by line, as the code follows it.
+-- For proofs: the pairing of IF and ENDIF line by line, as the code follows it.
 use Rattle.std.specs.Prelude.{ℕ, ◌+◌, ◌-◌, ◌==◌, Bool, false, Option, Some, None, if◌then◌else◌}
 use Rattle.pac_source.specs.declared.conditional.Conditional.{Conditional}
 use Rattle.pac_source.specs.declared.conditional.Conditional.TheVariants.{If, EndIf}

@@ -1,4 +1,4 @@
--- What a step of assembling gives: what comes next, or what is wrong.
+-- To be believed: what a step of assembling gives: what comes next, or what is wrong.
 use Rattle.std.specs.Prelude.{ℕ, Result, Ok, Err}
 use Rattle.pac_asm.specs.declared.fault.AsmCode.{AsmCode}
 use Rattle.pac_asm.specs.declared.fault.AsmFault.{AsmFault}

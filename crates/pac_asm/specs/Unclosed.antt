@@ -1,4 +1,4 @@
--- IF and ENDIF pair up by the first words of all lines alone, whatever else stands in them (this profile).
+-- To be believed: how IF and ENDIF pair up: by the first words of all lines alone, whatever else stands in them (this profile).
 use Rattle.std.specs.Prelude.{ℕ, zero, suc, ◌+◌, Bool, true, false, List, [], ◌∷◌, Option, Some, None, option_map, map}
 use Rattle.std.specs.Prelude.{if◌then◌else◌}
 use Rattle.pac_lex.specs.Words.{first_word}

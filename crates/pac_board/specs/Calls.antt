@@ -1,4 +1,4 @@
--- What the calls that make steps do, by their answers.
+-- To be believed: what the calls that make steps do, by their answers.
 use Rattle.std.specs.Prelude.{◌≡◌, ◌≢◌, ℕ, suc, ◌+◌, ◌-◌, ◌<◌, ◌≤◌, List, [], ◌++◌, Result, Ok, Err, ◌⊎◌}
 use mathlib.Core.List.{IsPrefix}
 use Rattle.pac_cpu.specs.declared.once.Once.{Once}

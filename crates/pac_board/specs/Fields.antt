@@ -1,4 +1,4 @@
--- A board by its fields, as a save file has them.
+-- To be believed: a board by its fields, as a save file has them.
 use Rattle.std.specs.Prelude.{◌≡◌, ◌*◌, ◌≤◌, ◌<◌}
 use Rattle.pac_latch.specs.Latched.{watchdog_limit}
 use Rattle.pac_map.specs.Fields.{view_of}

@@ -1,5 +1,5 @@
--- To be believed: a host's calls on one board, one after another, whatever its sinks take and refuse, each of which does what its
--- contract says. Over the history they are acts, and the board stands where these acts bring it.
+-- To be believed: a host's calls on one board, one after another, whatever its sinks take and refuse, each of which does what
+-- its contract says. Over the history they are acts, and the board stands where these acts bring it.
 use Rattle.std.specs.Prelude.{◌≡◌, ◌-◌, ℕ, Bool, true, false, List, [], ◌∷◌, ◌++◌, map, replicate, slice_index_or, Result, Ok, Err, ◌⊎◌}
 use Rattle.std.proofs.Common.{inl, inr}
 use Rattle.pac_code.specs.Items.{Item, AllLie}

@@ -1,4 +1,5 @@
--- A sink for tests: it keeps what it takes, and refuses one offer. Where there isn't the memory for an output it refuses too.
+-- To be believed: a sink for tests: it keeps what it takes, and refuses one offer. Where there isn't the memory for an output
+-- it refuses too.
 use Rattle.std.specs.Prelude.{◌≡◌, ◌≢◌, ℕ, ◌-◌, List, [], ◌∷◌, ◌++◌, slice_index, slice_index_or}
 use Rattle.pac_step.specs.Output.{Output, Sound, Show, Image}
 use Rattle.pac_board.specs.declared.kept.Taken.{Taken}

@@ -1,4 +1,4 @@
--- Laws of the calls, each proved on a public function of the crate.
+-- To be believed: laws of the calls, each proved on a public function of the crate.
 use Rattle.std.specs.Prelude.{◌≡◌, ℕ, zero, suc, ◌+◌, ◌-◌, ◌<◌, List, [], ◌++◌}
 use Rattle.pac_cpu.specs.declared.once.Once.{Once}
 use Rattle.pac_step.specs.Output.{Output}

@@ -1,5 +1,5 @@
--- What a sink took. A sink says by two relations between its value before and after what taking an output leaves of it, `took`,
--- and what refusing one leaves, `refused`. It needn't keep what it took, and no law binds it.
+-- To be believed: what a sink took. A sink says by two relations between its value before and after what taking an output
+-- leaves of it, `took`, and what refusing one leaves, `refused`. It needn't keep what it took, and no law binds it.
 use Rattle.std.specs.Prelude.{◌≡◌, List, [], ◌∷◌, Result, Ok, Err}
 use Rattle.std.specs.Borrow.{MutBor}
 use Rattle.pac_picture.specs.State as picture

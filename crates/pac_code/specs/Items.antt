@@ -1,5 +1,5 @@
--- The items of a source: what stands at which address, and when it stands in a program ROM. An instruction's bytes
--- are its code (Zilog Z80 CPU User Manual UM0080, "Z80 Instruction Description").
+-- To be believed: the items of a source: what stands at which address, and when it stands in a program ROM. An instruction's
+-- bytes are its code (Zilog Z80 CPU User Manual UM0080, "Z80 Instruction Description").
 use Rattle.std.specs.Prelude.{◌≡◌, ℕ, ◌+◌, ◌≤◌, ◌==◌, if◌then◌else◌, Option, None, Some, List, [], ◌∷◌, length, take, drop, All}
 use Rattle.std.specs.Option.{option_or}
 use Rattle.pac_table.specs.Instructions.{Instruction, IsInstruction, code}

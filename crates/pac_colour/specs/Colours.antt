@@ -1,5 +1,5 @@
--- Colours of the picture (Namco Pac-Man service schematics: the lookup PROM, and the colour PROM with its output
--- resistors; the resistors' weights are this profile's).
+-- To be believed: colours of the picture (Namco Pac-Man service schematics: the lookup PROM, and the colour PROM with its
+-- output resistors; the resistors' weights are this profile's).
 use Rattle.std.specs.Prelude.{ℕ, ◌+◌, ◌*◌, ◌%◌, List, [], ◌∷◌, slice_index}
 use Rattle.pac_num.specs.Numbers.{bit}
 

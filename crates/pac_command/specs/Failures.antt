@@ -1,4 +1,4 @@
--- What is told where the program can't do its work: the line that goes to standard error, and the exit status.
+-- To be believed: what is told where the program can't do its work: the line that goes to standard error, and the exit status.
 use Rattle.std.specs.Prelude.{◌≡◌, ◌⊎◌, ℕ, List, ◌++◌, Option, Some, None, Result, Ok, Err, codes}
 use Rattle.std.specs.Fmt.{decimal}
 use Rattle.clap.specs.Words.{IsAmong, Kinds}

@@ -1,4 +1,5 @@
--- What the program does with the files of a run: which it reads, which it creates, what these have then, and how it ends.
+-- To be believed: what the program does with the files of a run: which it reads, which it creates, what these have then, and
+-- how it ends.
 use Rattle.std.specs.Prelude.{◌≡◌, ◌⊎◌, ℕ, List, [], ◌∷◌, map, Some, option_map, Result, Err}
 use Rattle.pac_files.specs.declared.files.Kind.TheVariants.{Any}
 use Rattle.pac_files.specs.Files.{Finds, FirstUnread, Handling, AllCreated, AllClosed, FirstUncreated}

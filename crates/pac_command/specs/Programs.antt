@@ -1,4 +1,4 @@
--- What assembling a source leaves of its two outputs, and what a run leaves, by the answer.
+-- To be believed: what assembling a source leaves of its two outputs, and what a run leaves, by the answer.
 use Rattle.std.specs.Prelude.{◌≡◌, ℕ, List, Result, Ok, Err}
 use Rattle.pac_asm.specs.Programs.{program_of}
 use Rattle.pac_listing.specs.Listing.{listing}

@@ -1,4 +1,4 @@
--- What a command is answered with, as a text of the session as the command left it.
+-- To be believed: what a command is answered with, as a text of the session as the command left it.
 use Rattle.std.specs.Prelude.{ℕ, ◌-◌, List, [], ◌∷◌, ◌++◌, length, drop, map}
 use Rattle.pac_cpu.specs.declared.once.Kind.{Kind}
 use Rattle.pac_cpu.specs.declared.once.Kind.TheVariants as kinds

@@ -1,4 +1,4 @@
--- What a command line does to a session, and what it is answered with.
+-- To be believed: what a command line does to a session, and what it is answered with.
 use Rattle.std.specs.Prelude.{◌≡◌, ◌<◌, ℕ, Bool, true, false, List, [], ◌∷◌, ◌++◌, length, Option, None, Some, Result, Ok, Err, ◌⊎◌, slice_index_or}
 use Rattle.pac_step.specs.Output.{Output}
 use Rattle.pac_board.specs.Sinks.{TookAll, Then}

@@ -1,5 +1,6 @@
--- A whole session: what the lines of a text are answered with, and what a sink is given, up to the end of the run. What is told is
--- said of the run alone, without any sink; and whatever the lines ask, a sink is given each output of the run once, in order.
+-- To be believed: a whole session: what the lines of a text are answered with, and what a sink is given, up to the end of the
+-- run. What is told is said of the run alone, without any sink; and whatever the lines ask, a sink is given each output of the
+-- run once, in order.
 use Rattle.std.specs.Prelude.{◌≡◌, ◌<◌, ◌≤◌, ℕ, not, true, List, [], ◌∷◌, ◌++◌, length, All, Option, None, Some, Result, Ok, Err}
 use Rattle.std.specs.Prelude.{◌⊎◌}
 use mathlib.Core.List.{IsPrefix}

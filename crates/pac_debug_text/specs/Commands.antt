@@ -1,4 +1,4 @@
--- The commands of the debugger, and how a line tells one (this profile).
+-- To be believed: the commands of the debugger, and how a line tells one (this profile).
 use Rattle.std.specs.Prelude.{ℕ, ◌≤◌, ⊤, ◌==◌, List, [], ◌∷◌, codes, Option, Some, None, Result, Ok, Err, option_map, option_and_then, if◌then◌else◌}
 use Rattle.std.specs.Map.{lookup}
 use Rattle.std.specs.Str.{bytes_eq}

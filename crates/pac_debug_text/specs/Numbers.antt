@@ -1,4 +1,4 @@
--- The numbers of a command line (this profile): decimal ones with a range, and addresses.
+-- To be believed: the numbers of a command line (this profile): decimal ones with a range, and addresses.
 use Rattle.std.specs.Prelude.{ℕ, ◌&&◌, ◌==◌, List, length, Option, Some, None, nat_le, if◌then◌else◌}
 use Rattle.std.specs.List.{list_all}
 use Rattle.std.specs.Char.{is_ascii_digit, is_ascii_hexdigit}

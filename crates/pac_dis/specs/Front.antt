@@ -1,4 +1,5 @@
--- What stands at the front of some bytes: the instruction of the one row that matches within them, if there is one.
+-- To be believed: what stands at the front of some bytes: the instruction of the one row that matches within them, if there is
+-- one.
 use Rattle.std.specs.Prelude.{ℕ, nat_le, if◌then◌else◌, Option, Some, None, option_and_then, List, [], ◌∷◌, length, slice_index}
 use Rattle.pac_table.specs.Instructions.{Instruction, code, decoded}
 

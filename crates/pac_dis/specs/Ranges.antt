@@ -1,4 +1,4 @@
--- The numbers that are written as a byte or as one digit are in that range, in each instruction of the table.
+-- For proofs: that the numbers which are written as a byte or as one digit are in that range, in each instruction of the table.
 use Rattle.std.specs.Prelude.{◌<◌, ⊤, List, [], ◌∷◌}
 use Rattle.pac_table.specs.declared.operands.Shape.{Shape}
 use Rattle.pac_names.specs.declared.writing.NumberKind.{NumberKind}

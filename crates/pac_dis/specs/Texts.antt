@@ -1,5 +1,5 @@
--- The text of an instruction (Zilog Z80 CPU User Manual UM0080 for the names; the form of the numbers is this profile's):
--- the name of the operation in capitals, a blank, and the operands with commas between them, as `LD (IX+05H),0FFH`.
+-- To be believed: the text of an instruction (Zilog Z80 CPU User Manual UM0080 for the names; the form of the numbers is this
+-- profile's): the name of the operation in capitals, a blank, and the operands with commas between them, as `LD (IX+05H),0FFH`.
 -- Names and what is written for an operand are those of the table, which sources are read by.
 use Rattle.std.specs.Prelude.{◌≡◌, ℕ, ◌+◌, ◌*◌, ◌<◌, ◌≤◌, Option, unwrap_or, List, [], ◌∷◌, ◌++◌, length, map, slice_index, codes}
 use Rattle.std.specs.Option.{option_map_or}

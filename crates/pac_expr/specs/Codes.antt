@@ -1,4 +1,4 @@
--- The codes that are printed for a fault of an expression (this profile).
+-- For proofs: the codes that are printed for a fault of an expression (this profile). The assembler prints its own.
 use Rattle.std.specs.Prelude.{ℕ, List, codes}
 use Rattle.pac_expr.specs.declared.evaluation.ValueError.{ValueError}
 use Rattle.pac_expr.specs.declared.evaluation.ValueError.TheVariants.{Undefined, OutOfRange, DivisionByZero}

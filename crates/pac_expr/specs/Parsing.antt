@@ -1,5 +1,5 @@
--- The tree of an expression as a function of its tokens: they are taken from left to right, and what
--- still waits for an operand to its right is kept, the last first.
+-- To be believed: the tree of an expression as a function of its tokens: they are taken from left to right, and what still
+-- waits for an operand to its right is kept, the last first.
 use Rattle.std.specs.Prelude.{◌≡◌, ◌↔◌, ℕ, List, [], ◌∷◌, Option, Some, None, nat_le, if◌then◌else◌, Result, Ok, Err}
 use Rattle.pac_lex.specs.Tokens.{Lexeme}
 use Rattle.pac_expr.specs.declared.expr.Sign.{Sign}

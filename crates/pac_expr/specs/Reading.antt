@@ -1,5 +1,5 @@
--- An expression read from the left of its tokens, part by part: a part that was read stands for its tree,
--- whatever waits before it.
+-- For proofs: an expression read from the left of its tokens, part by part: a part that was read stands for its tree, whatever
+-- waits before it.
 use Rattle.std.specs.Prelude.{◌≡◌, ◌≤◌, ◌<◌, ◌-◌, ℕ, ℤ, List, [], ◌∷◌, Option, Some, None, IfSome}
 use Rattle.pac_expr.specs.declared.expr.Operator.{Operator}
 use Rattle.pac_expr.specs.declared.expr.Operator.TheVariants.{Add, Subtract, Multiply, Divide}

@@ -1,5 +1,5 @@
--- What is enough of a state to tell whether an expression can end there: whether an operand stands, and how
--- many parentheses are open.
+-- For proofs: what is enough of a state to tell whether an expression can end there: whether an operand stands, and how many
+-- parentheses are open.
 use Rattle.std.specs.Prelude.{ℕ, ◌+◌, ◌-◌, ◌==◌, ◌&&◌, Bool, true, false, List, [], ◌∷◌, Option, Some, None, if◌then◌else◌}
 use Rattle.pac_expr.specs.Trees.{Mark, single, opening, closing, plus, minus, star, slash}
 use Rattle.pac_expr.specs.Parsing.{Waiting, parenthesis, State, needs, stands}

@@ -1,4 +1,4 @@
--- What the code keeps, as what waits and what stands: its last is the first here.
+-- For proofs: what the code keeps, as what waits and what stands: its last is the first here.
 use Rattle.std.specs.Prelude.{List, Option, Some, None, map, reverse}
 use Rattle.pac_expr.specs.declared.expr.Expr.{Expr}
 use Rattle.pac_expr.specs.declared.pending.Pending.{Pending}

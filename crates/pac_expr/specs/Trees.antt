@@ -1,4 +1,4 @@
--- Expressions as trees, and the tokens that spell them: the assembler's notation of this profile, whose
+-- To be believed: expressions as trees, and the tokens that spell them: the assembler's notation of this profile, whose
 -- operators bind as in arithmetic.
 use Rattle.std.specs.Prelude.{◌≡◌, ℕ, ◌-◌, ◌≤◌, List, [], ◌∷◌, ◌++◌, Option, Some, None, map}
 use Rattle.pac_lex.specs.declared.token.Kind.{Kind}

@@ -1,4 +1,4 @@
--- The value of an expression, in whole numbers of 32 bits, and why there is none: E1, E2 or E3 (this profile).
+-- To be believed: the value of an expression, in whole numbers of 32 bits, and why there is none: E1, E2 or E3 (this profile).
 use Rattle.std.specs.Prelude.{◌≡◌, ◌⊎◌, ℕ, ℤ, pos, negsuc, ◌+ℤ◌, ◌-ℤ◌, ◌*ℤ◌, neg_ℤ, int_le, int_div, ◌&&◌, List, Option, Some, None, Result}
 use Rattle.std.specs.Prelude.{Ok, Err, if◌then◌else◌}
 use Rattle.std.specs.Ordering.{int_eq}

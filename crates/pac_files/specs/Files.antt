@@ -1,5 +1,5 @@
--- To be believed: what reading the files of a command line comes to, and creating its outputs. A file system says by two relations
--- what a read of a path may find, `finds`, and what creating a file of a path, or failing to, leaves, `creates`.
+-- To be believed: what reading the files of a command line comes to, and creating its outputs. A file system says by two
+-- relations what a read of a path may find, `finds`, and what creating a file of a path, or failing to, leaves, `creates`.
 use Rattle.std.specs.Prelude.{◌≡◌, ◌<◌, ◌≤◌, ◌⊎◌, ⊤, ℕ, List, [], ◌∷◌, ◌++◌, length, codes, unwrap_or, if◌then◌else◌, ◌==◌}
 use Rattle.std.specs.Prelude.{Vec, Option, Some, None, IfSome, Result, Ok, Err}
 use Rattle.std.specs.declared.alloc.Global.{Global}

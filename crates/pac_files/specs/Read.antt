@@ -1,4 +1,5 @@
--- What reading the files of a run comes to: those that the command line names, and then those that the manifest names.
+-- To be believed: what reading the files of a run comes to: those that the command line names, and then those that the manifest
+-- names.
 use Rattle.std.specs.Prelude.{◌≡◌, ⊤, ℕ, List, [], ◌∷◌, ◌++◌, map, filter_map, Vec, string_bytes, Option, Some, None, Result, Ok, Err}
 use Rattle.std.specs.Result.{result_ok}
 use Rattle.std.specs.declared.alloc.Global.{Global}

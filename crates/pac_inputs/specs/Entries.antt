@@ -1,4 +1,4 @@
--- A script's lines by the last frame of each, as the table of them is kept.
+-- For proofs: a script's lines by the last frame of each, as the table of them is kept.
 use Rattle.std.specs.Prelude.{ℕ, ◌-◌, ◌≤◌, List, [], ◌∷◌, nat_le, if◌then◌else◌}
 use Rattle.pac_inputs.specs.declared.line.Stretch.{Stretch}
 use Rattle.pac_inputs.specs.declared.script.Entry.{Entry}

@@ -1,4 +1,5 @@
--- What a script says: so many frames with so many inputs held, line by line, and its first fault (this profile).
+-- To be believed: what a script says: so many frames with so many inputs held, line by line, and its first fault (this
+-- profile).
 use Rattle.std.specs.Prelude.{◌≡◌, ℕ, ◌+◌, Bool, false, ◌==◌, List, [], ◌∷◌, ◌++◌, ◌⊎◌, ◌<◌, ◌≤◌, length}
 use Rattle.std.specs.Prelude.{Option, Some, None, Result, Ok, Err, nat_lt, if◌then◌else◌}
 use Rattle.std.specs.Str.Lines.{lines}

@@ -1,6 +1,6 @@
--- What the board keeps beside its memories: the eight bits of the output latch, the interrupt vector, the
--- interrupt request and the watchdog's count (Namco Pac-Man service schematics; that an output to port 0 sets
--- the vector, the order at a blank, and that a count stays at its limit are this profile's).
+-- To be believed: what the board keeps beside its memories: the eight bits of the output latch, the interrupt vector, the
+-- interrupt request and the watchdog's count (Namco Pac-Man service schematics; that an output to port 0 sets the vector, the
+-- order at a blank, and that a count stays at its limit are this profile's).
 use Rattle.std.specs.Prelude.{ℕ, ◌+◌, ◌*◌, ◌%◌, ◌==◌, min, Bool, false, not, ◌&&◌, ◌||◌, if◌then◌else◌}
 use Rattle.std.specs.Prelude.{List, [], ◌∷◌, slice_index_or, slice_set, Option, Some, None}
 use Rattle.pac_num.specs.Numbers.{bit}

@@ -1,4 +1,4 @@
--- The codes that are printed for a fault (this profile).
+-- To be believed: the codes that are printed for a fault (this profile).
 use Rattle.std.specs.Prelude.{ℕ, List, codes}
 use Rattle.pac_lex.specs.declared.fault.Fault.{Fault}
 use Rattle.pac_lex.specs.declared.fault.Fault.TheVariants.{NoToken, WrongNumber, OpenText, LongLine}

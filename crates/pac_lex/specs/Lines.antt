@@ -1,4 +1,4 @@
--- A text cut after its first line. The lines of a whole text are std's `lines`.
+-- For proofs: a text cut after its first line. The lines of a whole text are std's `lines`.
 use Rattle.std.specs.Prelude.{ℕ, ◌==◌, List, [], length, take, drop, position, Option, Some, None, if◌then◌else◌}
 use Rattle.std.specs.Str.Lines.{strip_carriage_return}
 

@@ -1,4 +1,4 @@
--- A line read from left to right, up to its first fault.
+-- To be believed: a line read from left to right, up to its first fault.
 use Rattle.std.specs.Prelude.{◌≡◌, ℕ, zero, suc, ◌+◌, ◌-◌, Bool, true, List, [], ◌∷◌, ◌&&◌, take, drop, length}
 use Rattle.std.specs.Prelude.{Option, Some, None, Result, Ok, Err, nat_lt, if◌then◌else◌}
 use Rattle.std.specs.List.{prefix_len, list_all}

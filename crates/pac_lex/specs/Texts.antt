@@ -1,4 +1,4 @@
--- Texts of the source: characters in single quotes (this profile's source language).
+-- To be believed: texts of the source: characters in single quotes (this profile's source language).
 use Rattle.std.specs.Prelude.{ℕ, ◌+◌, ◌-◌, ◌&&◌, not, List, [], ◌∷◌, ◌++◌, length, take, drop, Option, Some, None, if◌then◌else◌}
 use Rattle.std.specs.Prelude.{option_map}
 use Rattle.std.specs.List.{flat_map}

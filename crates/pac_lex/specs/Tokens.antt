@@ -1,4 +1,4 @@
--- What a token is, and what a line of tokens is (this profile's source language).
+-- To be believed: what a token is, and what a line of tokens is (this profile's source language).
 use Rattle.std.specs.Prelude.{◌≡◌, ◌<◌, ◌≤◌, length, ℕ, Bool, List, [], ◌∷◌, ◌++◌, ◌==◌, ◌||◌, ◌&&◌, not, false, IsTrue, IsFalse}
 use Rattle.std.specs.Prelude.{Option, Some, None, ◌⊎◌, map, is_some}
 use Rattle.std.specs.Map.{lookup}

@@ -1,4 +1,5 @@
--- The words of a line, as input scripts and debugger commands have them, and the word that a source line begins with.
+-- To be believed: the words of a line, as input scripts and debugger commands have them, and the word that a source line begins
+-- with.
 use Rattle.std.specs.Prelude.{ℕ, Bool, false, true, not, ◌==◌, List, [], ◌∷◌, length, drop, Option, Some, None, if◌then◌else◌}
 use Rattle.std.specs.List.{slice_split, filter, take_while, prefix_len}
 use Rattle.pac_lex.specs.Bytes.{is_blank, is_name_byte, after_gap}

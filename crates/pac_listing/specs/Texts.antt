@@ -1,4 +1,4 @@
--- The pieces of a listing: numbers, addresses and bytes as digits in ASCII.
+-- To be believed: the pieces of a listing: numbers, addresses and bytes as digits in ASCII.
 use Rattle.std.specs.Prelude.{ℕ, ◌+◌, ◌-◌, ◌/◌, ◌%◌, List, [], ◌∷◌, ◌++◌, length, replicate, take, flat_map}
 use Rattle.pac_num.specs.Hexadecimal.{hex_byte}
 

@@ -1,4 +1,4 @@
--- What is printed for a fault of a ROM set (this profile).
+-- To be believed: what is printed for a fault of a ROM set (this profile).
 use Rattle.std.specs.Prelude.{ℕ, List, ◌++◌, codes, Option, Some, None}
 use Rattle.pac_manifest.specs.Parts.{name_text}
 use Rattle.pac_manifest.specs.declared.fault.Code.{Code}

@@ -1,4 +1,4 @@
--- What a manifest's table says of a part, as plain data.
+-- To be believed: what a manifest's table says of a part, as plain data.
 use Rattle.std.specs.Prelude.{ℕ, List, Option, String, option_map, string_bytes}
 use Rattle.std.specs.declared.alloc.Global.{Global}
 

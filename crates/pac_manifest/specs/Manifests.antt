@@ -1,4 +1,4 @@
--- What a manifest says (this profile): a TOML document with a table for each part.
+-- To be believed: what a manifest says (this profile): a TOML document with a table for each part.
 use Rattle.std.specs.Prelude.{ℕ, List, [], ◌∷◌, codes, if◌then◌else◌}
 use Rattle.std.specs.Prelude.{Option, Some, None, option_map, option_and_then, Result, Ok, Err, slice_get}
 use Rattle.std.specs.Str.{is_utf8}

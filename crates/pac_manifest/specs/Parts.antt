@@ -1,5 +1,5 @@
--- The parts of a ROM set: their names, order and sizes (Namco Pac-Man service schematics; names and order are this
--- profile's).
+-- To be believed: the parts of a ROM set: their names, order and sizes (Namco Pac-Man service schematics; names and order are
+-- this profile's).
 use Rattle.std.specs.Prelude.{ℕ, Bool, List, [], ◌∷◌, codes, bytes_eq}
 use Rattle.pac_roms.specs.Parts.{tiles_size, sprites_size, colours_size, lookup_size, wave_size}
 use Rattle.pac_manifest.specs.declared.part.Part.{Part}

@@ -1,4 +1,4 @@
--- What was returned, held against what there is: a value, or the fault that is told.
+-- For proofs: what was returned, held against what there is: a value, or the fault that is told.
 use Rattle.std.specs.Prelude.{◌≡◌, Option, Some, None, Result, Ok, Err}
 use Rattle.pac_manifest.specs.Manifests.{no_manifest}
 use Rattle.pac_manifest.specs.declared.fault.SetFault.{SetFault}

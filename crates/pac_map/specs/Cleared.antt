@@ -1,4 +1,4 @@
--- RAM as it is at power-on: all 0 (this profile)
+-- To be believed: RAM as it is at power-on: all 0 (this profile).
 use Rattle.std.specs.Prelude.{ℕ, List, replicate}
 
 unfoldable pub cleared : ℕ → List ℕ

@@ -1,4 +1,4 @@
--- The board's bus: what reads and inputs give, and what writes and outputs leave, over a ROM set and a view.
+-- To be believed: the board's bus: what reads and inputs give, and what writes and outputs leave, over a ROM set and a view.
 use Rattle.std.specs.Prelude.{ℕ, List, fold, slice_index}
 use Rattle.pac_bus.specs.Action.{Action}
 use Rattle.pac_map.specs.declared.board_bus.Map.{Map}

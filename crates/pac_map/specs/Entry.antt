@@ -1,4 +1,4 @@
--- What can happen to the board, one entry each, and what it leaves of the board's view.
+-- To be believed: what can happen to the board, one entry each, and what it leaves of the board's view.
 use Rattle.std.specs.Prelude.{ℕ, ◌%◌, List, [], ◌∷◌, ◌==◌, if◌then◌else◌, slice_set}
 use Rattle.pac_bus.specs.Action.{Action, Write as Written, Output}
 use Rattle.pac_latch.specs.Latched.{after_bit, after_vector, after_kick, after_accept, after_reset, after_blank}

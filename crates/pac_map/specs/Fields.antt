@@ -1,4 +1,4 @@
--- The board's memory by its fields, as a save file has them.
+-- To be believed: the board's memory by its fields, as a save file has them.
 use Rattle.std.specs.Prelude.{◌≤◌}
 use Rattle.pac_inputs.specs.Inputs.{mask}
 use Rattle.pac_latch.specs.Latched.{watchdog_limit, latched_of}

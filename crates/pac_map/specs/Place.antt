@@ -1,6 +1,6 @@
--- to be believed: what the board's address decoder selects (Namco Pac-Man service schematics, CPU board). A15 isn't wired.
--- A14 low is the program ROM. A14 high leaves out A13: A12 low is the RAM page, A12 high the port page, which
--- leaves out A11 to A8 too.
+-- To be believed: what the board's address decoder selects (Namco Pac-Man service schematics, CPU board). A15 isn't wired. A14
+-- low is the program ROM. A14 high leaves out A13: A12 low is the RAM page, A12 high the port page, which leaves out A11 to A8
+-- too.
 use Rattle.std.specs.Prelude.{ℕ, ◌-◌, ◌%◌, ◌<◌, nat_lt, if◌then◌else◌}
 use Rattle.pac_roms.specs.Parts.{program_size}
 use Rattle.pac_map.specs.declared.bus_table.BusPlace.{BusPlace}

@@ -1,4 +1,4 @@
--- The text of an image: binary PPM (Netpbm, "PPM Format Specification", P6).
+-- To be believed: the text of an image: binary PPM (Netpbm, "PPM Format Specification", P6).
 use Rattle.std.specs.Prelude.{ℕ, ◌+◌, ◌*◌, ◌/◌, ◌%◌, List, [], ◌++◌, slice_index, slice_index_or, codes}
 use Rattle.std.specs.List.{flat_map}
 use Rattle.pac_tiles.specs.Tiles.{width, height}

@@ -1,4 +1,4 @@
--- A wave file while samples come, and what each call leaves of it.
+-- For proofs: a wave file while samples come, and what each call leaves of it.
 use Rattle.std.specs.Prelude.{◌≡◌, ℕ, ◌≤◌, List, [], ◌++◌, Result, Ok, Err}
 use Rattle.pac_out.specs.declared.counted.Counted.{Counted}
 use Rattle.pac_out.specs.declared.WriteFault.{WriteFault}

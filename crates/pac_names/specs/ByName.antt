@@ -1,4 +1,4 @@
--- The rows of the table that have a name, by a search of all rows.
+-- For proofs: the rows of the table that have a name, by a search of all rows.
 use Rattle.std.specs.Prelude.{◌≡◌, ℕ, ◌+◌, List, [], ◌∷◌, if◌then◌else◌, Some, is_some}
 use Rattle.std.specs.List.{All}
 use Rattle.std.specs.Option.{unwrap_or, option_or}

@@ -1,7 +1,6 @@
--- How instructions are written: the names of the operations, of registers, pairs and conditions, and what is
--- written for each shape of an operand (Zilog Z80 CPU User Manual UM0080, "Z80 Instruction Description"). The
--- same lists serve to read a source and to print an instruction. Names are read in either case and printed in
--- capitals.
+-- To be believed: how instructions are written: the names of the operations, of registers, pairs and conditions, and what is
+-- written for each shape of an operand (Zilog Z80 CPU User Manual UM0080, "Z80 Instruction Description"). The same lists serve
+-- to read a source and to print an instruction. Names are read in either case and printed in capitals.
 use Rattle.std.specs.Prelude.{ℕ, ◌==◌, Bool, false, ◌||◌, if◌then◌else◌, List, [], ◌∷◌, get_or, codes}
 use Rattle.std.specs.Prelude.{Option, Some, None, is_some, position, find}
 use Rattle.std.specs.List.{list_any}

@@ -1,5 +1,6 @@
--- The index by which the rows of a name are found: the names in the order of their letters, and their rows one after
--- another. That it finds the rows which a search of the whole table finds is proved.
+-- To be believed: the names of the operations in the order of their letters (`names`), of which a law speaks. The index by
+-- which the rows of a name are found is for proofs: these names, and their rows one after another. That it finds the rows which
+-- a search of the whole table finds is proved.
 use Rattle.std.specs.Prelude.{ℕ, ◌+◌, ◌-◌, Bool, ◌==◌, nat_lt, List, [], ◌∷◌, ◌++◌, length, slice_index, slice_range, take, map, replicate}
 use Rattle.std.specs.Prelude.{codes}
 use Rattle.std.specs.List.{filter, flat_map, range_with_len}

@@ -1,4 +1,4 @@
--- The names of the directives, in either case (this profile).
+-- To be believed: the names of the directives, in either case (this profile).
 use Rattle.std.specs.Prelude.{ℕ, Bool, ◌==◌, List, [], ◌∷◌, slice_index, Option, codes, is_some}
 use Rattle.std.specs.Char.{to_ascii_lowercase}
 use Rattle.std.specs.Map.{lookup}

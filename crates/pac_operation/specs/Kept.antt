@@ -1,4 +1,4 @@
--- What an operation keeps, and what its rows are asked, by their numbers.
+-- For proofs: what an operation keeps, and what its rows are asked, by their numbers.
 use denote.Ref.{Bor}
 use Rattle.std.specs.Prelude.{◌≡◌, ℕ, ◌<◌, ℤ, Bool, List, [], ◌∷◌, map, length, Option, Some, None, IfSome, Result, Ok, Err}
 use Rattle.std.specs.List.{All}

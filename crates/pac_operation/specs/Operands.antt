@@ -1,4 +1,4 @@
--- The operands of an operation, each by the whole of its tokens (this profile's source language).
+-- To be believed: the operands of an operation, each by the whole of its tokens (this profile's source language).
 use Rattle.std.specs.Prelude.{ℕ, ◌-◌, Bool, true, false, if◌then◌else◌, List, [], ◌∷◌, length, take}
 use Rattle.std.specs.Prelude.{Option, Some, None, option_map}
 use Rattle.std.specs.List.{slice_split}

@@ -1,5 +1,5 @@
--- The names that stand for no symbol, and the expressions of the source, which have none of them (this profile's source
--- language).
+-- To be believed: the names that stand for no symbol, and the expressions of the source, which have none of them (this
+-- profile's source language).
 use Rattle.std.specs.Prelude.{ℕ, Bool, false, ◌||◌, if◌then◌else◌, List, Option, None, is_some}
 use Rattle.std.specs.List.{list_any}
 use Rattle.pac_lex.specs.declared.token.Kind.{Kind}

@@ -1,4 +1,4 @@
--- What the code keeps of an operand, as the operand of the definitions: the tokens of an expression by their tree.
+-- For proofs: what the code keeps of an operand, as the operand of the definitions: the tokens of an expression by their tree.
 use Rattle.std.specs.Prelude.{◌≡◌, ℕ, Bool, true, false, ◌-◌, ◌&&◌, if◌then◌else◌, List, [], ◌∷◌, length, take, map, Option, Some, None}
 use Rattle.std.specs.Option.{unwrap_or}
 use Rattle.std.specs.List.{slice_split}

@@ -1,4 +1,4 @@
--- The command line of the program as `clap` knows it, and what its words ask for.
+-- To be believed: the command line of the program as `clap` knows it, and what its words ask for.
 use Rattle.std.specs.Prelude.{ℕ, Bool, true, false, pos, List, [], ◌∷◌, ◌++◌, Option, Some, None}
 use Rattle.std.specs.Prelude.{if◌then◌else◌, codes, fold, option_map, option_and_then}
 use Rattle.std.specs.Str.{bytes_eq}

@@ -1,4 +1,4 @@
--- A file: a writer with the count of the bytes that it took, over all calls.
+-- To be believed: a file: a writer with the count of the bytes that it took, over all calls.
 use Rattle.std.specs.Prelude.{◌≡◌, ℕ, ◌+◌, ◌-◌, ◌^◌, ◌≤◌, min, List, [], ◌++◌, length, true, false, Result, Ok, Err}
 use Rattle.pac_out.specs.declared.counted.Counted.{Counted}
 use Rattle.pac_out.specs.declared.WriteFault.{WriteFault}

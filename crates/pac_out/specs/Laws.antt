@@ -1,4 +1,4 @@
--- The laws of the writers: taking nothing changes nothing, and taking some bytes and then others is taking all of
+-- For proofs: the laws of the writers: taking nothing changes nothing, and taking some bytes and then others is taking all of
 -- them. These lemmas stand here and not in proofs/, since the laws of an `impl` can cite nothing else of their crate.
 use Rattle.std.proofs.Common.{List, [], ◌++◌, ℕ, Option, None, Some, refl, sym, length-append, append-nil, append_assoc, ◌∙◌, ap, arith}
 use Rattle.std.specs.Io.KnownBytes.{Appends}

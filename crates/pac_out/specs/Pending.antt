@@ -1,4 +1,4 @@
--- Bytes that wait for a file, so that small pieces go to its writer in large writes.
+-- For proofs: bytes that wait for a file, so that small pieces go to its writer in large writes.
 use Rattle.std.specs.Prelude.{◌≡◌, ℕ, List, ◌++◌, Result, Ok, Err}
 use Rattle.pac_out.specs.declared.counted.Counted.{Counted}
 use Rattle.pac_out.specs.declared.WriteFault.{WriteFault}

@@ -1,5 +1,5 @@
--- What a writer took. A writer says by two relations between its value before and after what taking some
--- bytes leaves of it, `took`, and what a refusal leaves of it, `refused`.
+-- To be believed: what a writer took. A writer says by two relations between its value before and after what taking some bytes
+-- leaves of it, `took`, and what a refusal leaves of it, `refused`.
 use Rattle.std.specs.Prelude.{◌≡◌, ℕ, ◌<◌, ◌≤◌, List, length, take, Result, Ok, Err}
 use Rattle.std.specs.Borrow.{MutBor}
 

@@ -1,5 +1,5 @@
--- To be believed: how many cells a composing draws where all cells count as differing, as they do in a picture that is new and in one
--- that has taken its lines from others.
+-- To be believed: how many cells a composing draws where all cells count as differing, as they do in a picture that is new and
+-- in one that has taken its lines from others.
 use Rattle.std.specs.Prelude.{◌≡◌, ◌≢◌, ℕ, ◌/◌, true}
 use Rattle.pac_tiles.specs.Tiles.{side}
 use Rattle.pac_picture.specs.Layer.{AreStale, shadow_at}

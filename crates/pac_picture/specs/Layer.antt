@@ -1,4 +1,5 @@
--- The layer of tiles: the cells of the picture as they were last drawn, and which of them have to be drawn again.
+-- To be believed: the layer of tiles: the cells of the picture as they were last drawn, and which of them have to be drawn
+-- again.
 use Rattle.std.specs.Prelude.{◌≡◌, ℕ, ◌/◌, ◌%◌, ◌<◌, ◌==◌, Bool, true, false}
 use Rattle.std.specs.Prelude.{not, ◌||◌, List, [], slice_index, slice_index_or, length, replicate, count_by, sum}
 use Rattle.pac_tiles.specs.Tabulate.{tabulate}

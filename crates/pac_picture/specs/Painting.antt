@@ -1,4 +1,4 @@
--- A line of the picture as it is painted: colour number 0 of a sprite is transparent.
+-- For proofs: a line of the picture as it is painted: colour number 0 of a sprite is transparent.
 use Rattle.std.specs.Prelude.{ℕ, ◌/◌, ◌%◌, if◌then◌else◌, List, [], slice_index, slice_index_or}
 use Rattle.pac_sprites.specs.declared.Sprite.{Sprite}
 use Rattle.pac_sprites.specs.Sprites.{is_column_of, box_place, flipped}

@@ -1,4 +1,4 @@
--- What clauses see of a picture, and what composing it does.
+-- To be believed: what clauses see of a picture, and what composing it does.
 use Rattle.std.specs.Prelude.{◌≡◌, ℕ, ◌-◌, ◌/◌, ◌<◌, if◌then◌else◌, List, [], length, replicate, slice_index, slice_index_or, slice_set}
 use Rattle.pac_tiles.specs.Tabulate.{tabulate}
 use Rattle.pac_tiles.specs.Tiles.{width, height, rows, side}

@@ -1,4 +1,4 @@
--- What stands at an address, as it is held and as its bytes are lent.
+-- For proofs: what stands at an address, as it is held and as its bytes are lent.
 use Rattle.pac_program.specs.declared.content.Held.{Held}
 use Rattle.pac_program.specs.declared.content.Held.TheVariants as held
 use Rattle.std.specs.Prelude.{ℕ, List}

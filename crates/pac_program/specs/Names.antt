@@ -1,5 +1,5 @@
--- Symbols: names that stand for numbers, in the order in which they were defined. Names are the same where their
--- bytes are; small and capital letters differ (this profile).
+-- To be believed: symbols: names that stand for numbers, in the order in which they were defined. Names are the same where
+-- their bytes are; small and capital letters differ (this profile).
 use Rattle.std.specs.Prelude.{ℕ, ℤ, List, [], ◌∷◌, ◌++◌, Option, is_some, bytes_eq, if◌then◌else◌}
 use Rattle.std.specs.Map.{lookup, keys_of}
 use Rattle.std.specs.List.{IsDistinct}

@@ -1,4 +1,4 @@
--- The program ROM of items: a byte is that of the first item that covers its address, and 0 where none does.
+-- To be believed: the program ROM of items: a byte is that of the first item that covers its address, and 0 where none does.
 use Rattle.std.specs.Prelude.{◌≡◌, ℕ, ◌+◌, ◌-◌, ◌<◌, ◌≤◌, ◌&&◌, Bool, IsTrue, IsFalse, All, nat_lt, nat_le, if◌then◌else◌}
 use Rattle.std.specs.Prelude.{List, [], ◌∷◌, length, map, slice_index}
 use Rattle.std.specs.List.{range_with_len}

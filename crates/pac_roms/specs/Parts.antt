@@ -1,5 +1,5 @@
--- What stands in the sockets of the board (Namco Pac-Man service schematics): the bytes of each ROM and PROM. The
--- timing PROM, whose work the board's own rules do, isn't among them.
+-- To be believed: what stands in the sockets of the board (Namco Pac-Man service schematics): the bytes of each ROM and PROM.
+-- The timing PROM, whose work the board's own rules do, isn't among them.
 use Rattle.std.specs.Prelude.{ℕ, List, ◌≡◌, length}
 
 -- the sizes of the parts in bytes: the program is four ROMs of 4,096

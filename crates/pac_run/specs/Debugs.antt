@@ -1,4 +1,4 @@
--- What a run under a debugger writes, tells and answers.
+-- To be believed: what a run under a debugger writes, tells and answers.
 use Rattle.std.specs.Prelude.{◌≡◌, ℕ, ◌<◌, ◌≤◌, List, [], Option, Result, Ok, Err}
 use Rattle.std.specs.Str.Lines.{lines}
 use Rattle.pac_inputs.specs.Stretches.{total, held}

@@ -1,4 +1,4 @@
--- What the film and the wave file of a run, side by side, make of an output of the board.
+-- For proofs: what the film and the wave file of a run, side by side, make of an output of the board.
 use Rattle.std.specs.Prelude.{◌≡◌, ℕ, ℤ, ◌-◌, List, Some}
 use Rattle.pac_out.specs.Counted.{Takes, Refuses}
 use Rattle.pac_out.specs.declared.WriteFault.{WriteFault}

@@ -1,4 +1,4 @@
--- What a run plays: the program of the source, the ROM set and the script; or the first of their faults.
+-- To be believed: what a run plays: the program of the source, the ROM set and the script; or the first of their faults.
 use Rattle.std.specs.Prelude.{◌≡◌, ℕ, List, [], Option, None, Some, option_map, Result, Ok, Err}
 use Rattle.pac_code.specs.Items.{Item, AllLie}
 use Rattle.pac_asm.specs.Programs.{program_of}

@@ -1,4 +1,4 @@
--- What playing a script on a board comes to: its trace, each output of which is offered to a sink.
+-- For proofs: what playing a script on a board comes to: its trace, each output of which is offered to a sink.
 use Rattle.std.specs.Prelude.{◌≡◌, ℕ, List, ◌++◌, Option, None, Some, Result, Ok, Err}
 use mathlib.Core.List.{IsPrefix}
 use Rattle.pac_cpu.specs.declared.once.Stop.{Stop}

@@ -1,4 +1,4 @@
--- What recording a board's outputs leaves of the film and the wave file, side by side.
+-- For proofs: what recording a board's outputs leaves of the film and the wave file, side by side.
 use Rattle.std.specs.Prelude.{◌≡◌, ℕ, ◌/◌, ◌≤◌, List, [], ◌∷◌, ◌++◌, length, Option, Result, Ok, Err}
 use Rattle.pac_cpu.specs.declared.once.Stop.{Stop}
 use Rattle.pac_inputs.specs.declared.line.Stretch.{Stretch}

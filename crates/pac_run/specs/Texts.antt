@@ -1,4 +1,4 @@
--- The four texts of a run: the images of its pictures, its sound, the listing and the report.
+-- To be believed: the four texts of a run: the images of its pictures, its sound, the listing and the report.
 use Rattle.std.specs.Prelude.{ℕ, ℤ, pos, ◌*◌, ◌-◌, length, replicate, Option, None, Some, slice_index, List, [], ◌∷◌, ◌++◌, codes, decimal}
 use Rattle.std.specs.List.{flat_map}
 use Rattle.pac_num.specs.Hexadecimal.{hex_byte, hex_word}

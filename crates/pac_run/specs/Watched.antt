@@ -1,4 +1,5 @@
--- What a debugger's session leaves of its outputs while it is watched: film and wave file, and the file of what it tells.
+-- To be believed: what a debugger's session tells while its outputs are watched, and what film and wave file have where its
+-- text is refused. The same of these three files side by side is for proofs.
 use Rattle.std.specs.Prelude.{◌≡◌, ℕ, ◌<◌, ◌≤◌, List, ◌∷◌, ◌++◌, length, Result, Ok, Err}
 use Rattle.pac_out.specs.declared.counted.Counted.{Counted}
 use Rattle.pac_out.specs.declared.WriteFault.{WriteFault}

@@ -1,4 +1,4 @@
--- What a session's fields say, and what holds of them.
+-- For proofs: what a session's fields say, and what holds of them.
 use Rattle.std.specs.Prelude.{◌≡◌, ◌<◌, ◌≤◌, ℕ, ◌+◌, ◌*◌, true, List, length, map}
 use Rattle.pac_inputs.specs.Stretches.{total, most_frames}
 use Rattle.pac_step.specs.BoardView.{BoardView}

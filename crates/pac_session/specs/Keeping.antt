@@ -1,4 +1,4 @@
--- What a session keeps beside its board: the steps that are told, the checkpoints, and what the slots have.
+-- For proofs: what a session keeps beside its board: the steps that are told, the checkpoints, and what the slots have.
 use Rattle.std.specs.Prelude.{◌≡◌, ◌≤◌, ℕ, ◌+◌, ◌-◌, ◌*◌, ◌==◌, Bool, true, false, List, [], ◌∷◌, ◌++◌, Option, None, Some}
 use Rattle.std.specs.Prelude.{if◌then◌else◌, drop}
 use Rattle.pac_board.specs.State.{BoardValue, nothing_due}

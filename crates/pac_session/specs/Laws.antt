@@ -1,4 +1,4 @@
--- Laws of what a session gives, each proved on a public function of the crate.
+-- To be believed: laws of what a session gives, each proved on a public function of the crate.
 use Rattle.std.specs.Prelude.{◌≡◌, ◌≤◌, ℕ, ◌++◌}
 use Rattle.pac_session.specs.Running.{Setting, whole_run, outputs_between, outputs_from}
 

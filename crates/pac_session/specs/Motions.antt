@@ -1,4 +1,4 @@
--- How a session moves: forwards to where a motion rests, back by so many steps, and to a slot.
+-- To be believed: how a session moves: forwards to where a motion rests, back by so many steps, and to a slot.
 use Rattle.std.specs.Prelude.{◌≡◌, ◌<◌, ◌≤◌, ℕ, ◌+◌, ◌-◌, ◌*◌, ◌/◌, ◌%◌, Bool, true, false, ◌&&◌, ◌||◌, not, nat_le, nat_lt, max}
 use Rattle.std.specs.Prelude.{if◌then◌else◌}
 use Rattle.std.specs.Prelude.{List, ◌++◌, Option, None, Some, Result, Ok, Err, ◌⊎◌, slice_set}

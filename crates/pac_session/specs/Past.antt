@@ -1,4 +1,4 @@
--- What a run has done: its steps, one after another.
+-- To be believed: what a run has done: its steps, one after another.
 use Rattle.std.specs.Prelude.{ℕ, zero, suc, List, [], ◌∷◌, ◌++◌}
 use Rattle.circular_buffer.specs.Buffer.{keep_last}
 use Rattle.pac_step.specs.BoardView.{BoardView}

@@ -1,4 +1,5 @@
--- The run that a session looks at: the trace of a script on a board from power-on, state by state. A session is a place in it.
+-- To be believed: the run that a session looks at: the trace of a script on a board from power-on, state by state. A session is
+-- a place in it.
 use Rattle.std.specs.Prelude.{◌≡◌, ◌<◌, ◌≤◌, ℕ, ◌*◌, ◌/◌, Bool, true, false, ◌&&◌, not, is_none, nat_le, List, length, drop, Option}
 use Rattle.std.specs.Prelude.{None, Some}
 use Rattle.pac_cpu.specs.declared.once.Stop.{Stop}

@@ -1,5 +1,5 @@
--- A session: an index into the run, the furthest index that it has been at, breakpoints, and slots that keep an index. Outputs up to
--- the furthest index went to a sink once, in order, or are due.
+-- To be believed: a session: an index into the run, the furthest index that it has been at, breakpoints, and slots that keep an
+-- index. Outputs up to the furthest index went to a sink once, in order, or are due.
 use Rattle.std.specs.Prelude.{◌≡◌, ◌<◌, ◌≤◌, ◌^◌, ℕ, ◌==◌, Bool, true, false, filter, not}
 use Rattle.std.specs.Prelude.{List, [], ◌∷◌, ◌++◌, length, Option, None, Some, Result, Ok, Err}
 use Rattle.std.specs.List.{list_any}

@@ -1,4 +1,4 @@
--- A sink for steps that are done again: what they give was taken before, and goes nowhere.
+-- For proofs: a sink for steps that are done again: what they give was taken before, and goes nowhere.
 use Rattle.std.specs.Prelude.{◌≡◌}
 use Rattle.pac_step.specs.Output.{Output}
 

@@ -1,4 +1,4 @@
--- One step of a run, on a board: the board's step, and after a blank the inputs of the next frame.
+-- For proofs: one step of a run, on a board: the board's step, and after a blank the inputs of the next frame.
 use Rattle.std.specs.Prelude.{◌≡◌, ℕ, List, [], ◌∷◌, ◌++◌}
 use Rattle.circular_buffer.specs.Buffer.{keep_last}
 use Rattle.pac_cpu.specs.declared.once.Once.{Once}

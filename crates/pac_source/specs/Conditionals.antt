@@ -1,4 +1,4 @@
--- The directives by whose first word a line tells which lines count (this profile).
+-- To be believed: the directives by whose first word a line tells which lines count (this profile).
 use Rattle.std.specs.Prelude.{ℕ, ◌==◌, Bool, ◌||◌, List, Option, None, Some}
 use Rattle.pac_operation.specs.declared.directive.Directive.{Directive}
 use Rattle.pac_operation.specs.declared.directive.Directive.TheVariants as directives

@@ -1,5 +1,5 @@
--- How many bytes a statement takes, and what it places. Numbers are in whole numbers of 32 bits with their sign; a
--- negative byte or word is two's complement, and a word stands low byte first (UM0080).
+-- To be believed: how many bytes a statement takes, and what it places. Numbers are in whole numbers of 32 bits with their
+-- sign; a negative byte or word is two's complement, and a word stands low byte first (UM0080).
 use Rattle.std.specs.Prelude.{◌≡◌, ℕ, ℤ, pos, negsuc, ◌*◌, List, [], ◌∷◌, ◌++◌, length, replicate}
 use Rattle.std.specs.Prelude.{Option, Some, None, Result, Ok, Err, if◌then◌else◌}
 use Rattle.std.specs.List.{sum_by}

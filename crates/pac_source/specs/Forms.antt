@@ -1,5 +1,5 @@
--- The form of a line, as a function of its tokens: by cases on the whole line (this profile's source language). Where
--- there is none, the line is refused as A2.
+-- To be believed: the form of a line, as a function of its tokens: by cases on the whole line (this profile's source language).
+-- Where there is none, the line is refused as A2.
 use Rattle.std.specs.Prelude.{ℕ, Bool, true, false, not, ◌||◌, List, [], ◌∷◌, Option, Some, None, option_map, is_some, if◌then◌else◌}
 use Rattle.std.specs.Option.{option_and_then}
 use Rattle.pac_lex.specs.declared.token.Kind.{Kind}

@@ -1,4 +1,4 @@
--- What the code keeps of the bytes of a line while it reads them, and what a call answers beside want of memory.
+-- For proofs: what the code keeps of the bytes of a line while it reads them, and what a call answers beside want of memory.
 use Rattle.std.specs.Prelude.{◌≡◌, ℕ, List, Option, Some, None, Result, Ok, Err}
 use Rattle.pac_operation.specs.declared.fault.OperationFault.{OperationFault}
 use Rattle.pac_source.specs.declared.gathered.Gathered.{Gathered}

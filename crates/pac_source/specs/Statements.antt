@@ -1,4 +1,4 @@
--- What a line of the source says (this profile's source language).
+-- To be believed: what a line of the source says (this profile's source language).
 use Rattle.std.specs.Prelude.{ℕ, List, Option}
 use Rattle.pac_expr.specs.Trees.{Tree}
 use Rattle.pac_operation.specs.Operations.{Operation}

@@ -1,4 +1,4 @@
--- What the code keeps of a line, as what it says: tokens stand for the trees and texts that they spell.
+-- For proofs: what the code keeps of a line, as what it says: tokens stand for the trees and texts that they spell.
 use Rattle.std.specs.Prelude.{List, [], ◌∷◌, map, option_map, unwrap_or}
 use Rattle.std.specs.Option.{option_map_or}
 use Rattle.pac_lex.specs.Tokens.{Lexeme, views}

@@ -1,5 +1,5 @@
--- Sprites of the picture (Namco Pac-Man service schematics; the order of bytes and bits, the places and the flips
--- are this profile's). The picture is 288 pixels wide and 224 high, not rotated.
+-- To be believed: sprites of the picture (Namco Pac-Man service schematics; the order of bytes and bits, the places and the
+-- flips are this profile's). The picture is 288 pixels wide and 224 high, not rotated.
 use Rattle.std.specs.Prelude.{ℕ, ℤ, pos, Bool, Option, Some, None, List, slice_index, ◌+◌, ◌-◌, ◌*◌, ◌/◌, ◌%◌, ◌==◌, ◌-ℤ◌}
 use Rattle.std.specs.Prelude.{nat_le, nat_lt, ◌&&◌, if◌then◌else◌}
 use Rattle.std.specs.Int.{int_gap}

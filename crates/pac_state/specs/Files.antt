@@ -1,4 +1,5 @@
--- State files: the texts of states in their ranges. A file is one of these or it isn't taken, and it has one state.
+-- To be believed: state files: the texts of states in their ranges. A file is one of these or it isn't taken, and it has one
+-- state.
 use Rattle.std.specs.Prelude.{◌≡◌, ℕ, ℤ, ◌<◌, ◌^◌, true, ⊤, List, Option, Some, None, Result, Ok, Err, FitsSigned}
 use Rattle.std.specs.Int.{w16}
 use Rattle.pac_exec.specs.declared.regs.Regs.{Regs}

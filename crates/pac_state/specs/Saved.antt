@@ -1,4 +1,4 @@
--- Which files are taken, for which board, and what is wrong with the others.
+-- To be believed: which files are taken, for which board, and what is wrong with the others.
 use Rattle.std.specs.Prelude.{◌≡◌, ℕ, ◌*◌, ◌<◌, ◌≤◌, ◌==◌, min, nat_le, Bool, not, ◌&&◌, ◌||◌, if◌then◌else◌, ⊤, ◌⊎◌}
 use Rattle.std.specs.Prelude.{List, length, take, drop, slice_index, EachIndex, bytes_eq, Option, Some, None, Result, Ok, Err}
 use Rattle.sha1.specs.Sha1.{sha1}

@@ -1,4 +1,4 @@
--- What writing a whole text to a writer leaves of it.
+-- To be believed: what writing a whole text to a writer leaves of it.
 use Rattle.std.specs.Prelude.{◌≡◌, ℕ, List, Result, Ok, Err}
 use Rattle.pac_out.specs.declared.WriteFault.{WriteFault}
 use Rattle.pac_out.specs.Counted.{counted}

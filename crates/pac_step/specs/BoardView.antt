@@ -1,5 +1,6 @@
--- The board as plain data, its ROM set aside: what its memory keeps, where the voices of the wave generator stand, and the
--- lines of the picture as they were last composed (Namco Pac-Man service schematics; what this profile adds is named).
+-- To be believed: the board as plain data, its ROM set aside: what its memory keeps, where the voices of the wave generator
+-- stand, and the lines of the picture as they were last composed (Namco Pac-Man service schematics; what this profile adds is
+-- named).
 use Rattle.std.specs.Prelude.{ℕ, List, slice_set}
 use Rattle.pac_roms.specs.Parts.{Parts}
 use Rattle.pac_map.specs.View.{View, IsWellFormed, attributes}

@@ -1,4 +1,5 @@
--- When one account of the board carries to another: each question has the same answer on both sides.
+-- To be believed: a moment, a next step and a walk of one account of the board as another one has them. When one account
+-- carries to another is for proofs: each question has the same answer on both sides.
 use Rattle.std.specs.Prelude.{◌≡◌, ℕ}
 use Rattle.pac_map.specs.Entry.{Entry}
 use Rattle.pac_step.specs.Step.{Questions, Moment, Next, Goes, Ends}

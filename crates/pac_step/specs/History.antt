@@ -1,4 +1,4 @@
--- What has happened to the board is a start view and the list of entries since, the newest first. Whatever the
+-- To be believed: what has happened to the board: a start view and the list of entries since, the newest first. Whatever the
 -- board answers is asked of these two: the last entry that decides, and where none does, the start view.
 use Rattle.std.specs.Prelude.{ℕ, ◌+◌, ◌-◌, List, [], ◌∷◌, ◌==◌, Bool, false, Option, Some, None, unwrap_or, if◌then◌else◌, slice_index}
 use Rattle.pac_map.specs.declared.bus_table.BusPlace.{BusPlace}

@@ -1,5 +1,5 @@
--- To be believed: what a host does to a board, one act after another: steps, resets, inputs held and let go, and moments kept and
--- gone back to. Like the step it is told over whatever stands for the board, by its history or by its view.
+-- To be believed: what a host does to a board, one act after another: steps, resets, inputs held and let go, and moments kept
+-- and gone back to. Like the step it is told over whatever stands for the board, by its history or by its view.
 use Rattle.std.specs.Prelude.{ℕ, List, [], ◌∷◌, ◌++◌, map, slice_index_or}
 use Rattle.pac_code.specs.Items.{Item}
 use Rattle.pac_cpu.specs.Power.{after_reset}

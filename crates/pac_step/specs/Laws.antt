@@ -1,4 +1,4 @@
--- Laws of the board's definitions, each proved on a public function of the crate.
+-- To be believed: laws of the board's definitions, each proved on a public function of the crate.
 use Rattle.std.specs.Prelude.{◌≡◌, ◌≢◌, ◌<◌, ◌≤◌, ℕ, zero, suc, ◌+◌, ◌-◌, ◌*◌, ◌/◌, Option, None, Some, true, min}
 use Rattle.std.specs.Prelude.{List, [], ◌++◌, ◌∷◌, slice_index, slice_index_or}
 use mathlib.Core.List.{IsPrefix}

@@ -1,4 +1,4 @@
--- What a board gives out: sound samples and pictures.
+-- To be believed: what a board gives out: sound samples and pictures.
 use Rattle.std.specs.Prelude.{ℕ, ℤ, List}
 use Rattle.pac_roms.specs.Parts.{Parts}
 use Rattle.pac_picture.specs.State.{palette_of}

@@ -1,5 +1,5 @@
--- What a history says of the output latch, the interrupt request and the watchdog (Namco Pac-Man service schematics; the
--- order at a blank and what a reset leaves are this profile's).
+-- To be believed: what a history says of the output latch, the interrupt request and the watchdog (Namco Pac-Man service
+-- schematics; the order at a blank and what a reset leaves are this profile's).
 use Rattle.std.specs.Prelude.{ℕ, suc, ◌%◌, List, [], ◌∷◌, ◌==◌, Bool, false, ◌||◌, nat_le, Option, Some, None, unwrap_or, if◌then◌else◌}
 use Rattle.pac_latch.specs.Latched.{is_set, place_of, withdraws, watchdog_limit}
 use Rattle.pac_map.specs.declared.bus_table.BusPlace.{BusPlace}

@@ -1,5 +1,5 @@
--- What a history sounds and shows: the voices' accumulators as sums over all samples, and each line of the picture as it was
--- last composed. No loop and no buffer stands here.
+-- To be believed: what a history sounds and shows: the voices' accumulators as sums over all samples, and each line of the
+-- picture as it was last composed. No loop and no buffer stands here.
 use Rattle.std.specs.Prelude.{ℕ, ℤ, suc, ◌+◌, ◌%◌, ◌==◌, if◌then◌else◌, List, [], ◌∷◌, ◌++◌, slice_index_or}
 use Rattle.pac_roms.specs.Parts.{Parts}
 use Rattle.pac_tiles.specs.Tabulate.{tabulate}

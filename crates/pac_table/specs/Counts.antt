@@ -1,5 +1,5 @@
--- How many opcodes the manual documents: 698, by the prefix under which they stand (Zilog Z80 CPU User
--- Manual UM0080, "Z80 Instruction Set").
+-- To be believed: how many opcodes the manual documents: 698, by the prefix under which they stand (Zilog Z80 CPU User Manual
+-- UM0080, "Z80 Instruction Set").
 use Rattle.std.specs.Prelude.{◌≡◌, ℕ, zero, suc, ◌+◌, Bool, if◌then◌else◌}
 use Rattle.std.specs.List.{list_any}
 use Rattle.pac_table.specs.declared.patterns.Page.{Page}

@@ -1,4 +1,4 @@
--- The tiles of a picture (Namco Pac-Man service schematics; the order of cells and bits is this profile's). The
+-- To be believed: the tiles of a picture (Namco Pac-Man service schematics; the order of cells and bits is this profile's). The
 -- picture is 288 pixels wide and 224 high, not rotated: 36 columns and 28 rows of cells, each of 8 by 8 pixels.
 use Rattle.std.specs.Prelude.{ℕ, ◌+◌, ◌-◌, ◌*◌, ◌%◌, nat_le, nat_lt, ◌&&◌, if◌then◌else◌, List, slice_index}
 use Rattle.pac_num.specs.Pixels.{pixel_value}

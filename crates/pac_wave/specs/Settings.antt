@@ -1,4 +1,4 @@
--- for proofs: what the code keeps of a voice, and the range of what a voice puts into the sound.
+-- For proofs: what the code keeps of a voice, and the range of what a voice puts into the sound.
 use Rattle.std.specs.Prelude.{ℕ, ℤ, pos, negsuc, ◌≤ℤ◌, List}
 use Rattle.pac_wave.specs.declared.Voice.{Voice}
 use Rattle.pac_wave.specs.declared.settings.Setting.{Setting}

@@ -1,6 +1,6 @@
--- to be believed: the wave generator (Namco Pac-Man service schematics; the scale of a sample, what happens while sound is
--- off and that the accumulators can't be written are this profile's). It has 32 registers of four bits, those at the addresses
--- from 5040H on, and three voices. Each voice walks through one of eight waveforms of 32 samples, as fast as its frequency tells.
+-- To be believed: the wave generator (Namco Pac-Man service schematics; the scale of a sample, what happens while sound is off
+-- and that the accumulators can't be written are this profile's). It has 32 registers of four bits, those at the addresses from
+-- 5040H on, and three voices. Each voice walks through one of eight waveforms of 32 samples, as fast as its frequency tells.
 use Rattle.std.specs.Prelude.{ℕ, ℤ, pos, negsuc, ◌≤ℤ◌, ◌+◌, ◌*◌, ◌/◌, ◌%◌, ◌^◌, ◌<◌, ◌+ℤ◌, ◌-ℤ◌, ◌*ℤ◌, ◌==◌, ◌&&◌, Bool}
 use Rattle.std.specs.Prelude.{nat_lt, if◌then◌else◌, List, slice_index}
 use Rattle.pac_wave.specs.declared.Voice.{Voice}
