@@ -1,21 +1,27 @@
 -- The tokens of each ranked tree give that tree back: so no two of them have one spelling.
-use Rattle.std.proofs.Common.{◌≡◌, ◌↔◌, ℕ, ◌-◌, ◌<◌, ◌≤◌, List, [], ◌∷◌, ◌++◌, Some, None, Result, Ok, Err, IfOk, refl, sym, ap, ◌∙◌, arith}
+use Rattle.std.proofs.Common.{◌≡◌, ◌↔◌, ℕ, ℤ, ◌-◌, ◌<◌, ◌≤◌, List, [], ◌∷◌, ◌++◌, Option, Some, None, IfSome, option_map, refl, sym, ap, ◌∙◌, arith}
 use Rattle.std.proofs.Common.{append_assoc, append-nil}
-use Rattle.std.proofs.lemmas.Option.{same_Some, none-some}
+use Rattle.std.proofs.lemmas.Bool.{le-leb, lt-leb}
 use Rattle.pac_expr.specs.declared.expr.Sign.{Sign}
 use Rattle.pac_expr.specs.declared.expr.Sign.TheVariants as signs
 use Rattle.pac_expr.specs.declared.expr.Operator.{Operator}
 use Rattle.pac_expr.specs.declared.expr.Operator.TheVariants.{Add, Subtract, Multiply, Divide}
-use Rattle.pac_expr.specs.declared.expr.Expr.{Expr}
-use Rattle.pac_expr.specs.declared.parsing.ParseError.{ParseError}
-use Rattle.pac_expr.specs.declared.parsing.ParseError.TheVariants as errors
 use Rattle.pac_expr.specs.Trees.{Tree, atom, group, signed, joined, Mark, closing, sign_mark, operator_mark, spelling, rank, sum_rank}
-use Rattle.pac_expr.specs.Trees.{IsRanked, view}
-use Rattle.pac_expr.specs.Parsing.{Waiting, sign, left, parenthesis, settled, needs, stands, operated, closed, whole, onward, tree_of}
-use Rattle.pac_expr.specs.Parsing.{Finds}
-use Rattle.pac_expr.proofs.Stack.{settled-more, settled-here}
+use Rattle.pac_expr.specs.Trees.{IsRanked, IsExpression, marks}
+use Rattle.pac_expr.specs.Values.{Answer, HasValue, value_of}
+use Rattle.pac_lex.specs.declared.token.Token.{Token}
+use Rattle.pac_expr.specs.Parsing.{Waiting, sign, left, parenthesis, settled, needs, stands, operated, closed, whole, onward, tree_of, completed, waiting_rank}
 use Rattle.pac_expr.specs.Reading.{room}
 use Rattle.pac_expr.proofs.Sound.{found}
+
+-- what waits first is completed where it binds as tight, and else left
+pub settled-more : (n : ℕ) (t : Tree) (w : Waiting) (waiting : List Waiting) → waiting_rank w ≤ n
+    → settled n t (w ∷ waiting) ≡ settled n (completed w t) waiting
+settled-more n t w waiting low = rw (le-leb (waiting_rank w) n low)
+
+pub settled-here : (n : ℕ) (t : Tree) (w : Waiting) (waiting : List Waiting) → n < waiting_rank w
+    → settled n t (w ∷ waiting) ≡ (t, w ∷ waiting)
+settled-here n t w waiting high = rw (lt-leb (waiting_rank w) n high)
 
 -- nothing is completed that binds looser
 pub settled-stays : (n : ℕ) (t : Tree) (waiting : List Waiting) → 0 < n → n ≤ room waiting → settled n t waiting ≡ (t, waiting)
@@ -102,15 +108,18 @@ given-back t r =
 pub tree-of-spelling : (ms : List Mark) (t : Tree) → (tree_of ms ≡ Some t) ↔ (IsRanked sum_rank t × (ms ≡ spelling t))
 tree-of-spelling ms t = (found ms t, λ (ranked, is). ap tree_of is ∙ given-back t ranked)
 
--- ---- what `parse` says
+-- ---- what `value` says
 
-pub found-by : (ms : List Mark) (result : Result Expr ParseError) → Finds result (λ e. tree_of ms ≡ Some (view e)) (tree_of ms ≡ None)
-    → IfOk result (λ e. IsRanked sum_rank (view e) × (ms ≡ spelling (view e)))
-found-by ms (Ok e) h = found ms (view e) h
-found-by ms (Err fault) h = tt
+pub value-found : (names : List ℕ → Option ℤ) (line : ℕ) (tokens : List Token) (result : Option Answer)
+    → result ≡ option_map (value_of names line) (tree_of (marks tokens)) → IfSome result (HasValue names line tokens)
+value-found names line tokens result e = rw e (by-tree (tree_of (marks tokens)) refl)
+  where
+    by-tree : (o : Option Tree) → tree_of (marks tokens) ≡ o → IfSome (option_map (value_of names line) o) (HasValue names line tokens)
+    by-tree None is = tt
+    by-tree (Some t) is = record { tree = t; is_spelled = found (marks tokens) t is; is_value = refl }
 
-pub only-by : (ms : List Mark) (result : Result Expr ParseError) → Finds result (λ e. tree_of ms ≡ Some (view e)) (tree_of ms ≡ None)
-    → (t : Tree) → IsRanked sum_rank t × (ms ≡ spelling t) → Finds result (λ e. view e ≡ t) ⊥
-only-by ms (Ok e) h t is = same_Some (view e) t (sym h ∙ (tree-of-spelling ms t).1 is)
-only-by ms (Err errors.Memory) h t is = tt
-only-by ms (Err errors.Syntax) h t is = none-some t (sym h ∙ (tree-of-spelling ms t).1 is)
+pub value-only : (names : List ℕ → Option ℤ) (line : ℕ) (tokens : List Token) (result : Option Answer)
+    → result ≡ option_map (value_of names line) (tree_of (marks tokens))
+    → (t : Tree) → IsExpression tokens t → result ≡ Some (value_of names line t)
+value-only names line tokens result e t is =
+    e ∙ ap (option_map (value_of names line)) ((tree-of-spelling (marks tokens) t).1 is)

@@ -1,4 +1,3 @@
-pub mod Stack
 pub mod Sound
 pub mod Complete
 pub mod Undefined

@@ -1,5 +1,7 @@
 -- A value is refused for an undefined name exactly where the tree has one.
 use Rattle.std.proofs.Common.{◌≡◌, ◌↔◌, ℕ, ℤ, Bool, true, false, cond, List, Option, Some, None, Ok, Err, refl, ap, inl, inr, ◌⊎◌, int_le}
+use Rattle.std.proofs.Common.{MatchOption, option_map}
+use Rattle.std.proofs.lemmas.Option.{same_Some, none-some}
 use Rattle.std.proofs.Common.{◌&&◌, pos, negsuc, ◌+ℤ◌, ◌-ℤ◌, ◌*ℤ◌, neg_ℤ, int_div}
 use Rattle.std.specs.Ordering.{int_eq}
 use Rattle.pac_expr.specs.declared.expr.Sign.{Sign}
@@ -86,6 +88,8 @@ told names line (signed sign t) h = rw (told names line t h) (signed-back sign)
 told names line (joined operator left right) (inl l) = rw (told names line left l) (left-is operator (value_of names line right))
 told names line (joined operator left right) (inr r) = rw (told names line right r) (right-is operator (value_of names line left))
 
-pub undefined-told : (names : List ℕ → Option ℤ) (line : ℕ) (t : Tree) (answer : Answer) → answer ≡ value_of names line t
-    → IsUndefined answer ↔ HasUndefined names t
-undefined-told names line t answer e = rw e (found names line t, told names line t)
+pub undefined-told : (names : List ℕ → Option ℤ) (line : ℕ) (o : Option Tree) (result : Option Answer)
+    → result ≡ option_map (value_of names line) o → (result ≡ Some (Err Undefined)) ↔ MatchOption o ⊥ (HasUndefined names)
+undefined-told names line None result e = rw e (λ is. none-some (Err Undefined) is, λ none. absurd none)
+undefined-told names line (Some t) result e =
+    rw e (λ is. found names line t (same_Some (value_of names line t) (Err Undefined) is), λ has. ap Some (told names line t has))

@@ -1,7 +1,6 @@
 pub mod Trees
 pub mod Values
 pub mod Parsing
-pub mod Stack
 pub mod Codes
 pub mod Shape
 pub mod Reading

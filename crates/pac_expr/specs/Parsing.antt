@@ -1,13 +1,11 @@
 -- To be believed: the tree of an expression as a function of its tokens: they are taken from left to right, and what still
 -- waits for an operand to its right is kept, the last first.
-use Rattle.std.specs.Prelude.{◌≡◌, ◌↔◌, ℕ, List, [], ◌∷◌, Option, Some, None, nat_le, if◌then◌else◌, Result, Ok, Err}
+use Rattle.std.specs.Prelude.{◌≡◌, ◌↔◌, ℕ, List, [], ◌∷◌, Option, Some, None, nat_le, if◌then◌else◌}
 use Rattle.pac_lex.specs.Tokens.{Lexeme}
 use Rattle.pac_expr.specs.declared.expr.Sign.{Sign}
 use Rattle.pac_expr.specs.declared.expr.Sign.TheVariants as signs
 use Rattle.pac_expr.specs.declared.expr.Operator.{Operator}
 use Rattle.pac_expr.specs.declared.expr.Operator.TheVariants.{Add, Subtract, Multiply, Divide}
-use Rattle.pac_expr.specs.declared.parsing.ParseError.{ParseError}
-use Rattle.pac_expr.specs.declared.parsing.ParseError.TheVariants as errors
 use Rattle.pac_expr.specs.Trees.{Tree, atom, group, signed, joined, Mark, single, opening, closing, plus, minus, star, slash, rank}
 use Rattle.pac_expr.specs.Trees.{sum_rank, spelling, IsRanked, marks_of}
 
@@ -87,9 +85,3 @@ tree_in lexemes = tree_of (marks_of lexemes)
 -- the law: a tree is that of some tokens exactly where it is ranked and they are its spelling
 abbrev pub TreesAreSpelled : Type 0
 TreesAreSpelled = (ms : List Mark) (t : Tree) → (tree_of ms ≡ Some t) ↔ (IsRanked sum_rank t × (ms ≡ spelling t))
-
--- A call found what it says, or refused since nothing is to be found, or had no memory.
-abbrev pub Finds : {X : Type 0} → Result X ParseError → (X → Type 0) → Type 0 → Type 0
-Finds (Ok x) found refused = found x
-Finds (Err errors.Memory) found refused = Unit {0}
-Finds (Err errors.Syntax) found refused = refused

@@ -12,7 +12,6 @@ use Rattle.pac_expr.specs.declared.expr.Sign.{Sign}
 use Rattle.pac_expr.specs.declared.expr.Sign.TheVariants as signs
 use Rattle.pac_expr.specs.declared.expr.Operator.{Operator}
 use Rattle.pac_expr.specs.declared.expr.Operator.TheVariants.{Add, Subtract, Multiply, Divide}
-use Rattle.pac_expr.specs.declared.expr.Expr.{Expr, Value, Group', Signed', Joined'}
 
 -- the last parts of an expression: a number, a character, a name, and `$`
 pub data Atom : Type 0 where
@@ -21,7 +20,7 @@ pub data Atom : Type 0 where
   name : List ℕ → Atom
   here : Atom
 
--- a tree without where it lies in memory
+-- the tree of an expression
 pub data Tree : Type 0 where
   atom : Atom → Tree
   group : Tree → Tree
@@ -33,12 +32,6 @@ atom_of (operands.Number n) = number n
 atom_of (operands.Character c) = character c
 atom_of (operands.Name text) = name text.now
 atom_of operands.Here = here
-
-abbrev pub view : Expr → Tree
-view (Value operand) = atom (atom_of operand)
-view (Group' p inner) = group (view inner)
-view (Signed' sign p operand) = signed sign (view operand)
-view (Joined' operator p left q right) = joined operator (view left) (view right)
 
 -- what the tokens of an expression are to its grammar
 pub data Mark : Type 0 where

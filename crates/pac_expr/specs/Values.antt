@@ -8,7 +8,8 @@ use Rattle.pac_expr.specs.declared.expr.Operator.{Operator}
 use Rattle.pac_expr.specs.declared.expr.Operator.TheVariants.{Add, Subtract, Multiply, Divide}
 use Rattle.pac_expr.specs.declared.evaluation.ValueError.{ValueError}
 use Rattle.pac_expr.specs.declared.evaluation.ValueError.TheVariants.{Undefined, OutOfRange, DivisionByZero}
-use Rattle.pac_expr.specs.Trees.{Atom, number, character, name, here, Tree, atom, group, signed, joined}
+use Rattle.pac_lex.specs.declared.token.Token.{Token}
+use Rattle.pac_expr.specs.Trees.{Atom, number, character, name, here, Tree, atom, group, signed, joined, IsExpression}
 
 -- a number, or why there is none
 abbrev pub Answer : Type 0
@@ -72,3 +73,9 @@ HasUndefined names (atom here) = ⊥
 HasUndefined names (group t) = HasUndefined names t
 HasUndefined names (signed sign t) = HasUndefined names t
 HasUndefined names (joined operator left right) = HasUndefined names left ⊎ HasUndefined names right
+
+-- the tokens of an expression have this value: they spell a tree of it
+pub record HasValue (names : List ℕ → Option ℤ) (line : ℕ) (tokens : List Token) (answer : Answer) : Type 0 where
+  pub tree : Tree
+  pub is_spelled : IsExpression tokens tree
+  pub is_value : value_of names line tree ≡ answer

@@ -1,10 +1,10 @@
-//! The value of an expression.
+//! The values of operands, and what signs and operators make of them.
 
-ghost use Rattle.std.specs.Prelude.{◌≡◌, ◌↔◌, ℕ, ℤ, List, Option, Some, Err};
-ghost use Rattle.pac_expr.specs.Trees.{view, atom_of};
-ghost use Rattle.pac_expr.specs.Values.{value_of, atom_value, sign_value, joined_value, operate, first, HasUndefined};
+ghost use Rattle.std.specs.Prelude.{◌≡◌, ℕ, ℤ, List, Option, Some};
+ghost use Rattle.pac_expr.specs.Trees.{atom_of};
+ghost use Rattle.pac_expr.specs.Values.{atom_value, sign_value, joined_value, operate, first};
 
-use crate::expr::{Expr, Operand, Operator, Sign};
+use crate::expr::{Operand, Operator, Sign};
 use std::fmt;
 
 /// Why an expression has no value. Where several faults are in one, the first in this order is told.
@@ -41,32 +41,6 @@ pub trait Symbols {
     /// The number that a name stands for, if it is defined.
     fn symbol(&self, name: &[u8]) -> Option<i32>
         ensures { result ≡ Self.lookup self.now name.now };
-}
-
-/// The value of an expression, where `here` is the address of its line. A quotient is rounded toward
-/// zero. It calls itself once for a level of the tree.
-pub fn value<S: Symbols>(expr: &Expr<'_>, symbols: &S, here: u16) -> Result<i32, ValueError>
-    ensures exact { result ≡ value_of (S.lookup symbols.now) here (view expr.now) }
-    // E1 comes exactly where some name isn't defined, whatever else is wrong.
-    ensures undefined { (result ≡ Err ValueError.Undefined) ↔ HasUndefined (S.lookup symbols.now) (view expr.now) }
-{
-    evaluated(expr, symbols, here)
-}
-
-/// The same, by its first clause alone.
-fn evaluated<S: Symbols>(expr: &Expr<'_>, symbols: &S, here: u16) -> Result<i32, ValueError>
-    ensures { result ≡ value_of (S.lookup symbols.now) here (view expr.now) }
-{
-    match expr {
-        Expr::Value(operand) => operand_value(operand, symbols, here),
-        Expr::Group(inner) => evaluated(inner, symbols, here),
-        Expr::Signed(sign, operand) => signed(*sign, evaluated(operand, symbols, here)),
-        Expr::Joined(operator, left, right) => joined(
-            *operator,
-            evaluated(left, symbols, here),
-            evaluated(right, symbols, here),
-        ),
-    }
 }
 
 /// The value of an operand.

@@ -1,8 +1,11 @@
-//! Expressions as trees.
+//! What expressions are made of.
+
+ghost use Rattle.std.specs.Prelude.{◌≡◌};
+ghost use Rattle.pac_expr.specs.Trees.{rank};
 
 /// What an expression is made of in the end.
 #[derive(Clone, Copy)]
-pub enum Operand<'a> {
+pub(crate) enum Operand<'a> {
     /// A number of the source, 0 to 65,535.
     Number(u16),
     /// A text of one character: its code.
@@ -29,17 +32,17 @@ pub enum Operator {
     Divide,
 }
 
-/// An expression as a tree. Parentheses stay in it as groups, so that two texts that differ in their
-/// parentheses are two trees. Each level of it was at least one token, so that a tree from a line of the
-/// source, which has at most 255 bytes, has at most 255 levels.
-#[derive(Drop)]
-pub enum Expr<'a> {
-    /// An operand by itself.
-    Value(Operand<'a>),
-    /// An expression in parentheses.
-    Group(Box<Expr<'a>>),
-    /// A sign with its operand.
-    Signed(Sign, Box<Expr<'a>>),
-    /// An operator with its left and its right operand.
-    Joined(Operator, Box<Expr<'a>>, Box<Expr<'a>>),
+/// The rank of sums, which bind loosest.
+pub(crate) const SUM_RANK: u8 = 2;
+/// The rank of products, which bind tighter.
+const PRODUCT_RANK: u8 = 1;
+
+/// The rank of an operator: the lower, the tighter it binds.
+pub(crate) fn operator_rank(operator: Operator) -> u8
+    ensures { result ≡ rank operator }
+{
+    match operator {
+        Operator::Add | Operator::Subtract => SUM_RANK,
+        Operator::Multiply | Operator::Divide => PRODUCT_RANK,
+    }
 }

@@ -1,21 +1,40 @@
 //! The value of an expression, straight from its tokens.
 
-ghost use Rattle.std.specs.Prelude.{◌≡◌, ◌<◌, ◌≤◌, ◌-◌, ◌∷◌, List, length, option_map, IfSome, MatchOption};
+ghost use Rattle.std.specs.Prelude.{◌≡◌, ◌↔◌, ◌<◌, ◌≤◌, ◌-◌, ◌∷◌, List, Some, Err, length, option_map, IfSome, MatchOption};
 ghost use Rattle.pac_lex.specs.Tokens.{views};
-ghost use Rattle.pac_expr.specs.Trees.{Mark, atom_of, closing, mark, marks, operator_mark, rank as rank_of};
+ghost use Rattle.pac_expr.specs.Trees.{Mark, Tree, IsExpression, atom_of, closing, mark, marks, operator_mark, rank as rank_of};
 ghost use Rattle.pac_expr.specs.Parsing.{tree_in};
-ghost use Rattle.pac_expr.specs.Values.{value_of};
+ghost use Rattle.pac_expr.specs.Values.{value_of, HasUndefined, HasValue};
 ghost use Rattle.pac_expr.specs.Reading.{Begins, Ends, Refuses, atom_in, operator_in};
 
 use crate::evaluation::{Symbols, ValueError, joined, operand_value, signed};
-use crate::expr::{Operand, Operator, Sign};
-use crate::pending::{SUM_RANK, operator_rank};
+use crate::expr::{Operand, Operator, SUM_RANK, Sign, operator_rank};
 use pac_lex::{Kind, Token, one_character};
 
 /// The value of the expression that these tokens spell, all of them, where `here` is the address of its
-/// line; `None` where they spell none. It is the value of the tree that they spell, without the tree and
-/// without memory. Only signs, parentheses and tighter operators within one another make its calls deeper.
-pub fn evaluate<S: Symbols>(
+/// line; `None` where they spell none. Signs bind tightest and may repeat, then `*` and `/`, then `+` and `-`,
+/// each of the two from left to right. A quotient is rounded toward zero. It takes no memory, and only signs,
+/// parentheses and tighter operators within one another make its calls deeper.
+pub fn value<S: Symbols>(
+    expr: &[Token<'_>],
+    symbols: &S,
+    here: u16,
+) -> Option<Result<i32, ValueError>>
+    // The value found is that of a tree which the tokens spell.
+    ensures found { IfSome result (HasValue (S.lookup symbols.now) here expr.now) }
+    // No tree that they spell has another one, and `None` means that they spell none.
+    ensures only { (t : Tree) → IsExpression expr.now t → result ≡ Some (value_of (S.lookup symbols.now) here t) }
+    // Which value, as a function of the tokens.
+    ensures exact { result ≡ option_map (value_of (S.lookup symbols.now) here) (tree_in (views expr.now)) }
+    // E1 comes exactly where some name of the tree isn't defined, whatever else is wrong.
+    ensures undefined { (result ≡ Some (Err ValueError.Undefined))
+        ↔ MatchOption (tree_in (views expr.now)) ⊥ (HasUndefined (S.lookup symbols.now)) }
+{
+    evaluated(expr, symbols, here)
+}
+
+/// The same, by its exact clause alone.
+fn evaluated<S: Symbols>(
     tokens: &[Token<'_>],
     symbols: &S,
     here: u16,

@@ -1,8 +1,6 @@
-//! Tests of expressions: what no clause says, outside rows, and memory that is refused.
+//! Tests of expressions: what no clause says, and outside rows.
 #![tactic(auto)]
 
-#[cfg(test)]
-mod memory;
 #[cfg(test)]
 mod names;
 #[cfg(test)]

@@ -1,7 +1,7 @@
 //! Expressions with their values or faults, and what is printed for each fault.
 
 use crate::names::OneByteNames;
-use pac_expr::{ParseError, ValueError, evaluate, is_expression, parse, value};
+use pac_expr::{ValueError, is_expression, value};
 use pac_lex::{LexError, Token, tokens};
 use std::alloc::Global;
 
@@ -10,43 +10,30 @@ use std::alloc::Global;
 enum Outcome {
     Value(i32),
     Fault(ValueError),
-    NoTree(ParseError),
+    NoExpression,
     NoTokens(LexError),
-    /// The value that its tokens give and that of its tree differ.
+    /// It has a value and is no expression, or the other way round.
     TwoAnswers,
 }
 
-/// A line at 1234H, read by its tree and straight from its tokens.
+/// A line at 1234H.
 fn outcome_of(alloc: Global, line: &[u8]) -> Outcome {
     match tokens(alloc, line) {
-        Ok(found) => by_both(by_tree(alloc, found.as_slice()), found.as_slice()),
+        Ok(found) => outcome_in(found.as_slice()),
         Err(error) => Outcome::NoTokens(error),
     }
 }
 
-/// The value of the tree.
-fn by_tree(alloc: Global, found: &[Token<'_>]) -> Outcome {
-    match parse(alloc, found) {
-        Ok(expr) => match value(&expr, &OneByteNames, 0x1234) {
-            Ok(number) => Outcome::Value(number),
-            Err(fault) => Outcome::Fault(fault),
-        },
-        Err(error) => Outcome::NoTree(error),
+/// The same by its tokens.
+fn outcome_in(found: &[Token<'_>]) -> Outcome {
+    let answer = value(found, &OneByteNames, 0x1234);
+    if is_expression(found) != answer.is_some() {
+        return Outcome::TwoAnswers;
     }
-}
-
-/// The same, if the tokens themselves give it too.
-fn by_both(outcome: Outcome, found: &[Token<'_>]) -> Outcome {
-    let again = evaluate(found, &OneByteNames, 0x1234);
-    let agree = match &outcome {
-        Outcome::Value(number) => again == Some(Ok(*number)),
-        Outcome::Fault(fault) => again == Some(Err(*fault)),
-        _ => again.is_none(),
-    };
-    if agree && is_expression(found) == again.is_some() {
-        outcome
-    } else {
-        Outcome::TwoAnswers
+    match answer {
+        Some(Ok(number)) => Outcome::Value(number),
+        Some(Err(fault)) => Outcome::Fault(fault),
+        None => Outcome::NoExpression,
     }
 }
 
@@ -61,8 +48,8 @@ fn has_fault(alloc: Global, line: &[u8], fault: ValueError) -> bool {
 }
 
 /// Whether the tokens of a line are no expression.
-fn has_no_tree(alloc: Global, line: &[u8]) -> bool {
-    matches!(outcome_of(alloc, line), Outcome::NoTree(ParseError::Syntax))
+fn is_no_expression(alloc: Global, line: &[u8]) -> bool {
+    matches!(outcome_of(alloc, line), Outcome::NoExpression)
 }
 
 /// Lines with their values.
@@ -120,15 +107,15 @@ fn faults(rt: HostRuntime) {
 }
 
 /// Lines that are no expression.
-static NO_TREES: [&[u8]; 19] = [
+static NO_EXPRESSIONS: [&[u8]; 19] = [
     b"", b"1+", b"*2", b"2*/3", b"-", b"(1", b"1)", b"()", b"(1+)", b"1 2", b"1(2)", b"(1 2)",
     b"((1)", b"1)(2", b"1,2", b"'AB'+1", b"''", b"AF'", b"1:",
 ];
 
 #[test]
-fn no_trees(rt: HostRuntime) {
-    for line in &NO_TREES {
-        assert!(rt; has_no_tree(rt.alloc(), line), "at {line:?}");
+fn no_expressions(rt: HostRuntime) {
+    for line in &NO_EXPRESSIONS {
+        assert!(rt; is_no_expression(rt.alloc(), line), "at {line:?}");
     }
 }
 
@@ -149,6 +136,16 @@ fn groups() -> [u8; 255] {
     line
 }
 
+/// 1-(-(1-(-( .. 1 .. )))), where 36 pairs of parentheses each add one.
+fn nested() -> [u8; 253] {
+    let mut line = [b')'; 253];
+    for at in 0..180 {
+        line[at] = b"1-(-("[at % 5];
+    }
+    line[180] = b'1';
+    line
+}
+
 /// A line of 127 subtractions.
 fn sums() -> [u8; 255] {
     let mut line = [b'1'; 255];
@@ -158,11 +155,12 @@ fn sums() -> [u8; 255] {
     line
 }
 
-// The deepest trees that a line of 255 bytes has.
+// The deepest expressions that a line of 255 bytes has.
 #[test]
-fn deep_trees(rt: HostRuntime) {
+fn deep_expressions(rt: HostRuntime) {
     assert!(rt; has_value(rt.alloc(), &signs(), 7));
     assert!(rt; has_value(rt.alloc(), &groups(), 9));
+    assert!(rt; has_value(rt.alloc(), &nested(), 37));
     assert!(rt; has_value(rt.alloc(), &sums(), -126));
 }
 

@@ -8,7 +8,7 @@ ghost use Rattle.pac_operation.specs.Kept.{number_of, pair_of};
 
 use crate::fault::OperationFault;
 use crate::operand::Operand;
-use pac_expr::{Symbols, ValueError, evaluate};
+use pac_expr::{Symbols, ValueError, value};
 use pac_lex::Token;
 
 /// The operands with the values of their expressions.
@@ -68,7 +68,7 @@ fn number<S: Symbols>(tokens: &[Token<'_>], symbols: &S, here: u16) -> Result<i3
     requires { IsTree tokens.now }
     ensures { result ≡ number_of (expressions.value_of (S.lookup symbols.now) here (tree_within tokens.now)) }
 {
-    match evaluate(tokens, symbols, here) {
+    match value(tokens, symbols, here) {
         Some(answer) => number_of(answer),
         None => Err(OperationFault::Undefined),
     }

@@ -6,7 +6,7 @@ ghost use Rattle.pac_expr.specs.Values.{value_of};
 ghost use Rattle.pac_operation.specs.Reserved.{expression_in};
 ghost use Rattle.pac_source.specs.Views.{tree};
 
-use pac_expr::{Symbols, ValueError, evaluate};
+use pac_expr::{Symbols, ValueError, value};
 use pac_lex::Token;
 use pac_operation::is_source_expression;
 
@@ -34,7 +34,7 @@ impl<'t, 'a> Expression<'t, 'a> {
     pub fn value<S: Symbols>(&self, symbols: &S, here: u16) -> Result<i32, ValueError>
         ensures { result ≡ value_of (S.lookup symbols.now) here (tree self.now) }
     {
-        match evaluate(self.tokens, symbols, here) {
+        match value(self.tokens, symbols, here) {
             Some(answer) => answer,
             None => Ok(i32::from(here)),
         }

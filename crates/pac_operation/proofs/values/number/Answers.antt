@@ -10,9 +10,9 @@ returns-in-Some g c =
     c.number_of.ensures ∙
     ap number_of
     (answer-is (expressions.value_of (g.S.Symbols.lookup c.args.symbols.now) c.args.here) _ (tree_within c.args.tokens.now) c.in-Some.answer
-    c.in-Some.ensures (known-tree c.args.tokens.now c.requires))
+    c.in-Some.ensures.exact (known-tree c.args.tokens.now c.requires))
 
 pub returns-in-None : goal.returns-in-None
 returns-in-None g c =
     absurd (answer-stands (expressions.value_of (g.S.Symbols.lookup c.args.symbols.now) c.args.here) _ (tree_within c.args.tokens.now)
-    c.in-None.ensures (known-tree c.args.tokens.now c.requires))
+    c.in-None.ensures.exact (known-tree c.args.tokens.now c.requires))

@@ -2,7 +2,7 @@ use Rattle.std.proofs.Common.{◌≡◌, [], sym, ◌∙◌}
 use Rattle.pac_expr.specs.Trees.{marks}
 use Rattle.pac_expr.specs.Parsing.{tree_in}
 use Rattle.pac_expr.proofs.Parts.{whole-value, more-none, refused-none, none-left, some-left}
-use Rattle.pac_expr.proofs.reading.evaluate.Goals as goal
+use Rattle.pac_expr.proofs.reading.evaluated.Goals as goal
 
 pub returns-in_err-value : goal.returns-in_err-value
 unfolding tree_in
