@@ -78,14 +78,3 @@ pub fn is_refused(alloc: Global, at: usize, bytes: &[u8], count: usize, wanted: 
         Err(_) => false,
     }
 }
-
-/// Whether a file isn't loaded in which the lowest bit of a byte is another, for it is damaged.
-pub fn is_damaged_at(alloc: Global, at: usize) -> bool {
-    let Ok(mut file) = file(alloc, &CELL, &[]) else {
-        return false;
-    };
-    for byte in file.iter_mut().skip(at).take(1) {
-        *byte ^= 1;
-    }
-    fault_of(alloc, &file, SIZE) == Ok(LoadFault::Damaged)
-}

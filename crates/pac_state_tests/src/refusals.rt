@@ -1,20 +1,11 @@
 //! Files that are refused.
 
-use crate::files::{SIZE, file_of, is_damaged_at, is_refused};
+use crate::files::{SIZE, file_of, is_refused};
 use crate::sets::{CELL, set, set_with, tiles};
 use pac_roms::RomSet;
 use pac_state::{LoadFault, load};
 use std::alloc::{AllocError, Global};
 use std::test::Fail;
-
-// Some of the sizes below that of a file; a few cut the first bytes and the version.
-#[test]
-fn cut_files(rt: HostRuntime) {
-    for count in [0usize, 1, 7, 8, 9, 10, 30, 3224, 67_736, 67_755] {
-        let is_right = is_refused(rt.alloc(), 0, b"P", count, LoadFault::Size);
-        assert!(rt; is_right, "{count} bytes");
-    }
-}
 
 // Another first byte, also of a file that is cut after it.
 #[test]
@@ -36,16 +27,6 @@ fn other_versions(rt: HostRuntime) {
     ] {
         let is_right = is_refused(rt.alloc(), at, &[byte], count, fault);
         assert!(rt; is_right, "{byte} in {count}");
-    }
-}
-
-// One bit is another, from the digest of the set on.
-#[test]
-fn damaged_files(rt: HostRuntime) {
-    for at in [
-        10usize, 30, 58, 82, 3214, 3220, 3224, 67_735, 67_736, 67_755,
-    ] {
-        assert!(rt; is_damaged_at(rt.alloc(), at), "byte {at}");
     }
 }
 
