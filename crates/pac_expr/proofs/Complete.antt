@@ -1,6 +1,6 @@
 -- The tokens of each ranked tree give that tree back: so no two of them have one spelling.
-use Rattle.std.proofs.Common.{◌≡◌, ◌↔◌, ℕ, ℤ, ◌-◌, ◌<◌, ◌≤◌, List, [], ◌∷◌, ◌++◌, Option, Some, None, IfSome, option_map, refl, sym, ap, ◌∙◌, arith}
-use Rattle.std.proofs.Common.{append_assoc, append-nil}
+use Rattle.std.proofs.Common.{◌≡◌, ◌↔◌, ℕ, ℤ, ◌-◌, ◌<◌, ◌≤◌, List, [], ◌∷◌, ◌++◌, Option, Some, None, IfSome, option_map}
+use Rattle.std.proofs.Common.{refl, sym, ap, ◌∙◌, arith, append_assoc, append-nil}
 use Rattle.std.proofs.lemmas.Bool.{le-leb, lt-leb}
 use Rattle.pac_expr.specs.declared.expr.Sign.{Sign}
 use Rattle.pac_expr.specs.declared.expr.Sign.TheVariants as signs
@@ -10,7 +10,8 @@ use Rattle.pac_expr.specs.Trees.{Tree, atom, group, signed, joined, Mark, closin
 use Rattle.pac_expr.specs.Trees.{IsRanked, IsExpression, marks}
 use Rattle.pac_expr.specs.Values.{Answer, HasValue, value_of}
 use Rattle.pac_lex.specs.declared.token.Token.{Token}
-use Rattle.pac_expr.specs.Parsing.{Waiting, sign, left, parenthesis, settled, needs, stands, operated, closed, whole, onward, tree_of, completed, waiting_rank}
+use Rattle.pac_expr.specs.Parsing.{Waiting, sign, left, parenthesis, settled, needs, stands, operated, closed, whole, onward, tree_of}
+use Rattle.pac_expr.specs.Parsing.{completed, waiting_rank}
 use Rattle.pac_expr.specs.Reading.{room}
 use Rattle.pac_expr.proofs.Sound.{found}
 
