@@ -15,7 +15,7 @@ use Rattle.pac_run.specs.Names.{name_of}
 use Rattle.pac_run.specs.declared.fault.RunFault.{RunFault}
 use Rattle.pac_run.specs.declared.fault.RunFault.TheVariants as run
 use Rattle.pac_command.specs.declared.failure.Failure.{Failure}
-use Rattle.pac_command.specs.declared.failure.Failure.TheVariants.{Read, Source, Set, Script, Extent, Write, Memory}
+use Rattle.pac_command.specs.declared.failure.Failure.TheVariants.{Read, Source, Set, Script, Extent, Write, Memory, Words}
 use Rattle.pac_command.specs.declared.failure.Target.{Target}
 use Rattle.pac_command.specs.declared.failure.Target.TheVariants.{Of, Rom}
 
@@ -33,8 +33,9 @@ message (Script fault) = codes "refused " ++ inputs.fault_text fault
 message Extent = codes "refused X1"
 message (Write output count) = codes "write fault " ++ target output ++ codes " after " ++ decimal count ++ codes " bytes"
 message Memory = codes "out of memory"
+message Words = codes "error: a word of the command line isn't UTF-8"
 
--- the exit status of a failure: 1 refused input, 3 read or write fault, 4 memory; 2 is that of a command line that is none
+-- the exit status of a failure: 1 refused input, 2 no command line, 3 read or write fault, 4 memory
 abbrev pub status : Failure → ℕ
 status (Read name) = 3
 status (Source fault) = 1
@@ -43,6 +44,7 @@ status (Script fault) = 1
 status Extent = 1
 status (Write output count) = 3
 status Memory = 4
+status Words = 2
 
 -- the exit status of a run that was done: 5 where a stop ended it
 abbrev pub end_status : Option Stop → ℕ
@@ -72,15 +74,19 @@ failure_of (run.Script fault) = Script fault
 failure_of (run.Write output count) = Write (Of output) count
 failure_of run.NoMemory = Memory
 
--- the exit status of words that are no command line: 0 where they ask for help, else 2, but want of memory is 4
-abbrev pub line_status : ErrorKind → ℕ
-line_status kind.DisplayHelp = 0
-line_status kind.DisplayVersion = 0
-line_status kind.OutOfMemory = 4
-line_status other = 2
+-- the exit status of help or the version: 0 where it was written, else 3
+abbrev pub IsHelpStatus : ℕ → Type 0
+IsHelpStatus answer = (answer ≡ 0) ⊎ (answer ≡ 3)
+
+-- the exit status of words that are no command line: that of help where they ask for it, else 2, but want of memory is 4
+abbrev pub IsLineStatus : ErrorKind → ℕ → Type 0
+IsLineStatus kind.DisplayHelp answer = IsHelpStatus answer
+IsLineStatus kind.DisplayVersion answer = IsHelpStatus answer
+IsLineStatus kind.OutOfMemory answer = answer ≡ 4
+IsLineStatus fault answer = answer ≡ 2
 
 -- the status is that of one of these kinds of words, or memory ran out
 pub record Answers (kinds : Kinds) (answer : ℕ) : Type 0 where
   pub kind_told : ErrorKind
   pub is_one : (kind_told ≡ kind.OutOfMemory) ⊎ IsAmong kind_told kinds
-  pub answer_is : answer ≡ line_status kind_told
+  pub answer_is : IsLineStatus kind_told answer

@@ -1,5 +1,6 @@
 pub mod Endings
 pub mod Failures
+pub mod Machine
 pub mod Making
 pub mod Outputs
 pub mod Programs

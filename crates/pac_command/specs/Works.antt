@@ -1,13 +1,17 @@
 -- What the program does for the words of a command line, by what they ask for: from what its files have to what its outputs
 -- get, what is told on the console, and the exit status.
-use Rattle.std.specs.Prelude.{◌≡◌, ◌⊎◌, ℕ, List, [], Option, Some, Result}
+use Rattle.std.specs.Prelude.{◌≡◌, ◌⊎◌, ⊤, ℕ, List, [], Option, Some, Result}
 use Rattle.clap.specs.Words.{IsAmong, Kinds}
 use Rattle.clap.specs.declared.error.kind.ErrorKind.{ErrorKind}
 use Rattle.clap.specs.declared.error.kind.ErrorKind.TheVariants.{OutOfMemory}
 use Rattle.pac_options.specs.CommandLine.{Asked, asm, run, debug, dis}
+use Rattle.pac_run.specs.declared.fault.Output.{Output}
+use Rattle.pac_run.specs.declared.fault.Output.TheVariants.{Report, Text}
 use Rattle.pac_run.specs.declared.outcome.Outcome.{Outcome}
 use Rattle.pac_command.specs.declared.failure.Failure.{Failure}
-use Rattle.pac_command.specs.Endings.{Ending, WordsEnd, WorkEnds}
+use Rattle.pac_command.specs.declared.failure.Failure.TheVariants.{Write}
+use Rattle.pac_command.specs.declared.failure.Target.TheVariants.{Of}
+use Rattle.pac_command.specs.Endings.{Ending, Fails, WordsEnd, WorkEnds}
 use Rattle.pac_files.specs.Files.{Finds, Handling}
 use Rattle.pac_command.specs.Making.{Assembling, Makes, Tells}
 use Rattle.pac_command.specs.Outputs.{Performing, Plays, Watches}
@@ -40,12 +44,11 @@ Does desk (dis name) old new =
     Ends (λ answer. Tells desk.finds desk.disassembles desk.untold name answer) desk.ending × (new ≡ old) × desk.silent
 
 -- words that ask for this, without a fault, and what is done for them
-pub record IsServed {Disk File C : Type 0} (desk : Desk Disk File C) (kinds : Kinds) (request : Option Asked) (old new : Disk)
-    : Type 0 where
+pub record IsServed (does : Asked → Type 0) (kinds : Kinds) (request : Option Asked) : Type 0 where
   pub faultless : kinds ≡ []
   pub asked : Asked
   pub request_is : request ≡ Some asked
-  pub does : Does desk asked old new
+  pub is_done : does asked
 
 -- words with a fault of one of these kinds, or memory ran out while they were read: this is told, no file is created and no
 -- output gets a byte
@@ -59,4 +62,34 @@ pub record IsRefused {Disk File C : Type 0} (desk : Desk Disk File C) (kinds : K
 
 -- by the kinds of fault that the words may have, and what they ask for
 abbrev pub Works : {Disk File C : Type 0} → Desk Disk File C → Kinds → Option Asked → (old new : Disk) → Type 0
-Works desk kinds request old new = IsServed desk kinds request old new ⊎ IsRefused desk kinds old new
+Works desk kinds request old new = IsServed (λ asked. Does desk asked old new) kinds request ⊎ IsRefused desk kinds old new
+
+-- ---- where a file that is created might take the place of a standard stream
+
+-- work that writes to standard output isn't begun: this output is told as refused after no byte, and no file is created
+abbrev pub IsHeldBack : {Disk C : Type 0} → Ending C → Output → (old new : Disk) → Type 0
+IsHeldBack ending output old new = Fails ending (Write (Of output) 0) × (new ≡ old)
+
+abbrev pub DoesUnkept : {Disk File C : Type 0} → Desk Disk File C → Asked → (old new : Disk) → Type 0
+DoesUnkept desk (asm asked) old new = Does desk (asm asked) old new
+DoesUnkept desk (run asked) old new = IsHeldBack desk.ending Report old new
+DoesUnkept desk (debug asked) old new = IsHeldBack desk.ending Report old new
+DoesUnkept desk (dis name) old new = IsHeldBack desk.ending Text old new
+
+-- no output but files: nothing is run or disassembled, and there is no report or text that could get anything
+abbrev pub without_output : {Disk File C : Type 0} → Finds → Handling Disk File → Assembling File → Ending C → Desk Disk File C
+without_output finds handling assembles ending = record {
+  finds = finds;
+  handling = handling;
+  assembles = assembles;
+  performs = λ answer inputs created left. ⊥;
+  watches = λ commands answer inputs created left. ⊥;
+  disassembles = λ bytes answer. ⊥;
+  silent = ⊤;
+  untold = ⊤;
+  ending = ending;
+}
+
+-- what the program does there
+abbrev pub WorksUnkept : {Disk File C : Type 0} → Desk Disk File C → Kinds → Option Asked → (old new : Disk) → Type 0
+WorksUnkept desk kinds request old new = IsServed (λ asked. DoesUnkept desk asked old new) kinds request ⊎ IsRefused desk kinds old new

@@ -38,6 +38,8 @@ pub enum Failure<'a> {
     Write(Target, u64),
     /// Memory ran out.
     Memory,
+    /// A word of the command line isn't UTF-8.
+    Words,
 }
 
 impl fmt::Display for Target {
@@ -71,12 +73,13 @@ impl fmt::Display for Failure<'_> {
                 write!(f, "write fault {output} after {count} bytes")
             }
             Failure::Memory => f.write_str("out of memory"),
+            Failure::Words => f.write_str("error: a word of the command line isn't UTF-8"),
         }
     }
 }
 
 impl Failure<'_> {
-    /// The exit status: 1 refused input, 3 read or write fault, 4 memory.
+    /// The exit status: 1 refused input, 2 no command line, 3 read or write fault, 4 memory.
     pub fn status(&self) -> u8
         ensures status { result ≡ told.status self.now }
         ensures most { result ≤ told.most_status }
@@ -85,6 +88,7 @@ impl Failure<'_> {
             Failure::Source(_) | Failure::Set(_) | Failure::Script(_) | Failure::Extent => 1,
             Failure::Read(_) | Failure::Write(_, _) => 3,
             Failure::Memory => 4,
+            Failure::Words => 2,
         }
     }
 }

@@ -5,9 +5,12 @@ ghost use Rattle.clap.specs.Words.{fault_of, kind_of};
 ghost use Rattle.pac_options.specs.CommandLine.{pacboard, request_of};
 ghost use Rattle.pac_command.specs.Endings.{Fails, WordsEnd, WorkEnds};
 ghost use Rattle.pac_command.specs.Failures as told;
+ghost use Rattle.pac_command.specs.Machine.{Hears, IsUnheard, RunsOn, WorksOn};
 ghost use Rattle.pac_command.specs.Programs.{Assembles, Performs, PerformsWatched};
 ghost use Rattle.pac_command.specs.Texts.{Disassembles};
-ghost use Rattle.pac_command.specs.Works.{Works};
+ghost use Rattle.pac_command.specs.Works.{Works, WorksUnkept, without_output};
+ghost use Rattle.pac_command.specs.declared.failure.Failure.TheVariants.{Write};
+ghost use Rattle.pac_command.specs.declared.failure.Target.TheVariants.{Of};
 
 use crate::asm::asm;
 use crate::debug::debug;
@@ -29,34 +32,25 @@ use std::{env, io};
 /// 2 command line, 3 read or write fault, 4 memory, 5 board stopped. A failure is told in one line on standard error,
 /// and words that are no command line are told in the words of the library that reads them.
 pub fn run<R: Env + Files + Print + Eprint + AllocGlobal>(rt: &R) -> u8
-    ensures { result ≤ told.most_status }
+    ensures status { result ≤ told.most_status }
+    ensures runs { RunsOn (record {
+      finds = ⟦<HostFiles<'static, R> as FileSystem>⟧.finds;
+      handling = record {
+        creates = ⟦<HostFiles<'static, R> as FileSystem>⟧.creates;
+        closes = ⟦<HostFiles<'static, R> as FileSystem>⟧.closes;
+      };
+      file_took = ⟦<Through<R::File> as Out>⟧.took;
+      file_refused = ⟦<Through<R::File> as Out>⟧.refused;
+      stream_took = ⟦<Through<io::Printer<'static, R>> as Out>⟧.took;
+      stream_refused = ⟦<Through<io::Printer<'static, R>> as Out>⟧.refused;
+      tells = ⟦<HostConsole<'static, R> as Teller>⟧.tells;
+      explains = ⟦<HostConsole<'static, R> as Teller>⟧.explains;
+    }) result }
 {
-    let words = match words_of(rt) {
-        Ok(words) => words,
-        Err(error) => return tell_words(rt, error.kind()),
-    };
-    let Ok(places) = keep_standard(rt) else {
-        return run_unkept(rt, &words);
-    };
-    let status = run_words(rt, rt, &words);
-    drop(places);
-    status
-}
-
-/// Does what words ask where a file that is created might stand in the place of a standard stream: work that writes to standard
-/// output isn't begun, and its report or text is told as refused.
-fn run_unkept<R: Files + Print + Eprint + AllocGlobal>(rt: &R, words: &[String]) -> u8
-    ensures { result ≤ told.most_status }
-{
-    let output = match options(rt.alloc(), words) {
-        Ok(Request::Run(_)) | Ok(Request::Debug(_)) => Output::Report,
-        Ok(Request::Dis(_)) => Output::Text,
-        _ => return run_words(rt, rt, words),
-    };
-    tell(
-        &mut HostConsole { console: rt },
-        Failure::Write(Target::Of(output), 0),
-    )
+    match words_of(rt) {
+        Ok(words) => run_heard(rt, &words),
+        Err(error) => tell_words(&mut HostConsole { console: rt }, error.kind()),
+    }
 }
 
 /// The words of the command line, the program's name first.
@@ -69,17 +63,73 @@ fn words_of<R: Env + AllocGlobal>(rt: &R) -> io::Result<Vec<String>> {
 }
 
 /// Tells that the words can't be had, and answers the status.
-fn tell_words<C: Print + Eprint>(console: &C, kind: io::ErrorKind) -> u8
-    ensures { result ≤ told.most_status }
+fn tell_words<C: Teller>(console: &mut C, kind: io::ErrorKind) -> u8
+    ensures unheard { IsUnheard
+        (record { tells = C.tells; explains = C.explains; old = console.old; new = console.new; status = result }) }
+    ensures most { result ≤ told.most_status }
 {
     if kind == io::ErrorKind::OutOfMemory {
-        return tell(&mut HostConsole { console }, Failure::Memory);
+        return tell(console, Failure::Memory);
     }
-    let _ = eprintln!(console; "error: a word of the command line isn't UTF-8");
-    2
+    tell(console, Failure::Words)
 }
 
-/// The same with these words, over the files of `rt`; texts for standard output and standard error go to `console`.
+/// Does what these words ask, over the files of `rt`, with no file in the place of a standard stream.
+fn run_heard<R: Files + Print + Eprint + AllocGlobal>(rt: &R, words: &[String]) -> u8
+    ensures status { result ≤ told.most_status }
+    ensures hears { Hears (record {
+      finds = ⟦<HostFiles<'static, R> as FileSystem>⟧.finds;
+      handling = record {
+        creates = ⟦<HostFiles<'static, R> as FileSystem>⟧.creates;
+        closes = ⟦<HostFiles<'static, R> as FileSystem>⟧.closes;
+      };
+      file_took = ⟦<Through<R::File> as Out>⟧.took;
+      file_refused = ⟦<Through<R::File> as Out>⟧.refused;
+      stream_took = ⟦<Through<io::Printer<'static, R>> as Out>⟧.took;
+      stream_refused = ⟦<Through<io::Printer<'static, R>> as Out>⟧.refused;
+      tells = ⟦<HostConsole<'static, R> as Teller>⟧.tells;
+      explains = ⟦<HostConsole<'static, R> as Teller>⟧.explains;
+    }) (map string_bytes words.now) result }
+{
+    let Ok(places) = keep_standard(rt) else {
+        return work_unkept(
+            rt.alloc(),
+            &mut HostFiles { rt },
+            &mut HostConsole { console: rt },
+            words,
+        );
+    };
+    let status = run_words(rt, rt, words);
+    drop(places);
+    status
+}
+
+/// Does what words ask where a file that is created might stand in the place of a standard stream: work that writes to standard
+/// output isn't begun, and its report or text is told as refused.
+fn work_unkept<D: FileSystem, C: Teller>(
+    alloc: Global,
+    disk: &mut D,
+    console: &mut C,
+    words: &[String],
+) -> u8
+    ensures status { result ≤ told.most_status }
+    ensures works { WorksUnkept (without_output (D.finds disk.old) (record { creates = D.creates; closes = D.closes })
+        (λ source answer created left. Assembles source
+        (record { took = D.File.took; refused = D.File.refused; old = created.rom; new = left.rom })
+        (record { took = D.File.took; refused = D.File.refused; old = created.listing; new = left.listing }) answer)
+        (record { tells = C.tells; explains = C.explains; old = console.old; new = console.new; status = result }))
+        (fault_of pacboard (map string_bytes words.now)) (request_of (map string_bytes words.now)) disk.old disk.new }
+{
+    match options(alloc, words) {
+        Ok(Request::Asm(files)) => end(console, asm(alloc, disk, &files)),
+        Ok(Request::Run(_)) => refuse(console, Output::Report, 0),
+        Ok(Request::Debug(_)) => refuse(console, Output::Report, 0),
+        Ok(Request::Dis(_)) => refuse(console, Output::Text, 0),
+        Err(error) => explain(console, &error),
+    }
+}
+
+/// Does what these words ask, over the files of `rt`; texts for standard output and standard error go to `console`.
 pub fn run_words<R: Files + AllocGlobal, C: Print + Eprint>(
     rt: &R,
     console: &C,
@@ -88,6 +138,19 @@ pub fn run_words<R: Files + AllocGlobal, C: Print + Eprint>(
     ensures status { result ≤ told.most_status }
     ensures words { fault_of pacboard (map string_bytes words.now) ≢ []
         → told.Answers (fault_of pacboard (map string_bytes words.now)) result }
+    ensures works { WorksOn (record {
+      finds = ⟦<HostFiles<'static, R> as FileSystem>⟧.finds;
+      handling = record {
+        creates = ⟦<HostFiles<'static, R> as FileSystem>⟧.creates;
+        closes = ⟦<HostFiles<'static, R> as FileSystem>⟧.closes;
+      };
+      file_took = ⟦<Through<R::File> as Out>⟧.took;
+      file_refused = ⟦<Through<R::File> as Out>⟧.refused;
+      stream_took = ⟦<Through<io::Printer<'static, C>> as Out>⟧.took;
+      stream_refused = ⟦<Through<io::Printer<'static, C>> as Out>⟧.refused;
+      tells = ⟦<HostConsole<'static, C> as Teller>⟧.tells;
+      explains = ⟦<HostConsole<'static, C> as Teller>⟧.explains;
+    }) (fault_of pacboard (map string_bytes words.now)) (request_of (map string_bytes words.now)) result }
 {
     let mut disk = HostFiles { rt };
     let mut report = Through {
@@ -163,6 +226,15 @@ pub(crate) fn tell<C: Teller>(console: &mut C, failure: Failure) -> u8
     failure.status()
 }
 
+/// Tells that an output refused after so many bytes, and answers the status.
+fn refuse<C: Teller>(console: &mut C, output: Output, count: u64) -> u8
+    ensures fails { Fails (record { tells = C.tells; explains = C.explains; old = console.old; new = console.new; status = result })
+        (Write (Of output) count) }
+    ensures most { result ≤ told.most_status }
+{
+    tell(console, Failure::Write(Target::Of(output), count))
+}
+
 /// The status of work that is done or that failed; a failure is told.
 fn end<C: Teller>(console: &mut C, done: Result<(), Failure>) -> u8
     ensures ends { WorkEnds (record { tells = C.tells; explains = C.explains; old = console.old; new = console.new; status = result })
@@ -175,15 +247,22 @@ fn end<C: Teller>(console: &mut C, done: Result<(), Failure>) -> u8
     }
 }
 
-/// Tells why the words are no command line, or what they ask to be told of it.
+/// Tells why the words are no command line, or what they ask to be told of it; where that can't be written to standard output,
+/// this is told as a failure.
 fn explain<C: Teller>(console: &mut C, error: &clap::Error) -> u8
     ensures ends { WordsEnd (record { tells = C.tells; explains = C.explains; old = console.old; new = console.new; status = result })
         (kind_of error.now) }
-    ensures status { result ≡ told.line_status (kind_of error.now) }
+    ensures status { told.IsLineStatus (kind_of error.now) result }
 {
     if error.kind() == ErrorKind::OutOfMemory {
         return tell(console, Failure::Memory);
     }
-    console.explain(error);
-    if error.use_stderr() { 2 } else { 0 }
+    let written = console.explain(error);
+    if error.use_stderr() {
+        return 2;
+    }
+    match written {
+        Ok(()) => 0,
+        Err(fault) => refuse(console, Output::Text, fault.count),
+    }
 }

@@ -67,11 +67,11 @@ fn is_text(bytes: &[u8], wanted: &str) -> bool {
 }
 
 impl Console {
-    /// One whose standard output takes so many bytes.
-    pub fn new(alloc: Global, room: usize) -> Result<Console, AllocError> {
+    /// One whose standard output takes so many bytes, and standard error so many.
+    pub fn new(alloc: Global, room: usize, error_room: usize) -> Result<Console, AllocError> {
         Ok(Console {
             output: RefCell::new(Memory::new(alloc, room)?),
-            error: RefCell::new(Memory::new(alloc, 4000)?),
+            error: RefCell::new(Memory::new(alloc, error_room)?),
         })
     }
 

@@ -118,7 +118,7 @@ pub fn status_of(rt: &(impl rt::Files + AllocGlobal), console: &Console, words: 
 
 /// Whether a line, with these words, comes to its status and prints what it says.
 fn is_answered(rt: &(impl rt::Files + AllocGlobal), line: &Line, words: &[String]) -> bool {
-    match Console::new(rt.alloc(), line.room) {
+    match Console::new(rt.alloc(), line.room, line.error_room) {
         Ok(console) => {
             status_of(rt, &console, words) == line.status && console.has(line.output, line.error)
         }

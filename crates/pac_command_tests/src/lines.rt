@@ -35,6 +35,8 @@ pub struct Line {
     pub outputs: &'static str,
     /// The bytes that standard output takes.
     pub room: usize,
+    /// The bytes that standard error takes.
+    pub error_room: usize,
     /// The exit status.
     pub status: u8,
     /// What standard output has then, as pieces; the last may be `ANY_TEXT`.
@@ -55,6 +57,7 @@ pub const LINE: Line = Line {
     words: "",
     outputs: "",
     room: 400,
+    error_room: 4000,
     status: 0,
     output: &[],
     error: "",

@@ -69,7 +69,7 @@ fn refusals_from_nothing(
 /// The same with the words of a run, over a console.
 fn refusals_of_a_run(rt: &(impl Files + AllocGlobal)) -> Option<usize> {
     let words = words_of(rt.alloc(), "scarce", WORDS, OUTPUTS).ok()?;
-    match Console::new(rt.alloc(), 200) {
+    match Console::new(rt.alloc(), 200, 4000) {
         Ok(console) => refusals_from_nothing(rt, &console, &words),
         Err(_) => None,
     }

@@ -177,3 +177,56 @@ static TOLD: [Line; 3] = [
 fn help_and_version(rt: HostRuntime) {
     hold(&rt, "helped", &TOLD);
 }
+
+/// Help that standard output takes in part, or not at all, is told as the text; what is wrong with words, and can't be told, is told
+/// by the status alone.
+static UNTOLD: [Line; 6] = [
+    Line {
+        words: "--help",
+        room: 59,
+        status: 3,
+        output: &["Assembles and runs programs for Namco's Pac-Man main board\n"],
+        error: "write fault text after 59 bytes\n",
+        ..LINE
+    },
+    Line {
+        words: "run --help",
+        room: 0,
+        status: 3,
+        error: "write fault text after 0 bytes\n",
+        ..LINE
+    },
+    Line {
+        words: "--version",
+        room: 12,
+        status: 3,
+        output: &["pacboard 0.1"],
+        error: "write fault text after 12 bytes\n",
+        ..LINE
+    },
+    Line {
+        words: "--version",
+        room: 13,
+        output: &["pacboard 0.1\n"],
+        ..LINE
+    },
+    Line {
+        words: "--version",
+        room: 0,
+        error_room: 0,
+        status: 3,
+        ..LINE
+    },
+    Line {
+        words: "dis",
+        room: 0,
+        error_room: 0,
+        status: 2,
+        ..LINE
+    },
+];
+
+#[test]
+fn help_that_cannot_be_written(rt: HostRuntime) {
+    hold(&rt, "untold", &UNTOLD);
+}
