@@ -1,5 +1,5 @@
--- What the program does for the words of a command line, by what they ask for: from what its files have to what its outputs
--- get, what is told on the console, and the exit status.
+-- To be believed: what the program does for the words of a command line, by what they ask for: from what its files have to what
+-- its outputs get, what is told on the console, and the exit status.
 use Rattle.std.specs.Prelude.{◌≡◌, ◌⊎◌, ⊤, ℕ, List, [], Option, Some, Result}
 use Rattle.clap.specs.Words.{IsAmong, Kinds}
 use Rattle.clap.specs.declared.error.kind.ErrorKind.{ErrorKind}
