@@ -1,6 +1,8 @@
 -- The symbols of the first phase are the one right assignment.
-use Rattle.std.proofs.Common.{◌≡◌, ℕ, ℤ, pos, negsuc, ◌+◌, Bool, true, false, List, [], ◌∷◌, ◌++◌, Option, Some, None, Result, Ok, Err}
-use Rattle.std.proofs.Common.{refl, ap, sym, ◌∙◌, subst, append_assoc, option_map, length, is_some, is_none, nat_le, nat_lt, if◌then◌else◌}
+use Rattle.std.proofs.Common.{◌≡◌, ℕ, ℤ, pos, negsuc, ◌+◌, Bool, true, false, List, [], ◌∷◌, ◌++◌, Option, Some, None, Result}
+use Rattle.std.proofs.Common.{Ok, Err}
+use Rattle.std.proofs.Common.{refl, ap, sym, ◌∙◌, subst, append_assoc, option_map, length, is_some, is_none, nat_le, nat_lt}
+use Rattle.std.proofs.Common.{if◌then◌else◌}
 use Rattle.std.specs.Result.{is_ok}
 use Rattle.std.specs.Str.{bytes_eq}
 use Rattle.std.proofs.lemmas.Bool.{false≢true}
@@ -15,7 +17,8 @@ use Rattle.pac_expr.specs.Trees as trees
 use Rattle.pac_expr.specs.Values.{Answer, defined, sign_value, joined_value, value_of}
 use Rattle.pac_program.specs.Names.{Named, number_of}
 use Rattle.pac_program.specs.Programs.{rom_size}
-use Rattle.pac_source.specs.Statements.{Statement, nothing, origin, equate, bytes, words, space, condition, otherwise, end_condition}
+use Rattle.pac_source.specs.Statements.{Statement, nothing, origin, equate, bytes, words, space, condition, otherwise}
+use Rattle.pac_source.specs.Statements.{end_condition}
 use Rattle.pac_source.specs.Statements.{operation, Form}
 use Rattle.pac_source.specs.Contents.{Given, size_of, content_of}
 use Rattle.pac_asm.specs.declared.condition.Condition.{Condition}
@@ -33,7 +36,8 @@ use Rattle.pac_asm.specs.Standings.{Standing, start, value_above, within_rom, is
 use Rattle.pac_asm.specs.Reading.{read}
 use Rattle.pac_asm.specs.Phase1.{after_item, after_statement, after_form, after_judged, after_passed, after_text, closed}
 use Rattle.pac_asm.specs.Phase1.{after_line, phase1}
-use Rattle.pac_asm.specs.Assignments.{Spot, Step, labelled, counted, valued, with_open, is_nonzero, with_bytes, step_by, step_read, step_if}
+use Rattle.pac_asm.specs.Assignments.{Spot, Step, labelled, counted, valued, with_open, is_nonzero, with_bytes, step_by}
+use Rattle.pac_asm.specs.Assignments.{step_read, step_if}
 use Rattle.pac_asm.specs.Assignments.{step_of, defined_after, defined_in, first_spot, SymbolsAreRight}
 use Rattle.pac_asm.specs.Entries.{count_of, entry_sized, entry_by, entry_read, entry_if, entry_of}
 use Rattle.pac_asm.specs.Entries as entering
@@ -42,7 +46,8 @@ use Rattle.pac_program.specs.declared.line.Line.{Line}
 use Rattle.pac_program.specs.declared.line.Line.TheVariants as entries
 use Rattle.pac_code.specs.Items.{Content}
 use Rattle.pac_asm.proofs.FirstWords.{is_if, word-of-if}
-use Rattle.pac_asm.proofs.OpenIfs.{opens, AreNested, AreOpen, none-nested, read-same, counts-if, counts-none, open-else, open-end, open-skipped, open-if}
+use Rattle.pac_asm.proofs.OpenIfs.{opens, AreNested, AreOpen, none-nested, read-same, counts-if, counts-none, open-else}
+use Rattle.pac_asm.proofs.OpenIfs.{open-end, open-skipped, open-if}
 
 -- ---- answers
 
@@ -159,7 +164,8 @@ placed_by names statement (Placed span) = placed span.at (content_of names span.
 abbrev pub Fills : (List ℕ → Option ℤ) → Spot → Statement → Place → Type 0
 Fills names spot statement place = (here : Line) → placed_by names statement place ≡ Ok here → entry_by names spot statement ≡ Some here
 
-placed-is : (at : ℕ) (content : Given (Option Content)) (here : Line) → placed at content ≡ Ok here → entering.entry_at at content ≡ Some here
+placed-is : (at : ℕ) (content : Given (Option Content)) (here : Line) → placed at content ≡ Ok here
+    → entering.entry_at at content ≡ Some here
 placed-is at (Ok None) here e = ap Some (ok-same _ here e)
 placed-is at (Ok (Some content)) here e = ap Some (ok-same _ here e)
 placed-is at (Err fault) here e = absurd (err-ok _ here e)
@@ -292,7 +298,8 @@ agree-item above nest label size shows here next is-new e =
 -- other open IFs
 agree-conditions : (above : Standing) (answer : Result (List Condition) AsmCode) (now : Option (List OpenIf)) (place : Place)
     (shows : Place → Type 0) → shows place → ((conditions : List Condition) → answer ≡ Ok conditions → AreOpen now conditions)
-    → (next : Standing) → (answer >>= λ conditions. Ok (record above { conditions = conditions; places = above.places ++ place ∷ [] })) ≡ Ok next
+    → (next : Standing)
+    → (answer >>= λ conditions. Ok (record above { conditions = conditions; places = above.places ++ place ∷ [] })) ≡ Ok next
     → Agrees above (with_open (spot_of above) now) shows next
 agree-conditions above answer now place shows here each next e =
     let g = gone answer _ next e in
@@ -393,7 +400,8 @@ agree-statement names above extends nest label (operation written) inside is-new
     agree-item above nest label (size_of (operation written)) (Fills names (spot_of above) (operation written))
     (fills-item names (spot_of above) (operation written) (size_of (operation written)) refl) next is-new e
 
-agree-new : (names : List ℕ → Option ℤ) (above : Standing) → Extends above.symbols names → AreNested above.conditions → (form : Form) (b : Bool)
+agree-new : (names : List ℕ → Option ℤ) (above : Standing) → Extends above.symbols names → AreNested above.conditions → (form : Form)
+    (b : Bool)
     → (is_if form.statement ≡ true → counts (opens above.conditions) ≡ true) → is_new above.symbols form.label ≡ b → (next : Standing)
     → (if b then after_statement above form.label form.statement else Err DefinedBefore) ≡ Ok next
     → Agrees above (step_by names (spot_of above) form.label form.statement) (Fills names (spot_of above) form.statement) next
@@ -424,7 +432,8 @@ agree-read : (names : List ℕ → Option ℤ) (above : Standing) → Extends ab
 agree-read names above extends nest line judged (Ok form) is next e =
     let inside : is_if form.statement ≡ true → counts (opens above.conditions) ≡ true =
     λ h. counts-if (opens above.conditions)
-    (ap (is_read (opens above.conditions)) (sym (word-of-if line form is h)) ∙ sym (read-same above.conditions (word_of line) nest) ∙ judged) in
+    (ap (is_read (opens above.conditions)) (sym (word-of-if line form is h))
+    ∙ sym (read-same above.conditions (word_of line) nest) ∙ judged) in
     let a = agree-new names above extends nest form (is_new above.symbols form.label) inside refl next e in
     record {
       new = a.new;
@@ -449,8 +458,8 @@ agree-if names above extends nest line false is next e =
     (λ here shown. ap Some (ok-same _ here shown))
     (λ conditions is. open-skipped (word_of line) above.conditions conditions nest out is) next e
 
-pub agree-text : (names : List ℕ → Option ℤ) (above : Standing) → Extends above.symbols names → AreNested above.conditions → (line : List ℕ)
-    (next : Standing) → after_text above line ≡ Ok next
+pub agree-text : (names : List ℕ → Option ℤ) (above : Standing) → Extends above.symbols names → AreNested above.conditions
+    → (line : List ℕ) (next : Standing) → after_text above line ≡ Ok next
     → Agrees above (step_of names (spot_of above) line)
     (λ place. (here : Line) → line_by names line place ≡ Ok here → entry_of names (spot_of above) line ≡ Some here) next
 unfolding after_text step_of entry_of
@@ -552,7 +561,8 @@ pub mapped : (new rest : List Named) (o : Option (List Named)) → option_map (�
 mapped new rest None e = absurd (none-some rest e)
 mapped new rest (Some more) e = (more, refl, some-same (new ++ more) rest e)
 
-agree-all : (names : List ℕ → Option ℤ) (number : ℕ) (above : Standing) → AreNested above.conditions → (lines : List (List ℕ)) (end : Standing) (rest : List Named)
+agree-all : (names : List ℕ → Option ℤ) (number : ℕ) (above : Standing) → AreNested above.conditions → (lines : List (List ℕ))
+    (end : Standing) (rest : List Named)
     → phase1 number above lines ≡ Ok end → defined_in names (spot_of above) lines ≡ Some rest
     → ((some : List ℕ) → names some ≡ number_of (above.symbols ++ rest) some)
     → (some : List ℕ) → names some ≡ number_of end.symbols some
@@ -582,7 +592,11 @@ pub symbols-are-right : SymbolsAreRight
 symbols-are-right lines after e =
     let d = defines (number_of after.symbols) 1 start none-nested lines after e (λ some z h. h) in
     record {
-      right = record { definitions = d.more; defined = ap (λ spot. defined_in (number_of after.symbols) spot lines) start-spot ∙ d.defined; assigned = λ some. ap (λ symbols. number_of symbols some) d.is };
+      right = record {
+        definitions = d.more;
+        defined = ap (λ spot. defined_in (number_of after.symbols) spot lines) start-spot ∙ d.defined;
+        assigned = λ some. ap (λ symbols. number_of symbols some) d.is;
+      };
       only = λ names right some. agree-all names 1 start none-nested lines after right.definitions e
           (ap (λ spot. defined_in names spot lines) (sym start-spot) ∙ right.defined) right.assigned some;
     }

@@ -36,8 +36,8 @@ record Entered (symbols : List Named) (above : Standing) (lines : List (List ℕ
   filled : (number : ℕ) (before out : List Line) → phase2 symbols number before lines places ≡ Ok out
       → (more : List Line) × (out ≡ before ++ more) × (entries_in (number_of symbols) (spot_of above) lines ≡ Some more)
 
-entered : (symbols : List Named) (number : ℕ) (above : Standing) → AreNested above.conditions → (lines : List (List ℕ)) (end : Standing)
-    → phase1 number above lines ≡ Ok end → Extends end.symbols (number_of symbols) → Entered symbols above lines end
+entered : (symbols : List Named) (number : ℕ) (above : Standing) → AreNested above.conditions → (lines : List (List ℕ))
+    (end : Standing) → phase1 number above lines ≡ Ok end → Extends end.symbols (number_of symbols) → Entered symbols above lines end
 unfolding entries_in phase2
 entered symbols number above nest [] end e extends = record {
   places = [];

@@ -1,5 +1,6 @@
 -- The first word of a line whose form is an IF.
-use Rattle.std.proofs.Common.{◌≡◌, ℕ, ◌+◌, ◌-◌, ◌==◌, Bool, true, false, not, List, [], ◌∷◌, Option, Some, None, Result, Ok, Err, inl, inr}
+use Rattle.std.proofs.Common.{◌≡◌, ℕ, ◌+◌, ◌-◌, ◌==◌, Bool, true, false, not, List, [], ◌∷◌, Option, Some, None, Result, Ok}
+use Rattle.std.proofs.Common.{Err, inl, inr}
 use Rattle.std.proofs.Common.{refl, ap, sym, ◌∙◌, option_map, is_some, if◌then◌else◌, ◌&&◌, take, drop}
 use Rattle.std.specs.List.{prefix_len, take_while}
 use Rattle.std.specs.Map.{lookup}
@@ -15,7 +16,8 @@ use Rattle.pac_lex.specs.Numbers.{numeral}
 use Rattle.pac_lex.specs.Texts.{closing}
 use Rattle.pac_lex.specs.Tokens.{Lexeme, symbol, symbols, is_af, begins}
 use Rattle.pac_lex.specs.Words.{first_word}
-use Rattle.pac_lex.specs.Scan.{Found, one_byte, numbered, name_at, number_at, text_of, text_at, token_at, before, cut, scan, tokens_of}
+use Rattle.pac_lex.specs.Scan.{Found, one_byte, numbered, name_at, number_at, text_of, text_at, token_at, before, cut, scan}
+use Rattle.pac_lex.specs.Scan.{tokens_of}
 use Rattle.pac_lex.specs.Scan as scanning
 use Rattle.pac_lex.proofs.ScanLemmas.{scan-end, scan-comment, gap-skipped}
 use Rattle.pac_expr.specs.Trees.{Tree}
@@ -133,13 +135,15 @@ named-first (b ∷ run) t ts blank e named = elim (cases_Bool (is_comment b)) [
       (sym (scan-is b run blank comment) ∙ e) named
 ]
 
-short-enough : (b : Bool) (tokens : Result (List Lexeme) Fault) (found : List Lexeme) → (if b then Err faults.LongLine else tokens) ≡ Ok found
+short-enough : (b : Bool) (tokens : Result (List Lexeme) Fault) (found : List Lexeme)
+    → (if b then Err faults.LongLine else tokens) ≡ Ok found
     → tokens ≡ Ok found
 short-enough true tokens found e = absurd cc
 short-enough false tokens found e = e
 
 -- the first token of a line, where it is a name, is the line's first word
-first-is-word : (line : List ℕ) (t : Lexeme) (ts : List Lexeme) → tokens_of line ≡ Ok (t ∷ ts) → t.kind ≡ kinds.Name → t.text ≡ first_word line
+first-is-word : (line : List ℕ) (t : Lexeme) (ts : List Lexeme) → tokens_of line ≡ Ok (t ∷ ts) → t.kind ≡ kinds.Name
+    → t.text ≡ first_word line
 unfolding tokens_of
 first-is-word line t ts e named =
     let gap = gap-skipped line (after_gap line) refl in
@@ -160,7 +164,8 @@ is_if end_condition = false
 is_if (operation written) = false
 
 -- nothing that may be made of something is an IF
-no-map : {X : Type 0} (make : X → Statement) → ((x : X) → is_if (make x) ≡ false) → (o : Option X) (s : Statement) → option_map make o ≡ Some s
+no-map : {X : Type 0} (make : X → Statement) → ((x : X) → is_if (make x) ≡ false) → (o : Option X) (s : Statement)
+    → option_map make o ≡ Some s
     → is_if s ≡ false
 no-map make h None s e = absurd cc
 no-map make h (Some x) s e = let same : make x ≡ s = cc in ap is_if (sym same) ∙ h x

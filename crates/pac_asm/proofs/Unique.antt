@@ -6,14 +6,17 @@ use Rattle.pac_expr.specs.Trees.{Tree, atom, group, signed, joined}
 use Rattle.pac_expr.specs.Trees as trees
 use Rattle.pac_expr.specs.Values.{defined, sign_value, joined_value, value_of}
 use Rattle.pac_program.specs.Names.{Named, number_of}
-use Rattle.pac_source.specs.Statements.{Statement, nothing, origin, equate, bytes, words, space, condition, otherwise, end_condition}
+use Rattle.pac_source.specs.Statements.{Statement, nothing, origin, equate, bytes, words, space, condition, otherwise}
+use Rattle.pac_source.specs.Statements.{end_condition}
 use Rattle.pac_source.specs.Statements.{operation, Form}
 use Rattle.pac_asm.specs.declared.fault.AsmCode.{AsmCode}
 use Rattle.pac_asm.specs.Counting.{is_read, inside_if}
 use Rattle.pac_asm.specs.Unclosed.{word_of}
 use Rattle.pac_asm.specs.Reading.{read}
-use Rattle.pac_asm.specs.Assignments.{Spot, Step, labelled, counted, valued, with_open, is_nonzero, with_bytes, step_by, step_read, step_if, step_of}
-use Rattle.pac_asm.specs.Assignments.{defined_after, defined_in, first_spot, NamesStand, StatementStands, ReadStands, LineStands}
+use Rattle.pac_asm.specs.Assignments.{Spot, Step, labelled, counted, valued, with_open, is_nonzero, with_bytes, step_by}
+use Rattle.pac_asm.specs.Assignments.{step_read, step_if, step_of}
+use Rattle.pac_asm.specs.Assignments.{defined_after, defined_in, first_spot, NamesStand, StatementStands, ReadStands}
+use Rattle.pac_asm.specs.Assignments.{LineStands}
 use Rattle.pac_asm.specs.Assignments.{RestStands, AreDefinedAbove, AtMostOneIsRight}
 use Rattle.pac_asm.proofs.Assigned.{Extends, found-first, mapped, some-same}
 

@@ -1,6 +1,7 @@
 -- To be believed: which numbers the names of a source stand for, told of all names at once: every expression is valued by the
 -- assignment that is judged, wherever its names are defined.
-use Rattle.std.specs.Prelude.{◌≡◌, ℕ, ℤ, pos, ◌+◌, Bool, true, false, not, List, [], ◌∷◌, ◌++◌, Option, Some, None, option_map, Result}
+use Rattle.std.specs.Prelude.{◌≡◌, ℕ, ℤ, pos, ◌+◌, Bool, true, false, not, List, [], ◌∷◌, ◌++◌, Option, Some, None, option_map}
+use Rattle.std.specs.Prelude.{Result}
 use Rattle.std.specs.Prelude.{Ok, Err}
 use Rattle.std.specs.Ordering.{int_eq}
 use Rattle.pac_expr.specs.Trees.{Tree}
