@@ -4,7 +4,7 @@ use Rattle.std.specs.Prelude.{ℕ, ℤ, pos, negsuc, Bool, not, false, ◌+◌, 
 use Rattle.pac_alu.specs.declared.flag_byte.Flags.{Flags}
 use Rattle.pac_alu.specs.declared.flag_byte.Condition.{Condition}
 use Rattle.pac_alu.specs.declared.flag_byte.Condition.TheVariants.{NotZero, Zero, NoCarry, Carry, ParityOdd, ParityEven, Plus, Minus}
-use Rattle.pac_num.specs.Numbers.{is_even}
+use Rattle.pac_num.specs.Numbers.{has_even_parity}
 
 -- the weight of a flag that is set, and 0 for one that is clear
 abbrev pub weight_if : ℕ → Bool → ℕ
@@ -22,8 +22,8 @@ flags_of f = record {
 }
 
 -- the byte F with these flags, and with bits 5 and 3 of the byte F before
-abbrev pub byte_of : Flags → ℕ → ℕ
-byte_of flags before =
+abbrev pub flag_byte_of : Flags → ℕ → ℕ
+flag_byte_of flags before =
     weight_if 128 flags.sign + weight_if 64 flags.zero + before / 32 % 2 * 32 + weight_if 16 flags.half_carry
     + before / 8 % 2 * 8 + weight_if 4 flags.parity_overflow + weight_if 2 flags.subtract + weight_if 1 flags.carry
 
@@ -51,14 +51,14 @@ parity_flags_of value half_carry carry = record {
   sign = is_negative value;
   zero = value == 0;
   half_carry = half_carry;
-  parity_overflow = is_even value;
+  parity_overflow = has_even_parity value;
   subtract = false;
   carry = carry;
 }
 
 -- the condition of a code's field cc, 0 to 7
-unfoldable pub condition_of : ℕ → Condition
-condition_of field =
+unfoldable pub field_condition : ℕ → Condition
+field_condition field =
     if field == 0 then NotZero else
     if field == 1 then Zero else
     if field == 2 then NoCarry else

@@ -1,14 +1,14 @@
 -- To be believed: rotations and shifts (UM0080, "Rotate and Shift Group").
 use Rattle.std.specs.Prelude.{ℕ, false, ◌+◌, ◌*◌, ◌/◌, ◌%◌, ◌==◌, if◌then◌else◌}
-use Rattle.pac_alu.specs.declared.bytes.Outcome.{Outcome}
+use Rattle.pac_alu.specs.declared.bytes.ByteResult.{ByteResult}
 use Rattle.pac_alu.specs.declared.shifts.Digits.{Digits}
 use Rattle.pac_alu.specs.declared.shifts.Shift.{Shift}
 use Rattle.pac_alu.specs.declared.shifts.Shift.TheVariants.{Rlc, Rrc, Rl, Rr, Sla, Sra, Srl}
-use Rattle.pac_alu.specs.Flags.{flags_of, byte_of, parity_flags_of}
+use Rattle.pac_alu.specs.Flags.{flags_of, flag_byte_of, parity_flags_of}
 
 -- the shift of a code's field, 0 to 5 and 7; no documented code has 6
-unfoldable pub kind_of : ℕ → Shift
-kind_of field =
+unfoldable pub field_shift : ℕ → Shift
+field_shift field =
     if field == 0 then Rlc else
     if field == 1 then Rrc else
     if field == 2 then Rl else
@@ -38,17 +38,17 @@ leaving_bit Sra byte = byte % 2
 leaving_bit Srl byte = byte % 2
 
 -- RLC, RRC, RL, RR, SLA, SRA and SRL: S, Z and P of the value, H and N clear, C the bit that leaves
-unfoldable pub shift_of : Shift → ℕ → ℕ → Outcome
+unfoldable pub shift_of : Shift → ℕ → ℕ → ByteResult
 shift_of shift byte f = let value = shifted_of shift byte (f % 2) in record {
   value = value;
-  f = byte_of (parity_flags_of value false (leaving_bit shift byte == 1)) f;
+  f = flag_byte_of (parity_flags_of value false (leaving_bit shift byte == 1)) f;
 }
 
 -- RLCA, RRCA, RLA and RRA: A as by the shift of that name; H and N clear, C the bit that leaves; S, Z and P/V stay
-unfoldable pub accumulator_rotation_of : Shift → ℕ → ℕ → Outcome
+unfoldable pub accumulator_rotation_of : Shift → ℕ → ℕ → ByteResult
 accumulator_rotation_of shift a f = record {
   value = shifted_of shift a (f % 2);
-  f = byte_of (record (flags_of f) { half_carry = false; subtract = false; carry = leaving_bit shift a == 1 }) f;
+  f = flag_byte_of (record (flags_of f) { half_carry = false; subtract = false; carry = leaving_bit shift a == 1 }) f;
 }
 
 -- RLD: the low digit in memory goes to the high one, that to the low digit of A, and that to the low one in
@@ -57,7 +57,7 @@ unfoldable pub left_digits_of : ℕ → ℕ → ℕ → Digits
 left_digits_of a memory f = let value = a / 16 * 16 + memory / 16 in record {
   a = value;
   memory = memory % 16 * 16 + a % 16;
-  f = byte_of (parity_flags_of value false (flags_of f).carry) f;
+  f = flag_byte_of (parity_flags_of value false (flags_of f).carry) f;
 }
 
 -- RRD: the other way round
@@ -65,5 +65,5 @@ unfoldable pub right_digits_of : ℕ → ℕ → ℕ → Digits
 right_digits_of a memory f = let value = a / 16 * 16 + memory % 16 in record {
   a = value;
   memory = a % 16 * 16 + memory / 16;
-  f = byte_of (parity_flags_of value false (flags_of f).carry) f;
+  f = flag_byte_of (parity_flags_of value false (flags_of f).carry) f;
 }

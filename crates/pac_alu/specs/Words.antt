@@ -3,7 +3,7 @@
 -- to 32,767. A carry taken in is 0 or 1.
 use Rattle.std.specs.Prelude.{ℕ, ℤ, pos, negsuc, true, false, ◌+◌, ◌-◌, ◌%◌, ◌==◌, nat_lt, ◌+ℤ◌, ◌-ℤ◌, if◌then◌else◌}
 use Rattle.pac_alu.specs.declared.words.WordOutcome.{WordOutcome}
-use Rattle.pac_alu.specs.Flags.{flags_of, byte_of, is_negative_word, overflows_word}
+use Rattle.pac_alu.specs.Flags.{flags_of, flag_byte_of, is_negative_word, overflows_word}
 
 -- a word as a signed number
 abbrev pub signed_word : ℕ → ℤ
@@ -13,7 +13,7 @@ signed_word word = if nat_lt word 32768 then pos word else negsuc (65535 - word)
 unfoldable pub word_sum_of : ℕ → ℕ → ℕ → WordOutcome
 word_sum_of left right f = record {
   value = (left + right) % 65536;
-  f = byte_of (record (flags_of f) {
+  f = flag_byte_of (record (flags_of f) {
     half_carry = nat_lt 4095 (left % 4096 + right % 4096);
     subtract = false;
     carry = nat_lt 65535 (left + right);
@@ -24,7 +24,7 @@ word_sum_of left right f = record {
 unfoldable pub word_sum_with_carry_of : ℕ → ℕ → ℕ → WordOutcome
 word_sum_with_carry_of left right f = let carry = f % 2 in let value = (left + right + carry) % 65536 in record {
   value = value;
-  f = byte_of (record {
+  f = flag_byte_of (record {
     sign = is_negative_word value;
     zero = value == 0;
     half_carry = nat_lt 4095 (left % 4096 + right % 4096 + carry);
@@ -38,7 +38,7 @@ word_sum_with_carry_of left right f = let carry = f % 2 in let value = (left + r
 unfoldable pub word_difference_with_carry_of : ℕ → ℕ → ℕ → WordOutcome
 word_difference_with_carry_of left right f = let carry = f % 2 in let value = (65536 + left - (right + carry)) % 65536 in record {
   value = value;
-  f = byte_of (record {
+  f = flag_byte_of (record {
     sign = is_negative_word value;
     zero = value == 0;
     half_carry = nat_lt (left % 4096) (right % 4096 + carry);

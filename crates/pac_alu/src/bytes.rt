@@ -2,16 +2,16 @@
 
 ghost use Rattle.std.specs.Prelude.{◌≡◌, ◌+ℤ◌, ◌-ℤ◌, pos};
 ghost use Rattle.pac_alu.specs.Flags.{IsCarry, overflows};
-ghost use Rattle.pac_alu.specs.Arithmetic.{sum_of, difference_of, logic_of, operation_of, arithmetic_of, increment_of};
+ghost use Rattle.pac_alu.specs.Arithmetic.{sum_of, difference_of, logic_of, field_operation, arithmetic_of, increment_of};
 ghost use Rattle.pac_alu.specs.Arithmetic.{decrement_of, negation_of, complement_of, decimal_of};
 ghost use Rattle.pac_alu.specs.Arithmetic.{corrects_low, corrects_high, adjusted_of, adjusted_half_carry};
-ghost use Rattle.pac_num.specs.Numbers.{signed};
+ghost use Rattle.pac_num.specs.Numbers.{signed_of_byte};
 
 use crate::flag_byte::{Flags, parity_flags, weight};
 
 /// An operation of A and an operand, in the order of the codes 0 to 7 (UM0080, "8-Bit Arithmetic Group").
 #[derive(Clone, Copy)]
-pub enum Operation {
+pub enum ByteOperation {
     Add,
     /// ADD with the carry.
     Adc,
@@ -27,29 +27,29 @@ pub enum Operation {
 
 /// What an operation on bytes leaves: the value and F.
 #[derive(Clone, Copy)]
-pub struct Outcome {
+pub struct ByteResult {
     /// The byte.
     pub value: u8,
     /// F after the operation.
     pub f: u8,
 }
 
-impl Operation {
+impl ByteOperation {
     /// The operation of a code's field, 0 to 7; 7 and above are CP.
     #[inline]
-    #[tactic(auto, unfolding(crate::specs::Arithmetic::operation_of))]
-    pub fn from_field(field: u8) -> Operation
-        ensures { result ≡ operation_of field }
+    #[tactic(auto, unfolding(crate::specs::Arithmetic::field_operation))]
+    pub fn from_field(field: u8) -> ByteOperation
+        ensures { result ≡ field_operation field }
     {
         match field {
-            0 => Operation::Add,
-            1 => Operation::Adc,
-            2 => Operation::Sub,
-            3 => Operation::Sbc,
-            4 => Operation::And,
-            5 => Operation::Xor,
-            6 => Operation::Or,
-            _ => Operation::Cp,
+            0 => ByteOperation::Add,
+            1 => ByteOperation::Adc,
+            2 => ByteOperation::Sub,
+            3 => ByteOperation::Sbc,
+            4 => ByteOperation::And,
+            5 => ByteOperation::Xor,
+            6 => ByteOperation::Or,
+            _ => ByteOperation::Cp,
         }
     }
 }
@@ -57,7 +57,7 @@ impl Operation {
 /// Whether the signed sum is outside -128 to 127. Each signed byte is lifted by 128 to stay above 0.
 #[inline]
 fn sum_overflows(a: u8, operand: u8, carry: u8) -> bool
-    ensures { result ≡ overflows ((signed a +ℤ signed operand) +ℤ pos carry) }
+    ensures { result ≡ overflows ((signed_of_byte a +ℤ signed_of_byte operand) +ℤ pos carry) }
 {
     let lifted = (a as u16 + 128) % 256 + (operand as u16 + 128) % 256 + carry as u16;
     lifted < 128 || 383 < lifted
@@ -66,7 +66,7 @@ fn sum_overflows(a: u8, operand: u8, carry: u8) -> bool
 /// Whether the signed difference is outside -128 to 127. Each signed byte is lifted by 128 to stay above 0.
 #[inline]
 fn difference_overflows(a: u8, operand: u8, carry: u8) -> bool
-    ensures { result ≡ overflows ((signed a -ℤ signed operand) -ℤ pos carry) }
+    ensures { result ≡ overflows ((signed_of_byte a -ℤ signed_of_byte operand) -ℤ pos carry) }
 {
     let lifted = (a as u16 + 128) % 256;
     let taken = (operand as u16 + 128) % 256 + carry as u16;
@@ -76,7 +76,7 @@ fn difference_overflows(a: u8, operand: u8, carry: u8) -> bool
 /// ADD and ADC.
 #[inline(always)]
 #[tactic(auto, unfolding(crate::specs::Arithmetic::sum_of))]
-fn sum(a: u8, operand: u8, carry: u8, f: u8) -> Outcome
+fn sum(a: u8, operand: u8, carry: u8, f: u8) -> ByteResult
     ensures { result ≡ sum_of a operand carry f }
 {
     let whole = a as u16 + operand as u16 + carry as u16;
@@ -89,7 +89,7 @@ fn sum(a: u8, operand: u8, carry: u8, f: u8) -> Outcome
         subtract: false,
         carry: 255 < whole,
     };
-    Outcome {
+    ByteResult {
         value,
         f: flags.byte(f),
     }
@@ -98,7 +98,7 @@ fn sum(a: u8, operand: u8, carry: u8, f: u8) -> Outcome
 /// SUB, SBC and what CP tells.
 #[inline(always)]
 #[tactic(auto, unfolding(crate::specs::Arithmetic::difference_of))]
-fn difference(a: u8, operand: u8, carry: u8, f: u8) -> Outcome
+fn difference(a: u8, operand: u8, carry: u8, f: u8) -> ByteResult
     requires { IsCarry carry }
     ensures { result ≡ difference_of a operand carry f }
 {
@@ -112,7 +112,7 @@ fn difference(a: u8, operand: u8, carry: u8, f: u8) -> Outcome
         subtract: true,
         carry: (a as u16) < taken,
     };
-    Outcome {
+    ByteResult {
         value,
         f: flags.byte(f),
     }
@@ -121,10 +121,10 @@ fn difference(a: u8, operand: u8, carry: u8, f: u8) -> Outcome
 /// AND, OR and XOR.
 #[inline(always)]
 #[tactic(auto, unfolding(crate::specs::Arithmetic::logic_of))]
-fn logic(value: u8, half_carry: bool, f: u8) -> Outcome
+fn logic(value: u8, half_carry: bool, f: u8) -> ByteResult
     ensures { result ≡ logic_of value half_carry f }
 {
-    Outcome {
+    ByteResult {
         value,
         f: parity_flags(value, half_carry, false).byte(f),
     }
@@ -133,18 +133,18 @@ fn logic(value: u8, half_carry: bool, f: u8) -> Outcome
 /// A and F after an operation of A and an operand.
 #[inline(always)]
 #[tactic(auto, unfolding(crate::specs::Arithmetic::arithmetic_of))]
-pub fn arithmetic(operation: Operation, a: u8, operand: u8, f: u8) -> Outcome
+pub fn arithmetic(operation: ByteOperation, a: u8, operand: u8, f: u8) -> ByteResult
     ensures { result ≡ arithmetic_of operation a operand f }
 {
     match operation {
-        Operation::Add => sum(a, operand, 0, f),
-        Operation::Adc => sum(a, operand, f % 2, f),
-        Operation::Sub => difference(a, operand, 0, f),
-        Operation::Sbc => difference(a, operand, f % 2, f),
-        Operation::And => logic(a & operand, true, f),
-        Operation::Xor => logic(a ^ operand, false, f),
-        Operation::Or => logic(a | operand, false, f),
-        Operation::Cp => Outcome {
+        ByteOperation::Add => sum(a, operand, 0, f),
+        ByteOperation::Adc => sum(a, operand, f % 2, f),
+        ByteOperation::Sub => difference(a, operand, 0, f),
+        ByteOperation::Sbc => difference(a, operand, f % 2, f),
+        ByteOperation::And => logic(a & operand, true, f),
+        ByteOperation::Xor => logic(a ^ operand, false, f),
+        ByteOperation::Or => logic(a | operand, false, f),
+        ByteOperation::Cp => ByteResult {
             value: a,
             f: difference(a, operand, 0, f).f,
         },
@@ -154,7 +154,7 @@ pub fn arithmetic(operation: Operation, a: u8, operand: u8, f: u8) -> Outcome
 /// A byte and F after INC.
 #[inline(always)]
 #[tactic(auto, unfolding(crate::specs::Arithmetic::increment_of))]
-pub fn increment(byte: u8, f: u8) -> Outcome
+pub fn increment(byte: u8, f: u8) -> ByteResult
     ensures { result ≡ increment_of byte f }
 {
     let value = ((byte as u16 + 1) % 256) as u8;
@@ -166,7 +166,7 @@ pub fn increment(byte: u8, f: u8) -> Outcome
         subtract: false,
         carry: Flags::of(f).carry,
     };
-    Outcome {
+    ByteResult {
         value,
         f: flags.byte(f),
     }
@@ -175,7 +175,7 @@ pub fn increment(byte: u8, f: u8) -> Outcome
 /// A byte and F after DEC.
 #[inline(always)]
 #[tactic(auto, unfolding(crate::specs::Arithmetic::decrement_of))]
-pub fn decrement(byte: u8, f: u8) -> Outcome
+pub fn decrement(byte: u8, f: u8) -> ByteResult
     ensures { result ≡ decrement_of byte f }
 {
     let value = ((byte as u16 + 255) % 256) as u8;
@@ -187,7 +187,7 @@ pub fn decrement(byte: u8, f: u8) -> Outcome
         subtract: true,
         carry: Flags::of(f).carry,
     };
-    Outcome {
+    ByteResult {
         value,
         f: flags.byte(f),
     }
@@ -196,7 +196,7 @@ pub fn decrement(byte: u8, f: u8) -> Outcome
 /// A and F after NEG.
 #[inline]
 #[tactic(auto, unfolding(crate::specs::Arithmetic::negation_of))]
-pub fn negate(a: u8, f: u8) -> Outcome
+pub fn negate(a: u8, f: u8) -> ByteResult
     ensures { result ≡ negation_of a f }
 {
     let value = ((256 - a as u16) % 256) as u8;
@@ -208,7 +208,7 @@ pub fn negate(a: u8, f: u8) -> Outcome
         subtract: true,
         carry: a != 0,
     };
-    Outcome {
+    ByteResult {
         value,
         f: flags.byte(f),
     }
@@ -217,7 +217,7 @@ pub fn negate(a: u8, f: u8) -> Outcome
 /// A and F after CPL.
 #[inline]
 #[tactic(auto, unfolding(crate::specs::Arithmetic::complement_of))]
-pub fn complement(a: u8, f: u8) -> Outcome
+pub fn complement(a: u8, f: u8) -> ByteResult
     ensures { result ≡ complement_of a f }
 {
     let flags = Flags {
@@ -225,7 +225,7 @@ pub fn complement(a: u8, f: u8) -> Outcome
         subtract: true,
         ..Flags::of(f)
     };
-    Outcome {
+    ByteResult {
         value: 255 - a,
         f: flags.byte(f),
     }
@@ -276,7 +276,7 @@ fn half_carry_of_adjustment(a: u8, before: Flags) -> bool
 /// A and F after DAA.
 #[inline]
 #[tactic(auto, unfolding(crate::specs::Arithmetic::decimal_of))]
-pub fn decimal_adjust(a: u8, f: u8) -> Outcome
+pub fn decimal_adjust(a: u8, f: u8) -> ByteResult
     ensures { result ≡ decimal_of a f }
 {
     let before = Flags::of(f);
@@ -289,7 +289,7 @@ pub fn decimal_adjust(a: u8, f: u8) -> Outcome
         subtract: before.subtract,
         carry: corrects_high_digit(a, before),
     };
-    Outcome {
+    ByteResult {
         value,
         f: flags.byte(f),
     }

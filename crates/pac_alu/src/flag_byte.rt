@@ -1,7 +1,7 @@
 //! F as a byte and as six flags, the conditions that ask it, SCF and CCF.
 
 ghost use Rattle.std.specs.Prelude.{◌≡◌};
-ghost use Rattle.pac_alu.specs.Flags.{flags_of, byte_of, weight_if, parity_flags_of, condition_of, is_met};
+ghost use Rattle.pac_alu.specs.Flags.{flags_of, flag_byte_of, weight_if, parity_flags_of, field_condition, is_met};
 ghost use Rattle.pac_alu.specs.Arithmetic.{carry_set_of, carry_flipped_of};
 
 /// The six flags of F that have a meaning (UM0080, "Z80 Status Indicator Flags").
@@ -84,7 +84,7 @@ impl Flags {
     /// The byte F with these flags, and with bits 5 and 3 of the byte F before.
     #[inline(always)]
     pub fn byte(self, before: u8) -> u8
-        ensures { result ≡ byte_of self before }
+        ensures { result ≡ flag_byte_of self before }
     {
         weight(128, self.sign)
             + weight(64, self.zero)
@@ -100,9 +100,9 @@ impl Flags {
 impl Condition {
     /// The condition of a code's field cc; 7 and above are M.
     #[inline]
-    #[tactic(auto, unfolding(crate::specs::Flags::condition_of))]
+    #[tactic(auto, unfolding(crate::specs::Flags::field_condition))]
     pub fn from_field(field: u8) -> Condition
-        ensures { result ≡ condition_of field }
+        ensures { result ≡ field_condition field }
     {
         match field {
             0 => Condition::NotZero,

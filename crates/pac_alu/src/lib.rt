@@ -11,7 +11,7 @@ mod words;
 
 pub use bits::{reset_bit, set_bit, test_bit};
 pub use bytes::{
-    Operation, Outcome, arithmetic, complement, decimal_adjust, decrement, increment, negate,
+    ByteOperation, ByteResult, arithmetic, complement, decimal_adjust, decrement, increment, negate,
 };
 pub use flag_byte::{Condition, Flags, complement_carry, set_carry};
 pub use shifts::{

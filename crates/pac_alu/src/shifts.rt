@@ -2,10 +2,10 @@
 
 ghost use Rattle.std.specs.Prelude.{◌≡◌};
 ghost use Rattle.pac_alu.specs.Flags.{IsCarry};
-ghost use Rattle.pac_alu.specs.Rotate.{kind_of, shifted_of, leaving_bit, shift_of, accumulator_rotation_of};
+ghost use Rattle.pac_alu.specs.Rotate.{field_shift, shifted_of, leaving_bit, shift_of, accumulator_rotation_of};
 ghost use Rattle.pac_alu.specs.Rotate.{left_digits_of, right_digits_of};
 
-use crate::bytes::Outcome;
+use crate::bytes::ByteResult;
 use crate::flag_byte::{Flags, parity_flags};
 
 /// A rotation or shift of a byte (UM0080, "Rotate and Shift Group").
@@ -42,9 +42,9 @@ impl Shift {
     /// The shift of a code's field, 0 to 5 and 7. Field 6 is no documented code and taken as SRL, like 7
     /// and all above.
     #[inline]
-    #[tactic(auto, unfolding(crate::specs::Rotate::kind_of))]
+    #[tactic(auto, unfolding(crate::specs::Rotate::field_shift))]
     pub fn from_field(field: u8) -> Shift
-        ensures { result ≡ kind_of field }
+        ensures { result ≡ field_shift field }
     {
         match field {
             0 => Shift::Rlc,
@@ -90,12 +90,12 @@ fn leaving(shift: Shift, byte: u8) -> u8
 /// A byte and F after a shift.
 #[inline]
 #[tactic(auto, unfolding(crate::specs::Rotate::shift_of))]
-pub fn shift_byte(shift: Shift, byte: u8, f: u8) -> Outcome
+pub fn shift_byte(shift: Shift, byte: u8, f: u8) -> ByteResult
     ensures { result ≡ shift_of shift byte f }
 {
     let value = shifted(shift, byte, f % 2);
     let flags = parity_flags(value, false, leaving(shift, byte) == 1);
-    Outcome {
+    ByteResult {
         value,
         f: flags.byte(f),
     }
@@ -104,7 +104,7 @@ pub fn shift_byte(shift: Shift, byte: u8, f: u8) -> Outcome
 /// A and F after RLCA, RRCA, RLA or RRA: A as by the shift of that name, but S, Z and P/V stay.
 #[inline]
 #[tactic(auto, unfolding(crate::specs::Rotate::accumulator_rotation_of))]
-pub fn rotate_accumulator(shift: Shift, a: u8, f: u8) -> Outcome
+pub fn rotate_accumulator(shift: Shift, a: u8, f: u8) -> ByteResult
     ensures { result ≡ accumulator_rotation_of shift a f }
 {
     let flags = Flags {
@@ -113,7 +113,7 @@ pub fn rotate_accumulator(shift: Shift, a: u8, f: u8) -> Outcome
         carry: leaving(shift, a) == 1,
         ..Flags::of(f)
     };
-    Outcome {
+    ByteResult {
         value: shifted(shift, a, f % 2),
         f: flags.byte(f),
     }

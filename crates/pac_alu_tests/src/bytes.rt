@@ -2,7 +2,7 @@
 //! P/V 04H, N 02H, C 01H. Where F was FFH, the 28H in F after is bits 5 and 3.
 
 use pac_alu::{
-    Operation, Outcome, arithmetic, complement, complement_carry, decimal_adjust, decrement,
+    ByteOperation, ByteResult, arithmetic, complement, complement_carry, decimal_adjust, decrement,
     increment, input_flags, negate, set_carry,
 };
 
@@ -85,8 +85,8 @@ static OF_ONE_BYTE: [(&str, u8, u8, u8, u8); 38] = [
 ];
 
 /// What an operation of one byte leaves; SCF, CCF and IN change F alone.
-fn outcome(name: &str, byte: u8, f: u8) -> Option<Outcome> {
-    let of_f = |f: u8| Outcome { value: byte, f };
+fn outcome(name: &str, byte: u8, f: u8) -> Option<ByteResult> {
+    let of_f = |f: u8| ByteResult { value: byte, f };
     Some(match name {
         "INC" => increment(byte, f),
         "DEC" => decrement(byte, f),
@@ -103,7 +103,7 @@ fn outcome(name: &str, byte: u8, f: u8) -> Option<Outcome> {
 #[test]
 fn operations_with_an_operand(rt: HostRuntime) {
     let wrong = WITH_OPERAND.iter().find(|(_, field, a, operand, f, value, after)| {
-        let found = arithmetic(Operation::from_field(*field), *a, *operand, *f);
+        let found = arithmetic(ByteOperation::from_field(*field), *a, *operand, *f);
         (found.value, found.f) != (*value, *after)
     });
     assert_eq!(rt; wrong, None);

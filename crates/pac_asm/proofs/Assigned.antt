@@ -14,36 +14,36 @@ use Rattle.pac_expr.specs.declared.expr.Operator.{Operator}
 use Rattle.pac_expr.specs.declared.evaluation.ValueError.TheVariants as errors
 use Rattle.pac_expr.specs.Trees.{Tree, atom, group, signed, joined}
 use Rattle.pac_expr.specs.Trees as trees
-use Rattle.pac_expr.specs.Values.{Answer, defined, sign_value, joined_value, value_of}
-use Rattle.pac_program.specs.Names.{Named, number_of}
-use Rattle.pac_program.specs.Programs.{rom_size}
-use Rattle.pac_source.specs.Statements.{Statement, nothing, origin, equate, bytes, words, space, condition, otherwise}
-use Rattle.pac_source.specs.Statements.{end_condition}
-use Rattle.pac_source.specs.Statements.{operation, Form}
-use Rattle.pac_source.specs.Contents.{Given, size_of, content_of}
-use Rattle.pac_asm.specs.declared.condition.Condition.{Condition}
+use Rattle.pac_expr.specs.Values.{ValueResult, defined_value, sign_value, joined_value, tree_value}
+use Rattle.pac_asm_program.specs.Names.{Symbol, number_of_symbol}
+use Rattle.pac_asm_program.specs.Programs.{rom_size}
+use Rattle.pac_asm_line.specs.Statements.{Statement, nothing, origin, equate, bytes, words, space, condition, otherwise}
+use Rattle.pac_asm_line.specs.Statements.{end_condition}
+use Rattle.pac_asm_line.specs.Statements.{operation, Form}
+use Rattle.pac_asm_line.specs.Contents.{OrFault, statement_size, content_of}
+use Rattle.pac_asm.specs.declared.condition.IfState.{IfState}
 use Rattle.pac_asm.specs.declared.place.Span.{Span}
-use Rattle.pac_asm.specs.declared.place.Place.{Place}
-use Rattle.pac_asm.specs.declared.place.Place.TheVariants.{Blank, Skipped, Placed}
+use Rattle.pac_asm.specs.declared.place.LineLayout.{LineLayout}
+use Rattle.pac_asm.specs.declared.place.LineLayout.TheVariants.{Blank, Skipped, Placed}
 use Rattle.pac_asm.specs.declared.fault.AsmCode.{AsmCode}
 use Rattle.pac_asm.specs.declared.fault.AsmCode.TheVariants.{OutsideRom, Overlap, DefinedBefore}
 use Rattle.pac_asm.specs.declared.fault.AsmFault.{AsmFault}
-use Rattle.pac_asm.specs.Results.{◌>>=◌, in_line}
-use Rattle.pac_asm.specs.Conditions.{is_judged, most_open, after_else, after_end, after_skipped}
+use Rattle.pac_asm.specs.Results.{◌>>=◌, result_of_line}
+use Rattle.pac_asm.specs.Conditions.{is_judged, most_open_ifs, after_else, after_end, after_skipped}
 use Rattle.pac_asm.specs.Counting.{OpenIf, counts, is_read, inside_if}
-use Rattle.pac_asm.specs.Unclosed.{word_of, is_never_closed}
-use Rattle.pac_asm.specs.Standings.{Standing, start, value_above, within_rom, is_new, with_label, overlaps, room_for}
-use Rattle.pac_asm.specs.Reading.{read}
-use Rattle.pac_asm.specs.Phase1.{after_item, after_statement, after_form, after_judged, after_passed, after_text, closed}
+use Rattle.pac_asm.specs.Unclosed.{conditional_of_line, is_never_closed}
+use Rattle.pac_asm.specs.Standings.{Standing, first_standing, value_above, within_rom, is_new, with_label, overlaps, room_for}
+use Rattle.pac_asm.specs.Reading.{form_of_line}
+use Rattle.pac_asm.specs.Phase1.{after_item, after_statement, after_form, after_judged, after_passed, after_text, unless_left_open}
 use Rattle.pac_asm.specs.Phase1.{after_line, phase1}
-use Rattle.pac_asm.specs.Assignments.{Spot, Step, labelled, counted, valued, with_open, is_nonzero, with_bytes, step_by}
+use Rattle.pac_asm.specs.Assignments.{Spot, LineStep, label_symbols, optional_count, optional_value, with_open_ifs, is_nonzero, with_bytes, step_by}
 use Rattle.pac_asm.specs.Assignments.{step_read, step_if}
 use Rattle.pac_asm.specs.Assignments.{step_of, defined_after, defined_in, first_spot, SymbolsAreRight}
 use Rattle.pac_asm.specs.Entries.{count_of, entry_sized, entry_by, entry_read, entry_if, entry_of}
 use Rattle.pac_asm.specs.Entries as entering
-use Rattle.pac_asm.specs.Phase2.{placed}
-use Rattle.pac_program.specs.declared.line.Line.{Line}
-use Rattle.pac_program.specs.declared.line.Line.TheVariants as entries
+use Rattle.pac_asm.specs.Phase2.{line_or_fault}
+use Rattle.pac_asm_program.specs.declared.line.Line.{Line}
+use Rattle.pac_asm_program.specs.declared.line.Line.TheVariants as entries
 use Rattle.pac_code.specs.Items.{Content}
 use Rattle.pac_asm.proofs.FirstWords.{is_if, word-of-if}
 use Rattle.pac_asm.proofs.OpenIfs.{opens, AreNested, AreOpen, none-nested, read-same, counts-if, counts-none, open-else}
@@ -73,8 +73,8 @@ err-ok fault x e = false≢true (ap is_ok e)
 -- ---- names
 
 -- an assignment gives each of these names its number
-abbrev pub Extends : List Named → (List ℕ → Option ℤ) → Type 0
-Extends symbols names = (some : List ℕ) (z : ℤ) → number_of symbols some ≡ Some z → names some ≡ Some z
+abbrev pub Extends : List Symbol → (List ℕ → Option ℤ) → Type 0
+Extends symbols names = (some : List ℕ) (z : ℤ) → number_of_symbol symbols some ≡ Some z → names some ≡ Some z
 
 found-by : (b : Bool) (z : ℤ) (first more : Option ℤ) (v : ℤ) → (first ≡ Some v → more ≡ Some v)
     → (if b then Some z else first) ≡ Some v → (if b then Some z else more) ≡ Some v
@@ -82,51 +82,52 @@ found-by true z first more v h e = e
 found-by false z first more v h e = h e
 
 -- what stands in the first of two lists stands in both
-pub found-first : (xs ys : List Named) → (some : List ℕ) (v : ℤ) → number_of xs some ≡ Some v → number_of (xs ++ ys) some ≡ Some v
+pub found-first : (xs ys : List Symbol) → (some : List ℕ) (v : ℤ) → number_of_symbol xs some ≡ Some v →
+    number_of_symbol (xs ++ ys) some ≡ Some v
 found-first [] ys some v e = absurd (none-some v e)
 found-first (x ∷ xs) ys some v e =
-    found-by (bytes_eq some x.0) x.1 (number_of xs some) (number_of (xs ++ ys) some) v (found-first xs ys some v) e
+    found-by (bytes_eq some x.0) x.1 (number_of_symbol xs some) (number_of_symbol (xs ++ ys) some) v (found-first xs ys some v) e
 
 -- ---- values
 
-defined-ok : (o : Option ℤ) (z : ℤ) → defined o ≡ Ok z → o ≡ Some z
+defined-ok : (o : Option ℤ) (z : ℤ) → defined_value o ≡ Ok z → o ≡ Some z
 defined-ok None z e = absurd (err-ok _ z e)
 defined-ok (Some y) z e = ap Some (ok-same y z e)
 
-record Valued (answer : Answer) : Type 0 where
+record Valued (answer : ValueResult) : Type 0 where
   number : ℤ
   is : answer ≡ Ok number
 
-sign-ok : (sign : Sign) (answer : Answer) (z : ℤ) → sign_value sign answer ≡ Ok z → Valued answer
+sign-ok : (sign : Sign) (answer : ValueResult) (z : ℤ) → sign_value sign answer ≡ Ok z → Valued answer
 sign-ok signs.Plus answer z e = record { number = z; is = e }
 sign-ok signs.Minus (Ok y) z e = record { number = y; is = refl }
 sign-ok signs.Minus (Err fault) z e = absurd (err-ok fault z e)
 
-left-ok : (operator : Operator) (left right : Answer) (z : ℤ) → joined_value operator left right ≡ Ok z → Valued left
+left-ok : (operator : Operator) (left right : ValueResult) (z : ℤ) → joined_value operator left right ≡ Ok z → Valued left
 left-ok operator (Ok x) right z e = record { number = x; is = refl }
 left-ok operator (Err fault) (Ok y) z e = absurd (err-ok fault z e)
 left-ok operator (Err fault) (Err other) z e = absurd (err-ok _ z e)
 
-right-ok : (operator : Operator) (left right : Answer) (z : ℤ) → joined_value operator left right ≡ Ok z → Valued right
+right-ok : (operator : Operator) (left right : ValueResult) (z : ℤ) → joined_value operator left right ≡ Ok z → Valued right
 right-ok operator left (Ok y) z e = record { number = y; is = refl }
 right-ok operator (Ok x) (Err fault) z e = absurd (err-ok fault z e)
 right-ok operator (Err other) (Err fault) z e = absurd (err-ok _ z e)
 
 -- a value needs no more names than it has
-value-extends : (symbols : List Named) (names : List ℕ → Option ℤ) → Extends symbols names → (at : ℕ) (tree : Tree) (z : ℤ)
-    → value_of (number_of symbols) at tree ≡ Ok z → value_of names at tree ≡ Ok z
+value-extends : (symbols : List Symbol) (names : List ℕ → Option ℤ) → Extends symbols names → (at : ℕ) (tree : Tree) (z : ℤ)
+    → tree_value (number_of_symbol symbols) at tree ≡ Ok z → tree_value names at tree ≡ Ok z
 value-extends symbols names extends at (atom (trees.number n)) z e = e
 value-extends symbols names extends at (atom (trees.character c)) z e = e
 value-extends symbols names extends at (atom (trees.name text)) z e =
-    ap defined (extends text z (defined-ok (number_of symbols text) z e))
+    ap defined_value (extends text z (defined-ok (number_of_symbol symbols text) z e))
 value-extends symbols names extends at (atom trees.here) z e = e
 value-extends symbols names extends at (group tree) z e = value-extends symbols names extends at tree z e
 value-extends symbols names extends at (signed sign tree) z e =
-    let inner = sign-ok sign (value_of (number_of symbols) at tree) z e in
+    let inner = sign-ok sign (tree_value (number_of_symbol symbols) at tree) z e in
     ap (sign_value sign) (value-extends symbols names extends at tree inner.number inner.is ∙ sym inner.is) ∙ e
 value-extends symbols names extends at (joined operator left right) z e =
-    let l = left-ok operator (value_of (number_of symbols) at left) (value_of (number_of symbols) at right) z e in
-    let r = right-ok operator (value_of (number_of symbols) at left) (value_of (number_of symbols) at right) z e in
+    let l = left-ok operator (tree_value (number_of_symbol symbols) at left) (tree_value (number_of_symbol symbols) at right) z e in
+    let r = right-ok operator (tree_value (number_of_symbol symbols) at left) (tree_value (number_of_symbol symbols) at right) z e in
     (λ i. joined_value operator
     ((value-extends symbols names extends at left l.number l.is ∙ sym l.is) i)
     ((value-extends symbols names extends at right r.number r.is ∙ sym r.is) i))
@@ -138,33 +139,33 @@ abbrev pub spot_of : Standing → Spot
 spot_of standing = record { at = standing.at; ifs = opens standing.conditions }
 
 -- What a line defines goes to the symbols, its place to the places, and the next line stands where the next standing has it.
-pub record Agrees (above : Standing) (step : Option Step) (Fills : Place → Type 0) (next : Standing) : Type 0 where
-  pub new : List Named
+pub record Agrees (above : Standing) (step : Option LineStep) (Fills : LineLayout → Type 0) (next : Standing) : Type 0 where
+  pub new : List Symbol
   pub stepped : step ≡ Some (new, spot_of next)
   pub grown : next.symbols ≡ above.symbols ++ new
   pub nested : AreNested next.conditions
-  pub place : Place
+  pub place : LineLayout
   pub added : next.places ≡ above.places ++ place ∷ []
   pub fills : Fills place
 
 -- the same, for a standing that is known
-agrees-at : (above : Standing) (step : Option Step) (Fills : Place → Type 0) (made next : Standing)
+agrees-at : (above : Standing) (step : Option LineStep) (Fills : LineLayout → Type 0) (made next : Standing)
     → ◌≡◌ {A = Result Standing AsmCode} (Ok made) (Ok next) → Agrees above step Fills made → Agrees above step Fills next
 agrees-at above step Fills made next e h = subst (Agrees above step Fills) (ok-same made next e) h
 
 -- ---- entries
 
 -- what a statement puts into a program at a place
-abbrev pub placed_by : (List ℕ → Option ℤ) → Statement → Place → Result Line AsmCode
+abbrev pub placed_by : (List ℕ → Option ℤ) → Statement → LineLayout → Result Line AsmCode
 placed_by names statement Blank = Ok entries.Blank
 placed_by names statement Skipped = Ok entries.Skipped
-placed_by names statement (Placed span) = placed span.at (content_of names span.at span.size statement)
+placed_by names statement (Placed span) = line_or_fault span.at (content_of names span.at span.size statement)
 
 -- the place of a statement is one at which it has its entry
-abbrev pub Fills : (List ℕ → Option ℤ) → Spot → Statement → Place → Type 0
+abbrev pub Fills : (List ℕ → Option ℤ) → Spot → Statement → LineLayout → Type 0
 Fills names spot statement place = (here : Line) → placed_by names statement place ≡ Ok here → entry_by names spot statement ≡ Some here
 
-placed-is : (at : ℕ) (content : Given (Option Content)) (here : Line) → placed at content ≡ Ok here
+placed-is : (at : ℕ) (content : OrFault (Option Content)) (here : Line) → line_or_fault at content ≡ Ok here
     → entering.entry_at at content ≡ Some here
 placed-is at (Ok None) here e = ap Some (ok-same _ here e)
 placed-is at (Ok (Some content)) here e = ap Some (ok-same _ here e)
@@ -204,12 +205,12 @@ blank-end : (names : List ℕ → Option ℤ) (spot : Spot) → Fills names spot
 unfolding content_of
 blank-end names spot = fills-blank names spot end_condition 0 refl refl
 
-record Known (answer : Answer) (go : ℤ → Result Standing AsmCode) (next : Standing) : Type 0 where
+record Known (answer : ValueResult) (go : ℤ → Result Standing AsmCode) (next : Standing) : Type 0 where
   number : ℤ
   is : answer ≡ Ok number
   goes : go number ≡ Ok next
 
-known-ok : (answer : Answer) (go : ℤ → Result Standing AsmCode) (next : Standing) → (value_above answer >>= go) ≡ Ok next
+known-ok : (answer : ValueResult) (go : ℤ → Result Standing AsmCode) (next : Standing) → (value_above answer >>= go) ≡ Ok next
     → Known answer go next
 known-ok (Ok z) go next e = record { number = z; is = refl; goes = e }
 known-ok (Err errors.Undefined) go next e = absurd (err-ok _ next e)
@@ -230,12 +231,13 @@ within-ok : (z : ℤ) (go : ℕ → Result Standing AsmCode) (next : Standing) �
 within-ok (pos n) go next e = record { count = n; is = refl; goes = within-by (nat_le n rom_size) n go next e }
 within-ok (negsuc n) go next e = absurd (err-ok _ next e)
 
-record Counted (answer : Answer) (go : ℕ → Result Standing AsmCode) (next : Standing) : Type 0 where
+record Counted (answer : ValueResult) (go : ℕ → Result Standing AsmCode) (next : Standing) : Type 0 where
   count : ℕ
   is : answer ≡ Ok (pos count)
   goes : go count ≡ Ok next
 
-counted-ok : (answer : Answer) (go : ℕ → Result Standing AsmCode) (next : Standing) → ((value_above answer >>= within_rom) >>= go) ≡ Ok next
+counted-ok : (answer : ValueResult) (go : ℕ → Result Standing AsmCode) (next : Standing) →
+    ((value_above answer >>= within_rom) >>= go) ≡ Ok next
     → Counted answer go next
 counted-ok (Ok (pos n)) go next e = record { count = n; is = refl; goes = within-by (nat_le n rom_size) n go next e }
 counted-ok (Ok (negsuc n)) go next e = absurd (err-ok _ next e)
@@ -258,15 +260,15 @@ if-ok true answer fault next e = e
 if-ok false answer fault next e = absurd (err-ok fault next e)
 
 -- a new label goes last
-new-name : (symbols : List Named) (name : List ℕ) (number : ℤ) (o : Option ℤ) → is_none o ≡ true
+new-name : (symbols : List Symbol) (name : List ℕ) (number : ℤ) (o : Option ℤ) → is_none o ≡ true
     → (if is_some o then symbols else symbols ++ (name, number) ∷ []) ≡ symbols ++ (name, number) ∷ []
 new-name symbols name number None e = refl
 new-name symbols name number (Some z) e = absurd (false≢true e)
 
-new-label : (symbols : List Named) (label : Option (List ℕ)) (number : ℤ) → is_new symbols label ≡ true
-    → with_label symbols label number ≡ symbols ++ labelled label number
+new-label : (symbols : List Symbol) (label : Option (List ℕ)) (number : ℤ) → is_new symbols label ≡ true
+    → with_label symbols label number ≡ symbols ++ label_symbols label number
 new-label symbols None number e = sym (append-nil symbols)
-new-label symbols (Some name) number e = new-name symbols name number (number_of symbols name) e
+new-label symbols (Some name) number e = new-name symbols name number (number_of_symbol symbols name) e
 
 room-by : (outside taken : Bool) (made span : Span) (one other : AsmCode)
     → (if outside then Err one else (if taken then Err other else Ok made)) ≡ Ok span → made ≡ span
@@ -280,13 +282,13 @@ room-is above size span e =
     room-by (nat_lt rom_size (above.at + size)) (overlaps above.places made) made span OutsideRom Overlap e
 
 -- an item of so many bytes
-agree-item : (above : Standing) → AreNested above.conditions → (label : Option (List ℕ)) (size : ℕ) (shows : Place → Type 0)
+agree-item : (above : Standing) → AreNested above.conditions → (label : Option (List ℕ)) (size : ℕ) (shows : LineLayout → Type 0)
     → shows (Placed (record { at = above.at; size = size })) → (next : Standing) → is_new above.symbols label ≡ true
     → after_item above label size ≡ Ok next → Agrees above (Some (with_bytes (spot_of above) label size)) shows next
 agree-item above nest label size shows here next is-new e =
     let g = gone (room_for above size) _ next e in
     agrees-at above _ shows _ next g.goes (record {
-      new = labelled label (pos above.at);
+      new = label_symbols label (pos above.at);
       stepped = refl;
       grown = new-label above.symbols label (pos above.at) is-new;
       nested = nest;
@@ -296,17 +298,17 @@ agree-item above nest label size shows here next is-new e =
     })
 
 -- other open IFs
-agree-conditions : (above : Standing) (answer : Result (List Condition) AsmCode) (now : Option (List OpenIf)) (place : Place)
-    (shows : Place → Type 0) → shows place → ((conditions : List Condition) → answer ≡ Ok conditions → AreOpen now conditions)
+agree-conditions : (above : Standing) (answer : Result (List IfState) AsmCode) (now : Option (List OpenIf)) (place : LineLayout)
+    (shows : LineLayout → Type 0) → shows place → ((conditions : List IfState) → answer ≡ Ok conditions → AreOpen now conditions)
     → (next : Standing)
     → (answer >>= λ conditions. Ok (record above { conditions = conditions; places = above.places ++ place ∷ [] })) ≡ Ok next
-    → Agrees above (with_open (spot_of above) now) shows next
+    → Agrees above (with_open_ifs (spot_of above) now) shows next
 agree-conditions above answer now place shows here each next e =
     let g = gone answer _ next e in
     let o = each g.found g.is in
     agrees-at above _ shows _ next g.goes (record {
       new = [];
-      stepped = ap (with_open (spot_of above)) o.are;
+      stepped = ap (with_open_ifs (spot_of above)) o.are;
       grown = sym (append-nil above.symbols);
       nested = o.nested;
       place = place;
@@ -320,7 +322,7 @@ agree-statement : (names : List ℕ → Option ℤ) (above : Standing) → Exten
     → Agrees above (step_by names (spot_of above) label statement) (Fills names (spot_of above) statement) next
 agree-statement names above extends nest label nothing inside is-new next e =
     agrees-at above _ _ _ next e (record {
-      new = labelled label (pos above.at);
+      new = label_symbols label (pos above.at);
       stepped = refl;
       grown = new-label above.symbols label (pos above.at) is-new;
       nested = nest;
@@ -329,13 +331,13 @@ agree-statement names above extends nest label nothing inside is-new next e =
       fills = blank-nothing names (spot_of above);
     })
 agree-statement names above extends nest label (origin place) inside is-new next e =
-    let k = known-ok (value_of (number_of above.symbols) above.at place) _ next e in
+    let k = known-ok (tree_value (number_of_symbol above.symbols) above.at place) _ next e in
     let w = within-ok k.number _ next k.goes in
-    let value : value_of names above.at place ≡ Ok (pos w.count) =
+    let value : tree_value names above.at place ≡ Ok (pos w.count) =
     value-extends above.symbols names extends above.at place k.number k.is ∙ ap Ok w.is in
     agrees-at above _ _ _ next w.goes (record {
       new = [];
-      stepped = ap (λ answer. option_map (λ at. ([], record (spot_of above) { at = at })) (counted answer)) value;
+      stepped = ap (λ answer. option_map (λ at. ([], record (spot_of above) { at = at })) (optional_count answer)) value;
       grown = sym (append-nil above.symbols);
       nested = nest;
       place = Blank;
@@ -343,10 +345,10 @@ agree-statement names above extends nest label (origin place) inside is-new next
       fills = blank-origin names (spot_of above) place;
     })
 agree-statement names above extends nest label (equate number) inside is-new next e =
-    let k = known-ok (value_of (number_of above.symbols) above.at number) _ next e in
+    let k = known-ok (tree_value (number_of_symbol above.symbols) above.at number) _ next e in
     agrees-at above _ _ _ next k.goes (record {
-      new = labelled label k.number;
-      stepped = ap (λ answer. option_map (λ value. (labelled label value, spot_of above)) (valued answer))
+      new = label_symbols label k.number;
+      stepped = ap (λ answer. option_map (λ value. (label_symbols label value, spot_of above)) (optional_value answer))
           (value-extends above.symbols names extends above.at number k.number k.is);
       grown = new-label above.symbols label k.number is-new;
       nested = nest;
@@ -355,14 +357,14 @@ agree-statement names above extends nest label (equate number) inside is-new nex
       fills = blank-equate names (spot_of above) number;
     })
 agree-statement names above extends nest label (condition test) inside is-new next e =
-    let inner = if-ok (nat_lt (length above.conditions) most_open) _ _ next e in
-    let k = known-ok (value_of (number_of above.symbols) above.at test) _ next inner in
+    let inner = if-ok (nat_lt (length above.conditions) most_open_ifs) _ _ next e in
+    let k = known-ok (tree_value (number_of_symbol above.symbols) above.at test) _ next inner in
     let o = open-if k.number above.conditions nest (inside refl) in
     agrees-at above _ _ _ next k.goes (record {
       new = [];
-      stepped = ap (λ answer. with_open (spot_of above)
-          (option_map (λ value. inside_if (is_nonzero value) (opens above.conditions)) (valued answer)))
-          (value-extends above.symbols names extends above.at test k.number k.is) ∙ ap (with_open (spot_of above)) o.are;
+      stepped = ap (λ answer. with_open_ifs (spot_of above)
+          (option_map (λ value. inside_if (is_nonzero value) (opens above.conditions)) (optional_value answer)))
+          (value-extends above.symbols names extends above.at test k.number k.is) ∙ ap (with_open_ifs (spot_of above)) o.are;
       grown = sym (append-nil above.symbols);
       nested = o.nested;
       place = Blank;
@@ -376,9 +378,9 @@ agree-statement names above extends nest label end_condition inside is-new next 
     agree-conditions above (after_end above.conditions) _ Blank _ (blank-end names (spot_of above))
     (λ conditions is. open-end above.conditions conditions nest is) next e
 agree-statement names above extends nest label (space size fill) inside is-new next e =
-    let k = counted-ok (value_of (number_of above.symbols) above.at size) (after_item above label) next e in
-    let count : counted (value_of names above.at size) ≡ Some k.count =
-    ap counted (value-extends above.symbols names extends above.at size (pos k.count) k.is) in
+    let k = counted-ok (tree_value (number_of_symbol above.symbols) above.at size) (after_item above label) next e in
+    let count : optional_count (tree_value names above.at size) ≡ Some k.count =
+    ap optional_count (value-extends above.symbols names extends above.at size (pos k.count) k.is) in
     let item = agree-item above nest label k.count (Fills names (spot_of above) (space size fill))
     (fills-item names (spot_of above) (space size fill) k.count count) next is-new k.goes in
     record {
@@ -391,14 +393,14 @@ agree-statement names above extends nest label (space size fill) inside is-new n
       fills = item.fills;
     }
 agree-statement names above extends nest label (bytes parts) inside is-new next e =
-    agree-item above nest label (size_of (bytes parts)) (Fills names (spot_of above) (bytes parts))
-    (fills-item names (spot_of above) (bytes parts) (size_of (bytes parts)) refl) next is-new e
+    agree-item above nest label (statement_size (bytes parts)) (Fills names (spot_of above) (bytes parts))
+    (fills-item names (spot_of above) (bytes parts) (statement_size (bytes parts)) refl) next is-new e
 agree-statement names above extends nest label (words numbers) inside is-new next e =
-    agree-item above nest label (size_of (words numbers)) (Fills names (spot_of above) (words numbers))
-    (fills-item names (spot_of above) (words numbers) (size_of (words numbers)) refl) next is-new e
+    agree-item above nest label (statement_size (words numbers)) (Fills names (spot_of above) (words numbers))
+    (fills-item names (spot_of above) (words numbers) (statement_size (words numbers)) refl) next is-new e
 agree-statement names above extends nest label (operation written) inside is-new next e =
-    agree-item above nest label (size_of (operation written)) (Fills names (spot_of above) (operation written))
-    (fills-item names (spot_of above) (operation written) (size_of (operation written)) refl) next is-new e
+    agree-item above nest label (statement_size (operation written)) (Fills names (spot_of above) (operation written))
+    (fills-item names (spot_of above) (operation written) (statement_size (operation written)) refl) next is-new e
 
 agree-new : (names : List ℕ → Option ℤ) (above : Standing) → Extends above.symbols names → AreNested above.conditions → (form : Form)
     (b : Bool)
@@ -410,30 +412,31 @@ agree-new names above extends nest form true inside is-new next e =
 agree-new names above extends nest form false inside is-new next e = absurd (err-ok _ next e)
 
 -- what a line puts into a program at a place
-abbrev pub line_by : (List ℕ → Option ℤ) → List ℕ → Place → Result Line AsmCode
+abbrev pub line_by : (List ℕ → Option ℤ) → List ℕ → LineLayout → Result Line AsmCode
 line_by names line Blank = Ok entries.Blank
 line_by names line Skipped = Ok entries.Skipped
-line_by names line (Placed span) = read line >>= λ form. placed span.at (content_of names span.at span.size form.statement)
+line_by names line (Placed span) = form_of_line line >>= λ form. line_or_fault span.at (content_of names span.at span.size form.statement)
 
-abbrev pub FillsLine : (List ℕ → Option ℤ) → Spot → List ℕ → Bool → Place → Type 0
+abbrev pub FillsLine : (List ℕ → Option ℤ) → Spot → List ℕ → Bool → LineLayout → Type 0
 FillsLine names spot line b place = (here : Line) → line_by names line place ≡ Ok here → entry_if names spot line b ≡ Some here
 
-line-reads : (names : List ℕ → Option ℤ) (line : List ℕ) (form : Form) → read line ≡ Ok form → (place : Place)
+line-reads : (names : List ℕ → Option ℤ) (line : List ℕ) (form : Form) → form_of_line line ≡ Ok form → (place : LineLayout)
     → line_by names line place ≡ placed_by names form.statement place
 line-reads names line form e Blank = refl
 line-reads names line form e Skipped = refl
 line-reads names line form e (Placed span) =
-    ap (λ (answer : Result Form AsmCode). answer >>= λ form. placed span.at (content_of names span.at span.size form.statement)) e
+    ap (λ (answer : Result Form AsmCode). answer >>= λ form. line_or_fault span.at (content_of names span.at span.size form.statement)) e
 
 agree-read : (names : List ℕ → Option ℤ) (above : Standing) → Extends above.symbols names → AreNested above.conditions → (line : List ℕ)
-    → is_judged above.conditions (word_of line) ≡ true → (answer : Result Form AsmCode) → read line ≡ answer → (next : Standing)
+    → is_judged above.conditions (conditional_of_line line) ≡ true → (answer : Result Form AsmCode) → form_of_line line ≡ answer →
+    (next : Standing)
     → (answer >>= after_form above) ≡ Ok next
     → Agrees above (step_read names (spot_of above) answer) (FillsLine names (spot_of above) line true) next
 agree-read names above extends nest line judged (Ok form) is next e =
     let inside : is_if form.statement ≡ true → counts (opens above.conditions) ≡ true =
     λ h. counts-if (opens above.conditions)
     (ap (is_read (opens above.conditions)) (sym (word-of-if line form is h))
-    ∙ sym (read-same above.conditions (word_of line) nest) ∙ judged) in
+    ∙ sym (read-same above.conditions (conditional_of_line line) nest) ∙ judged) in
     let a = agree-new names above extends nest form (is_new above.symbols form.label) inside refl next e in
     record {
       new = a.new;
@@ -448,15 +451,16 @@ agree-read names above extends nest line judged (Ok form) is next e =
 agree-read names above extends nest line judged (Err code) is next e = absurd (err-ok code next e)
 
 agree-if : (names : List ℕ → Option ℤ) (above : Standing) → Extends above.symbols names → AreNested above.conditions → (line : List ℕ)
-    (b : Bool) → is_judged above.conditions (word_of line) ≡ b → (next : Standing)
-    → (if b then after_judged above line else after_passed above (word_of line)) ≡ Ok next
+    (b : Bool) → is_judged above.conditions (conditional_of_line line) ≡ b → (next : Standing)
+    → (if b then after_judged above line else after_passed above (conditional_of_line line)) ≡ Ok next
     → Agrees above (step_if names (spot_of above) line b) (FillsLine names (spot_of above) line b) next
-agree-if names above extends nest line true is next e = agree-read names above extends nest line is (read line) refl next e
+agree-if names above extends nest line true is next e = agree-read names above extends nest line is (form_of_line line) refl next e
 agree-if names above extends nest line false is next e =
-    let out = counts-none (opens above.conditions) (word_of line) (sym (read-same above.conditions (word_of line) nest) ∙ is) in
-    agree-conditions above (after_skipped (word_of line) above.conditions) _ Skipped _
+    let out = counts-none (opens above.conditions) (conditional_of_line line)
+    (sym (read-same above.conditions (conditional_of_line line) nest) ∙ is) in
+    agree-conditions above (after_skipped (conditional_of_line line) above.conditions) _ Skipped _
     (λ here shown. ap Some (ok-same _ here shown))
-    (λ conditions is. open-skipped (word_of line) above.conditions conditions nest out is) next e
+    (λ conditions is. open-skipped (conditional_of_line line) above.conditions conditions nest out is) next e
 
 pub agree-text : (names : List ℕ → Option ℤ) (above : Standing) → Extends above.symbols names → AreNested above.conditions
     → (line : List ℕ) (next : Standing) → after_text above line ≡ Ok next
@@ -464,8 +468,8 @@ pub agree-text : (names : List ℕ → Option ℤ) (above : Standing) → Extend
     (λ place. (here : Line) → line_by names line place ≡ Ok here → entry_of names (spot_of above) line ≡ Some here) next
 unfolding after_text step_of entry_of
 agree-text names above extends nest line next e =
-    let judged = is_judged above.conditions (word_of line) in
-    let same = read-same above.conditions (word_of line) nest in
+    let judged = is_judged above.conditions (conditional_of_line line) in
+    let same = read-same above.conditions (conditional_of_line line) nest in
     let a = agree-if names above extends nest line judged refl next e in
     record {
       new = a.new;
@@ -479,13 +483,13 @@ agree-text names above extends nest line next e =
 
 -- ---- lines
 
-open-ok : (b : Bool) (answer : Result Standing AsmCode) (next : Standing) → closed b answer ≡ Ok next → answer ≡ Ok next
+open-ok : (b : Bool) (answer : Result Standing AsmCode) (next : Standing) → unless_left_open b answer ≡ Ok next → answer ≡ Ok next
 open-ok true (Ok after) next e = absurd (err-ok _ next e)
 open-ok false (Ok after) next e = e
 open-ok b (Err code) next e = absurd (err-ok code next e)
 
 in-line-ok : (number : ℕ) (answer : Result Standing AsmCode) (go : Standing → Result Standing AsmFault) (end : Standing)
-    → (in_line number answer >>= go) ≡ Ok end → (next : Standing) × (answer ≡ Ok next) × (go next ≡ Ok end)
+    → (result_of_line number answer >>= go) ≡ Ok end → (next : Standing) × (answer ≡ Ok next) × (go next ≡ Ok end)
 in-line-ok number (Ok next) go end e = (next, refl, e)
 in-line-ok number (Err code) go end e = absurd (err-ok _ end e)
 
@@ -499,14 +503,14 @@ pub first-line : (number : ℕ) (above : Standing) (line : List ℕ) (below : Li
 unfolding phase1
 first-line number above line below end e =
     let h = in-line-ok number (after_line above line below) _ end e in
-    record { next = h.0; after = open-ok (is_never_closed (word_of line) below) (after_text above line) h.0 h.1; others = h.2 }
+    record { next = h.0; after = open-ok (is_never_closed (conditional_of_line line) below) (after_text above line) h.0 h.1; others = h.2 }
 
 pub no-line : (number : ℕ) (above end : Standing) → phase1 number above [] ≡ Ok end → above ≡ end
 unfolding phase1
 no-line number above end e = ok-same above end e
 
-pub record Grown (before after : List Named) : Type 0 where
-  pub more : List Named
+pub record Grown (before after : List Symbol) : Type 0 where
+  pub more : List Symbol
   pub is : after ≡ before ++ more
 
 pub grows : (number : ℕ) (above : Standing) → AreNested above.conditions → (lines : List (List ℕ)) (end : Standing)
@@ -519,17 +523,17 @@ grows number above nest [] end e =
     }
 grows number above nest (line ∷ below) end e =
     let f = first-line number above line below end e in
-    let a = agree-text (number_of above.symbols) above (λ some z h. h) nest line f.next f.after in
+    let a = agree-text (number_of_symbol above.symbols) above (λ some z h. h) nest line f.next f.after in
     let g = grows (number + 1) f.next a.nested below end f.others in
     record { more = a.new ++ g.more; is = g.is ∙ ap (λ xs. xs ++ g.more) a.grown ∙ append_assoc above.symbols a.new g.more }
 
 -- ---- the symbols are right
 
-pub extends-less : (before more : List Named) (names : List ℕ → Option ℤ) → Extends (before ++ more) names → Extends before names
+pub extends-less : (before more : List Symbol) (names : List ℕ → Option ℤ) → Extends (before ++ more) names → Extends before names
 extends-less before more names extends some z e = extends some z (found-first before more some z e)
 
 record Defined (names : List ℕ → Option ℤ) (above : Standing) (lines : List (List ℕ)) (end : Standing) : Type 0 where
-  more : List Named
+  more : List Symbol
   defined : defined_in names (spot_of above) lines ≡ Some more
   is : end.symbols ≡ above.symbols ++ more
 
@@ -556,23 +560,23 @@ defines names number above nest (line ∷ below) end e extends =
 
 -- ---- and no other assignment is
 
-pub mapped : (new rest : List Named) (o : Option (List Named)) → option_map (λ more. new ++ more) o ≡ Some rest
-    → (more : List Named) × (o ≡ Some more) × (new ++ more ≡ rest)
+pub mapped : (new rest : List Symbol) (o : Option (List Symbol)) → option_map (λ more. new ++ more) o ≡ Some rest
+    → (more : List Symbol) × (o ≡ Some more) × (new ++ more ≡ rest)
 mapped new rest None e = absurd (none-some rest e)
 mapped new rest (Some more) e = (more, refl, some-same (new ++ more) rest e)
 
 agree-all : (names : List ℕ → Option ℤ) (number : ℕ) (above : Standing) → AreNested above.conditions → (lines : List (List ℕ))
-    (end : Standing) (rest : List Named)
+    (end : Standing) (rest : List Symbol)
     → phase1 number above lines ≡ Ok end → defined_in names (spot_of above) lines ≡ Some rest
-    → ((some : List ℕ) → names some ≡ number_of (above.symbols ++ rest) some)
-    → (some : List ℕ) → names some ≡ number_of end.symbols some
+    → ((some : List ℕ) → names some ≡ number_of_symbol (above.symbols ++ rest) some)
+    → (some : List ℕ) → names some ≡ number_of_symbol end.symbols some
 unfolding defined_in
 agree-all names number above nest [] end rest e d assigned some =
     let none : [] ≡ rest = some-same [] rest d in
     let same : above.symbols ++ rest ≡ end.symbols =
     ap (λ xs. above.symbols ++ xs) (sym none) ∙ append-nil above.symbols
     ∙ ap (λ (standing : Standing). standing.symbols) (no-line number above end e) in
-    assigned some ∙ ap (λ symbols. number_of symbols some) same
+    assigned some ∙ ap (λ symbols. number_of_symbol symbols some) same
 agree-all names number above nest (line ∷ below) end rest e d assigned some =
     let f = first-line number above line below end e in
     let here : Extends above.symbols names = λ n z h. assigned n ∙ found-first above.symbols rest n z h in
@@ -582,21 +586,21 @@ agree-all names number above nest (line ∷ below) end rest e d assigned some =
     let same : above.symbols ++ rest ≡ f.next.symbols ++ m.0 =
     ap (λ xs. above.symbols ++ xs) (sym m.2) ∙ sym (append_assoc above.symbols a.new m.0) ∙ ap (λ xs. xs ++ m.0) (sym a.grown) in
     agree-all names (number + 1) f.next a.nested below end m.0 f.others m.1
-    (λ n. assigned n ∙ ap (λ symbols. number_of symbols n) same) some
+    (λ n. assigned n ∙ ap (λ symbols. number_of_symbol symbols n) same) some
 
 -- the first line stands at address 0, and no IF is open
-pub start-spot : first_spot ≡ spot_of start
+pub start-spot : first_spot ≡ spot_of first_standing
 start-spot = refl
 
 pub symbols-are-right : SymbolsAreRight
 symbols-are-right lines after e =
-    let d = defines (number_of after.symbols) 1 start none-nested lines after e (λ some z h. h) in
+    let d = defines (number_of_symbol after.symbols) 1 first_standing none-nested lines after e (λ some z h. h) in
     record {
       right = record {
         definitions = d.more;
-        defined = ap (λ spot. defined_in (number_of after.symbols) spot lines) start-spot ∙ d.defined;
-        assigned = λ some. ap (λ symbols. number_of symbols some) d.is;
+        defined = ap (λ spot. defined_in (number_of_symbol after.symbols) spot lines) start-spot ∙ d.defined;
+        assigned = λ some. ap (λ symbols. number_of_symbol symbols some) d.is;
       };
-      only = λ names right some. agree-all names 1 start none-nested lines after right.definitions e
+      only = λ names right some. agree-all names 1 first_standing none-nested lines after right.definitions e
           (ap (λ spot. defined_in names spot lines) (sym start-spot) ∙ right.defined) right.assigned some;
     }

@@ -8,10 +8,10 @@ use Rattle.std.proofs.lemmas.List.{length-replicate, get_or-replicate}
 use Rattle.std.proofs.lemmas.List.Folds.{list_any-append}
 use Rattle.std.proofs.lemmas.List.FromFn.{fill_by_all, length-map-range_with_len, get_or-map-range_with_len}
 use Rattle.pac_asm.specs.declared.place.Span.{Span}
-use Rattle.pac_asm.specs.declared.place.Place.{Place}
-use Rattle.pac_asm.specs.declared.place.Place.TheVariants.{Placed}
-use Rattle.pac_asm.specs.Standings.{covers, has_byte, is_taken, overlaps}
-use Rattle.pac_asm.specs.Layouts.{IsFreePlace, AreApart, cells_below}
+use Rattle.pac_asm.specs.declared.place.LineLayout.{LineLayout}
+use Rattle.pac_asm.specs.declared.place.LineLayout.TheVariants.{Placed}
+use Rattle.pac_asm.specs.Standings.{span_covers, place_covers, is_taken, overlaps}
+use Rattle.pac_asm.specs.Layouts.{IsFreePlace, ArePlacesApart, cells_below}
 use Rattle.pac_asm.proofs.Cells.{part, any-map, written}
 
 -- no line takes no cell
@@ -20,12 +20,12 @@ unfolding cells_below
 none n = fill_by_all (is_taken []) (replicate n false) n false (length-replicate n false)
     (λ k below. get_or-replicate n k false false below)
 
-pub length-cells : (n : ℕ) (places : List Place) → length (cells_below n places) ≡ n
+pub length-cells : (n : ℕ) (places : List LineLayout) → length (cells_below n places) ≡ n
 unfolding cells_below
 length-cells n places = length-map-range_with_len (is_taken places) 0 n
 
 -- whether a part of the cells has one that is taken
-pub part_taken : (places : List Place) (span : Span) (n : ℕ) → span.at + span.size ≤ n
+pub part_taken : (places : List LineLayout) (span : Span) (n : ℕ) → span.at + span.size ≤ n
     → list_any (λ taken. taken) (take span.size (drop span.at (cells_below n places))) ≡ overlaps places span
 unfolding cells_below
 part_taken places span n inside =
@@ -33,20 +33,20 @@ part_taken places span n inside =
     ∙ any-map (is_taken places) (range_with_len span.at span.size)
 
 -- one line more
-more : (places : List Place) (place : Place) (cell : ℕ) → is_taken (places ++ place ∷ []) cell ≡
-    (is_taken places cell || has_byte cell place)
+more : (places : List LineLayout) (place : LineLayout) (cell : ℕ) → is_taken (places ++ place ∷ []) cell ≡
+    (is_taken places cell || place_covers cell place)
 more places place cell =
-    list_any-append (has_byte cell) places (place ∷ []) ∙ ap (λ b. is_taken places cell || b) (or-false (has_byte cell place))
+    list_any-append (place_covers cell) places (place ∷ []) ∙ ap (λ b. is_taken places cell || b) (or-false (place_covers cell place))
 
-covered : (span : Span) (k : ℕ) → k < span.size → covers span (span.at + k) ≡ true
+covered : (span : Span) (k : ℕ) → k < span.size → span_covers span (span.at + k) ≡ true
 covered span k h = and_from _ _ (le-leb span.at (span.at + k) (omega arith)) (lt-ltb (span.at + k) (span.at + span.size) (omega arith))
 
-uncovered : (span : Span) (k : ℕ) → (k < span.at) ⊎ (span.at + span.size ≤ k) → covers span k ≡ false
+uncovered : (span : Span) (k : ℕ) → (k < span.at) ⊎ (span.at + span.size ≤ k) → span_covers span k ≡ false
 uncovered span k (inl h) = and_left _ _ (lt-leb span.at k h)
 uncovered span k (inr h) = and_right _ _ (le-ltb k (span.at + span.size) h)
 
 -- with the cells of a span taken
-pub with_span : (places : List Place) (span : Span) (n : ℕ) (old : List Bool) → old ≡ cells_below n places → span.at + span.size ≤ n
+pub with_span : (places : List LineLayout) (span : Span) (n : ℕ) (old : List Bool) → old ≡ cells_below n places → span.at + span.size ≤ n
     → take span.at old ++ (replicate span.size true ++ drop (span.at + span.size) old) ≡ cells_below n (places ++ Placed span ∷ [])
 unfolding cells_below
 with_span places span n old was inside =
@@ -63,8 +63,8 @@ with_span places span n old was inside =
     sym (more places (Placed span) k ∙ ap (λ b. is_taken places k || b) (uncovered span k outside) ∙ or-false (is_taken places k)))
 
 -- a line without bytes takes none
-pub with_nothing : (places : List Place) (place : Place) (n : ℕ) (old : List Bool) → old ≡ cells_below n places
-    → ((k : ℕ) → has_byte k place ≡ false) → old ≡ cells_below n (places ++ place ∷ [])
+pub with_nothing : (places : List LineLayout) (place : LineLayout) (n : ℕ) (old : List Bool) → old ≡ cells_below n places
+    → ((k : ℕ) → place_covers k place ≡ false) → old ≡ cells_below n (places ++ place ∷ [])
 unfolding cells_below
 with_nothing places place n old was nothing =
     let size : length old ≡ n = ap length was ∙ length-map-range_with_len (is_taken places) 0 n in
@@ -75,11 +75,12 @@ with_nothing places place n old was nothing =
 
 -- ---- apart
 
-pub apart-push : (before places : List Place) (place : Place) → AreApart before places → IsFreePlace (before ++ places) place
-    → AreApart before (places ++ place ∷ [])
-apart-push before [] place h free = (subst (λ (above : List Place). IsFreePlace above place) (append-nil before) free, tt)
+pub apart-push : (before places : List LineLayout) (place : LineLayout) → ArePlacesApart before places →
+    IsFreePlace (before ++ places) place
+    → ArePlacesApart before (places ++ place ∷ [])
+apart-push before [] place h free = (subst (λ (above : List LineLayout). IsFreePlace above place) (append-nil before) free, tt)
 apart-push before (first ∷ places) place h free = (
   h.0,
   apart-push (before ++ first ∷ []) places place h.1
-      (subst (λ (above : List Place). IsFreePlace above place) (sym (append_assoc before (first ∷ []) places)) free),
+      (subst (λ (above : List LineLayout). IsFreePlace above place) (sym (append_assoc before (first ∷ []) places)) free),
 )

@@ -1,22 +1,23 @@
 -- The second phase gives each line the entry that it has under the symbols.
 use Rattle.std.proofs.Common.{◌≡◌, ℕ, ◌+◌, List, [], ◌∷◌, ◌++◌, Some, Result, Ok, Err, option_map}
 use Rattle.std.proofs.Common.{refl, ap, sym, ◌∙◌, subst, append_assoc, append-nil}
-use Rattle.pac_program.specs.Names.{Named, number_of}
-use Rattle.pac_program.specs.declared.line.Line.{Line}
-use Rattle.pac_asm.specs.declared.place.Place.{Place}
-use Rattle.pac_asm.specs.declared.place.Place.TheVariants.{Blank, Skipped, Placed}
+use Rattle.pac_asm_program.specs.Names.{Symbol, number_of_symbol}
+use Rattle.pac_asm_program.specs.declared.line.Line.{Line}
+use Rattle.pac_asm.specs.declared.place.LineLayout.{LineLayout}
+use Rattle.pac_asm.specs.declared.place.LineLayout.TheVariants.{Blank, Skipped, Placed}
 use Rattle.pac_asm.specs.declared.fault.AsmCode.{AsmCode}
 use Rattle.pac_asm.specs.declared.fault.AsmFault.{AsmFault}
-use Rattle.pac_asm.specs.Results.{◌>>=◌, in_line}
-use Rattle.pac_asm.specs.Standings.{Standing, start}
+use Rattle.pac_asm.specs.Results.{◌>>=◌, result_of_line}
+use Rattle.pac_asm.specs.Standings.{Standing, first_standing}
 use Rattle.pac_asm.specs.Phase1.{phase1}
-use Rattle.pac_asm.specs.Phase2.{line_at, phase2}
+use Rattle.pac_asm.specs.Phase2.{line_at_place, phase2}
 use Rattle.pac_asm.specs.Assignments.{step_of, first_spot}
 use Rattle.pac_asm.specs.Entries.{entry_before, entries_after, entries_in}
 use Rattle.pac_asm.proofs.OpenIfs.{AreNested, none-nested}
 use Rattle.pac_asm.proofs.Assigned.{Extends, spot_of, start-spot, line_by, agree-text, first-line, no-line, grows, extends-less}
 
-line-is : (symbols : List Named) (line : List ℕ) (place : Place) → line_at symbols line place ≡ line_by (number_of symbols) line place
+line-is : (symbols : List Symbol) (line : List ℕ) (place : LineLayout) →
+    line_at_place symbols line place ≡ line_by (number_of_symbol symbols) line place
 line-is symbols line Blank = refl
 line-is symbols line Skipped = refl
 line-is symbols line (Placed span) = refl
@@ -25,19 +26,19 @@ same-list : (xs ys : List Line) → ◌≡◌ {A = Result (List Line) AsmFault} 
 same-list xs ys e = cc
 
 in-line-ok : (number : ℕ) (answer : Result Line AsmCode) (go : Line → Result (List Line) AsmFault) (out : List Line)
-    → (in_line number answer >>= go) ≡ Ok out → (here : Line) × (answer ≡ Ok here) × (go here ≡ Ok out)
+    → (result_of_line number answer >>= go) ≡ Ok out → (here : Line) × (answer ≡ Ok here) × (go here ≡ Ok out)
 in-line-ok number (Ok here) go out e = (here, refl, e)
 in-line-ok number (Err code) go out e = absurd cc
 
 -- the entries of some lines, which the second phase puts behind those of the lines above
-record Entered (symbols : List Named) (above : Standing) (lines : List (List ℕ)) (end : Standing) : Type 0 where
-  places : List Place
+record Entered (symbols : List Symbol) (above : Standing) (lines : List (List ℕ)) (end : Standing) : Type 0 where
+  places : List LineLayout
   are : end.places ≡ above.places ++ places
   filled : (number : ℕ) (before out : List Line) → phase2 symbols number before lines places ≡ Ok out
-      → (more : List Line) × (out ≡ before ++ more) × (entries_in (number_of symbols) (spot_of above) lines ≡ Some more)
+      → (more : List Line) × (out ≡ before ++ more) × (entries_in (number_of_symbol symbols) (spot_of above) lines ≡ Some more)
 
-entered : (symbols : List Named) (number : ℕ) (above : Standing) → AreNested above.conditions → (lines : List (List ℕ))
-    (end : Standing) → phase1 number above lines ≡ Ok end → Extends end.symbols (number_of symbols) → Entered symbols above lines end
+entered : (symbols : List Symbol) (number : ℕ) (above : Standing) → AreNested above.conditions → (lines : List (List ℕ))
+    (end : Standing) → phase1 number above lines ≡ Ok end → Extends end.symbols (number_of_symbol symbols) → Entered symbols above lines end
 unfolding entries_in phase2
 entered symbols number above nest [] end e extends = record {
   places = [];
@@ -45,7 +46,7 @@ entered symbols number above nest [] end e extends = record {
   filled = λ n before out e. ([], sym (same-list before out e) ∙ sym (append-nil before), refl);
 }
 entered symbols number above nest (line ∷ below) end e extends =
-    let names = number_of symbols in
+    let names = number_of_symbol symbols in
     let f = first-line number above line below end e in
     let g = grows number above nest (line ∷ below) end e in
     let here = extends-less above.symbols g.more names (subst (λ symbols. Extends symbols names) g.is extends) in
@@ -53,24 +54,26 @@ entered symbols number above nest (line ∷ below) end e extends =
     let rest = entered symbols (number + 1) f.next a.nested below end f.others extends in
     record {
       places = a.place ∷ rest.places;
-      are = rest.are ∙ ap (λ (places : List Place). places ++ rest.places) a.added ∙ append_assoc above.places (a.place ∷ []) rest.places;
+      are = rest.are ∙ ap (λ (places : List LineLayout). places ++ rest.places) a.added
+          ∙ append_assoc above.places (a.place ∷ []) rest.places;
       filled = λ n before out e.
-          let first = in-line-ok n (line_at symbols line a.place) _ out e in
+          let first = in-line-ok n (line_at_place symbols line a.place) _ out e in
           let r = rest.filled (n + 1) (before ++ first.0 ∷ []) out first.2 in
           let entry = a.fills first.0 (sym (line-is symbols line a.place) ∙ first.1) in (
             first.0 ∷ r.0,
             r.1 ∙ append_assoc before (first.0 ∷ []) r.0,
             ap (λ entry. entry_before entry
                 (entries_after (step_of names (spot_of above) line) (λ next. entries_in names next below))) entry
-                ∙ ap (λ step. option_map (λ entries. first.0 ∷ entries) (entries_after step (λ next. entries_in names next below))) a.stepped
+                ∙ ap (λ step. option_map (λ entries. first.0 ∷ entries) (entries_after step (λ next. entries_in names next below)))
+                a.stepped
                 ∙ ap (option_map (λ entries. first.0 ∷ entries)) r.2,
           );
     }
 
 -- the lines that both phases leave are the entries of the source's lines under the symbols
-pub has-entries : (lines : List (List ℕ)) (after : Standing) (out : List Line) → phase1 1 start lines ≡ Ok after
-    → phase2 after.symbols 1 [] lines after.places ≡ Ok out → entries_in (number_of after.symbols) first_spot lines ≡ Some out
+pub has-entries : (lines : List (List ℕ)) (after : Standing) (out : List Line) → phase1 1 first_standing lines ≡ Ok after
+    → phase2 after.symbols 1 [] lines after.places ≡ Ok out → entries_in (number_of_symbol after.symbols) first_spot lines ≡ Some out
 has-entries lines after out e f =
-    let all = entered after.symbols 1 start none-nested lines after e (λ some z h. h) in
+    let all = entered after.symbols 1 first_standing none-nested lines after e (λ some z h. h) in
     let made = all.filled 1 [] out (ap (phase2 after.symbols 1 [] lines) (sym all.are) ∙ f) in
-    ap (λ spot. entries_in (number_of after.symbols) spot lines) start-spot ∙ made.2 ∙ ap Some (sym made.1)
+    ap (λ spot. entries_in (number_of_symbol after.symbols) spot lines) start-spot ∙ made.2 ∙ ap Some (sym made.1)

@@ -11,47 +11,47 @@ use Rattle.std.proofs.lemmas.Grind.{flat_map-append}
 use Rattle.pac_lex.specs.Tokens.{Lexeme}
 use Rattle.pac_lex.specs.Scan.{tokens_of}
 use Rattle.pac_code.specs.Items.{Item, Content, bytes_of, bytes_in, IsValid}
-use Rattle.pac_source.specs.Statements.{Statement, nothing, origin, equate, bytes, words, space, condition, otherwise, end_condition}
-use Rattle.pac_source.specs.Statements.{operation, Form}
-use Rattle.pac_source.specs.Forms.{form_of}
-use Rattle.pac_source.specs.Contents.{content_of, SizeFits, Given, made, gathered, part_bytes, word_bytes, fill_value}
-use Rattle.pac_operation.specs.Operations.{instruction_of}
-use Rattle.pac_program.specs.Names.{Named}
-use Rattle.pac_program.specs.Programs.{items_in}
-use Rattle.pac_program.specs.declared.line.Line.{Line}
-use Rattle.pac_program.specs.declared.line.Line.TheVariants as line
+use Rattle.pac_asm_line.specs.Statements.{Statement, nothing, origin, equate, bytes, words, space, condition, otherwise, end_condition}
+use Rattle.pac_asm_line.specs.Statements.{operation, Form}
+use Rattle.pac_asm_line.specs.Forms.{form_of}
+use Rattle.pac_asm_line.specs.Contents.{content_of, SizeFits, OrFault, map_unless_fault, gathered_bytes, part_bytes, word_bytes, fill_value}
+use Rattle.pac_asm_operation.specs.Operations.{instruction_of}
+use Rattle.pac_asm_program.specs.Names.{Symbol}
+use Rattle.pac_asm_program.specs.Programs.{items_in}
+use Rattle.pac_asm_program.specs.declared.line.Line.{Line}
+use Rattle.pac_asm_program.specs.declared.line.Line.TheVariants as line
 use Rattle.pac_asm.specs.declared.place.Span.{Span}
-use Rattle.pac_asm.specs.declared.place.Place.{Place}
-use Rattle.pac_asm.specs.declared.place.Place.TheVariants.{Blank, Skipped, Placed}
+use Rattle.pac_asm.specs.declared.place.LineLayout.{LineLayout}
+use Rattle.pac_asm.specs.declared.place.LineLayout.TheVariants.{Blank, Skipped, Placed}
 use Rattle.pac_asm.specs.declared.fault.AsmCode.{AsmCode}
 use Rattle.pac_asm.specs.declared.fault.LineError.{LineError}
 use Rattle.pac_asm.specs.declared.fault.LineError.TheVariants as causes
 use Rattle.pac_asm.specs.Errors as error
-use Rattle.pac_asm.specs.Results.{◌>>=◌, in_line}
-use Rattle.pac_asm.specs.Standings.{has_byte, is_taken, overlaps}
+use Rattle.pac_asm.specs.Results.{◌>>=◌, result_of_line}
+use Rattle.pac_asm.specs.Standings.{place_covers, is_taken, overlaps}
 use Rattle.pac_asm.specs.Standings as standings
-use Rattle.pac_asm.specs.Layouts.{IsFree, IsFreePlace, AreApart}
-use Rattle.pac_asm.specs.Reading.{read, form_in, formed}
-use Rattle.pac_asm.specs.Phase2.{line_at, phase2}
-use Rattle.pac_program.specs.Rom.{covers, IsApartFrom, IsFit}
-use Rattle.pac_program.specs.Rom as rom
-use Rattle.pac_asm.specs.Items.{IsSized, AllFit, Fits, IsItemOf, IsLineOf}
+use Rattle.pac_asm.specs.Layouts.{IsFree, IsFreePlace, ArePlacesApart}
+use Rattle.pac_asm.specs.Reading.{form_of_line, form_in, form_or_fault}
+use Rattle.pac_asm.specs.Phase2.{line_at_place, phase2}
+use Rattle.pac_asm_program.specs.Rom.{covers, IsApartFrom, IsFit}
+use Rattle.pac_asm_program.specs.Rom as rom
+use Rattle.pac_asm.specs.Items.{IsSized, AllFit, FitsLine, IsItemOf, IsLineOf}
 
 -- ---- a placed line has an item
 
 pub read-is : (line : List ℕ) (lexemes : List Lexeme) (form : Form) → tokens_of line ≡ Ok lexemes → form_of lexemes ≡ Some form
-    → read line ≡ Ok form
-unfolding read
-read-is line lexemes form e f = ap form_in e ∙ ap formed f
+    → form_of_line line ≡ Ok form
+unfolding form_of_line
+read-is line lexemes form e f = ap form_in e ∙ ap form_or_fault f
 
-no-none : {X : Type 0} (given : Given X) (f : X → Content) → made (λ x. Some (f x)) given ≡ Ok None → ⊥
+no-none : {X : Type 0} (given : OrFault X) (f : X → Content) → map_unless_fault (λ x. Some (f x)) given ≡ Ok None → ⊥
 no-none (Ok x) f e = cc
 no-none (Err fault) f e = cc
 
 some-content : (names : List ℕ → Option ℤ) (here size : ℕ) (s : Statement) → IsSized size s → content_of names here size s ≡ Ok None → ⊥
 unfolding content_of
-some-content names here size (bytes parts) h e = no-none (gathered (part_bytes names here) parts) _ e
-some-content names here size (words numbers) h e = no-none (gathered (word_bytes names here) numbers) _ e
+some-content names here size (bytes parts) h e = no-none (gathered_bytes (part_bytes names here) parts) _ e
+some-content names here size (words numbers) h e = no-none (gathered_bytes (word_bytes names here) numbers) _ e
 some-content names here size (space count fill) h e = no-none (fill_value names here fill) _ e
 some-content names here size (operation written) h e = no-none (instruction_of names here written) _ e
 some-content names here size nothing h e = h
@@ -75,20 +75,20 @@ size-fits size end_condition h = absurd h
 
 -- the form of a line is the one that its place fits
 pub fits-form : (line : List ℕ) (span : Span) (lexemes : List Lexeme) (form : Form) → tokens_of line ≡ Ok lexemes
-    → form_of lexemes ≡ Some form → Fits line (Placed span) → IsSized span.size form.statement
+    → form_of lexemes ≡ Some form → FitsLine line (Placed span) → IsSized span.size form.statement
 fits-form line span lexemes form e f (fitting, is, sized) =
     let known = sym is ∙ read-is line lexemes form e f in
     let same : fitting ≡ form = cc in
     subst (λ (f : Form). IsSized span.size f.statement) same sized
 
 pub no-content : (line : List ℕ) (span : Span) (lexemes : List Lexeme) (form : Form) (names : List ℕ → Option ℤ)
-    → tokens_of line ≡ Ok lexemes → form_of lexemes ≡ Some form → Fits line (Placed span)
+    → tokens_of line ≡ Ok lexemes → form_of lexemes ≡ Some form → FitsLine line (Placed span)
     → content_of names span.at span.size form.statement ≡ Ok None → ⊥
 no-content line span lexemes form names e f fits none =
     some-content names span.at span.size form.statement (fits-form line span lexemes form e f fits) none
 
 pub item-of : (line : List ℕ) (span : Span) (lexemes : List Lexeme) (form : Form) (content : Content)
-    → tokens_of line ≡ Ok lexemes → form_of lexemes ≡ Some form → Fits line (Placed span)
+    → tokens_of line ≡ Ok lexemes → form_of lexemes ≡ Some form → FitsLine line (Placed span)
     → (SizeFits span.size form.statement → IsValid content × (length (bytes_in content) ≡ span.size))
     → IsItemOf span (record { at = span.at; content = content })
 item-of line span lexemes form content e f fits each =
@@ -180,12 +180,12 @@ none-taken p at (suc size) cell e low high =
     (cases_eq at cell)
 
 -- the item of a span covers what the span does
-same-cover : (span : Span) (item : Item) (cell : ℕ) → IsItemOf span item → covers item cell ≡ standings.covers span cell
+same-cover : (span : Span) (item : Item) (cell : ℕ) → IsItemOf span item → covers item cell ≡ standings.span_covers span cell
 same-cover span item cell is =
     ap (λ (at : ℕ). leb at cell && ltb cell (at + length (bytes_of item))) is.at
     ∙ ap (λ (size : ℕ). leb span.at cell && ltb cell (span.at + size)) is.size
 
-free-item : (before : List Line) (above : List Place) (span : Span) (item : Item)
+free-item : (before : List Line) (above : List LineLayout) (span : Span) (item : Item)
     → ((cell : ℕ) → is_covered (flat_map items_in before) cell ≡ is_taken above cell) → IsFree above span → IsItemOf span item
     → IsFreeItem (flat_map items_in before) item
 free-item before above span item cells free is = record {
@@ -197,7 +197,7 @@ free-item before above span item cells free is = record {
       cells cell ∙ none-taken (is_taken above) span.at span.size cell free.apart (omega (arith, is.at)) (omega (arith, is.at, is.size));
 }
 
-free-line : (before : List Line) (above : List Place) (place : Place) (here : Line)
+free-line : (before : List Line) (above : List LineLayout) (place : LineLayout) (here : Line)
     → ((cell : ℕ) → is_covered (flat_map items_in before) cell ≡ is_taken above cell) → IsFreePlace above place → IsLineOf place here
     → IsFreeLine before here
 free-line before above Blank line.Blank cells free is = tt
@@ -211,8 +211,8 @@ free-line before above (Placed span) line.Skipped cells free is = tt
 free-line before above (Placed span) (line.Placed item) cells free is = free-item before above span item cells free is
 
 -- what a line's items cover is what its place takes
-same-here : (place : Place) (here : Line) (cell : ℕ) → IsLineOf place here →
-    is_covered (items_in here) cell ≡ (has_byte cell place || false)
+same-here : (place : LineLayout) (here : Line) (cell : ℕ) → IsLineOf place here →
+    is_covered (items_in here) cell ≡ (place_covers cell place || false)
 same-here Blank line.Blank cell is = refl
 same-here Blank line.Skipped cell is = absurd is
 same-here Blank (line.Placed item) cell is = absurd is
@@ -223,7 +223,7 @@ same-here (Placed span) line.Blank cell is = absurd is
 same-here (Placed span) line.Skipped cell is = absurd is
 same-here (Placed span) (line.Placed item) cell is = ap (λ b. b || false) (same-cover span item cell is)
 
-cells-more : (before : List Line) (above : List Place) (place : Place) (here : Line)
+cells-more : (before : List Line) (above : List LineLayout) (place : LineLayout) (here : Line)
     → ((cell : ℕ) → is_covered (flat_map items_in before) cell ≡ is_taken above cell) → IsLineOf place here
     → (cell : ℕ) → is_covered (flat_map items_in (before ++ here ∷ [])) cell ≡ is_taken (above ++ place ∷ []) cell
 cells-more before above place here cells is cell =
@@ -231,23 +231,23 @@ cells-more before above place here cells is cell =
     ∙ list_any-append (λ item. covers item cell) (flat_map items_in before) (items_in here)
     ∙ ap (λ b. b || is_covered (items_in here) cell) (cells cell)
     ∙ ap (λ b. is_taken above cell || b) (same-here place here cell is)
-    ∙ sym (list_any-append (has_byte cell) above (place ∷ []))
+    ∙ sym (list_any-append (place_covers cell) above (place ∷ []))
 
 -- ---- line by line
 
 -- what is known after some lines, whose places stand above
-pub record Filling (source rest : List ℕ) (symbols : List Named) (places left : List Place) (number : ℕ) (filled : List Line)
+pub record Filling (source rest : List ℕ) (symbols : List Symbol) (places left : List LineLayout) (number : ℕ) (filled : List Line)
     : Type 0 where
-  pub above : List Place
-  pub apart : AreApart above left
+  pub above : List LineLayout
+  pub apart : ArePlacesApart above left
   pub cells : (cell : ℕ) → is_covered (flat_map items_in filled) cell ≡ is_taken above cell
   pub fit : AllFit (lines rest) left
   pub same : phase2 symbols number filled (lines rest) left ≡ phase2 symbols 1 [] (lines source) places
   pub counted : number + length (lines rest) ≡ length (lines source) + 1
   pub laid : AreLaid filled
 
-pub begins : (source : List ℕ) (symbols : List Named) (places : List Place) (filled : List Line) → filled ≡ []
-    → AreApart [] places → AllFit (lines source) places → Filling source source symbols places places 1 filled
+pub begins : (source : List ℕ) (symbols : List Symbol) (places : List LineLayout) (filled : List Line) → filled ≡ []
+    → ArePlacesApart [] places → AllFit (lines source) places → Filling source source symbols places places 1 filled
 begins source symbols places filled none apart fit = record {
   above = [];
   apart = apart;
@@ -258,41 +258,41 @@ begins source symbols places filled none apart fit = record {
   laid = subst AreLaid (sym none) none-laid;
 }
 
-taken-line : (symbols : List Named) (number : ℕ) (before : List Line) (text : List ℕ) (below : List (List ℕ)) (place : Place)
-    (places : List Place) (here : Line) → line_at symbols text place ≡ Ok here
+taken-line : (symbols : List Symbol) (number : ℕ) (before : List Line) (text : List ℕ) (below : List (List ℕ)) (place : LineLayout)
+    (places : List LineLayout) (here : Line) → line_at_place symbols text place ≡ Ok here
     → phase2 symbols number before (text ∷ below) (place ∷ places) ≡ phase2 symbols (number + 1) (before ++ here ∷ []) below places
 unfolding phase2
 taken-line symbols number before text below place places here e =
-    ap (λ (r : Result Line AsmCode). in_line number r >>= λ here. phase2 symbols (number + 1) (before ++ here ∷ []) below places) e
+    ap (λ (r : Result Line AsmCode). result_of_line number r >>= λ here. phase2 symbols (number + 1) (before ++ here ∷ []) below places) e
 
-refused-line : (symbols : List Named) (number : ℕ) (before : List Line) (text : List ℕ) (below : List (List ℕ)) (place : Place)
-    (places : List Place) (code : AsmCode) → line_at symbols text place ≡ Err code
+refused-line : (symbols : List Symbol) (number : ℕ) (before : List Line) (text : List ℕ) (below : List (List ℕ)) (place : LineLayout)
+    (places : List LineLayout) (code : AsmCode) → line_at_place symbols text place ≡ Err code
     → phase2 symbols number before (text ∷ below) (place ∷ places) ≡ Err (record { code = code; line = number })
 unfolding phase2
 refused-line symbols number before text below place places code e =
-    ap (λ (r : Result Line AsmCode). in_line number r >>= λ here. phase2 symbols (number + 1) (before ++ here ∷ []) below places) e
+    ap (λ (r : Result Line AsmCode). result_of_line number r >>= λ here. phase2 symbols (number + 1) (before ++ here ∷ []) below places) e
 
-module _ (source rest text below : List ℕ) (symbols : List Named) (places left others : List Place) (place : Place) (number : ℕ)
+module _ (source rest text below : List ℕ) (symbols : List Symbol) (places left others : List LineLayout) (place : LineLayout) (number : ℕ)
     (filled : List Line) (parts : lines rest ≡ text ∷ lines below) (split : left ≡ place ∷ others)
     (was : Filling source rest symbols places left number filled) where
   fit_here : AllFit (text ∷ lines below) (place ∷ others)
   fit_here = subst (AllFit (text ∷ lines below)) split (subst (λ (texts : List (List ℕ)). AllFit texts left) parts was.fit)
 
-  apart_here : AreApart was.above (place ∷ others)
-  apart_here = subst (AreApart was.above) split was.apart
+  apart_here : ArePlacesApart was.above (place ∷ others)
+  apart_here = subst (ArePlacesApart was.above) split was.apart
 
   same_here : phase2 symbols number filled (text ∷ lines below) (place ∷ others) ≡ phase2 symbols 1 [] (lines source) places
   same_here =
       ap (λ (texts : List (List ℕ)). phase2 symbols number filled texts (place ∷ others)) (sym parts)
       ∙ ap (phase2 symbols number filled (lines rest)) (sym split) ∙ was.same
 
-  pub fits : Fits text place
+  pub fits : FitsLine text place
   fits = fit_here.0
 
   free : (here : Line) → IsLineOf place here → IsFreeLine filled here
   free here is = free-line filled was.above place here was.cells apart_here.0 is
 
-  pub onward : (here : Line) (more : List Line) → line_at symbols text place ≡ Ok here → IsLineOf place here
+  pub onward : (here : Line) (more : List Line) → line_at_place symbols text place ≡ Ok here → IsLineOf place here
       → more ≡ filled ++ here ∷ [] → Filling source below symbols places others (number + 1) more
   onward here more e is grown = record {
     above = was.above ++ place ∷ [];
@@ -308,12 +308,13 @@ module _ (source rest text below : List ℕ) (symbols : List Named) (places left
     laid = subst AreLaid (sym grown) (laid-push filled here (free here is) was.laid);
   }
 
-  pub ends : (cause : LineError) → error.Refuses cause (line_at symbols text place)
-      → error.Fails (error.in_line cause number) (phase2 symbols 1 [] (lines source) places)
+  pub ends : (cause : LineError) → error.LineFails cause (line_at_place symbols text place)
+      → error.AssemblyFails (error.error_of_line cause number) (phase2 symbols 1 [] (lines source) places)
   ends causes.Memory h = tt
   ends (causes.Code code) h = sym same_here ∙ refused-line symbols number filled text (lines below) place others code h
 
-no-more : (symbols : List Named) (number : ℕ) (before : List Line) (texts : List (List ℕ)) (left : List Place) → (texts ≡ []) ⊎ (left ≡ [])
+no-more : (symbols : List Symbol) (number : ℕ) (before : List Line) (texts : List (List ℕ)) (left : List LineLayout) →
+    (texts ≡ []) ⊎ (left ≡ [])
     → phase2 symbols number before texts left ≡ Ok before
 unfolding phase2
 no-more symbols number before [] left h = refl
@@ -321,7 +322,7 @@ no-more symbols number before (text ∷ texts) [] h = refl
 no-more symbols number before (text ∷ texts) (place ∷ left) (inl h) = absurd (cc)
 no-more symbols number before (text ∷ texts) (place ∷ left) (inr h) = absurd (cc)
 
-pub finished : (source rest : List ℕ) (symbols : List Named) (places left : List Place) (number : ℕ) (filled : List Line)
+pub finished : (source rest : List ℕ) (symbols : List Symbol) (places left : List LineLayout) (number : ℕ) (filled : List Line)
     → (rest ≡ []) ⊎ (left ≡ []) → Filling source rest symbols places left number filled
     → phase2 symbols 1 [] (lines source) places ≡ Ok filled
 finished source rest symbols places left number filled (inl none) was =

@@ -6,35 +6,36 @@ use Rattle.std.proofs.lemmas.Bool.{eq-eqb, ne_eqb}
 use Rattle.pac_asm.specs.declared.fault.AsmFault.{AsmFault}
 use Rattle.pac_asm.specs.declared.fault.AsmError.{AsmError}
 use Rattle.pac_asm.specs.declared.fault.AsmError.TheVariants as errors
-use Rattle.pac_asm.specs.Errors.{Fails}
-use Rattle.pac_asm.specs.Results.{◌>>=◌, in_line}
-use Rattle.pac_asm.specs.Pairing.{is_at}
-use Rattle.pac_asm.specs.Unclosed.{word_of, is_never_closed, first_unclosed}
-use Rattle.pac_asm.specs.Standings.{Standing, start}
-use Rattle.pac_asm.specs.Phase1.{after_text, after_line, closed, phase1}
+use Rattle.pac_asm.specs.Errors.{AssemblyFails}
+use Rattle.pac_asm.specs.Results.{◌>>=◌, result_of_line}
+use Rattle.pac_asm.specs.Pairing.{is_found_line}
+use Rattle.pac_asm.specs.Unclosed.{conditional_of_line, is_never_closed, first_unclosed}
+use Rattle.pac_asm.specs.Standings.{Standing, first_standing}
+use Rattle.pac_asm.specs.Phase1.{after_text, after_line, unless_left_open, phase1}
 use Rattle.pac_asm.proofs.Pairs.{shifted, shifted-more, shifted-none}
 
 -- what is known after some lines: the line after them stands below so many
 pub record Laid (source rest : List ℕ) (unclosed : Option ℕ) (above : ℕ) (standing : Standing) : Type 0 where
-  pub same : phase1 (above + 1) standing (lines rest) ≡ phase1 1 start (lines source)
+  pub same : phase1 (above + 1) standing (lines rest) ≡ phase1 1 first_standing (lines source)
   pub counted : above + length (lines rest) ≡ length (lines source)
   pub pairs : unclosed ≡ shifted above (first_unclosed (lines rest))
 
-pub begins : (source : List ℕ) (unclosed : Option ℕ) → unclosed ≡ first_unclosed (lines source) → Laid source source unclosed 0 start
+pub begins : (source : List ℕ) (unclosed : Option ℕ) → unclosed ≡ first_unclosed (lines source) →
+    Laid source source unclosed 0 first_standing
 begins source unclosed e =
     record { same = refl; counted = omega arith; pairs = e ∙ sym (shifted-none (first_unclosed (lines source))) }
 
 -- ---- whether the next line is an IF that is never closed
 
-past : (above : ℕ) (x : Option ℕ) → is_at (shifted (above + 1) x) above ≡ false
+past : (above : ℕ) (x : Option ℕ) → is_found_line (shifted (above + 1) x) above ≡ false
 past above None = refl
 past above (Some n) = ne_eqb (above + 1 + n) above (λ e. omega arith)
 
 here : (above : ℕ) (is_open : Bool) (below : List (List ℕ))
-    → is_at (shifted above (cond is_open (Some 0) (option_map (λ n. n + 1) (first_unclosed below)))) above ≡ is_open
+    → is_found_line (shifted above (cond is_open (Some 0) (option_map (λ n. n + 1) (first_unclosed below)))) above ≡ is_open
 here above true below = eq-eqb (above + 0) above (omega arith)
 here above false below =
-    ap (λ (x : Option ℕ). is_at x above) (shifted-more above (first_unclosed below)) ∙ past above (first_unclosed below)
+    ap (λ (x : Option ℕ). is_found_line x above) (shifted-more above (first_unclosed below)) ∙ past above (first_unclosed below)
 
 next : (above : ℕ) (is_open : Bool) (below : List (List ℕ)) → is_open ≡ false
     → shifted above (cond is_open (Some 0) (option_map (λ n. n + 1) (first_unclosed below))) ≡ shifted (above + 1) (first_unclosed below)
@@ -44,47 +45,49 @@ next above false below e = shifted-more above (first_unclosed below)
 -- ---- one line more
 
 taken : (number : ℕ) (old new : Standing) (line : List ℕ) (below : List (List ℕ))
-    → in_line number (after_line old line below) ≡ Ok new → phase1 number old (line ∷ below) ≡ phase1 (number + 1) new below
+    → result_of_line number (after_line old line below) ≡ Ok new → phase1 number old (line ∷ below) ≡ phase1 (number + 1) new below
 unfolding phase1
 taken number old new line below e = ap (λ (r : Result Standing AsmFault). r >>= λ after. phase1 (number + 1) after below) e
 
 refused : (number : ℕ) (old : Standing) (line : List ℕ) (below : List (List ℕ)) (fault : AsmFault)
-    → in_line number (after_line old line below) ≡ Err fault → phase1 number old (line ∷ below) ≡ Err fault
+    → result_of_line number (after_line old line below) ≡ Err fault → phase1 number old (line ∷ below) ≡ Err fault
 unfolding phase1
 refused number old line below fault e = ap (λ (r : Result Standing AsmFault). r >>= λ after. phase1 (number + 1) after below) e
 
 module _ (source rest line below : List ℕ) (unclosed : Option ℕ) (above : ℕ) (old : Standing) (is_open : Bool)
-    (parts : lines rest ≡ line ∷ lines below) (at : is_open ≡ is_at unclosed above) (was : Laid source rest unclosed above old) where
-  abbrev never : Bool
-  never = is_never_closed (word_of line) (lines below)
+    (parts : lines rest ≡ line ∷ lines below) (at : is_open ≡ is_found_line unclosed above) (was : Laid source rest unclosed above old)
+  where
+    abbrev never : Bool
+    never = is_never_closed (conditional_of_line line) (lines below)
 
-  pairs_here : unclosed ≡ shifted above (cond never (Some 0) (option_map (λ n. n + 1) (first_unclosed (lines below))))
-  pairs_here = was.pairs ∙ ap (λ (below : List (List ℕ)). shifted above (first_unclosed below)) parts
+    pairs_here : unclosed ≡ shifted above (cond never (Some 0) (option_map (λ n. n + 1) (first_unclosed (lines below))))
+    pairs_here = was.pairs ∙ ap (λ (below : List (List ℕ)). shifted above (first_unclosed below)) parts
 
-  open_is : is_open ≡ never
-  open_is = at ∙ ap (λ (x : Option ℕ). is_at x above) pairs_here ∙ here above never (lines below)
+    open_is : is_open ≡ never
+    open_is = at ∙ ap (λ (x : Option ℕ). is_found_line x above) pairs_here ∙ here above never (lines below)
 
-  same_here : phase1 (above + 1) old (line ∷ lines below) ≡ phase1 1 start (lines source)
-  same_here = ap (phase1 (above + 1) old) (sym parts) ∙ was.same
+    same_here : phase1 (above + 1) old (line ∷ lines below) ≡ phase1 1 first_standing (lines source)
+    same_here = ap (phase1 (above + 1) old) (sym parts) ∙ was.same
 
-  line_is : in_line (above + 1) (closed is_open (after_text old line)) ≡ in_line (above + 1) (after_line old line (lines below))
-  line_is = ap (λ (b : Bool). in_line (above + 1) (closed b (after_text old line))) open_is
+    line_is : result_of_line (above + 1) (unless_left_open is_open (after_text old line))
+        ≡ result_of_line (above + 1) (after_line old line (lines below))
+    line_is = ap (λ (b : Bool). result_of_line (above + 1) (unless_left_open b (after_text old line))) open_is
 
-  pub onward : (new : Standing) → in_line (above + 1) (closed is_open (after_text old line)) ≡ Ok new → is_open ≡ false
-      → Laid source below unclosed (above + 1) new
-  onward new e shut = record {
-    same = sym (taken (above + 1) old new line (lines below) (sym line_is ∙ e)) ∙ same_here;
-    counted = omega (arith, was.counted, ap length parts);
-    pairs = pairs_here ∙ next above never (lines below) (sym open_is ∙ shut);
-  }
+    pub onward : (new : Standing) → result_of_line (above + 1) (unless_left_open is_open (after_text old line)) ≡ Ok new → is_open ≡ false
+        → Laid source below unclosed (above + 1) new
+    onward new e shut = record {
+      same = sym (taken (above + 1) old new line (lines below) (sym line_is ∙ e)) ∙ same_here;
+      counted = omega (arith, was.counted, ap length parts);
+      pairs = pairs_here ∙ next above never (lines below) (sym open_is ∙ shut);
+    }
 
-  pub ends : (error : AsmError) → Fails error (in_line (above + 1) (closed is_open (after_text old line)))
-      → Fails error (phase1 1 start (lines source))
-  ends errors.Memory h = tt
-  ends (errors.Fault fault) h = sym same_here ∙ refused (above + 1) old line (lines below) fault (sym line_is ∙ h)
+    pub ends : (error : AsmError) → AssemblyFails error (result_of_line (above + 1) (unless_left_open is_open (after_text old line)))
+        → AssemblyFails error (phase1 1 first_standing (lines source))
+    ends errors.Memory h = tt
+    ends (errors.Fault fault) h = sym same_here ∙ refused (above + 1) old line (lines below) fault (sym line_is ∙ h)
 
 pub finished : (source rest : List ℕ) (unclosed : Option ℕ) (above : ℕ) (standing : Standing) → rest ≡ []
-    → Laid source rest unclosed above standing → phase1 1 start (lines source) ≡ Ok standing
+    → Laid source rest unclosed above standing → phase1 1 first_standing (lines source) ≡ Ok standing
 unfolding phase1
 finished source rest unclosed above standing none was =
     sym was.same ∙ ap (λ (text : List ℕ). phase1 (above + 1) standing (lines text)) none

@@ -3,21 +3,21 @@ use Rattle.std.proofs.Common.{◌≡◌, ℕ, ◌+◌, suc, false, List, [], ◌
 use Rattle.std.proofs.Common.{◌∙◌, ap, append_assoc, append-nil, length-append, arith, ltb}
 use Rattle.std.specs.Prelude.{slice_get}
 use Rattle.std.specs.Str.Lines.{lines as text_lines}
-use Rattle.pac_program.specs.Names.{Named}
-use Rattle.pac_program.specs.Programs.{Assembled}
-use Rattle.pac_program.specs.declared.line.Line.{Line}
-use Rattle.pac_program.specs.declared.line.Line.TheVariants as entries
-use Rattle.pac_asm.specs.declared.place.Place.{Place}
-use Rattle.pac_asm.specs.declared.place.Place.TheVariants.{Skipped}
+use Rattle.pac_asm_program.specs.Names.{Symbol}
+use Rattle.pac_asm_program.specs.Programs.{Assembled}
+use Rattle.pac_asm_program.specs.declared.line.Line.{Line}
+use Rattle.pac_asm_program.specs.declared.line.Line.TheVariants as entries
+use Rattle.pac_asm.specs.declared.place.LineLayout.{LineLayout}
+use Rattle.pac_asm.specs.declared.place.LineLayout.TheVariants.{Skipped}
 use Rattle.pac_asm.specs.declared.fault.AsmCode.{AsmCode}
 use Rattle.pac_asm.specs.declared.fault.AsmCode.TheVariants.{TooManyLines}
 use Rattle.pac_asm.specs.declared.fault.AsmFault.{AsmFault}
-use Rattle.pac_asm.specs.Results.{◌>>=◌, in_line}
+use Rattle.pac_asm.specs.Results.{◌>>=◌, result_of_line}
 use Rattle.pac_asm.specs.Conditions.{is_judged}
-use Rattle.pac_asm.specs.Unclosed.{word_of, is_never_closed}
-use Rattle.pac_asm.specs.Standings.{Standing, start}
+use Rattle.pac_asm.specs.Unclosed.{conditional_of_line, is_never_closed}
+use Rattle.pac_asm.specs.Standings.{Standing, first_standing}
 use Rattle.pac_asm.specs.Phase1.{after_text, after_line, phase1}
-use Rattle.pac_asm.specs.Phase2.{line_at, phase2}
+use Rattle.pac_asm.specs.Phase2.{line_at_place, phase2}
 use Rattle.pac_asm.specs.Items.{AllFit}
 use Rattle.pac_asm.specs.Programs.{most_lines, program_of}
 use Rattle.pac_asm.specs.Skipping.{after_texts, IsLeftOutIfSkipped, SkippedLinesAreLeftOut}
@@ -34,16 +34,17 @@ seam (y ∷ xs) x more = seam xs x more
 -- ---- the first phase
 
 taken-ok : (number : ℕ) (old new : Standing) (line : List ℕ) (below : List (List ℕ))
-    → in_line number (after_line old line below) ≡ Ok new → after_text old line ≡ Ok new
+    → result_of_line number (after_line old line below) ≡ Ok new → after_text old line ≡ Ok new
 taken-ok number old new line below e =
-    closed-ok (is_never_closed (word_of line) below) (after_text old line) new (in_line-ok number (after_line old line below) new e)
+    closed-ok (is_never_closed (conditional_of_line line) below) (after_text old line) new
+    (in_line-ok number (after_line old line below) new e)
 
 -- lines one after another, as the first phase takes them
 all-texts : (number : ℕ) (old new : Standing) (lines : List (List ℕ)) → phase1 number old lines ≡ Ok new → after_texts old lines ≡ Ok new
 unfolding phase1 after_texts
 all-texts number old new [] e = let same : old ≡ new = cc in ap (λ (s : Standing). Ok s) same
 all-texts number old new (line ∷ below) e =
-    then-ok (λ (new : Standing). after_texts old (line ∷ below) ≡ Ok new) (in_line number (after_line old line below)) _
+    then-ok (λ (new : Standing). after_texts old (line ∷ below) ≡ Ok new) (result_of_line number (after_line old line below)) _
     (λ after y e1 e2.
     ap (λ (r : Result Standing AsmCode). r >>= λ after. after_texts after below) (taken-ok number old after line below e1)
     ∙ all-texts (number + 1) after y below e2) new e
@@ -54,26 +55,26 @@ record Reached (old new : Standing) (texts : List (List ℕ)) (line : List ℕ) 
   reached : after_texts old texts ≡ Ok above
   after : Standing
   taken : after_text above line ≡ Ok after
-  before : List Place
-  place : Place
-  more : List Place
+  before : List LineLayout
+  place : LineLayout
+  more : List LineLayout
   places : new.places ≡ old.places ++ (before ++ place ∷ more)
   fit : AllFit texts before
   others : after_texts after below ≡ Ok new
-  skipped : is_judged above.conditions (word_of line) ≡ false → place ≡ Skipped
+  skipped : is_judged above.conditions (conditional_of_line line) ≡ false → place ≡ Skipped
 
-own-place : (above after : Standing) (line : List ℕ) (place : Place) → after.places ≡ above.places ++ place ∷ []
-    → after_text above line ≡ Ok after → is_judged above.conditions (word_of line) ≡ false → place ≡ Skipped
+own-place : (above after : Standing) (line : List ℕ) (place : LineLayout) → after.places ≡ above.places ++ place ∷ []
+    → after_text above line ≡ Ok after → is_judged above.conditions (conditional_of_line line) ≡ false → place ≡ Skipped
 own-place above after line place added is skipped =
     some-same place Skipped
-    (sym (seam above.places place []) ∙ ap (λ (places : List Place). slice_get places (length above.places))
+    (sym (seam above.places place []) ∙ ap (λ (places : List LineLayout). slice_get places (length above.places))
     (sym added ∙ (passed-over above after line skipped is).places) ∙ seam above.places Skipped [])
 
 reach : (number : ℕ) (old new : Standing) (texts below : List (List ℕ)) (line : List ℕ)
     → phase1 number old (texts ++ line ∷ below) ≡ Ok new → Reached old new texts line below
 unfolding phase1 after_texts
 reach number old new [] below line e =
-    then-ok (λ (new : Standing). Reached old new [] line below) (in_line number (after_line old line below)) _
+    then-ok (λ (new : Standing). Reached old new [] line below) (result_of_line number (after_line old line below)) _
     (λ after y e1 e2.
     let taken : after_text old line ≡ Ok after = taken-ok number old after line below e1 in
     let one : Adds old after line = text old line after taken in
@@ -87,7 +88,7 @@ reach number old new [] below line e =
       place = one.place;
       more = rest.places;
       places =
-          rest.added ∙ ap (λ (places : List Place). places ++ rest.places) one.added
+          rest.added ∙ ap (λ (places : List LineLayout). places ++ rest.places) one.added
           ∙ append_assoc old.places (one.place ∷ []) rest.places;
       fit = tt;
       others = all-texts (number + 1) after y below e2;
@@ -95,7 +96,7 @@ reach number old new [] below line e =
     }) new e
 reach number old new (first ∷ texts) below line e =
     then-ok (λ (new : Standing). Reached old new (first ∷ texts) line below)
-    (in_line number (after_line old first (texts ++ line ∷ below))) _
+    (result_of_line number (after_line old first (texts ++ line ∷ below))) _
     (λ next y e1 e2.
     let taken : after_text old first ≡ Ok next = taken-ok number old next first (texts ++ line ∷ below) e1 in
     let one : Adds old next first = text old first next taken in
@@ -109,7 +110,7 @@ reach number old new (first ∷ texts) below line e =
       place = rest.place;
       more = rest.more;
       places =
-          rest.places ∙ ap (λ (places : List Place). places ++ (rest.before ++ rest.place ∷ rest.more)) one.added
+          rest.places ∙ ap (λ (places : List LineLayout). places ++ (rest.before ++ rest.place ∷ rest.more)) one.added
           ∙ append_assoc old.places (one.place ∷ []) (rest.before ++ rest.place ∷ rest.more);
       fit = (one.fit, rest.fit);
       others = rest.others;
@@ -129,19 +130,20 @@ same-list filled out e = cc
 stays : (filled out : List Line) → ◌≡◌ {A = Result (List Line) AsmFault} (Ok filled) (Ok out) → Grows filled out
 stays filled out e = record { more = []; grown = sym (same-list filled out e) ∙ sym (append-nil filled) }
 
-grows : (symbols : List Named) (number : ℕ) (filled : List Line) (texts : List (List ℕ)) (places : List Place) (out : List Line)
+grows : (symbols : List Symbol) (number : ℕ) (filled : List Line) (texts : List (List ℕ)) (places : List LineLayout) (out : List Line)
     → phase2 symbols number filled texts places ≡ Ok out → Grows filled out
 unfolding phase2
 grows symbols number filled [] places out e = stays filled out e
 grows symbols number filled (text ∷ texts) [] out e = stays filled out e
 grows symbols number filled (text ∷ texts) (place ∷ places) out e =
-    then-ok (λ (out : List Line). Grows filled out) (in_line number (line_at symbols text place)) _
+    then-ok (λ (out : List Line). Grows filled out) (result_of_line number (line_at_place symbols text place)) _
     (λ here y e1 e2.
     let rest : Grows (filled ++ here ∷ []) y = grows symbols (number + 1) (filled ++ here ∷ []) texts places y e2 in
     record { more = here ∷ rest.more; grown = rest.grown ∙ append_assoc filled (here ∷ []) rest.more }) out e
 
 -- the entry of a line with a skipped place
-entry : (symbols : List Named) (number : ℕ) (filled : List Line) (texts below : List (List ℕ)) (line : List ℕ) (before more : List Place)
+entry : (symbols : List Symbol) (number : ℕ) (filled : List Line) (texts below : List (List ℕ)) (line : List ℕ)
+    (before more : List LineLayout)
     (out : List Line) → AllFit texts before → phase2 symbols number filled (texts ++ line ∷ below) (before ++ Skipped ∷ more) ≡ Ok out
     → slice_get out (length filled + length texts) ≡ Some entries.Skipped
 unfolding phase2
@@ -154,7 +156,7 @@ entry symbols number filled [] below line (place ∷ before) more out fit e = ab
 entry symbols number filled (text ∷ texts) below line [] more out fit e = absurd fit
 entry symbols number filled (text ∷ texts) below line (place ∷ before) more out fit e =
     then-ok (λ (out : List Line). slice_get out (length filled + suc (length texts)) ≡ Some entries.Skipped)
-    (in_line number (line_at symbols text place)) _
+    (result_of_line number (line_at_place symbols text place)) _
     (λ here y e1 e2.
     let at : length filled + suc (length texts) ≡ length (filled ++ here ∷ []) + length texts =
     omega (arith, length-append filled (here ∷ [])) in
@@ -163,7 +165,7 @@ entry symbols number filled (text ∷ texts) below line (place ∷ before) more 
 -- ---- the program
 
 -- a program of these lines and symbols
-record Has (program : Assembled) (filled : List Line) (found : List Named) : Type 0 where
+record Has (program : Assembled) (filled : List Line) (found : List Symbol) : Type 0 where
   lines : filled ≡ program.lines
   symbols : program.symbols ≡ found
 
@@ -176,10 +178,10 @@ has made program e =
     }
 
 left-out : (texts below : List (List ℕ)) (line : List ℕ) (program : Assembled) (new : Standing) (filled : List Line)
-    → phase1 1 start (texts ++ line ∷ below) ≡ Ok new → phase2 new.symbols 1 [] (texts ++ line ∷ below) new.places ≡ Ok filled
+    → phase1 1 first_standing (texts ++ line ∷ below) ≡ Ok new → phase2 new.symbols 1 [] (texts ++ line ∷ below) new.places ≡ Ok filled
     → Has program filled new.symbols → IsLeftOutIfSkipped program texts line below
 left-out texts below line program new filled first second made =
-    let r : Reached start new texts line below = reach 1 start new texts below line first in
+    let r : Reached first_standing new texts line below = reach 1 first_standing new texts below line first in
     record {
       above = r.above;
       reached = r.reached;
@@ -191,7 +193,7 @@ left-out texts below line program new filled first second made =
       passed = λ skipped. passed-over r.above r.after line skipped r.taken;
       shown = λ skipped.
           let places : new.places ≡ r.before ++ Skipped ∷ r.more =
-          r.places ∙ ap (λ (place : Place). r.before ++ place ∷ r.more) (r.skipped skipped) in
+          r.places ∙ ap (λ (place : LineLayout). r.before ++ place ∷ r.more) (r.skipped skipped) in
           let at : length texts ≡ length {A = Line} [] + length texts = omega (arith) in
           ap (λ (lines : List Line). slice_get lines (length texts)) (sym made.lines) ∙ ap (slice_get filled) at
           ∙ entry new.symbols 1 [] texts below line r.before r.more filled r.fit
@@ -199,11 +201,11 @@ left-out texts below line program new filled first second made =
     }
 
 by-lines : (all texts below : List (List ℕ)) (line : List ℕ) (program : Assembled) → all ≡ texts ++ line ∷ below
-    → (new : Standing) (filled : List Line) → phase1 1 start all ≡ Ok new → phase2 new.symbols 1 [] all new.places ≡ Ok filled
+    → (new : Standing) (filled : List Line) → phase1 1 first_standing all ≡ Ok new → phase2 new.symbols 1 [] all new.places ≡ Ok filled
     → Has program filled new.symbols → IsLeftOutIfSkipped program texts line below
 by-lines all texts below line program parts new filled first second made =
     left-out texts below line program new filled
-    (ap (phase1 1 start) (sym parts) ∙ first)
+    (ap (phase1 1 first_standing) (sym parts) ∙ first)
     (ap (λ (all : List (List ℕ)). phase2 new.symbols 1 [] all new.places) (sym parts) ∙ second) made
 
 pub skipped-lines-are-left-out : SkippedLinesAreLeftOut
@@ -213,7 +215,7 @@ skipped-lines-are-left-out source program e texts below line parts =
     if-ok P (ltb most_lines (length (text_lines source))) (Err (record { code = TooManyLines; line = most_lines + 1 })) _
     (λ y e. none-ok P (record { code = TooManyLines; line = most_lines + 1 }) y e)
     (λ y e.
-    then-ok P (phase1 1 start (text_lines source)) _
+    then-ok P (phase1 1 first_standing (text_lines source)) _
     (λ after y e1 e2.
     then-ok P (phase2 after.symbols 1 [] (text_lines source) after.places) _
     (λ filled y e3 e4. by-lines (text_lines source) texts below line y parts after filled e1 e3 (has _ y e4)) y e2) y e)

@@ -2,36 +2,36 @@
 use Rattle.std.proofs.Common.{◌≡◌, ℤ, pos, Bool, true, false, not, List, [], ◌∷◌, Option, Some, None, Result, Ok, Err, ◌||◌}
 use Rattle.std.proofs.Common.{refl, ap, sym, subst, if◌then◌else◌, nat_lt, length}
 use Rattle.std.specs.Ordering.{int_eq}
-use Rattle.pac_source.specs.declared.conditional.Conditional.{Conditional}
-use Rattle.pac_source.specs.declared.conditional.Conditional.TheVariants.{If, Else, EndIf}
-use Rattle.pac_asm.specs.declared.condition.Condition.{Condition}
-use Rattle.pac_asm.specs.declared.condition.Condition.TheVariants.{Met, Unmet, Otherwise, Over, Passed}
+use Rattle.pac_asm_line.specs.declared.conditional.Conditional.{Conditional}
+use Rattle.pac_asm_line.specs.declared.conditional.Conditional.TheVariants.{If, Else, EndIf}
+use Rattle.pac_asm.specs.declared.condition.IfState.{IfState}
+use Rattle.pac_asm.specs.declared.condition.IfState.TheVariants.{Met, Unmet, Otherwise, Over, Passed}
 use Rattle.pac_asm.specs.declared.fault.AsmCode.{AsmCode}
 use Rattle.pac_asm.specs.declared.fault.AsmCode.TheVariants.{TooDeep}
-use Rattle.pac_asm.specs.Conditions.{is_judged, most_open, condition_of, after_else, after_end, after_skipped}
+use Rattle.pac_asm.specs.Conditions.{is_judged, most_open_ifs, condition_of, after_else, after_end, after_skipped}
 use Rattle.pac_asm.specs.Counting.{OpenIf, counts, ends_part, is_read, behind_else, behind_endif, behind_skipped}
 use Rattle.pac_asm.specs.Assignments.{is_nonzero}
 
-abbrev pub open_of : Condition → OpenIf
+abbrev pub open_of : IfState → OpenIf
 open_of Met = record { is_true = true; is_parted = false }
 open_of Unmet = record { is_true = false; is_parted = false }
 open_of Otherwise = record { is_true = false; is_parted = true }
 open_of Over = record { is_true = true; is_parted = true }
 open_of Passed = record { is_true = false; is_parted = false }
 
-abbrev pub opens : List Condition → List OpenIf
+abbrev pub opens : List IfState → List OpenIf
 opens [] = []
 opens (inner ∷ outer) = open_of inner ∷ opens outer
 
 -- an IF of a line that is skipped stands where lines don't count, and every other where they do
-abbrev pub IsAmong : Condition → Bool → Type 0
+abbrev pub IsAmong : IfState → Bool → Type 0
 IsAmong Met around = around ≡ true
 IsAmong Unmet around = around ≡ true
 IsAmong Otherwise around = around ≡ true
 IsAmong Over around = around ≡ true
 IsAmong Passed around = around ≡ false
 
-abbrev pub AreNested : List Condition → Type 0
+abbrev pub AreNested : List IfState → Type 0
 AreNested [] = Unit {0}
 AreNested (inner ∷ outer) = IsAmong inner (counts (opens outer)) × AreNested outer
 
@@ -43,7 +43,7 @@ none-open = refl
 
 -- ---- which lines are read whole
 
-read-in : (inner : Condition) (outer : List OpenIf) (word : Option Conditional) → IsAmong inner (counts outer) → (all : List Condition)
+read-in : (inner : IfState) (outer : List OpenIf) (word : Option Conditional) → IsAmong inner (counts outer) → (all : List IfState)
     → is_judged (inner ∷ all) word ≡ is_read (open_of inner ∷ outer) word
 read-in Met outer word e all = sym (ap (λ around. around || ends_part (open_of Met ∷ outer) word) e)
 read-in Otherwise outer word e all = sym (ap (λ around. around || ends_part (open_of Otherwise ∷ outer) word) e)
@@ -60,7 +60,7 @@ read-in Passed outer (Some Else) e all = sym e
 read-in Passed outer (Some EndIf) e all = sym e
 read-in Passed outer None e all = refl
 
-pub read-same : (conditions : List Condition) (word : Option Conditional) → AreNested conditions
+pub read-same : (conditions : List IfState) (word : Option Conditional) → AreNested conditions
     → is_judged conditions word ≡ is_read (opens conditions) word
 read-same [] word nested = refl
 read-same (inner ∷ outer) word nested = read-in inner (opens outer) word nested.0 outer
@@ -87,15 +87,15 @@ answered : {A : Type 0} (x y : A) → ◌≡◌ {A = Result A AsmCode} (Ok x) (O
 answered x y e = cc
 
 -- other open IFs, seen as lines are counted by
-pub record AreOpen (now : Option (List OpenIf)) (next : List Condition) : Type 0 where
+pub record AreOpen (now : Option (List OpenIf)) (next : List IfState) : Type 0 where
   pub are : now ≡ Some (opens next)
   pub nested : AreNested next
 
-open-at : (now : Option (List OpenIf)) (made next : List Condition) → ◌≡◌ {A = Result (List Condition) AsmCode} (Ok made) (Ok next)
+open-at : (now : Option (List OpenIf)) (made next : List IfState) → ◌≡◌ {A = Result (List IfState) AsmCode} (Ok made) (Ok next)
     → now ≡ Some (opens made) → AreNested made → AreOpen now next
 open-at now made next e same nested = subst (AreOpen now) (answered made next e) (record { are = same; nested = nested })
 
-pub open-else : (conditions next : List Condition) → AreNested conditions → after_else conditions ≡ Ok next
+pub open-else : (conditions next : List IfState) → AreNested conditions → after_else conditions ≡ Ok next
     → AreOpen (behind_else (opens conditions)) next
 open-else [] next nested e = absurd cc
 open-else (Met ∷ outer) next nested e = open-at _ (Over ∷ outer) next e refl nested
@@ -104,20 +104,20 @@ open-else (Otherwise ∷ outer) next nested e = absurd cc
 open-else (Over ∷ outer) next nested e = absurd cc
 open-else (Passed ∷ outer) next nested e = absurd cc
 
-pub open-end : (conditions next : List Condition) → AreNested conditions → after_end conditions ≡ Ok next
+pub open-end : (conditions next : List IfState) → AreNested conditions → after_end conditions ≡ Ok next
     → AreOpen (behind_endif (opens conditions)) next
 open-end [] next nested e = absurd cc
 open-end (inner ∷ outer) next nested e = open-at _ outer next e refl nested.1
 
-passed-if : (b : Bool) (conditions next : List Condition) → AreNested conditions → counts (opens conditions) ≡ false
+passed-if : (b : Bool) (conditions next : List IfState) → AreNested conditions → counts (opens conditions) ≡ false
     → (if b then Ok (Passed ∷ conditions) else Err TooDeep) ≡ Ok next
     → AreOpen (Some (record { is_true = false; is_parted = false } ∷ opens conditions)) next
 passed-if true conditions next nested out e = open-at _ (Passed ∷ conditions) next e refl (out, nested)
 passed-if false conditions next nested out e = absurd cc
 
-pub open-skipped : (word : Option Conditional) (conditions next : List Condition) → AreNested conditions → counts (opens conditions) ≡ false
+pub open-skipped : (word : Option Conditional) (conditions next : List IfState) → AreNested conditions → counts (opens conditions) ≡ false
     → after_skipped word conditions ≡ Ok next → AreOpen (Some (behind_skipped word (opens conditions))) next
-open-skipped (Some If) conditions next nested out e = passed-if (nat_lt (length conditions) most_open) conditions next nested out e
+open-skipped (Some If) conditions next nested out e = passed-if (nat_lt (length conditions) most_open_ifs) conditions next nested out e
 open-skipped (Some Else) conditions next nested out e = open-at _ conditions next e refl nested
 open-skipped (Some EndIf) [] next nested out e = open-at _ [] next e refl nested
 open-skipped (Some EndIf) (inner ∷ outer) next nested out e = open-at _ outer next e refl nested.1
@@ -131,7 +131,7 @@ value-among : (b around : Bool) → around ≡ true → IsAmong (if b then Unmet
 value-among true around e = e
 value-among false around e = e
 
-pub open-if : (value : ℤ) (conditions : List Condition) → AreNested conditions → counts (opens conditions) ≡ true
+pub open-if : (value : ℤ) (conditions : List IfState) → AreNested conditions → counts (opens conditions) ≡ true
     → AreOpen (Some (record { is_true = is_nonzero value; is_parted = false } ∷ opens conditions)) (condition_of value ∷ conditions)
 open-if value conditions nested in-all = record {
   are = ap (λ (first : OpenIf). Some (first ∷ opens conditions)) (sym (value-open (int_eq value (pos 0))));

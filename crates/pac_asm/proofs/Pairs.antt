@@ -3,11 +3,11 @@ use Rattle.std.proofs.Common.{◌≡◌, ℕ, zero, suc, ◌+◌, ◌-◌, ◌�
 use Rattle.std.proofs.Common.{refl, ap, sym, ◌∙◌, arith, cond, length, eqb}
 use Rattle.std.specs.Str.Lines.{lines}
 use Rattle.std.proofs.lemmas.Bool.{cond-true, cond-false, ne_eqb}
-use Rattle.pac_source.specs.declared.conditional.Conditional.{Conditional}
-use Rattle.pac_source.specs.declared.conditional.Conditional.TheVariants.{If, Else, EndIf}
+use Rattle.pac_asm_line.specs.declared.conditional.Conditional.{Conditional}
+use Rattle.pac_asm_line.specs.declared.conditional.Conditional.TheVariants.{If, Else, EndIf}
 use Rattle.pac_asm.specs.declared.lines.Pairing.{Pairing}
-use Rattle.pac_asm.specs.Pairing.{after_word}
-use Rattle.pac_asm.specs.Unclosed.{word_of, stays_open, is_never_closed, first_unclosed}
+use Rattle.pac_asm.specs.Pairing.{pairing_after_word}
+use Rattle.pac_asm.specs.Unclosed.{conditional_of_line, stays_open, is_never_closed, first_unclosed}
 
 -- the first that is never closed below so many lines
 abbrev pub shifted : ℕ → Option ℕ → Option ℕ
@@ -17,7 +17,7 @@ shifted above found = option_map (λ more. above + more) found
 abbrev pub found : ℕ → ℕ → ℕ → List (List ℕ) → Option ℕ
 found zero outermost above below = shifted above (first_unclosed below)
 found (suc inner) outermost above below =
-    cond (stays_open inner (map word_of below)) (Some outermost) (shifted above (first_unclosed below))
+    cond (stays_open inner (map conditional_of_line below)) (Some outermost) (shifted above (first_unclosed below))
 
 pub shifted-more : (above : ℕ) (x : Option ℕ) → shifted above (option_map (λ n. n + 1) x) ≡ shifted (above + 1) x
 shifted-more above None = refl
@@ -42,11 +42,11 @@ abbrev before : ℕ → ℕ → ℕ → Option Conditional → List (List ℕ) �
 before zero outermost above word below =
     shifted above (cond (is_never_closed word below) (Some 0) (option_map (λ n. n + 1) (first_unclosed below)))
 before (suc inner) outermost above word below =
-    cond (stays_open inner (word ∷ map word_of below)) (Some outermost)
+    cond (stays_open inner (word ∷ map conditional_of_line below)) (Some outermost)
     (shifted above (cond (is_never_closed word below) (Some 0) (option_map (λ n. n + 1) (first_unclosed below))))
 
 before-is : (depth outermost above : ℕ) (line : List ℕ) (below : List (List ℕ))
-    → before depth outermost above (word_of line) below ≡ found depth outermost above (line ∷ below)
+    → before depth outermost above (conditional_of_line line) below ≡ found depth outermost above (line ∷ below)
 before-is zero outermost above line below = refl
 before-is (suc inner) outermost above line below = refl
 
@@ -54,18 +54,19 @@ here-is : (above : ℕ) → Some (above + 0) ≡ Some above
 here-is above = ap (λ (k : ℕ). Some k) (omega arith)
 
 -- an IF, with none open and with some
-first-if : (above : ℕ) (below : List (List ℕ)) (is_open : Bool) → stays_open 0 (map word_of below) ≡ is_open
+first-if : (above : ℕ) (below : List (List ℕ)) (is_open : Bool) → stays_open 0 (map conditional_of_line below) ≡ is_open
     → found 1 above (above + 1) below ≡ shifted above (cond is_open (Some 0) (option_map (λ n. n + 1) (first_unclosed below)))
 first-if above below true e = cond-true _ _ _ e ∙ sym (here-is above)
 first-if above below false e = cond-false _ _ _ e ∙ sym (shifted-more above (first_unclosed below))
 
-inner-if : (inner outermost above : ℕ) (below : List (List ℕ)) (is_open : Bool) → stays_open (suc inner) (map word_of below) ≡ is_open
+inner-if : (inner outermost above : ℕ) (below : List (List ℕ)) (is_open : Bool) →
+    stays_open (suc inner) (map conditional_of_line below) ≡ is_open
     → found (suc (suc inner)) outermost (above + 1) below
     ≡ cond is_open (Some outermost)
-    (shifted above (cond (stays_open 0 (map word_of below)) (Some 0) (option_map (λ n. n + 1) (first_unclosed below))))
+    (shifted above (cond (stays_open 0 (map conditional_of_line below)) (Some 0) (option_map (λ n. n + 1) (first_unclosed below))))
 inner-if inner outermost above below true e = cond-true _ _ _ e
 inner-if inner outermost above below false e =
-    let closed = closed-inside 0 (suc inner) (map word_of below) (omega arith) e in
+    let closed = closed-inside 0 (suc inner) (map conditional_of_line below) (omega arith) e in
     cond-false _ _ _ e ∙ sym (shifted-more above (first_unclosed below))
     ∙ sym (ap (shifted above) (cond-false _ _ _ closed))
 
@@ -75,14 +76,14 @@ other : (depth outermost above : ℕ) (below : List (List ℕ))
     ≡ before depth outermost above None below
 other zero outermost above below = sym (shifted-more above (first_unclosed below))
 other (suc inner) outermost above below =
-    ap (cond (stays_open inner (map word_of below)) (Some outermost)) (sym (shifted-more above (first_unclosed below)))
+    ap (cond (stays_open inner (map conditional_of_line below)) (Some outermost)) (sym (shifted-more above (first_unclosed below)))
 
 -- what is found after a line
 abbrev found-after : Pairing → List (List ℕ) → Option ℕ
 found-after p below = found p.depth p.outermost p.above below
 
 step : (depth outermost above : ℕ) (word : Option Conditional) (below : List (List ℕ))
-    → found-after (after_word (record { above = above; depth = depth; outermost = outermost }) word) below
+    → found-after (pairing_after_word (record { above = above; depth = depth; outermost = outermost }) word) below
     ≡ before depth outermost above word below
 step zero outermost above (Some If) below = first-if above below _ refl
 step (suc inner) outermost above (Some If) below =
@@ -107,29 +108,30 @@ pub record Kept (source rest : List ℕ) (p : Pairing) : Type 0 where
   pub within : p.depth ≤ p.above
   pub same : found p.depth p.outermost p.above (lines rest) ≡ first_unclosed (lines source)
 
-within-after : (p : Pairing) (word : Option Conditional) → p.depth ≤ p.above → (after_word p word).depth ≤ p.above + 1
+within-after : (p : Pairing) (word : Option Conditional) → p.depth ≤ p.above → (pairing_after_word p word).depth ≤ p.above + 1
 within-after p (Some If) h = omega arith
 within-after p (Some EndIf) h = omega arith
 within-after p (Some Else) h = omega arith
 within-after p None h = omega arith
 
-above-after : (p : Pairing) (word : Option Conditional) → (after_word p word).above ≡ p.above + 1
+above-after : (p : Pairing) (word : Option Conditional) → (pairing_after_word p word).above ≡ p.above + 1
 above-after p (Some If) = refl
 above-after p (Some EndIf) = refl
 above-after p (Some Else) = refl
 above-after p None = refl
 
-pub kept : (source rest line below : List ℕ) (p q : Pairing) (word : Option Conditional) → q ≡ after_word p word → word ≡ word_of line
+pub kept : (source rest line below : List ℕ) (p q : Pairing) (word : Option Conditional) → q ≡ pairing_after_word p word →
+    word ≡ conditional_of_line line
     → lines rest ≡ line ∷ lines below → Kept source rest p → Kept source below q
 kept source rest line below p q word is w e was =
     let above : q.above ≡ p.above + 1 = ap (λ (r : Pairing). r.above) is ∙ above-after p word in
-    let depth : q.depth ≡ (after_word p word).depth = ap (λ (r : Pairing). r.depth) is in
+    let depth : q.depth ≡ (pairing_after_word p word).depth = ap (λ (r : Pairing). r.depth) is in
     record {
       counted = omega (arith, was.counted, ap length e);
       within = omega (arith, within-after p word was.within);
       same =
-          ap (λ (r : Pairing). found-after r (lines below)) (is ∙ ap (after_word p) w)
-          ∙ step p.depth p.outermost p.above (word_of line) (lines below)
+          ap (λ (r : Pairing). found-after r (lines below)) (is ∙ ap (pairing_after_word p) w)
+          ∙ step p.depth p.outermost p.above (conditional_of_line line) (lines below)
           ∙ before-is p.depth p.outermost p.above line (lines below)
           ∙ ap (found p.depth p.outermost p.above) (sym e)
           ∙ was.same;

@@ -4,16 +4,16 @@ use Rattle.std.proofs.Common.{refl, ap, sym, ◌∙◌, append_assoc, option_map
 use Rattle.std.proofs.lemmas.Option.{none-some}
 use Rattle.pac_expr.specs.Trees.{Tree, atom, group, signed, joined}
 use Rattle.pac_expr.specs.Trees as trees
-use Rattle.pac_expr.specs.Values.{defined, sign_value, joined_value, value_of}
-use Rattle.pac_program.specs.Names.{Named, number_of}
-use Rattle.pac_source.specs.Statements.{Statement, nothing, origin, equate, bytes, words, space, condition, otherwise}
-use Rattle.pac_source.specs.Statements.{end_condition}
-use Rattle.pac_source.specs.Statements.{operation, Form}
+use Rattle.pac_expr.specs.Values.{defined_value, sign_value, joined_value, tree_value}
+use Rattle.pac_asm_program.specs.Names.{Symbol, number_of_symbol}
+use Rattle.pac_asm_line.specs.Statements.{Statement, nothing, origin, equate, bytes, words, space, condition, otherwise}
+use Rattle.pac_asm_line.specs.Statements.{end_condition}
+use Rattle.pac_asm_line.specs.Statements.{operation, Form}
 use Rattle.pac_asm.specs.declared.fault.AsmCode.{AsmCode}
 use Rattle.pac_asm.specs.Counting.{is_read, inside_if}
-use Rattle.pac_asm.specs.Unclosed.{word_of}
-use Rattle.pac_asm.specs.Reading.{read}
-use Rattle.pac_asm.specs.Assignments.{Spot, Step, labelled, counted, valued, with_open, is_nonzero, with_bytes, step_by}
+use Rattle.pac_asm.specs.Unclosed.{conditional_of_line}
+use Rattle.pac_asm.specs.Reading.{form_of_line}
+use Rattle.pac_asm.specs.Assignments.{Spot, LineStep, label_symbols, optional_count, optional_value, with_open_ifs, is_nonzero, with_bytes, step_by}
 use Rattle.pac_asm.specs.Assignments.{step_read, step_if, step_of}
 use Rattle.pac_asm.specs.Assignments.{defined_after, defined_in, first_spot, NamesStand, StatementStands, ReadStands}
 use Rattle.pac_asm.specs.Assignments.{LineStands}
@@ -22,18 +22,18 @@ use Rattle.pac_asm.proofs.Assigned.{Extends, found-first, mapped, some-same}
 
 -- ---- one value
 
-name-extends : (above : List Named) (names : List ℕ → Option ℤ) → Extends above names → (text : List ℕ) (o : Option ℤ)
-    → number_of above text ≡ o → (number_of above text ≡ None → ⊥) → names text ≡ number_of above text
+name-extends : (above : List Symbol) (names : List ℕ → Option ℤ) → Extends above names → (text : List ℕ) (o : Option ℤ)
+    → number_of_symbol above text ≡ o → (number_of_symbol above text ≡ None → ⊥) → names text ≡ number_of_symbol above text
 name-extends above names extends text None e h = absurd (h e)
 name-extends above names extends text (Some z) e h = extends text z e ∙ sym e
 
 -- an expression of known names has the value, or the fault, that they give it
-known-value : (above : List Named) (names : List ℕ → Option ℤ) → Extends above names → (at : ℕ) (tree : Tree) → NamesStand above tree
-    → value_of names at tree ≡ value_of (number_of above) at tree
+known-value : (above : List Symbol) (names : List ℕ → Option ℤ) → Extends above names → (at : ℕ) (tree : Tree) → NamesStand above tree
+    → tree_value names at tree ≡ tree_value (number_of_symbol above) at tree
 known-value above names extends at (atom (trees.number n)) h = refl
 known-value above names extends at (atom (trees.character c)) h = refl
 known-value above names extends at (atom (trees.name text)) h =
-    ap defined (name-extends above names extends text (number_of above text) refl h)
+    ap defined_value (name-extends above names extends text (number_of_symbol above text) refl h)
 known-value above names extends at (atom trees.here) h = refl
 known-value above names extends at (group tree) h = known-value above names extends at tree h
 known-value above names extends at (signed sign tree) h = ap (sign_value sign) (known-value above names extends at tree h)
@@ -42,72 +42,75 @@ known-value above names extends at (joined operator left right) h =
     (known-value above names extends at left (λ u. h (inl u)) i)
     (known-value above names extends at right (λ u. h (inr u)) i)
 
-same-value : (above : List Named) (a b : List ℕ → Option ℤ) → Extends above a → Extends above b → (at : ℕ) (tree : Tree)
-    → NamesStand above tree → value_of a at tree ≡ value_of b at tree
+same-value : (above : List Symbol) (a b : List ℕ → Option ℤ) → Extends above a → Extends above b → (at : ℕ) (tree : Tree)
+    → NamesStand above tree → tree_value a at tree ≡ tree_value b at tree
 same-value above a b ea eb at tree h = known-value above a ea at tree h ∙ sym (known-value above b eb at tree h)
 
 -- ---- one step
 
-same-statement : (above : List Named) (a b : List ℕ → Option ℤ) → Extends above a → Extends above b →
+same-statement : (above : List Symbol) (a b : List ℕ → Option ℤ) → Extends above a → Extends above b →
     (spot : Spot) (label : Option (List ℕ)) (statement : Statement)
     → StatementStands above statement → step_by a spot label statement ≡ step_by b spot label statement
 same-statement above a b ea eb spot label nothing h = refl
 same-statement above a b ea eb spot label (origin place) h =
-    ap (λ answer. option_map (λ at. ([], record spot { at = at })) (counted answer)) (same-value above a b ea eb spot.at place h)
+    ap (λ answer. option_map (λ at. ([], record spot { at = at })) (optional_count answer)) (same-value above a b ea eb spot.at place h)
 same-statement above a b ea eb spot label (equate number) h =
-    ap (λ answer. option_map (λ value. (labelled label value, spot)) (valued answer)) (same-value above a b ea eb spot.at number h)
+    ap (λ answer. option_map (λ value. (label_symbols label value, spot)) (optional_value answer))
+    (same-value above a b ea eb spot.at number h)
 same-statement above a b ea eb spot label (condition test) h =
-    ap (λ answer. with_open spot (option_map (λ value. inside_if (is_nonzero value) spot.ifs) (valued answer)))
+    ap (λ answer. with_open_ifs spot (option_map (λ value. inside_if (is_nonzero value) spot.ifs) (optional_value answer)))
     (same-value above a b ea eb spot.at test h)
 same-statement above a b ea eb spot label otherwise h = refl
 same-statement above a b ea eb spot label end_condition h = refl
 same-statement above a b ea eb spot label (space size fill) h =
-    ap (λ answer. option_map (with_bytes spot label) (counted answer)) (same-value above a b ea eb spot.at size h)
+    ap (λ answer. option_map (with_bytes spot label) (optional_count answer)) (same-value above a b ea eb spot.at size h)
 same-statement above a b ea eb spot label (bytes parts) h = refl
 same-statement above a b ea eb spot label (words numbers) h = refl
 same-statement above a b ea eb spot label (operation written) h = refl
 
-same-read : (above : List Named) (a b : List ℕ → Option ℤ) → Extends above a → Extends above b → (spot : Spot)
+same-read : (above : List Symbol) (a b : List ℕ → Option ℤ) → Extends above a → Extends above b → (spot : Spot)
     (answer : Result Form AsmCode) → ReadStands above answer → step_read a spot answer ≡ step_read b spot answer
 same-read above a b ea eb spot (Ok form) h = same-statement above a b ea eb spot form.label form.statement h
 same-read above a b ea eb spot (Err code) h = refl
 
-same-if : (above : List Named) (a b : List ℕ → Option ℤ) → Extends above a → Extends above b → (spot : Spot) (line : List ℕ) (c : Bool)
+same-if : (above : List Symbol) (a b : List ℕ → Option ℤ) → Extends above a → Extends above b → (spot : Spot) (line : List ℕ) (c : Bool)
     → LineStands above line c → step_if a spot line c ≡ step_if b spot line c
-same-if above a b ea eb spot line true h = same-read above a b ea eb spot (read line) h
+same-if above a b ea eb spot line true h = same-read above a b ea eb spot (form_of_line line) h
 same-if above a b ea eb spot line false h = refl
 
-same-step : (above : List Named) (a b : List ℕ → Option ℤ) → Extends above a → Extends above b → (spot : Spot) (line : List ℕ)
-    → LineStands above line (is_read spot.ifs (word_of line)) → step_of a spot line ≡ step_of b spot line
+same-step : (above : List Symbol) (a b : List ℕ → Option ℤ) → Extends above a → Extends above b → (spot : Spot) (line : List ℕ)
+    → LineStands above line (is_read spot.ifs (conditional_of_line line)) → step_of a spot line ≡ step_of b spot line
 unfolding step_of
-same-step above a b ea eb spot line h = same-if above a b ea eb spot line (is_read spot.ifs (word_of line)) h
+same-step above a b ea eb spot line h = same-if above a b ea eb spot line (is_read spot.ifs (conditional_of_line line)) h
 
 -- ---- all lines
 
 -- right assignments that agree on what is defined above agree on what these lines define
 abbrev AreSame : (a b : List ℕ → Option ℤ) → List (List ℕ) → Type 0
-AreSame a b lines = (above : List Named) (spot : Spot) (some other : List Named) → AreDefinedAbove a above spot lines
+AreSame a b lines = (above : List Symbol) (spot : Spot) (some other : List Symbol) → AreDefinedAbove a above spot lines
     → defined_in a spot lines ≡ Some some → defined_in b spot lines ≡ Some other
-    → ((name : List ℕ) → a name ≡ number_of (above ++ some) name) → ((name : List ℕ) → b name ≡ number_of (above ++ other) name)
+    → ((name : List ℕ) → a name ≡ number_of_symbol (above ++ some) name) →
+    ((name : List ℕ) → b name ≡ number_of_symbol (above ++ other) name)
     → some ≡ other
 
-longer : (above new more all : List Named) → new ++ more ≡ all → above ++ all ≡ (above ++ new) ++ more
+longer : (above new more all : List Symbol) → new ++ more ≡ all → above ++ all ≡ (above ++ new) ++ more
 longer above new more all e = ap (λ xs. above ++ xs) (sym e) ∙ sym (append_assoc above new more)
 
-same-after : (a b : List ℕ → Option ℤ) (above : List Named) (below : List (List ℕ)) → AreSame a b below →
-    (step : Option Step) (some other : List Named)
+same-after : (a b : List ℕ → Option ℤ) (above : List Symbol) (below : List (List ℕ)) → AreSame a b below →
+    (step : Option LineStep) (some other : List Symbol)
     → RestStands step (λ step. AreDefinedAbove a (above ++ step.0) step.1 below)
     → defined_after step (λ next. defined_in a next below) ≡ Some some
     → defined_after step (λ next. defined_in b next below) ≡ Some other
-    → ((name : List ℕ) → a name ≡ number_of (above ++ some) name) → ((name : List ℕ) → b name ≡ number_of (above ++ other) name)
+    → ((name : List ℕ) → a name ≡ number_of_symbol (above ++ some) name) →
+    ((name : List ℕ) → b name ≡ number_of_symbol (above ++ other) name)
     → some ≡ other
 same-after a b above below again None some other h da db na nb = absurd (none-some some da)
 same-after a b above below again (Some step) some other h da db na nb =
     let ma = mapped step.0 some (defined_in a step.1 below) da in
     let mb = mapped step.0 other (defined_in b step.1 below) db in
     let same : ma.0 ≡ mb.0 = again (above ++ step.0) step.1 ma.0 mb.0 h ma.1 mb.1
-    (λ name. na name ∙ ap (λ xs. number_of xs name) (longer above step.0 ma.0 some ma.2))
-    (λ name. nb name ∙ ap (λ xs. number_of xs name) (longer above step.0 mb.0 other mb.2)) in
+    (λ name. na name ∙ ap (λ xs. number_of_symbol xs name) (longer above step.0 ma.0 some ma.2))
+    (λ name. nb name ∙ ap (λ xs. number_of_symbol xs name) (longer above step.0 mb.0 other mb.2)) in
     sym ma.2 ∙ ap (λ xs. step.0 ++ xs) same ∙ mb.2
 
 are-same : (a b : List ℕ → Option ℤ) (lines : List (List ℕ)) → AreSame a b lines
@@ -123,4 +126,4 @@ pub at-most-one-is-right : AtMostOneIsRight
 at-most-one-is-right lines names other right also above name =
     let same = are-same names other lines [] first_spot right.definitions also.definitions above right.defined also.defined
     right.assigned also.assigned in
-    also.assigned name ∙ ap (λ xs. number_of xs name) (sym same) ∙ sym (right.assigned name)
+    also.assigned name ∙ ap (λ xs. number_of_symbol xs name) (sym same) ∙ sym (right.assigned name)

@@ -2,8 +2,8 @@
 -- ELSE lines count where the IF's value isn't 0, and between the ELSE and the ENDIF where it is 0; a line counts where it does so
 -- in each IF that is open around it.
 use Rattle.std.specs.Prelude.{Bool, true, false, not, ◌&&◌, ◌||◌, if◌then◌else◌, List, [], ◌∷◌, Option, Some, None}
-use Rattle.pac_source.specs.declared.conditional.Conditional.{Conditional}
-use Rattle.pac_source.specs.declared.conditional.Conditional.TheVariants.{If, Else, EndIf}
+use Rattle.pac_asm_line.specs.declared.conditional.Conditional.{Conditional}
+use Rattle.pac_asm_line.specs.declared.conditional.Conditional.TheVariants.{If, Else, EndIf}
 
 -- an IF that is open around a line: whether its value isn't 0, and whether its ELSE stands above the line
 pub record OpenIf : Type 0 where

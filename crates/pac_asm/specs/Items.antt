@@ -1,15 +1,15 @@
 -- For proofs: places that fit their lines, and lines at their places.
 use Rattle.std.specs.Prelude.{◌≡◌, ℕ, List, [], ◌∷◌, length, Ok}
 use Rattle.pac_code.specs.Items.{Item, bytes_of, IsValid}
-use Rattle.pac_program.specs.declared.line.Line.{Line}
-use Rattle.pac_program.specs.declared.line.Line.TheVariants as lines
-use Rattle.pac_source.specs.Statements.{Statement, nothing, origin, equate, space, condition, otherwise, end_condition}
-use Rattle.pac_source.specs.Statements.{Form}
-use Rattle.pac_source.specs.Contents.{size_of}
+use Rattle.pac_asm_program.specs.declared.line.Line.{Line}
+use Rattle.pac_asm_program.specs.declared.line.Line.TheVariants as lines
+use Rattle.pac_asm_line.specs.Statements.{Statement, nothing, origin, equate, space, condition, otherwise, end_condition}
+use Rattle.pac_asm_line.specs.Statements.{Form}
+use Rattle.pac_asm_line.specs.Contents.{statement_size}
 use Rattle.pac_asm.specs.declared.place.Span.{Span}
-use Rattle.pac_asm.specs.declared.place.Place.{Place}
-use Rattle.pac_asm.specs.declared.place.Place.TheVariants.{Blank, Skipped, Placed}
-use Rattle.pac_asm.specs.Reading.{read}
+use Rattle.pac_asm.specs.declared.place.LineLayout.{LineLayout}
+use Rattle.pac_asm.specs.declared.place.LineLayout.TheVariants.{Blank, Skipped, Placed}
+use Rattle.pac_asm.specs.Reading.{form_of_line}
 
 -- ---- places that fit their lines
 
@@ -22,17 +22,17 @@ IsSized size (condition test) = ⊥
 IsSized size otherwise = ⊥
 IsSized size end_condition = ⊥
 IsSized size (space count fill) = Unit {0}
-IsSized size statement = size ≡ size_of statement
+IsSized size statement = size ≡ statement_size statement
 
-abbrev pub Fits : List ℕ → Place → Type 0
-Fits line Blank = Unit {0}
-Fits line Skipped = Unit {0}
-Fits line (Placed span) = (form : Form) × (read line ≡ Ok form) × IsSized span.size form.statement
+abbrev pub FitsLine : List ℕ → LineLayout → Type 0
+FitsLine line Blank = Unit {0}
+FitsLine line Skipped = Unit {0}
+FitsLine line (Placed span) = (form : Form) × (form_of_line line ≡ Ok form) × IsSized span.size form.statement
 
 -- each line with its place
-abbrev pub AllFit : List (List ℕ) → List Place → Type 0
+abbrev pub AllFit : List (List ℕ) → List LineLayout → Type 0
 AllFit [] [] = Unit {0}
-AllFit (line ∷ lines) (place ∷ places) = Fits line place × AllFit lines places
+AllFit (line ∷ lines) (place ∷ places) = FitsLine line place × AllFit lines places
 AllFit lines places = ⊥
 
 -- ---- a line at its place
@@ -43,7 +43,7 @@ pub record IsItemOf (span : Span) (item : Item) : Type 0 where
   pub size : length (bytes_of item) ≡ span.size
   pub valid : IsValid item.content
 
-abbrev pub IsLineOf : Place → Line → Type 0
+abbrev pub IsLineOf : LineLayout → Line → Type 0
 IsLineOf Blank lines.Blank = Unit {0}
 IsLineOf Skipped lines.Skipped = Unit {0}
 IsLineOf (Placed span) (lines.Placed item) = IsItemOf span item

@@ -2,24 +2,24 @@
 -- order A1, A2, A12, A13, A3, A4, A10, A5, A6, A14 (this profile).
 use Rattle.std.specs.Prelude.{ℕ, Bool, pos, ◌+◌, List, [], ◌∷◌, ◌++◌, length, nat_lt, Option, Result, Ok, Err}
 use Rattle.std.specs.Prelude.{if◌then◌else◌}
-use Rattle.pac_source.specs.declared.conditional.Conditional.{Conditional}
-use Rattle.pac_source.specs.Statements.{Statement, nothing, origin, equate, space, condition, otherwise, end_condition}
-use Rattle.pac_source.specs.Statements.{Form}
-use Rattle.pac_source.specs.Contents.{size_of}
-use Rattle.pac_asm.specs.Results.{◌>>=◌, in_line}
-use Rattle.pac_asm.specs.Reading.{read}
-use Rattle.pac_asm.specs.Conditions.{is_judged, most_open, condition_of, after_else, after_end, after_skipped}
-use Rattle.pac_asm.specs.Unclosed.{word_of, is_never_closed}
-use Rattle.pac_asm.specs.Standings.{Standing, known, within_rom, is_new, with_label, room_for}
-use Rattle.pac_asm.specs.declared.place.Place.TheVariants.{Blank, Skipped, Placed}
+use Rattle.pac_asm_line.specs.declared.conditional.Conditional.{Conditional}
+use Rattle.pac_asm_line.specs.Statements.{Statement, nothing, origin, equate, space, condition, otherwise, end_condition}
+use Rattle.pac_asm_line.specs.Statements.{Form}
+use Rattle.pac_asm_line.specs.Contents.{statement_size}
+use Rattle.pac_asm.specs.Results.{◌>>=◌, result_of_line}
+use Rattle.pac_asm.specs.Reading.{form_of_line}
+use Rattle.pac_asm.specs.Conditions.{is_judged, most_open_ifs, condition_of, after_else, after_end, after_skipped}
+use Rattle.pac_asm.specs.Unclosed.{conditional_of_line, is_never_closed}
+use Rattle.pac_asm.specs.Standings.{Standing, known_value, within_rom, is_new, with_label, room_for}
+use Rattle.pac_asm.specs.declared.place.LineLayout.TheVariants.{Blank, Skipped, Placed}
 use Rattle.pac_asm.specs.declared.fault.AsmCode.{AsmCode}
 use Rattle.pac_asm.specs.declared.fault.AsmCode.TheVariants.{DefinedBefore, TooDeep, NeverClosed}
 use Rattle.pac_asm.specs.declared.fault.AsmFault.{AsmFault}
 
 -- how many bytes a statement takes: the value of its first expression where it is a DEFS
-abbrev pub sized : Standing → Statement → Result ℕ AsmCode
-sized above (space size fill) = known above size >>= within_rom
-sized above statement = Ok (size_of statement)
+abbrev pub size_above : Standing → Statement → Result ℕ AsmCode
+size_above above (space size fill) = known_value above size >>= within_rom
+size_above above statement = Ok (statement_size statement)
 
 -- after a line that has an item of so many bytes, at the address reached
 abbrev pub after_item : Standing → Option (List ℕ) → ℕ → Result Standing AsmCode
@@ -36,15 +36,15 @@ abbrev pub after_statement : Standing → Option (List ℕ) → Statement → Re
 after_statement above label nothing =
     Ok (record above { symbols = with_label above.symbols label (pos above.at); places = above.places ++ Blank ∷ [] })
 after_statement above label (origin place) = do
-  number ← known above place
+  number ← known_value above place
   at ← within_rom number
   Ok (record above { at = at; places = above.places ++ Blank ∷ [] })
 after_statement above label (equate number) = do
-  value ← known above number
+  value ← known_value above number
   Ok (record above { symbols = with_label above.symbols label value; places = above.places ++ Blank ∷ [] })
 after_statement above label (condition test) =
-    if nat_lt (length above.conditions) most_open then (do
-      value ← known above test
+    if nat_lt (length above.conditions) most_open_ifs then (do
+      value ← known_value above test
       Ok (record above { conditions = condition_of value ∷ above.conditions; places = above.places ++ Blank ∷ [] }))
     else Err TooDeep
 after_statement above label otherwise = do
@@ -54,7 +54,7 @@ after_statement above label end_condition = do
   conditions ← after_end above.conditions
   Ok (record above { conditions = conditions; places = above.places ++ Blank ∷ [] })
 after_statement above label statement = do
-  size ← sized above statement
+  size ← size_above above statement
   after_item above label size
 
 -- A3, before all that the statement may be refused for
@@ -64,7 +64,7 @@ after_form above form =
 
 -- after a line that is judged whole, and after one that is skipped
 abbrev pub after_judged : Standing → List ℕ → Result Standing AsmCode
-after_judged above line = read line >>= after_form above
+after_judged above line = form_of_line line >>= after_form above
 
 abbrev pub after_passed : Standing → Option Conditional → Result Standing AsmCode
 after_passed above word = do
@@ -74,20 +74,20 @@ after_passed above word = do
 -- after a line by itself, whatever stands below it
 unfoldable pub after_text : Standing → List ℕ → Result Standing AsmCode
 after_text above line =
-    if is_judged above.conditions (word_of line) then after_judged above line else after_passed above (word_of line)
+    if is_judged above.conditions (conditional_of_line line) then after_judged above line else after_passed above (conditional_of_line line)
 
 -- A14, after all other faults of a line
-abbrev pub closed : Bool → Result Standing AsmCode → Result Standing AsmCode
-closed is_open (Ok after) = if is_open then Err NeverClosed else Ok after
-closed is_open (Err code) = Err code
+abbrev pub unless_left_open : Bool → Result Standing AsmCode → Result Standing AsmCode
+unless_left_open is_open (Ok after) = if is_open then Err NeverClosed else Ok after
+unless_left_open is_open (Err code) = Err code
 
 -- after a line, with the lines below it
 abbrev pub after_line : Standing → List ℕ → List (List ℕ) → Result Standing AsmCode
-after_line above line below = closed (is_never_closed (word_of line) below) (after_text above line)
+after_line above line below = unless_left_open (is_never_closed (conditional_of_line line) below) (after_text above line)
 
 -- after the lines from this number on, or the first fault
 unfoldable pub phase1 : ℕ → Standing → List (List ℕ) → Result Standing AsmFault
 phase1 number above [] = Ok above
 phase1 number above (line ∷ below) = do
-  after ← in_line number (after_line above line below)
+  after ← result_of_line number (after_line above line below)
   phase1 (number + 1) after below

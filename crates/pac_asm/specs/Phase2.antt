@@ -2,44 +2,44 @@
 -- come in the order A8, A10, A9 (this profile).
 use Rattle.std.specs.Prelude.{ℕ, ◌+◌, List, [], ◌∷◌, ◌++◌, Option, Some, None, Result, Ok, Err}
 use Rattle.pac_code.specs.Items.{Content}
-use Rattle.pac_operation.specs.declared.OperationFault.{OperationFault}
-use Rattle.pac_operation.specs.declared.OperationFault.TheVariants as operations
-use Rattle.pac_source.specs.Contents.{content_of}
-use Rattle.pac_program.specs.Names.{Named, number_of}
-use Rattle.pac_program.specs.declared.line.Line.{Line}
-use Rattle.pac_program.specs.declared.line.Line.TheVariants as lines
-use Rattle.pac_asm.specs.Results.{◌>>=◌, in_line}
-use Rattle.pac_asm.specs.Reading.{read}
-use Rattle.pac_asm.specs.declared.place.Place.{Place}
-use Rattle.pac_asm.specs.declared.place.Place.TheVariants.{Blank, Skipped, Placed}
+use Rattle.pac_asm_operation.specs.declared.OperationFault.{OperationFault}
+use Rattle.pac_asm_operation.specs.declared.OperationFault.TheVariants as operations
+use Rattle.pac_asm_line.specs.Contents.{content_of}
+use Rattle.pac_asm_program.specs.Names.{Symbol, number_of_symbol}
+use Rattle.pac_asm_program.specs.declared.line.Line.{Line}
+use Rattle.pac_asm_program.specs.declared.line.Line.TheVariants as lines
+use Rattle.pac_asm.specs.Results.{◌>>=◌, result_of_line}
+use Rattle.pac_asm.specs.Reading.{form_of_line}
+use Rattle.pac_asm.specs.declared.place.LineLayout.{LineLayout}
+use Rattle.pac_asm.specs.declared.place.LineLayout.TheVariants.{Blank, Skipped, Placed}
 use Rattle.pac_asm.specs.declared.fault.AsmCode.{AsmCode}
 use Rattle.pac_asm.specs.declared.fault.AsmCode.TheVariants.{Undefined, OutOfRange, Arithmetic}
 use Rattle.pac_asm.specs.declared.fault.AsmFault.{AsmFault}
 
-abbrev pub code_of : OperationFault → AsmCode
-code_of operations.Undefined = Undefined
-code_of operations.Arithmetic = Arithmetic
-code_of operations.Range = OutOfRange
+abbrev pub code_of_fault : OperationFault → AsmCode
+code_of_fault operations.Undefined = Undefined
+code_of_fault operations.Arithmetic = Arithmetic
+code_of_fault operations.Range = OutOfRange
 
 -- a line with its item, if it has one
 abbrev pub line_of : ℕ → Option Content → Line
 line_of at None = lines.Blank
 line_of at (Some content) = lines.Placed (record { at = at; content = content })
 
-abbrev pub placed : ℕ → Result (Option Content) OperationFault → Result Line AsmCode
-placed at (Ok content) = Ok (line_of at content)
-placed at (Err fault) = Err (code_of fault)
+abbrev pub line_or_fault : ℕ → Result (Option Content) OperationFault → Result Line AsmCode
+line_or_fault at (Ok content) = Ok (line_of at content)
+line_or_fault at (Err fault) = Err (code_of_fault fault)
 
 -- what a line puts into the program, at the place that the first phase gave it
-abbrev pub line_at : List Named → List ℕ → Place → Result Line AsmCode
-line_at symbols line Blank = Ok lines.Blank
-line_at symbols line Skipped = Ok lines.Skipped
-line_at symbols line (Placed span) =
-    read line >>= λ form. placed span.at (content_of (number_of symbols) span.at span.size form.statement)
+abbrev pub line_at_place : List Symbol → List ℕ → LineLayout → Result Line AsmCode
+line_at_place symbols line Blank = Ok lines.Blank
+line_at_place symbols line Skipped = Ok lines.Skipped
+line_at_place symbols line (Placed span) =
+    form_of_line line >>= λ form. line_or_fault span.at (content_of (number_of_symbol symbols) span.at span.size form.statement)
 
--- the same of the lines from this number on, with those before them, or the first fault
-unfoldable pub phase2 : List Named → ℕ → List Line → List (List ℕ) → List Place → Result (List Line) AsmFault
+-- what the lines from this number on put into the program, after those before them, or the first fault
+unfoldable pub phase2 : List Symbol → ℕ → List Line → List (List ℕ) → List LineLayout → Result (List Line) AsmFault
 phase2 symbols number before (line ∷ below) (place ∷ places) = do
-  here ← in_line number (line_at symbols line place)
+  here ← result_of_line number (line_at_place symbols line place)
   phase2 symbols (number + 1) (before ++ here ∷ []) below places
 phase2 symbols number before below places = Ok before

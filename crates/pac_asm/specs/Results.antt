@@ -10,6 +10,6 @@ abbrev pub ◌>>=◌ : {E A B : Type 0} → Result A E → (A → Result B E) �
 (Err e) >>= f = Err e
 
 -- the step of the line with this number
-abbrev pub in_line : {A : Type 0} → ℕ → Result A AsmCode → Result A AsmFault
-in_line number (Ok x) = Ok x
-in_line number (Err code) = Err (record { code = code; line = number })
+abbrev pub result_of_line : {A : Type 0} → ℕ → Result A AsmCode → Result A AsmFault
+result_of_line number (Ok x) = Ok x
+result_of_line number (Err code) = Err (record { code = code; line = number })

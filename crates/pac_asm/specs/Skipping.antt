@@ -1,16 +1,16 @@
 -- To be believed: what the lines that IF, ELSE and ENDIF skip leave behind: nothing.
 use Rattle.std.specs.Prelude.{◌≡◌, ℕ, false, List, [], ◌∷◌, ◌++◌, length, slice_get, Some, Result, Ok}
 use Rattle.std.specs.Str.Lines.{lines as text_lines}
-use Rattle.pac_program.specs.Names.{Named}
-use Rattle.pac_program.specs.Programs.{Assembled, items_in}
-use Rattle.pac_program.specs.declared.line.Line.TheVariants as lines
-use Rattle.pac_asm.specs.declared.place.Place.TheVariants.{Skipped}
+use Rattle.pac_asm_program.specs.Names.{Symbol}
+use Rattle.pac_asm_program.specs.Programs.{Assembled, items_in}
+use Rattle.pac_asm_program.specs.declared.line.Line.TheVariants as lines
+use Rattle.pac_asm.specs.declared.place.LineLayout.TheVariants.{Skipped}
 use Rattle.pac_asm.specs.Conditions.{is_judged}
-use Rattle.pac_asm.specs.Unclosed.{word_of}
+use Rattle.pac_asm.specs.Unclosed.{conditional_of_line}
 use Rattle.pac_asm.specs.Results.{◌>>=◌}
-use Rattle.pac_asm.specs.Standings.{Standing, start}
+use Rattle.pac_asm.specs.Standings.{Standing, first_standing}
 use Rattle.pac_asm.specs.Phase1.{after_text}
-use Rattle.pac_asm.specs.Phase2.{line_at}
+use Rattle.pac_asm.specs.Phase2.{line_at_place}
 use Rattle.pac_asm.specs.Programs.{program_of}
 use Rattle.pac_asm.specs.declared.fault.AsmCode.{AsmCode}
 
@@ -23,12 +23,12 @@ pub record IsPassedOver (above after : Standing) : Type 0 where
 -- The law. A line that isn't judged is passed over in the first phase, so it defines no name; in the program it is shown as
 -- skipped, and such a line has no item.
 pub record SkippedLinesDoNothing : Type 0 where
-  pub defines : (above after : Standing) (line : List ℕ) → is_judged above.conditions (word_of line) ≡ false →
+  pub defines : (above after : Standing) (line : List ℕ) → is_judged above.conditions (conditional_of_line line) ≡ false →
       after_text above line ≡ Ok after → IsPassedOver above after
-  pub shown : (symbols : List Named) (line : List ℕ) → line_at symbols line Skipped ≡ Ok lines.Skipped
+  pub shown : (symbols : List Symbol) (line : List ℕ) → line_at_place symbols line Skipped ≡ Ok lines.Skipped
   pub places : items_in lines.Skipped ≡ []
 
--- ---- and in the program of a source
+-- ---- skipped lines in the program of a source
 
 -- after lines, one after another
 unfoldable pub after_texts : Standing → List (List ℕ) → Result Standing AsmCode
@@ -40,14 +40,14 @@ after_texts above (line ∷ below) = after_text above line >>= λ after. after_t
 -- and its entry in the program is Skipped, which has no item.
 pub record IsLeftOutIfSkipped (program : Assembled) (texts : List (List ℕ)) (line : List ℕ) (below : List (List ℕ)) : Type 0 where
   pub above : Standing
-  pub reached : after_texts start texts ≡ Ok above
+  pub reached : after_texts first_standing texts ≡ Ok above
   pub after : Standing
   pub taken : after_text above line ≡ Ok after
   pub end : Standing
   pub ended : after_texts after below ≡ Ok end
   pub symbols : program.symbols ≡ end.symbols
-  pub passed : is_judged above.conditions (word_of line) ≡ false → IsPassedOver above after
-  pub shown : is_judged above.conditions (word_of line) ≡ false → slice_get program.lines (length texts) ≡ Some lines.Skipped
+  pub passed : is_judged above.conditions (conditional_of_line line) ≡ false → IsPassedOver above after
+  pub shown : is_judged above.conditions (conditional_of_line line) ≡ false → slice_get program.lines (length texts) ≡ Some lines.Skipped
 
 -- The law, of each line of each source that has a program.
 abbrev pub SkippedLinesAreLeftOut : Type 0

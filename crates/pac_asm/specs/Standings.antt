@@ -3,40 +3,40 @@ use Rattle.std.specs.Prelude.{ℕ, ℤ, pos, negsuc, ◌+◌, Bool, true, false,
 use Rattle.std.specs.Prelude.{is_none, Result, Ok, Err, if◌then◌else◌}
 use Rattle.std.specs.List.{list_any, range_with_len}
 use Rattle.pac_expr.specs.Trees.{Tree}
-use Rattle.pac_expr.specs.Values.{Answer, value_of}
+use Rattle.pac_expr.specs.Values.{ValueResult, tree_value}
 use Rattle.pac_expr.specs.declared.evaluation.ValueError.TheVariants as values
-use Rattle.pac_program.specs.Names.{Named, number_of, with_symbol}
-use Rattle.pac_program.specs.Programs.{rom_size}
-use Rattle.pac_asm.specs.declared.condition.Condition.{Condition}
+use Rattle.pac_asm_program.specs.Names.{Symbol, number_of_symbol, with_symbol}
+use Rattle.pac_asm_program.specs.Programs.{rom_size}
+use Rattle.pac_asm.specs.declared.condition.IfState.{IfState}
 use Rattle.pac_asm.specs.declared.place.Span.{Span}
-use Rattle.pac_asm.specs.declared.place.Place.{Place}
-use Rattle.pac_asm.specs.declared.place.Place.TheVariants.{Blank, Skipped, Placed}
+use Rattle.pac_asm.specs.declared.place.LineLayout.{LineLayout}
+use Rattle.pac_asm.specs.declared.place.LineLayout.TheVariants.{Blank, Skipped, Placed}
 use Rattle.pac_asm.specs.declared.fault.AsmCode.{AsmCode}
 use Rattle.pac_asm.specs.declared.fault.AsmCode.TheVariants.{NotDefinedAbove, OutsideRom, Overlap, Arithmetic}
 
 -- the address reached, the names defined in their order, what became of each line, and the open IFs, the innermost first
 pub record Standing : Type 0 where
   pub at : ℕ
-  pub symbols : List Named
-  pub places : List Place
-  pub conditions : List Condition
+  pub symbols : List Symbol
+  pub places : List LineLayout
+  pub conditions : List IfState
 
 -- before the first line
-abbrev pub start : Standing
-start = record { at = 0; symbols = []; places = []; conditions = [] }
+abbrev pub first_standing : Standing
+first_standing = record { at = 0; symbols = []; places = []; conditions = [] }
 
 -- ---- expressions whose value the first phase needs
 
 -- A4 and A10: a name that isn't defined above, and then arithmetic
-abbrev pub value_above : Answer → Result ℤ AsmCode
+abbrev pub value_above : ValueResult → Result ℤ AsmCode
 value_above (Ok number) = Ok number
 value_above (Err values.Undefined) = Err NotDefinedAbove
 value_above (Err values.OutOfRange) = Err Arithmetic
 value_above (Err values.DivisionByZero) = Err Arithmetic
 
 -- `$` is the address of the line
-abbrev pub known : Standing → Tree → Result ℤ AsmCode
-known above tree = value_above (value_of (number_of above.symbols) above.at tree)
+abbrev pub known_value : Standing → Tree → Result ℤ AsmCode
+known_value above tree = value_above (tree_value (number_of_symbol above.symbols) above.at tree)
 
 -- A5: an address, or a count of bytes, from 0 to 4000H
 abbrev pub within_rom : ℤ → Result ℕ AsmCode
@@ -46,30 +46,30 @@ within_rom (negsuc number) = Err OutsideRom
 -- ---- labels
 
 -- whether a line may have this label: no line above defines the name
-abbrev pub is_new : List Named → Option (List ℕ) → Bool
+abbrev pub is_new : List Symbol → Option (List ℕ) → Bool
 is_new symbols None = true
-is_new symbols (Some name) = is_none (number_of symbols name)
+is_new symbols (Some name) = is_none (number_of_symbol symbols name)
 
-abbrev pub with_label : List Named → Option (List ℕ) → ℤ → List Named
+abbrev pub with_label : List Symbol → Option (List ℕ) → ℤ → List Symbol
 with_label symbols None number = symbols
 with_label symbols (Some name) number = with_symbol symbols name number
 
 -- ---- bytes
 
-abbrev pub covers : Span → ℕ → Bool
-covers span cell = nat_le span.at cell && nat_lt cell (span.at + span.size)
+abbrev pub span_covers : Span → ℕ → Bool
+span_covers span cell = nat_le span.at cell && nat_lt cell (span.at + span.size)
 
-abbrev pub has_byte : ℕ → Place → Bool
-has_byte cell Blank = false
-has_byte cell Skipped = false
-has_byte cell (Placed span) = covers span cell
+abbrev pub place_covers : ℕ → LineLayout → Bool
+place_covers cell Blank = false
+place_covers cell Skipped = false
+place_covers cell (Placed span) = span_covers span cell
 
 -- whether one of these lines has a byte at an address
-abbrev pub is_taken : List Place → ℕ → Bool
-is_taken places cell = list_any (has_byte cell) places
+abbrev pub is_taken : List LineLayout → ℕ → Bool
+is_taken places cell = list_any (place_covers cell) places
 
 -- whether one of these lines has a byte where a span has one
-abbrev pub overlaps : List Place → Span → Bool
+abbrev pub overlaps : List LineLayout → Span → Bool
 overlaps places span = list_any (is_taken places) (range_with_len span.at span.size)
 
 -- A5 and A6: so many bytes at the address reached; none at all may stand at 4000H too

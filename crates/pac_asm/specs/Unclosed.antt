@@ -2,13 +2,13 @@
 use Rattle.std.specs.Prelude.{ℕ, zero, suc, ◌+◌, Bool, true, false, List, [], ◌∷◌, Option, Some, None, option_map, map}
 use Rattle.std.specs.Prelude.{if◌then◌else◌}
 use Rattle.pac_lex.specs.Words.{first_word}
-use Rattle.pac_source.specs.declared.conditional.Conditional.{Conditional}
-use Rattle.pac_source.specs.declared.conditional.Conditional.TheVariants.{If, EndIf}
-use Rattle.pac_source.specs.Conditionals.{conditional_word}
+use Rattle.pac_asm_line.specs.declared.conditional.Conditional.{Conditional}
+use Rattle.pac_asm_line.specs.declared.conditional.Conditional.TheVariants.{If, EndIf}
+use Rattle.pac_asm_line.specs.Conditionals.{conditional_word}
 
 -- the IF, ELSE or ENDIF that a line begins with, if it begins with one
-abbrev pub word_of : List ℕ → Option Conditional
-word_of line = conditional_word (first_word line)
+abbrev pub conditional_of_line : List ℕ → Option Conditional
+conditional_of_line line = conditional_word (first_word line)
 
 -- whether no ENDIF among the words below closes an IF, inside which so many are open
 abbrev pub stays_open : ℕ → List (Option Conditional) → Bool
@@ -20,11 +20,11 @@ stays_open inner (word ∷ below) = stays_open inner below
 
 -- whether a line that begins with this word is an IF which no line below closes
 abbrev pub is_never_closed : Option Conditional → List (List ℕ) → Bool
-is_never_closed (Some If) below = stays_open 0 (map word_of below)
+is_never_closed (Some If) below = stays_open 0 (map conditional_of_line below)
 is_never_closed word below = false
 
 -- how many lines stand above the first IF that is never closed, if there is one
 abbrev pub first_unclosed : List (List ℕ) → Option ℕ
 first_unclosed [] = None
 first_unclosed (line ∷ below) =
-    if is_never_closed (word_of line) below then Some 0 else option_map (λ above. above + 1) (first_unclosed below)
+    if is_never_closed (conditional_of_line line) below then Some 0 else option_map (λ above. above + 1) (first_unclosed below)

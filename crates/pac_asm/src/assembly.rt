@@ -3,18 +3,18 @@
 ghost use Rattle.std.specs.Prelude.{◌≡◌, IfOk};
 ghost use Rattle.std.specs.Str.Lines.{lines as text_lines};
 ghost use Rattle.pac_code.specs.Items.{AllLie};
-ghost use Rattle.pac_program.specs.Programs.{items_of};
-ghost use Rattle.pac_program.specs.Rom.{AreApart, IsZeroElsewhere};
+ghost use Rattle.pac_asm_program.specs.Programs.{items_of};
+ghost use Rattle.pac_asm_program.specs.Rom.{AreApart, IsZeroElsewhere};
 ghost use Rattle.pac_asm.specs.Assignments.{OneIsRight};
 ghost use Rattle.pac_asm.specs.Entries.{HasEntriesOf};
-ghost use Rattle.pac_asm.specs.Errors.{Gives};
+ghost use Rattle.pac_asm.specs.Errors.{AssemblyGives};
 ghost use Rattle.pac_asm.specs.Programs.{program_of};
 
 use crate::fault::{AsmCode, AsmError, LineError};
 use crate::lines::{MOST_LINES, has_too_many_lines};
 use crate::phase1::lay_out;
 use crate::phase2::fill_in;
-use pac_program::{Program, apart_items_lie, rom_of};
+use pac_asm_program::{Program, apart_items_lie, rom_of};
 use std::alloc::Global;
 
 /// The program of a source, or its first fault: A7 before all others; then the first line that has a fault of the
@@ -25,7 +25,7 @@ use std::alloc::Global;
 /// sizes since put them.
 #[tactic(auto, unfolding(crate::specs::Programs::program_of))]
 pub fn assemble(alloc: Global, source: &[u8]) -> Result<Program, AsmError>
-    ensures exact { Gives result (program_of source.now) }
+    ensures exact { AssemblyGives result (program_of source.now) }
     // No two items share an address; each lies wholly in the ROM, which has its bytes there, and 0 where no item lies.
     ensures apart { IfOk result (λ program. AreApart (items_of program)) }
     ensures lie { IfOk result (λ program. AllLie program.rom (items_of program)) }

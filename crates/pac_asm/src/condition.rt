@@ -5,12 +5,12 @@ ghost use Rattle.pac_asm.specs.Conditions as spec;
 
 use crate::fault::AsmCode;
 use arrayvec::ArrayVec;
-use pac_source::Conditional;
+use pac_asm_line::Conditional;
 use std::marker::Model;
 
 /// What is known of an IF that isn't closed yet.
 #[derive(Clone, Copy, Default)]
-pub(crate) enum Condition {
+pub(crate) enum IfState {
     /// It is true: the lines after it count, up to its ELSE or ENDIF.
     #[default]
     Met,
@@ -24,14 +24,14 @@ pub(crate) enum Condition {
     Passed,
 }
 
-impl Condition {
+impl IfState {
     /// Whether lines count inside the IF.
     fn counts(self) -> bool
         ensures { result ≡ spec.counts_inside self }
     {
         match self {
-            Condition::Met | Condition::Otherwise => true,
-            Condition::Unmet | Condition::Over | Condition::Passed => false,
+            IfState::Met | IfState::Otherwise => true,
+            IfState::Unmet | IfState::Over | IfState::Passed => false,
         }
     }
 
@@ -40,8 +40,8 @@ impl Condition {
         ensures { result ≡ spec.ends_skipping self word }
     {
         match self {
-            Condition::Unmet => matches!(word, Some(Conditional::Else | Conditional::EndIf)),
-            Condition::Over => matches!(word, Some(Conditional::EndIf)),
+            IfState::Unmet => matches!(word, Some(Conditional::Else | Conditional::EndIf)),
+            IfState::Over => matches!(word, Some(Conditional::EndIf)),
             _ => false,
         }
     }
@@ -50,14 +50,14 @@ impl Condition {
 /// The open IFs, at most eight. Clauses see a list of them with the innermost first.
 #[derive(Drop)]
 pub(crate) struct Conditions {
-    open: ArrayVec<Condition, 8>,
+    open: ArrayVec<IfState, 8>,
 }
 
 impl Model for Conditions {
     ghost use Rattle.std.specs.Prelude.{◌≤◌, List, length, reverse};
-    ghost use Rattle.pac_asm.specs.declared.condition.Condition.{Condition};
+    ghost use Rattle.pac_asm.specs.declared.condition.IfState.{IfState};
 
-    ghost Value = { List Condition };
+    ghost Value = { List IfState };
 
     ghost view = { λ conditions. reverse conditions.open.items };
 
@@ -76,23 +76,23 @@ impl Conditions {
 
     /// Whether one IF more may be open.
     pub(crate) fn has_room(&self) -> bool
-        ensures { result ≡ nat_lt (length self.now) spec.most_open }
+        ensures { result ≡ nat_lt (length self.now) spec.most_open_ifs }
     {
         !self.open.is_full()
     }
 
     /// Opens an IF inside all others.
-    pub(crate) fn push(&mut self, condition: Condition)
-        requires { length self.old < spec.most_open }
+    pub(crate) fn push(&mut self, condition: IfState)
+        requires { length self.old < spec.most_open_ifs }
         ensures { self.new ≡ condition ∷ self.old }
     {
         self.open.push(condition);
     }
 
     /// Takes the innermost open IF away.
-    fn pop(&mut self) -> Option<Condition>
+    fn pop(&mut self) -> Option<IfState>
         ensures innermost { MatchOption result ((self.old ≡ []) × (self.new ≡ [])) (λ condition. self.old ≡ condition ∷ self.new) }
-        ensures room { length self.new < spec.most_open }
+        ensures room { length self.new < spec.most_open_ifs }
     {
         self.open.pop()
     }
@@ -107,19 +107,19 @@ impl Conditions {
         }
     }
 
-    /// After an ELSE that is judged.
+    /// Takes an ELSE that is judged: the lines after it count where those before it didn't.
     pub(crate) fn after_else(&mut self) -> Result<(), AsmCode>
         ensures { MatchResult result (λ _. spec.after_else self.old ≡ Ok self.new) (λ code. spec.after_else self.old ≡ Err code) }
     {
         match self.pop() {
-            Some(Condition::Met) => self.push(Condition::Over),
-            Some(Condition::Unmet) => self.push(Condition::Otherwise),
+            Some(IfState::Met) => self.push(IfState::Over),
+            Some(IfState::Unmet) => self.push(IfState::Otherwise),
             _ => return Err(AsmCode::NoOpenIf),
         }
         Ok(())
     }
 
-    /// After an ENDIF that is judged.
+    /// Takes an ENDIF that is judged: the innermost IF is closed.
     pub(crate) fn after_end(&mut self) -> Result<(), AsmCode>
         ensures { MatchResult result (λ _. spec.after_end self.old ≡ Ok self.new) (λ code. spec.after_end self.old ≡ Err code) }
     {
@@ -129,16 +129,17 @@ impl Conditions {
         }
     }
 
-    /// After a skipped line that begins with this word.
+    /// Takes a skipped line that begins with this word; IF and ENDIF pair up there too.
     pub(crate) fn after_skipped(&mut self, word: Option<Conditional>) -> Result<(), AsmCode>
-        ensures { MatchResult result (λ _. spec.after_skipped word self.old ≡ Ok self.new) (λ code. spec.after_skipped word self.old ≡ Err code) }
+        ensures { MatchResult result (λ _. spec.after_skipped word self.old ≡ Ok self.new)
+            (λ code. spec.after_skipped word self.old ≡ Err code) }
     {
         match word {
             Some(Conditional::If) => {
                 if !self.has_room() {
                     return Err(AsmCode::TooDeep);
                 }
-                self.push(Condition::Passed);
+                self.push(IfState::Passed);
             }
             Some(Conditional::EndIf) => {
                 self.pop();

@@ -3,11 +3,11 @@
 ghost use Rattle.std.specs.Prelude.{◌≡◌, Some};
 ghost use Rattle.pac_asm.specs.declared.fault.AsmError.TheVariants as errors;
 ghost use Rattle.pac_asm.specs.declared.fault.LineError.TheVariants as line;
-ghost use Rattle.pac_asm.specs.Errors.{in_line};
+ghost use Rattle.pac_asm.specs.Errors.{error_of_line};
 
+use pac_asm_line::ContentError;
+use pac_asm_operation::OperationFault;
 use pac_lex::LexError;
-use pac_operation::OperationFault;
-use pac_source::ContentError;
 use std::alloc::{AllocError, AllocFailed};
 use std::fmt;
 use thiserror::Error;
@@ -18,7 +18,7 @@ use thiserror::Error;
 #[derive(Clone, Copy, Debug, PartialEq, Eq)]
 pub enum AsmCode {
     /// A1: something that is no token, with the code of what it is.
-    Token(pac_lex::Fault),
+    Token(pac_lex::LexFault),
     /// A2: tokens that are no line of the language.
     Syntax,
     /// A3: a label or the name of an EQU that a line above defines.
@@ -64,9 +64,9 @@ pub enum AsmError {
 }
 
 impl fmt::Display for AsmCode {
-    ghost use Rattle.pac_asm.specs.Codes.{code_text};
+    ghost use Rattle.pac_asm.specs.Codes.{asm_code_text};
 
-    ghost output = { λ code. Some (code_text code) };
+    ghost output = { λ code. Some (asm_code_text code) };
 
     /// `A2`, or `A1 L3`.
     fn fmt<W: fmt::Write>(&self, f: &mut fmt::Formatter<W>) -> fmt::Result {
@@ -89,9 +89,9 @@ impl fmt::Display for AsmCode {
 }
 
 impl fmt::Display for AsmFault {
-    ghost use Rattle.pac_asm.specs.Codes.{fault_text};
+    ghost use Rattle.pac_asm.specs.Codes.{asm_fault_text};
 
-    ghost output = { λ fault. Some (fault_text fault) };
+    ghost output = { λ fault. Some (asm_fault_text fault) };
 
     /// The code and the line.
     fn fmt<W: fmt::Write>(&self, f: &mut fmt::Formatter<W>) -> fmt::Result {
@@ -113,7 +113,7 @@ impl From<AllocError> for AsmError {
 impl<T: Drop> From<AllocFailed<T>> for AsmError {
     ghost from_gives = { λ _ e. e ≡ errors.Memory };
 
-    /// So is one that hands back what found no room.
+    /// A refused allocation that hands back what found no room is want of memory too.
     fn from(_error: AllocFailed<T>) -> AsmError {
         AsmError::from(AllocError)
     }
@@ -140,16 +140,16 @@ impl From<AllocError> for LineError {
 impl From<AsmCode> for LineError {
     ghost from_gives = { λ code e. e ≡ line.Code code };
 
-    /// What is wrong is told.
+    /// A fault of the line, by its code.
     fn from(code: AsmCode) -> LineError {
         LineError::Code(code)
     }
 }
 
 impl From<LexError> for LineError {
-    ghost use Rattle.pac_asm.specs.Errors.{of_tokens};
+    ghost use Rattle.pac_asm.specs.Errors.{error_of_tokens};
 
-    ghost from_gives = { λ error e. e ≡ of_tokens error };
+    ghost from_gives = { λ error e. e ≡ error_of_tokens error };
 
     /// A1, where the line isn't one of tokens.
     fn from(error: LexError) -> LineError {
@@ -161,9 +161,9 @@ impl From<LexError> for LineError {
 }
 
 impl From<ContentError> for LineError {
-    ghost use Rattle.pac_asm.specs.Errors.{of_content};
+    ghost use Rattle.pac_asm.specs.Errors.{error_of_content};
 
-    ghost from_gives = { λ error e. e ≡ of_content error };
+    ghost from_gives = { λ error e. e ≡ error_of_content error };
 
     /// A8, A10 or A9, where an expression has no number, or one outside its range.
     fn from(error: ContentError) -> LineError {
@@ -177,9 +177,9 @@ impl From<ContentError> for LineError {
 }
 
 impl LineError {
-    /// The same, with the number of its line.
+    /// The error with the number of its line.
     pub(crate) fn in_line(self, number: u32) -> AsmError
-        ensures { result ≡ in_line self number }
+        ensures { result ≡ error_of_line self number }
     {
         match self {
             LineError::Memory => AsmError::Memory,

@@ -2,11 +2,11 @@
 
 ghost use Rattle.std.specs.Prelude.{◌≡◌, ◌+◌, ◌≤◌, [], ◌∷◌, ◌++◌, true, take, drop, replicate, length, IfOk, OnOk};
 ghost use Rattle.std.specs.List.{list_any};
-ghost use Rattle.pac_program.specs.Programs.{rom_size};
-ghost use Rattle.pac_asm.specs.Layouts.{AreApart, IsFreePlace, cells_below};
+ghost use Rattle.pac_asm_program.specs.Programs.{rom_size};
+ghost use Rattle.pac_asm.specs.Layouts.{ArePlacesApart, IsFreePlace, cells_below};
 ghost use Rattle.pac_asm.specs.Standings.{overlaps};
 
-use crate::place::{Place, Span};
+use crate::place::{LineLayout, Span};
 use std::alloc::{AllocError, Global};
 use std::marker::Model;
 
@@ -14,16 +14,16 @@ use std::marker::Model;
 /// places alone.
 #[derive(Drop)]
 pub(crate) struct Layout {
-    places: Vec<Place>,
+    places: Vec<LineLayout>,
     taken: Box<[bool; 16384]>,
 }
 
 impl Model for Layout {
     ghost use Rattle.std.specs.Prelude.{List};
-    ghost use Rattle.pac_asm.specs.declared.place.Place.{Place};
+    ghost use Rattle.pac_asm.specs.declared.place.LineLayout.{LineLayout};
     ghost use Rattle.pac_asm.specs.Layouts.{IsLaidOut};
 
-    ghost Value = { List Place };
+    ghost Value = { List LineLayout };
 
     ghost view = { λ layout. layout.places.items };
 
@@ -50,15 +50,15 @@ impl Layout {
     }
 
     /// Adds what becomes of the next line.
-    pub(crate) fn push(&mut self, place: Place) -> Result<(), AllocError>
+    pub(crate) fn push(&mut self, place: LineLayout) -> Result<(), AllocError>
         requires { IsFreePlace self.old place }
         ensures { OnOk result (self.new ≡ self.old ++ place ∷ []) }
     {
         self.places.push(place)?;
         match place {
-            Place::Blank => {}
-            Place::Skipped => {}
-            Place::Placed(span) => {
+            LineLayout::Blank => {}
+            LineLayout::Skipped => {}
+            LineLayout::Placed(span) => {
                 take_cells(
                     self.taken.as_mut_slice(),
                     span.at as usize,
@@ -70,9 +70,9 @@ impl Layout {
     }
 
     /// What became of the lines.
-    pub(crate) fn places(&self) -> &[Place]
+    pub(crate) fn places(&self) -> &[LineLayout]
         ensures value { result.now ≡ self.now }
-        ensures apart { AreApart [] self.now }
+        ensures apart { ArePlacesApart [] self.now }
     {
         &self.places
     }

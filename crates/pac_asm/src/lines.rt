@@ -3,11 +3,11 @@
 ghost use Rattle.std.specs.Prelude.{◌≡◌, ◌<◌, ◌≤◌, nat_lt, length};
 ghost use Rattle.std.specs.Str.Lines.{lines};
 ghost use Rattle.pac_asm.specs.Programs.{most_lines};
-ghost use Rattle.pac_asm.specs.Pairing.{after_word};
+ghost use Rattle.pac_asm.specs.Pairing.{pairing_after_word};
 ghost use Rattle.pac_asm.specs.Unclosed.{first_unclosed};
 
+use pac_asm_line::{Conditional, conditional_of};
 use pac_lex::first_line;
-use pac_source::{Conditional, conditional_of};
 
 /// The most lines that a source may have (this profile).
 pub(crate) const MOST_LINES: u32 = 65535;
@@ -29,19 +29,19 @@ pub(crate) fn has_too_many_lines(source: &[u8]) -> bool
 /// The open IFs after some lines, by the first words of those lines alone.
 #[derive(Clone, Copy)]
 struct Pairing {
-    /// How many lines they are.
+    /// How many lines there are.
     above: u32,
     /// How many IFs are open.
     depth: u32,
-    /// How many lines stand above the outermost of those, if one is open.
+    /// How many lines stand above the outermost open IF, if one is open.
     outermost: u32,
 }
 
-/// The same after one line more, which begins with this word.
+/// The open IFs after one line more, which begins with this word.
 fn after_word(pairing: Pairing, word: Option<Conditional>) -> Pairing
     requires few { pairing.above < most_lines }
     requires within { pairing.depth ≤ pairing.above }
-    ensures { result ≡ after_word pairing word }
+    ensures { result ≡ pairing_after_word pairing word }
 {
     let above = pairing.above + 1;
     match word {

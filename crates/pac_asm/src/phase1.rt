@@ -2,12 +2,12 @@
 
 ghost use Rattle.std.specs.Prelude.{◌≡◌, ◌≤◌, false, length, OnOk};
 ghost use Rattle.std.specs.Str.Lines.{lines};
-ghost use Rattle.pac_asm.specs.Errors.{Gives, Leads};
-ghost use Rattle.pac_asm.specs.Pairing.{is_at};
-ghost use Rattle.pac_asm.specs.Phase1.{after_text, closed, phase1};
+ghost use Rattle.pac_asm.specs.Errors.{AssemblyGives, AssemblyBecomes};
+ghost use Rattle.pac_asm.specs.Pairing.{is_found_line};
+ghost use Rattle.pac_asm.specs.Phase1.{after_text, unless_left_open, phase1};
 ghost use Rattle.pac_asm.specs.Programs.{most_lines};
-ghost use Rattle.pac_asm.specs.Results.{in_line};
-ghost use Rattle.pac_asm.specs.Standings.{start};
+ghost use Rattle.pac_asm.specs.Results.{result_of_line};
+ghost use Rattle.pac_asm.specs.Standings.{first_standing};
 
 use crate::fault::{AsmCode, AsmError, LineError};
 use crate::lines::first_unclosed;
@@ -18,7 +18,7 @@ use std::alloc::Global;
 /// What all lines of a source leave, or its first fault of the first phase.
 pub(crate) fn lay_out(alloc: Global, source: &[u8]) -> Result<Standing, AsmError>
     requires { length (lines source.now) ≤ most_lines }
-    ensures { Gives result (phase1 1 start (lines source.now)) }
+    ensures { AssemblyGives result (phase1 1 first_standing (lines source.now)) }
 {
     let unclosed = first_unclosed(source);
     let mut standing = Standing::start(alloc)?;
@@ -38,9 +38,9 @@ pub(crate) fn lay_out(alloc: Global, source: &[u8]) -> Result<Standing, AsmError
     Ok(standing)
 }
 
-/// Whether the line with so many lines above it is the one that is told.
+/// Whether the line with so many lines above it is the one that was found.
 fn is_at(found: Option<u32>, above: u32) -> bool
-    ensures { result ≡ is_at found above }
+    ensures { result ≡ is_found_line found above }
 {
     match found {
         None => false,
@@ -48,7 +48,7 @@ fn is_at(found: Option<u32>, above: u32) -> bool
     }
 }
 
-/// After the line of this number, which may be an IF that is never closed.
+/// Takes the line of this number, which may be an IF that is never closed.
 fn take_line(
     standing: &mut Standing,
     alloc: Global,
@@ -56,7 +56,8 @@ fn take_line(
     number: u32,
     is_open: bool,
 ) -> Result<(), AsmError>
-    ensures exact { Leads result (in_line number (closed is_open (after_text standing.old line.now))) standing.new }
+    ensures exact { AssemblyBecomes result (result_of_line number (unless_left_open is_open (after_text standing.old line.now)))
+        standing.new }
     ensures closed { OnOk result (is_open ≡ false) }
 {
     match standing.after_text(alloc, line) {

@@ -2,20 +2,20 @@
 
 ghost use Rattle.std.specs.Prelude.{◌≡◌, ◌≤◌, [], ◌∷◌, length, flat_map, All, IfOk, MatchOption, MatchResult, Ok};
 ghost use Rattle.std.specs.Str.Lines.{lines};
-ghost use Rattle.pac_program.specs.Programs.{items_in};
-ghost use Rattle.pac_program.specs.Rom as rom;
-ghost use Rattle.pac_asm.specs.declared.place.Place.TheVariants.{Placed};
-ghost use Rattle.pac_asm.specs.Errors.{Answers, Fails};
-ghost use Rattle.pac_asm.specs.Items.{AllFit, Fits, IsLineOf};
-ghost use Rattle.pac_asm.specs.Layouts.{AreApart};
+ghost use Rattle.pac_asm_program.specs.Programs.{items_in};
+ghost use Rattle.pac_asm_program.specs.Rom as rom;
+ghost use Rattle.pac_asm.specs.declared.place.LineLayout.TheVariants.{Placed};
+ghost use Rattle.pac_asm.specs.Errors.{LineGives, AssemblyFails};
+ghost use Rattle.pac_asm.specs.Items.{AllFit, FitsLine, IsLineOf};
+ghost use Rattle.pac_asm.specs.Layouts.{ArePlacesApart};
 ghost use Rattle.pac_asm.specs.Phase2 as spec;
 ghost use Rattle.pac_asm.specs.Programs.{most_lines};
 
 use crate::fault::{AsmCode, AsmError, LineError};
-use crate::place::{Place, Span};
+use crate::place::{LineLayout, Span};
+use pac_asm_line::form;
+use pac_asm_program::{Item, Line, Symbols};
 use pac_lex::{first_line, tokens};
-use pac_program::{Item, Line, Symbols};
-use pac_source::form;
 use std::alloc::Global;
 
 /// What all lines put into the program, at the places that the first phase gave them.
@@ -23,15 +23,16 @@ pub(crate) fn fill_in(
     alloc: Global,
     source: &[u8],
     symbols: &Symbols,
-    places: &[Place],
+    places: &[LineLayout],
 ) -> Result<Vec<Line>, AsmError>
     requires few { length (lines source.now) ≤ most_lines }
-    requires apart { AreApart [] places.now }
+    requires apart { ArePlacesApart [] places.now }
     requires fit { AllFit (lines source.now) places.now }
     ensures exact { MatchResult result
         (λ filled. spec.phase2 symbols.now 1 [] (lines source.now) places.now ≡ Ok filled.items)
-        (λ error. Fails error (spec.phase2 symbols.now 1 [] (lines source.now) places.now)) }
-    ensures items { IfOk result (λ filled. (rom.AreApart (flat_map items_in filled.items)) × All rom.IsFit (flat_map items_in filled.items)) }
+        (λ error. AssemblyFails error (spec.phase2 symbols.now 1 [] (lines source.now) places.now)) }
+    ensures items { IfOk result (λ filled. (rom.AreApart (flat_map items_in filled.items))
+        × All rom.IsFit (flat_map items_in filled.items)) }
 {
     let mut filled = Vec::with_capacity(alloc, places.len())?;
     let mut rest = source;
@@ -53,7 +54,7 @@ pub(crate) fn fill_in(
 }
 
 /// The first of some places, and those after it.
-fn first_place(places: &[Place]) -> Option<(Place, &[Place])>
+fn first_place(places: &[LineLayout]) -> Option<(LineLayout, &[LineLayout])>
     ensures { MatchOption result (places.now ≡ []) (λ found. places.now ≡ found.0 ∷ found.1.now) }
 {
     match places {
@@ -63,23 +64,28 @@ fn first_place(places: &[Place]) -> Option<(Place, &[Place])>
 }
 
 /// What a line puts into the program, at the place that the first phase gave it.
-fn line_at(alloc: Global, symbols: &Symbols, line: &[u8], place: Place) -> Result<Line, LineError>
-    requires { Fits line.now place }
-    ensures exact { Answers result (spec.line_at symbols.now line.now place) }
+fn line_at(
+    alloc: Global,
+    symbols: &Symbols,
+    line: &[u8],
+    place: LineLayout,
+) -> Result<Line, LineError>
+    requires { FitsLine line.now place }
+    ensures exact { LineGives result (spec.line_at_place symbols.now line.now place) }
     ensures placed { IfOk result (IsLineOf place) }
 {
     match place {
-        Place::Blank => Ok(Line::Blank),
-        Place::Skipped => Ok(Line::Skipped),
-        Place::Placed(span) => placed_line(alloc, symbols, line, span),
+        LineLayout::Blank => Ok(Line::Blank),
+        LineLayout::Skipped => Ok(Line::Skipped),
+        LineLayout::Placed(span) => placed_line(alloc, symbols, line, span),
     }
 }
 
 /// A line with its item.
-#[tactic(auto, unfolding(crate::specs::Reading::read))]
+#[tactic(auto, unfolding(crate::specs::Reading::form_of_line))]
 fn placed_line(alloc: Global, symbols: &Symbols, line: &[u8], span: Span) -> Result<Line, LineError>
-    requires { Fits line.now (Placed span) }
-    ensures exact { Answers result (spec.line_at symbols.now line.now (Placed span)) }
+    requires { FitsLine line.now (Placed span) }
+    ensures exact { LineGives result (spec.line_at_place symbols.now line.now (Placed span)) }
     ensures placed { IfOk result (IsLineOf (Placed span)) }
 {
     let tokens = tokens(alloc, line)?;

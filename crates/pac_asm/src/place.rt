@@ -11,7 +11,7 @@ pub(crate) struct Span {
 
 /// What becomes of a line in the first phase.
 #[derive(Clone, Copy)]
-pub(crate) enum Place {
+pub(crate) enum LineLayout {
     /// It counts, and places nothing.
     Blank,
     /// It is skipped.

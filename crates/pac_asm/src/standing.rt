@@ -1,22 +1,22 @@
 //! What the lines above leave to a line in the first phase.
 
 ghost use Rattle.std.specs.Prelude.{◌≡◌, ◌<◌, ◌≤◌, [], ◌∷◌, ◌++◌, length, nat_lt, None, option_map, IfOk, OnOk};
-ghost use Rattle.pac_program.specs.Programs.{rom_size};
-ghost use Rattle.pac_source.specs.Statements as says;
-ghost use Rattle.pac_source.specs.Views.{tree};
-ghost use Rattle.pac_asm.specs.Conditions.{is_judged, most_open};
-ghost use Rattle.pac_asm.specs.Errors.{Becomes};
+ghost use Rattle.pac_asm_program.specs.Programs.{rom_size};
+ghost use Rattle.pac_asm_line.specs.Statements as says;
+ghost use Rattle.pac_asm_line.specs.Views.{expression_tree};
+ghost use Rattle.pac_asm.specs.Conditions.{is_judged, most_open_ifs};
+ghost use Rattle.pac_asm.specs.Errors.{LineBecomes};
 ghost use Rattle.pac_asm.specs.Layouts.{IsFree, IsFreePlace};
 ghost use Rattle.pac_asm.specs.Phase1 as spec;
 ghost use Rattle.pac_asm.specs.Standings as above;
 
-use crate::condition::{Condition, Conditions};
+use crate::condition::{Conditions, IfState};
 use crate::fault::{AsmCode, LineError};
 use crate::layout::Layout;
-use crate::place::{Place, Span};
-use pac_expr::{Symbols as _, ValueError};
-use pac_program::Symbols;
-use pac_source::{Conditional, Expression};
+use crate::place::{LineLayout, Span};
+use pac_asm_line::{Conditional, Expression};
+use pac_asm_program::Symbols;
+use pac_expr::{SymbolLookup as _, ValueError};
 use std::alloc::{AllocError, Global};
 use std::marker::Model;
 
@@ -34,7 +34,7 @@ pub(crate) struct Standing {
 
 impl Model for Standing {
     ghost use Rattle.std.specs.Prelude.{◌≤◌};
-    ghost use Rattle.pac_program.specs.Programs.{rom_size};
+    ghost use Rattle.pac_asm_program.specs.Programs.{rom_size};
     ghost use Rattle.pac_asm.specs.Standings.{Standing as Above};
 
     ghost Value = { Above };
@@ -50,9 +50,9 @@ impl Model for Standing {
 }
 
 impl Standing {
-    /// Before the first line.
+    /// What stands before the first line: address 0, no name and no open IF.
     pub(crate) fn start(alloc: Global) -> Result<Standing, AllocError>
-        ensures { IfOk result (λ standing. standing ≡ above.start) }
+        ensures { IfOk result (λ standing. standing ≡ above.first_standing) }
     {
         Ok(Standing {
             at: 0,
@@ -78,7 +78,7 @@ impl Standing {
 
     /// The number of an expression whose names are all defined above.
     pub(crate) fn known(&self, expression: &Expression<'_, '_>) -> Result<i32, AsmCode>
-        ensures { result ≡ above.known self.now (tree expression.now) }
+        ensures { result ≡ above.known_value self.now (expression_tree expression.now) }
     {
         match expression.value(&self.symbols, self.at) {
             Ok(number) => Ok(number),
@@ -116,7 +116,7 @@ impl Standing {
     }
 
     /// Adds what becomes of a line that has no bytes.
-    pub(crate) fn add(&mut self, place: Place) -> Result<(), AllocError>
+    pub(crate) fn add(&mut self, place: LineLayout) -> Result<(), AllocError>
         requires { IsFreePlace self.old.places place }
         ensures { OnOk result (self.new ≡ record self.old { places = self.old.places ++ place ∷ [] }) }
     {
@@ -163,43 +163,43 @@ impl Standing {
 
     /// Whether one IF more may be open.
     pub(crate) fn has_room(&self) -> bool
-        ensures { result ≡ nat_lt (length self.now.conditions) most_open }
+        ensures { result ≡ nat_lt (length self.now.conditions) most_open_ifs }
     {
         self.conditions.has_room()
     }
 
     /// Opens an IF inside all others.
-    pub(crate) fn push(&mut self, condition: Condition)
-        requires { length self.old.conditions < most_open }
+    pub(crate) fn push(&mut self, condition: IfState)
+        requires { length self.old.conditions < most_open_ifs }
         ensures { self.new ≡ record self.old { conditions = condition ∷ self.old.conditions } }
     {
         self.conditions.push(condition);
     }
 
-    /// After an ELSE that is judged.
+    /// Takes an ELSE that is judged.
     pub(crate) fn after_else(&mut self) -> Result<(), LineError>
-        ensures { Becomes result (spec.after_statement self.old None says.otherwise) self.new }
+        ensures { LineBecomes result (spec.after_statement self.old None says.otherwise) self.new }
     {
         self.conditions.after_else()?;
-        self.layout.push(Place::Blank)?;
+        self.layout.push(LineLayout::Blank)?;
         Ok(())
     }
 
-    /// After an ENDIF that is judged.
+    /// Takes an ENDIF that is judged.
     pub(crate) fn after_end(&mut self) -> Result<(), LineError>
-        ensures { Becomes result (spec.after_statement self.old None says.end_condition) self.new }
+        ensures { LineBecomes result (spec.after_statement self.old None says.end_condition) self.new }
     {
         self.conditions.after_end()?;
-        self.layout.push(Place::Blank)?;
+        self.layout.push(LineLayout::Blank)?;
         Ok(())
     }
 
-    /// After a skipped line that begins with this word.
+    /// Takes a skipped line that begins with this word.
     pub(crate) fn after_passed(&mut self, word: Option<Conditional>) -> Result<(), LineError>
-        ensures { Becomes result (spec.after_passed self.old word) self.new }
+        ensures { LineBecomes result (spec.after_passed self.old word) self.new }
     {
         self.conditions.after_skipped(word)?;
-        self.layout.push(Place::Skipped)?;
+        self.layout.push(LineLayout::Skipped)?;
         Ok(())
     }
 }

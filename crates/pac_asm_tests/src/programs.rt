@@ -1,7 +1,7 @@
 //! Short sources with the bytes and the symbols that they become.
 
 use pac_asm::assemble;
-use pac_program::Program;
+use pac_asm_program::Program;
 use std::alloc::Global;
 
 /// Whether bytes stand at an address of a ROM.

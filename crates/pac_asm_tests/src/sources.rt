@@ -1,9 +1,9 @@
 //! Long sources, deep expressions, and memory that is refused.
 
 use pac_asm::{AsmCode, AsmError, AsmFault, assemble};
-use pac_lex::Fault;
-use pac_program::Program;
-use pac_scarce::{Answer, refusals};
+use pac_asm_program::Program;
+use pac_lex::LexFault;
+use pac_tests_memory::{Answer, refusals};
 use std::alloc::{AllocError, Global};
 use std::test::Fail;
 
@@ -90,7 +90,7 @@ fn nested_parentheses(rt: HostRuntime) -> Result<(), Fail> {
         has_fault(
             rt.alloc(),
             longer.as_str(),
-            AsmCode::Token(Fault::LongLine),
+            AsmCode::Token(LexFault::LongLine),
             1
         )
     );
@@ -108,7 +108,7 @@ fn long_lines_that_are_skipped(rt: HostRuntime) -> Result<(), Fail> {
         has_fault(
             rt.alloc(),
             wrong.as_str(),
-            AsmCode::Token(Fault::LongLine),
+            AsmCode::Token(LexFault::LongLine),
             2
         )
     );

@@ -3,27 +3,27 @@ use Rattle.std.proofs.Common.{◌≡◌, ℕ, zero, suc, ◌+◌, ◌-◌, Bool,
 use Rattle.std.proofs.Common.{Ok, Err, ◌⊎◌, inl, inr, refl, sym, ap, subst, ◌∙◌, append_assoc, arith}
 use Rattle.std.proofs.lemmas.List.{append-nil, replicate-append-replicate}
 use Rattle.pac_cpu.specs.declared.once.Once.{Once}
-use Rattle.pac_step.specs.BoardView.{BoardView}
-use Rattle.pac_step.specs.History.{board_of}
-use Rattle.pac_step.specs.Host.{Act, StepOn, Account, Host, with_step, after_act, after_acts, host_at, host_view, account_by_view}
-use Rattle.pac_step.specs.Laws.{IsTimely}
-use Rattle.pac_step.specs.Output.{Output}
-use Rattle.pac_step.specs.Step.{Moment, Next, Goes, Ends, step}
-use Rattle.pac_step.specs.Trace.{by_view}
-use Rattle.pac_step.specs.Walk.{Walk, walk, onward, after_step, has_ended}
-use Rattle.pac_step.proofs.HostCarried.{hosts-agree}
-use Rattle.pac_step.proofs.HostKeeps.{hosts-are-line-exact}
-use Rattle.pac_step.proofs.Told.{view-tells}
-use Rattle.pac_step.proofs.Walks.{ended-stays, going-steps, step-timely, not-both}
+use Rattle.pac_board_model.specs.BoardView.{BoardView}
+use Rattle.pac_board_model.specs.History.{board_after_entries}
+use Rattle.pac_board_model.specs.Host.{Act, StepOn, Account, Host, with_step, after_act, after_acts, host_at, host_view, account_by_view}
+use Rattle.pac_board_model.specs.Laws.{IsTimely}
+use Rattle.pac_board_model.specs.Output.{Output}
+use Rattle.pac_board_model.specs.Step.{Moment, Next, Goes, Ends, step}
+use Rattle.pac_board_model.specs.Trace.{by_view}
+use Rattle.pac_board_model.specs.Walk.{Walk, walk, walk_onward, walk_after_step, has_ended}
+use Rattle.pac_board_model.proofs.HostCarried.{hosts-agree}
+use Rattle.pac_board_model.proofs.HostKeeps.{hosts-are-line-exact}
+use Rattle.pac_board_model.proofs.Told.{view-tells}
+use Rattle.pac_board_model.proofs.Walks.{ended-stays, going-steps, step-timely, not-both}
 use Rattle.pac_board.specs.declared.due.Due.{Due}
 use Rattle.pac_board.specs.declared.exec.Ran.{Ran}
 use Rattle.pac_board.specs.declared.fault.Fault.{Fault}
 use Rattle.pac_board.specs.declared.fault.Fault.TheVariants.{TooFar, Refused}
 use Rattle.pac_board.specs.declared.fault.Idle.{Idle}
-use Rattle.pac_board.specs.State.{BoardValue, State, due_outputs, nothing_due, time_of}
-use Rattle.pac_board.specs.Calls.{Runs, StepsOnce, Offers, Advances, IsOfferRefused, IsStepRefused, given, next_of, outputs_in, stepped}
+use Rattle.pac_board.specs.State.{BoardValue, BoardState, due_outputs, nothing_due, time_of}
+use Rattle.pac_board.specs.Calls.{Executes, StepsOnce, Offers, Advances, IsOfferRefused, IsStepRefused, outputs_given, next_of, outputs_in, board_after_step}
 use Rattle.pac_board.specs.Calls.{with_due}
-use Rattle.pac_board.specs.Hosts.{Call, Exec, StepOnce, Advance, Offer, Reset, InputSet, InputClear, Snapshot, Restore, Hosted}
+use Rattle.pac_board.specs.Hosts.{Call, Exec, StepOnce, Advance, Offer, Reset, InputSet, InputClear, Snapshot, Restore, HostedBoard}
 use Rattle.pac_board.specs.Hosts.{run_took, refused_took, step_took, offer_took, IsCall, acts_of, steps_between, AreCalls, goes_back}
 use Rattle.pac_board.specs.Hosts.{history, CallsAreOfTheHistory}
 
@@ -54,7 +54,7 @@ module _ {Board : Type 0} (account : Account Board) where
       acts : after_acts account at_first (replicate steps StepOn) ≡ at_walk w
 
     step-walked : (w : Walk Board) (h : Next Board) → step account.ask w.now ≡ h → IsTimely w.now h → IsWalked w
-        → IsWalked (after_step w h)
+        → IsWalked (walk_after_step w h)
     step-walked w (Goes now outputs kind) e times walked =
         record {
           steps = suc walked.steps;
@@ -69,7 +69,7 @@ module _ {Board : Type 0} (account : Account Board) where
     step-walked w (Ends stop) e times walked = record { steps = walked.steps; count = walked.count; acts = walked.acts }
 
     onward-walked : (w : Walk Board) (ended : Bool) → has_ended limit w ≡ ended → IsWalked w
-        → IsWalked (onward (step account.ask) limit w)
+        → IsWalked (walk_onward (step account.ask) limit w)
     onward-walked w true over walked = subst IsWalked (sym (ended-stays (step account.ask) limit w over)) walked
     onward-walked w false open_yet walked =
         subst IsWalked (sym (going-steps (step account.ask) limit w open_yet))
@@ -189,29 +189,30 @@ step-acts old new taken set_is now_is ledger =
     }
 
 -- what a step makes of a board
-stepped-now : (h : Next BoardView) (board : BoardValue) (due : Due) → (stepped h board due).state.now ≡ moment_after h board.state.now
+stepped-now : (h : Next BoardView) (board : BoardValue) (due : Due) →
+    (board_after_step h board due).state.now ≡ moment_after h board.state.now
 unfolding moment_after
 stepped-now (Goes now outputs kind) board due = refl
 stepped-now (Ends stop) board due = refl
 
-stepped-set : (h : Next BoardView) (board : BoardValue) (due : Due) → (stepped h board due).set ≡ board.set
+stepped-set : (h : Next BoardView) (board : BoardValue) (due : Due) → (board_after_step h board due).set ≡ board.set
 stepped-set (Goes now outputs kind) board due = refl
 stepped-set (Ends stop) board due = refl
 
-stepped-due : (h : Next BoardView) (board : BoardValue) → due_outputs (stepped h (with_due board nothing_due) nothing_due) ≡ []
+stepped-due : (h : Next BoardView) (board : BoardValue) → due_outputs (board_after_step h (with_due board nothing_due) nothing_due) ≡ []
 stepped-due (Goes now outputs kind) board = refl
 stepped-due (Ends stop) board = refl
 
 module _ {S : Type 0} (took refused : S → Output → S → Type 0) where
   run-acts : (old : BoardValue) (microseconds : ℕ) (sink : S) (answer : Result Ran Fault) (new : BoardValue) (later : S)
-      → (runs : Runs took refused old microseconds sink answer new later)
+      → (runs : Executes took refused old microseconds sink answer new later)
       → IsActed old (steps_on old.state.now new.state.now) (run_took took refused old microseconds sink answer new later runs) new
   run-acts old us sink (Ok ran) new later runs =
       let set_is = ap (λ (b : BoardValue). b.set) runs.board in
       let now_is = ap (λ (b : BoardValue). b.state.now) runs.board in
       let none : due_outputs new ≡ [] = ap due_outputs runs.board in
-      walk-acts old new (time_of (old.state.asked + us)) (time_of (old.state.asked + us)) (given old us) set_is now_is
-      (sym (append-nil (given old us)) ∙ ap (λ due. given old us ++ due) (sym none))
+      walk-acts old new (time_of (old.state.asked + us)) (time_of (old.state.asked + us)) (outputs_given old us) set_is now_is
+      (sym (append-nil (outputs_given old us)) ∙ ap (λ due. outputs_given old us ++ due) (sym none))
   run-acts old us sink (Err TooFar) new later runs = unchanged-acts old new runs.1.board
   run-acts old us sink (Err Refused) new later runs =
       walk-acts old new (time_of (old.state.asked + us)) runs.steps runs.taken (ap (λ (b : BoardValue). b.set) runs.board)
@@ -266,30 +267,30 @@ module _ {S : Type 0} (took refused : S → Output → S → Type 0) where
 
 -- ---- a host's calls
 
-abbrev moments : List State → List (Moment BoardView)
-moments kept = map (λ (state : State). state.now) kept
+abbrev moments : List BoardState → List (Moment BoardView)
+moments kept = map (λ (state : BoardState). state.now) kept
 
-abbrev seen : Hosted → List Output → Host BoardView
+abbrev seen : HostedBoard → List Output → Host BoardView
 seen hosted outputs = at_moment hosted.board.state.now (moments hosted.kept) outputs
 
-record AreActed (old : Hosted) (calls : List Call) (acts : List Act) (taken : List Output) (new : Hosted) : Type 0 where
+record AreActed (old : HostedBoard) (calls : List Call) (acts : List Act) (taken : List Output) (new : HostedBoard) : Type 0 where
   set_is : new.board.set ≡ old.board.set
   gave : List Output
   acted : (before : List Output) → after_acts (account_by_view old.board.set) (seen old before) acts ≡ seen new (before ++ gave)
   ledger : goes_back calls ≡ false → due_outputs old.board ++ gave ≡ taken ++ due_outputs new.board
 
-moments-more : (kept : List State) (state : State) → moments kept ++ state.now ∷ [] ≡ moments (kept ++ state ∷ [])
+moments-more : (kept : List BoardState) (state : BoardState) → moments kept ++ state.now ∷ [] ≡ moments (kept ++ state ∷ [])
 moments-more [] state = refl
 moments-more (first ∷ kept) state = ap (λ more. first.now ∷ more) (moments-more kept state)
 
-moments-at : (kept : List State) (number : ℕ) (state : State)
+moments-at : (kept : List BoardState) (number : ℕ) (state : BoardState)
     → slice_index_or (moments kept) number state.now ≡ (slice_index_or kept number state).now
 moments-at [] number state = refl
 moments-at (first ∷ kept) zero state = refl
 moments-at (first ∷ kept) (suc number) state = moments-at kept number state
 
 -- a call that leaves the snapshots
-with-kept : (old : Hosted) (calls : List Call) (acts : List Act) (first taken : List Output) (new : Hosted) → new.kept ≡ old.kept
+with-kept : (old : HostedBoard) (calls : List Call) (acts : List Act) (first taken : List Output) (new : HostedBoard) → new.kept ≡ old.kept
     → taken ≡ first → IsActed old.board acts first new.board → AreActed old calls acts taken new
 with-kept old calls acts first taken new kept_is taken_is is =
     record {
@@ -302,22 +303,22 @@ with-kept old calls acts first taken new kept_is taken_is is =
     }
 
 -- a call that makes no step
-silent : (old made new : Hosted) (calls : List Call) (acts : List Act) (taken : List Output) → (new ≡ made) × (taken ≡ [])
+silent : (old made new : HostedBoard) (calls : List Call) (acts : List Act) (taken : List Output) → (new ≡ made) × (taken ≡ [])
     → made.board.set ≡ old.board.set
     → ((before : List Output) → after_acts (account_by_view old.board.set) (seen old before) acts ≡ seen made before)
     → (goes_back calls ≡ false → due_outputs old.board ≡ due_outputs made.board) → AreActed old calls acts taken new
 silent old made new calls acts taken is set_is acted due =
     record {
-      set_is = ap (λ (h : Hosted). h.board.set) is.0 ∙ set_is;
+      set_is = ap (λ (h : HostedBoard). h.board.set) is.0 ∙ set_is;
       gave = [];
       acted = λ before. acted before ∙ ap (seen made) (sym (append-nil before)) ∙ ap (λ h. seen h (before ++ [])) (sym is.0);
       ledger = λ stays.
-          append-nil (due_outputs old.board) ∙ due stays ∙ ap (λ (h : Hosted). due_outputs h.board) (sym is.0)
+          append-nil (due_outputs old.board) ∙ due stays ∙ ap (λ (h : HostedBoard). due_outputs h.board) (sym is.0)
           ∙ ap (λ taken. taken ++ due_outputs new.board) (sym is.1);
     }
 
 module _ {S : Type 0} (took refused : S → Output → S → Type 0) where
-  call-acts : (call : Call) (old : Hosted) (taken : List Output) (new : Hosted) → IsCall took refused call old taken new
+  call-acts : (call : Call) (old : HostedBoard) (taken : List Output) (new : HostedBoard) → IsCall took refused call old taken new
       → AreActed old (call ∷ []) (acts_of call (steps_between old new)) taken new
   call-acts (Exec us) old taken new done =
       let call = done.0 in
@@ -349,7 +350,7 @@ module _ {S : Type 0} (took refused : S → Output → S → Type 0) where
   stays-both (Restore number) calls h = not-both h
   stays-both call calls h = (refl, h)
 
-  calls-act : (calls : List Call) (old new : Hosted) (taken : List Output) (acts : List Act)
+  calls-act : (calls : List Call) (old new : HostedBoard) (taken : List Output) (acts : List Act)
       → AreCalls took refused calls old new taken acts → AreActed old calls acts taken new
   calls-act [] old new taken acts is =
       silent old old new [] acts taken (is.0, is.1) refl
@@ -385,8 +386,8 @@ module _ {S : Type 0} (took refused : S → Output → S → Type 0) where
   pub calls-of-the-history : CallsAreOfTheHistory took refused
   calls-of-the-history items old calls new taken acts whole lie fit done =
       let start = old.state.now.board in
-      let view = board_of old.set start in
-      let first : Hosted = record { board = old; kept = [] } in
+      let view = board_after_entries old.set start in
+      let first : HostedBoard = record { board = old; kept = [] } in
       let is = calls-act calls first new taken acts done in
       let told = history items old acts in
       let now = old.state.now in

@@ -1,32 +1,34 @@
 -- Single steps and offers are parts of a run.
 use Rattle.std.proofs.Common.{◌≡◌, ℕ, ℤ, zero, suc, ◌+◌, ◌-◌, ◌<◌, ◌≤◌, Bool, true, false, Option, None, Some, List, [], ◌∷◌, ◌++◌}
 use Rattle.std.proofs.Common.{refl, sym, ap, subst, ◌∙◌, append_assoc, append-nil, arith}
-use Rattle.pac_step.specs.BoardView.{BoardView}
-use Rattle.pac_step.specs.Laws.{IsTimely}
-use Rattle.pac_step.specs.Output.{Output, Sound, Show, Image, image_of}
-use Rattle.pac_step.specs.Step.{Moment, Next, Goes, Ends, step}
-use Rattle.pac_step.specs.Trace.{by_view}
-use Rattle.pac_step.specs.Walk.{Walk, walk, walk_to, begun, after_step}
-use Rattle.pac_step.proofs.Walks.{going-steps, open-goes-on, goes-on, joined, step-timely}
+use Rattle.pac_board_model.specs.BoardView.{BoardView}
+use Rattle.pac_board_model.specs.Laws.{IsTimely}
+use Rattle.pac_board_model.specs.Output.{Output, Sound, Show, Image, image_of}
+use Rattle.pac_board_model.specs.Step.{Moment, Next, Goes, Ends, step}
+use Rattle.pac_board_model.specs.Trace.{by_view}
+use Rattle.pac_board_model.specs.Walk.{Walk, walk, walk_to, walk_at_start, walk_after_step}
+use Rattle.pac_board_model.proofs.Walks.{going-steps, open-goes-on, goes-on, joined, step-timely}
 use Rattle.pac_board.specs.declared.due.Due.{Due}
-use Rattle.pac_board.specs.State.{BoardValue, due_outputs, due_with, shows_of, nothing_due, time_of, counted}
-use Rattle.pac_board.specs.Calls.{next_of, outputs_in, stepped, with_due, course, ran}
+use Rattle.pac_board.specs.State.{BoardValue, due_outputs, due_with, shows_of, nothing_due, time_of, steps_counted}
+use Rattle.pac_board.specs.Calls.{next_of, outputs_in, board_after_step, with_due, course, board_after_run}
 use Rattle.pac_board.specs.Laws.{HasTime, IsOnTheWay, StepsArePartsOfRuns}
 use Rattle.pac_board.proofs.Pieces.{two-parts}
 use Rattle.pac_board.proofs.Walked.{walked-after}
 
 -- the first try of a walk that has time is a step
 first-try : (next : Moment BoardView → Next BoardView) (limit : ℕ) (from : Moment BoardView) (h : Next BoardView)
-    → next from ≡ h → from.time < limit → walk next limit from (suc zero) ≡ after_step (begun from) h
+    → next from ≡ h → from.time < limit → walk next limit from (suc zero) ≡ walk_after_step (walk_at_start from) h
 first-try next limit from h is early =
-    going-steps next limit (begun from) (open-goes-on limit (begun from) refl early) ∙ ap (after_step (begun from)) is
+    going-steps next limit (walk_at_start from) (open-goes-on limit (walk_at_start from) refl early)
+    ∙ ap (walk_after_step (walk_at_start from)) is
 
 -- what the run does after the step, where that came to this
 record GoesOnFrom (board : BoardValue) (microseconds : ℕ) (due : Due) (h : Next BoardView) : Type 0 where
-  board_is : ran (stepped h (with_due board nothing_due) due) microseconds ≡ ran board microseconds
+  board_is : board_after_run (board_after_step h (with_due board nothing_due) due) microseconds ≡ board_after_run board microseconds
   outputs :
-      outputs_in h ++ (course (stepped h (with_due board nothing_due) due) microseconds).outputs ≡ (course board microseconds).outputs
-  stop_is : (course (stepped h (with_due board nothing_due) due) microseconds).stop ≡ (course board microseconds).stop
+      outputs_in h ++ (course (board_after_step h (with_due board nothing_due) due) microseconds).outputs
+      ≡ (course board microseconds).outputs
+  stop_is : (course (board_after_step h (with_due board nothing_due) due) microseconds).stop ≡ (course board microseconds).stop
 
 one-step : (from now : Moment BoardView) → now.steps ≡ from.steps + 1 → 1 ≡ now.steps - from.steps
 one-step from now more = omega arith
@@ -43,7 +45,7 @@ goes-on-from board microseconds due (Goes now outputs kind) is times early =
     let limit = time_of asked in
     let timely = step-timely (by_view board.set) in
     let from = board.state.now in
-    let new = stepped (Goes now outputs kind) (with_due board nothing_due) due in
+    let new = board_after_step (Goes now outputs kind) (with_due board nothing_due) due in
     let d = course new microseconds in
     let tried = first-try next limit from (Goes now outputs kind) is early in
     let whole = ap (λ w. joined next limit w (walk_to next limit w.now)) (sym tried) ∙ goes-on next limit timely from (suc zero) in
@@ -52,7 +54,7 @@ goes-on-from board microseconds due (Goes now outputs kind) is times early =
           ap (λ (n : ℕ). record {
             set = board.set;
             state = record { now = d.now; asked = asked; due = nothing_due };
-            made = counted (counted board.made n) (d.now.steps - now.steps);
+            made = steps_counted (steps_counted board.made n) (d.now.steps - now.steps);
           }) (one-step from now times.2)
           ∙ two-parts board asked now d.now (course board microseconds).now (no-fewer from now times.2)
           (walked-after next limit timely now limit).steps (ap (λ (walked : Walk BoardView). walked.now) whole);
@@ -65,11 +67,11 @@ goes-on-from board microseconds due (Ends stop) is times early = record { board_
 step-on-the-way : (board : BoardValue) (microseconds : ℕ) (due : Due) (taken : List Output)
     → HasTime board microseconds
     → due_outputs board ++ outputs_in (next_of board)
-    ≡ taken ++ due_outputs (stepped (next_of board) (with_due board nothing_due) due)
-    → IsOnTheWay board (stepped (next_of board) (with_due board nothing_due) due) microseconds taken
+    ≡ taken ++ due_outputs (board_after_step (next_of board) (with_due board nothing_due) due)
+    → IsOnTheWay board (board_after_step (next_of board) (with_due board nothing_due) due) microseconds taken
 step-on-the-way board microseconds due taken early parts =
     let h = next_of board in
-    let new = stepped h (with_due board nothing_due) due in
+    let new = board_after_step h (with_due board nothing_due) due in
     let on = goes-on-from board microseconds due h refl (step-timely (by_view board.set) board.state.now) early in
     let d = course new microseconds in
     record {
@@ -81,7 +83,7 @@ step-on-the-way board microseconds due taken early parts =
     }
 
 -- after a step all of whose outputs were taken nothing is due
-none-due : (board : BoardValue) (h : Next BoardView) → due_outputs (stepped h (with_due board nothing_due) nothing_due) ≡ []
+none-due : (board : BoardValue) (h : Next BoardView) → due_outputs (board_after_step h (with_due board nothing_due) nothing_due) ≡ []
 none-due board (Goes now outputs kind) = refl
 none-due board (Ends stop) = refl
 
@@ -132,7 +134,7 @@ steps-are-parts took refused old new microseconds sink later = record {
       (ap (λ xs. due_outputs old ++ xs) refusal.parts ∙ sym (append_assoc (due_outputs old) refusal.taken (due_outputs new))
       ∙ ap (λ (board : BoardValue). taken ++ due_outputs board) refusal.board));
   advanced = λ once early done.
-      let left = done.board ∙ ap (λ (board : BoardValue). stepped (next_of old) board new.state.due) (idle old done.nothing) in
+      let left = done.board ∙ ap (λ (board : BoardValue). board_after_step (next_of old) board new.state.due) (idle old done.nothing) in
       subst (λ (board : BoardValue). IsOnTheWay old board microseconds []) (sym left)
       (step-on-the-way old microseconds new.state.due [] early
       (ap (λ xs. xs ++ outputs_in (next_of old)) done.nothing ∙ sym done.outputs ∙ ap due_outputs left));

@@ -1,16 +1,16 @@
 -- Time in pieces, refusals, and steps that are done again.
 use Rattle.std.proofs.Common.{◌≡◌, ℕ, zero, suc, ◌+◌, ◌-◌, ◌≤◌, List, ◌++◌}
 use Rattle.std.proofs.Common.{sym, ap, subst, ◌∙◌, append_assoc, append-nil, arith}
-use Rattle.pac_step.specs.BoardView.{BoardView}
-use Rattle.pac_step.specs.Output.{Output}
-use Rattle.pac_step.specs.Step.{Moment, step}
-use Rattle.pac_step.specs.Trace.{by_view}
-use Rattle.pac_step.specs.Walk.{Walk, walk_to}
-use Rattle.pac_step.proofs.Walks.{goes-on, walks-joined, joined, step-timely}
+use Rattle.pac_board_model.specs.BoardView.{BoardView}
+use Rattle.pac_board_model.specs.Output.{Output}
+use Rattle.pac_board_model.specs.Step.{Moment, step}
+use Rattle.pac_board_model.specs.Trace.{by_view}
+use Rattle.pac_board_model.specs.Walk.{Walk, walk_to}
+use Rattle.pac_board_model.proofs.Walks.{goes-on, walks-joined, joined, step-timely}
 use Rattle.pac_roms.specs.Parts.{Parts}
 use Rattle.pac_board.specs.declared.due.Due.{Due}
-use Rattle.pac_board.specs.State.{BoardValue, due_in, due_outputs, nothing_due, time_of, counted}
-use Rattle.pac_board.specs.Calls.{next_at, with_due, course_at, course, given, brought, ran, IsRunRefused}
+use Rattle.pac_board.specs.State.{BoardValue, due_outputs_in, due_outputs, nothing_due, time_of, steps_counted}
+use Rattle.pac_board.specs.Calls.{next_from_moment, with_due, course_at, course, outputs_given, board_after_course, board_after_run, IsRunRefused}
 use Rattle.pac_board.proofs.Walked.{walked-after}
 use Rattle.pac_board.specs.Laws.{IsTakenUp, AreRefused, TimeCanBeCut, RefusalsAreTakenUp, StepsAreDoneAgain}
 
@@ -18,7 +18,7 @@ use Rattle.pac_board.specs.Laws.{IsTakenUp, AreRefused, TimeCanBeCut, RefusalsAr
 
 -- a count of steps in two parts
 counted-twice : (made from middle end : ℕ) → from ≤ middle → middle ≤ end
-    → counted (counted made (middle - from)) (end - middle) ≡ counted made (end - from)
+    → steps_counted (steps_counted made (middle - from)) (end - middle) ≡ steps_counted made (end - from)
 counted-twice made from middle end less more = omega arith
 
 -- the time of more microseconds is no earlier
@@ -39,12 +39,12 @@ pub two-parts : (board : BoardValue) (asked : ℕ) (middle last whole : Moment B
     (record {
       set = board.set;
       state = record { now = last; asked = asked; due = nothing_due };
-      made = counted (counted board.made (middle.steps - board.state.now.steps)) (last.steps - middle.steps);
+      made = steps_counted (steps_counted board.made (middle.steps - board.state.now.steps)) (last.steps - middle.steps);
     })
     (record {
       set = board.set;
       state = record { now = whole; asked = asked; due = nothing_due };
-      made = counted board.made (whole.steps - board.state.now.steps);
+      made = steps_counted board.made (whole.steps - board.state.now.steps);
     })
 two-parts board asked middle last whole less more same =
     let made = counted-twice board.made board.state.now.steps middle.steps last.steps less more in
@@ -52,7 +52,7 @@ two-parts board asked middle last whole less more same =
     ∙ ap (λ (now : Moment BoardView). record {
       set = board.set;
       state = record { now = now; asked = asked; due = nothing_due };
-      made = counted board.made (now.steps - board.state.now.steps);
+      made = steps_counted board.made (now.steps - board.state.now.steps);
     }) same
 
 -- ---- the laws
@@ -64,7 +64,7 @@ time-cut board first second =
     let from = board.state.now in
     let asked = board.state.asked in
     let c = course board first in
-    let d = course (ran board first) second in
+    let d = course (board_after_run board first) second in
     let sum : asked + first + second ≡ asked + (first + second) = omega arith in
     let joins =
     walks-joined next (time_of (asked + first)) (time_of (asked + first + second)) timely from
@@ -75,7 +75,7 @@ time-cut board first second =
           ap (λ (n : ℕ). record {
             set = board.set;
             state = record { now = d.now; asked = n; due = nothing_due };
-            made = counted (counted board.made (c.now.steps - from.steps)) (d.now.steps - c.now.steps);
+            made = steps_counted (steps_counted board.made (c.now.steps - from.steps)) (d.now.steps - c.now.steps);
           }) sum
           ∙ two-parts board (asked + (first + second)) c.now d.now (course board (first + second)).now
           (walked-after next (time_of (asked + first)) timely from (time_of (asked + first))).steps
@@ -95,15 +95,15 @@ time-cut board first second =
 -- from a board that a refusal left
 taken-up : (old : BoardValue) (microseconds tries : ℕ) (due : Due) (taken : List Output)
     → due_outputs old ++ (course_at old microseconds tries).outputs
-    ≡ taken ++ due_outputs (with_due (brought old microseconds (course_at old microseconds tries)) due)
-    → IsTakenUp old (with_due (brought old microseconds (course_at old microseconds tries)) due) microseconds taken
+    ≡ taken ++ due_outputs (with_due (board_after_course old microseconds (course_at old microseconds tries)) due)
+    → IsTakenUp old (with_due (board_after_course old microseconds (course_at old microseconds tries)) due) microseconds taken
 taken-up old microseconds tries due taken parts =
     let next = step (by_view old.set) in
     let timely = step-timely (by_view old.set) in
     let from = old.state.now in
     let asked = old.state.asked + microseconds in
     let w = course_at old microseconds tries in
-    let new = with_due (brought old microseconds w) due in
+    let new = with_due (board_after_course old microseconds w) due in
     let d = course new 0 in
     let none : asked + 0 ≡ asked = omega arith in
     let whole =
@@ -114,7 +114,7 @@ taken-up old microseconds tries due taken parts =
           ap (λ (n : ℕ). record {
             set = old.set;
             state = record { now = d.now; asked = n; due = nothing_due };
-            made = counted (counted old.made (w.now.steps - from.steps)) (d.now.steps - w.now.steps);
+            made = steps_counted (steps_counted old.made (w.now.steps - from.steps)) (d.now.steps - w.now.steps);
           }) none
           ∙ two-parts old asked w.now d.now (course old microseconds).now
           (walked-after next (time_of asked) timely from tries).steps
@@ -140,7 +140,7 @@ taken-up-again : (old middle new : BoardValue) (microseconds : ℕ) (before more
     → IsTakenUp old middle microseconds before → IsTakenUp middle new 0 more → IsTakenUp old new microseconds (before ++ more)
 taken-up-again old middle new microseconds before more first second = record {
   board_is = second.board_is ∙ first.board_is;
-  given_is = append_assoc before more (given new 0) ∙ ap (λ xs. before ++ xs) second.given_is ∙ first.given_is;
+  given_is = append_assoc before more (outputs_given new 0) ∙ ap (λ xs. before ++ xs) second.given_is ∙ first.given_is;
   stop_is = second.stop_is ∙ first.stop_is;
 }
 
@@ -163,11 +163,12 @@ module _ {S : Type 0} (took refused : S → Output → S → Type 0) (old : Boar
 pub refusals-taken-up : {S : Type 0} (took refused : S → Output → S → Type 0) → RefusalsAreTakenUp took refused
 refusals-taken-up took refused old new microseconds calls sink later taken call =
     let one = once-taken-up took refused old call.between microseconds sink call.middle call.first in
-    let all = all-taken-up took refused old microseconds calls call.between new call.first.taken call.more call.middle later one call.after in
+    let all = all-taken-up took refused old microseconds calls call.between new call.first.taken call.more call.middle later one
+    call.after in
     subst (λ xs. IsTakenUp old new microseconds xs) (sym call.taken_is) all
 
 pub steps-done-again : StepsAreDoneAgain
 steps-done-again board other same = record {
-  next_is = ap (λ (set : Parts). next_at set board.state.now) same;
-  due_is = ap (λ (set : Parts). due_in set board.state.now.board board.state.due) same;
+  next_is = ap (λ (set : Parts). next_from_moment set board.state.now) same;
+  due_is = ap (λ (set : Parts). due_outputs_in set board.state.now.board board.state.due) same;
 }

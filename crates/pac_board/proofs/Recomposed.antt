@@ -4,10 +4,10 @@ use Rattle.std.proofs.lemmas.List.{drop-set, drop-set-add, set-append_right}
 use Rattle.pac_tiles.specs.Tabulate.{tabulate}
 use Rattle.pac_tiles.proofs.Tabulated.{length-tabulate}
 use Rattle.pac_map.specs.Entry.{Line}
-use Rattle.pac_picture.specs.Picture.{line_of}
-use Rattle.pac_step.specs.BoardView.{video_roms, video_memory}
-use Rattle.pac_board.specs.State.{Standing, recomposed}
-use Rattle.pac_board.specs.Events.{noted}
+use Rattle.pac_picture.specs.Picture.{picture_line}
+use Rattle.pac_board_model.specs.BoardView.{video_roms, video_memory}
+use Rattle.pac_board.specs.State.{BoardStanding, recomposed_view}
+use Rattle.pac_board.specs.Events.{standing_after_entry}
 
 -- none yet, and one more
 pub none-yet : {A : Type 0} (value : ℕ → A) (lines : List A) → lines ≡ tabulate 0 value ++ drop 0 lines
@@ -34,19 +34,19 @@ one-more value lines y inside =
     split ∙ put ∙ joined
 
 -- what stands where so many lines are composed
-abbrev pub composed_to : Standing → ℕ → Standing
-composed_to old count = record { set = old.set; now = record old.now { board = recomposed old.set old.now.board count } }
+abbrev pub composed_to : BoardStanding → ℕ → BoardStanding
+composed_to old count = record { set = old.set; now = record old.now { board = recomposed_view old.set old.now.board count } }
 
-abbrev with_lines : Standing → List (List ℕ) → Standing
+abbrev with_lines : BoardStanding → List (List ℕ) → BoardStanding
 with_lines old lines = record { set = old.set; now = record old.now { board = record old.now.board { lines = lines } } }
 
-abbrev line_in : Standing → ℕ → List ℕ
-line_in old = line_of (video_roms old.set) (video_memory old.now.board.memory)
+abbrev line_in : BoardStanding → ℕ → List ℕ
+line_in old = picture_line (video_roms old.set) (video_memory old.now.board.memory)
 
-pub begins : (old : Standing) → old ≡ composed_to old 0
+pub begins : (old : BoardStanding) → old ≡ composed_to old 0
 begins old = ap (with_lines old) (none-yet (line_in old) old.now.board.lines)
 
-pub goes-on : (old now new : Standing) (y : ℕ) → y < length old.now.board.lines → now ≡ composed_to old y →
-    new ≡ noted now (Line 0 y) → new ≡ composed_to old (y + 1)
+pub goes-on : (old now new : BoardStanding) (y : ℕ) → y < length old.now.board.lines → now ≡ composed_to old y →
+    new ≡ standing_after_entry now (Line 0 y) → new ≡ composed_to old (y + 1)
 goes-on old now new y inside so_far composes =
     composes ∙ rw so_far (ap (with_lines old) (one-more (line_in old) old.now.board.lines y inside))

@@ -1,6 +1,6 @@
 -- What a sink took and refused, output by output.
 use Rattle.std.proofs.Common.{List, [], ◌∷◌, ◌++◌, refl, subst}
-use Rattle.pac_step.specs.Output.{Output}
+use Rattle.pac_board_model.specs.Output.{Output}
 use Rattle.pac_board.specs.Sinks.{Then, TookAll, RefusesAt}
 
 -- ---- taking some outputs, and then others

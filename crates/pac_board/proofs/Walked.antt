@@ -1,9 +1,9 @@
 -- A walk only adds time and steps.
 use Rattle.std.proofs.Common.{◌≡◌, ℕ, zero, suc, ◌≤◌, Bool, true, false, refl, subst, sym, arith}
-use Rattle.pac_step.specs.Laws.{IsTimely}
-use Rattle.pac_step.specs.Step.{Moment, Next, Goes, Ends}
-use Rattle.pac_step.specs.Walk.{Walk, walk, onward, after_step, has_ended}
-use Rattle.pac_step.proofs.Walks.{ended-stays, going-steps}
+use Rattle.pac_board_model.specs.Laws.{IsTimely}
+use Rattle.pac_board_model.specs.Step.{Moment, Next, Goes, Ends}
+use Rattle.pac_board_model.specs.Walk.{Walk, walk, walk_onward, walk_after_step, has_ended}
+use Rattle.pac_board_model.proofs.Walks.{ended-stays, going-steps}
 
 pub record IsAfter {Board : Type 0} (before after : Moment Board) : Type 0 where
   pub time : before.time ≤ after.time
@@ -11,7 +11,7 @@ pub record IsAfter {Board : Type 0} (before after : Moment Board) : Type 0 where
 
 module _ {Board : Type 0} (next : Moment Board → Next Board) (limit : ℕ) (timely : (now : Moment Board) → IsTimely now (next now)) where
   step-after : (from : Moment Board) (w : Walk Board) (h : Next Board) → IsTimely w.now h → IsAfter from w.now
-      → IsAfter from (after_step w h).now
+      → IsAfter from (walk_after_step w h).now
   step-after from w (Goes now outputs kind) times so_far =
       let longer = times.0 in
       let one = times.2 in
@@ -21,7 +21,7 @@ module _ {Board : Type 0} (next : Moment Board → Next Board) (limit : ℕ) (ti
   step-after from w (Ends stop) times so_far = so_far
 
   onward-after : (from : Moment Board) (w : Walk Board) (ended : Bool) → has_ended limit w ≡ ended → IsAfter from w.now
-      → IsAfter from (onward next limit w).now
+      → IsAfter from (walk_onward next limit w).now
   onward-after from w true over so_far =
       subst (λ (walked : Walk Board). IsAfter from walked.now) (sym (ended-stays next limit w over)) so_far
   onward-after from w false open_yet so_far =

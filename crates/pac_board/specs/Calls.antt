@@ -3,11 +3,11 @@ use Rattle.std.specs.Prelude.{◌≡◌, ◌≢◌, ℕ, suc, ◌+◌, ◌-◌, 
 use mathlib.Core.List.{IsPrefix}
 use Rattle.pac_cpu.specs.declared.once.Once.{Once}
 use Rattle.pac_cpu.specs.declared.once.Once.TheVariants.{Stepped, Stopped}
-use Rattle.pac_step.specs.BoardView.{BoardView}
-use Rattle.pac_step.specs.Output.{Output, Image}
-use Rattle.pac_step.specs.Step.{Moment, Next, Goes, Ends, step}
-use Rattle.pac_step.specs.Trace.{by_view}
-use Rattle.pac_step.specs.Walk.{Walk, walk, walk_to}
+use Rattle.pac_board_model.specs.BoardView.{BoardView}
+use Rattle.pac_board_model.specs.Output.{Output, Image}
+use Rattle.pac_board_model.specs.Step.{Moment, Next, Goes, Ends, step}
+use Rattle.pac_board_model.specs.Trace.{by_view}
+use Rattle.pac_board_model.specs.Walk.{Walk, walk, walk_to}
 use Rattle.pac_board.specs.declared.due.Due.{Due}
 use Rattle.pac_board.specs.declared.fault.Fault.{Fault}
 use Rattle.pac_board.specs.declared.fault.Fault.TheVariants.{TooFar, Refused}
@@ -16,16 +16,16 @@ use Rattle.pac_board.specs.declared.fault.Idle.TheVariants.{OutputsDue, TimeIsOv
 use Rattle.pac_board.specs.declared.exec.Ran.{Ran}
 use Rattle.pac_board.specs.Sinks.{TookAll, RefusesAt}
 use Rattle.pac_roms.specs.Parts.{Parts}
-use Rattle.pac_board.specs.State.{BoardValue, Standing, due_in, due_with, due_outputs, nothing_due, latest, most_asked, time_of, counted}
+use Rattle.pac_board.specs.State.{BoardValue, BoardStanding, due_outputs_in, due_with, due_outputs, nothing_due, latest, most_asked, time_of, steps_counted}
 
 -- ---- one step
 
 -- what the next step from a moment comes to, and the next one of a board
-abbrev pub next_at : Parts → Moment BoardView → Next BoardView
-next_at set now = step (by_view set) now
+abbrev pub next_from_moment : Parts → Moment BoardView → Next BoardView
+next_from_moment set now = step (by_view set) now
 
 abbrev pub next_of : BoardValue → Next BoardView
-next_of board = next_at board.set board.state.now
+next_of board = next_from_moment board.set board.state.now
 
 abbrev pub outputs_in : Next BoardView → List Output
 outputs_in (Goes now outputs kind) = outputs
@@ -36,30 +36,30 @@ abbrev pub once_at : Next BoardView → ℕ → Once
 once_at (Goes now outputs kind) time = Stepped (now.time - time) kind
 once_at (Ends stop) time = Stopped stop
 
-abbrev pub once_of : BoardValue → Once
-once_of board = once_at (next_of board) board.state.now.time
+abbrev pub once_of_board : BoardValue → Once
+once_of_board board = once_at (next_of board) board.state.now.time
 
--- the moment after it; a stop changes nothing
+-- the moment after a step; a stop changes nothing
 abbrev pub now_after : Next BoardView → Moment BoardView → Moment BoardView
 now_after (Goes now outputs kind) before = now
 now_after (Ends stop) before = before
 
--- what the step makes of registers, bus, voices and picture, and what is due then
-pub record DoesStep (old new : Standing) (once : Once) (due : Due) : Type 0 where
+-- what a step makes of registers, bus, voices and picture, and what is due then
+pub record DoesStep (old new : BoardStanding) (once : Once) (due : Due) : Type 0 where
   pub set : new.set ≡ old.set
-  pub now : new.now ≡ now_after (next_at old.set old.now) old.now
-  pub once_is : once ≡ once_at (next_at old.set old.now) old.now.time
-  pub outputs : due_in new.set new.now.board due ≡ outputs_in (next_at old.set old.now)
+  pub now : new.now ≡ now_after (next_from_moment old.set old.now) old.now
+  pub once_is : once ≡ once_at (next_from_moment old.set old.now) old.now.time
+  pub outputs : due_outputs_in new.set new.now.board due ≡ outputs_in (next_from_moment old.set old.now)
 
--- the board after it, with what is due then; a stop changes nothing
-abbrev pub stepped : Next BoardView → BoardValue → Due → BoardValue
-stepped (Goes now outputs kind) board due =
-    record { set = board.set; state = record { now = now; asked = board.state.asked; due = due }; made = counted board.made 1 }
-stepped (Ends stop) board due = board
+-- the board after a step, with what is due then; a stop changes nothing
+abbrev pub board_after_step : Next BoardView → BoardValue → Due → BoardValue
+board_after_step (Goes now outputs kind) board due =
+    record { set = board.set; state = record { now = now; asked = board.state.asked; due = due }; made = steps_counted board.made 1 }
+board_after_step (Ends stop) board due = board
 
 -- a count of steps after what a step came to; a stop is none
 abbrev pub counted_once : ℕ → Once → ℕ
-counted_once made (Stepped ticks kind) = counted made 1
+counted_once made (Stepped ticks kind) = steps_counted made 1
 counted_once made (Stopped stop) = made
 
 -- ---- offering what is due
@@ -69,7 +69,7 @@ abbrev pub with_due : BoardValue → Due → BoardValue
 with_due board due =
     record { set = board.set; state = record { now = board.state.now; asked = board.state.asked; due = due }; made = board.made }
 
--- what was due was offered, while this was the picture, and part of it refused: that is due still
+-- what was due was offered, while this was the picture, and part of it was refused, which is due still
 pub record IsDueRefused {S : Type 0} (took refused : S → Output → S → Type 0) (image : Image) (old : Due) (sink : S) (new : Due) (later : S)
     : Type 0 where
   pub taken : List Output
@@ -81,13 +81,13 @@ abbrev pub OffersDue : {S A E : Type 0} → (S → Output → S → Type 0) → 
 OffersDue took refused image old sink (Ok done) new later = (new ≡ nothing_due) × TookAll took sink (due_with image old) later
 OffersDue took refused image old sink (Err refusal) new later = IsDueRefused took refused image old sink new later
 
--- part of what is due is offered alone, at most one output: this is due without it
+-- part of what is due, at most one output, is offered alone; `without` is what is due without it
 abbrev pub OffersPart : {S A E : Type 0} → (S → Output → S → Type 0) → (S → Output → S → Type 0)
     → List Output → Due → Due → S → Result A E → Due → S → Type 0
 OffersPart took refused part old without sink (Ok done) new later = (new ≡ without) × TookAll took sink part later
 OffersPart took refused part old without sink (Err refusal) new later = (new ≡ old) × RefusesAt took refused sink [] part later
 
--- the same of a board
+-- a board offered what was due, and part of it was refused, which is due still
 pub record IsOfferRefused {S : Type 0} (took refused : S → Output → S → Type 0) (old : BoardValue) (sink : S) (new : BoardValue) (later : S)
     : Type 0 where
   pub board : new ≡ with_due old new.state.due
@@ -102,19 +102,19 @@ Offers took refused old sink (Err refusal) new later = IsOfferRefused took refus
 
 -- ---- one step whose outputs become due
 
-pub record Advanced (old : BoardValue) (once : Once) (new : BoardValue) : Type 0 where
+pub record IsAdvanced (old : BoardValue) (once : Once) (new : BoardValue) : Type 0 where
   pub early : old.state.now.time < latest
   pub nothing : due_outputs old ≡ []
-  pub board : new ≡ stepped (next_of old) old new.state.due
+  pub board : new ≡ board_after_step (next_of old) old new.state.due
   pub outputs : due_outputs new ≡ outputs_in (next_of old)
-  pub once_is : once ≡ once_of old
+  pub once_is : once ≡ once_of_board old
 
 abbrev pub WasIdle : BoardValue → Idle → Type 0
 WasIdle old OutputsDue = due_outputs old ≢ []
 WasIdle old TimeIsOver = (due_outputs old ≡ []) × (latest ≤ old.state.now.time)
 
 abbrev pub Advances : BoardValue → Result Once Idle → BoardValue → Type 0
-Advances old (Ok once) new = Advanced old once new
+Advances old (Ok once) new = IsAdvanced old once new
 Advances old (Err why) new = (new ≡ old) × WasIdle old why
 
 -- ---- what is due, and then one step
@@ -124,19 +124,19 @@ pub record IsOneStep {S : Type 0} (took : S → Output → S → Type 0) (old : 
     (later : S)
     : Type 0 where
   pub early : old.state.now.time < latest
-  pub board : new ≡ stepped (next_of old) (with_due old nothing_due) nothing_due
-  pub once_is : once ≡ once_of old
+  pub board : new ≡ board_after_step (next_of old) (with_due old nothing_due) nothing_due
+  pub once_is : once ≡ once_of_board old
   pub sink_is : TookAll took sink (due_outputs old ++ outputs_in (next_of old)) later
 
 -- the step was done, and part of what it gave was refused
 pub record IsStepRefused {S : Type 0} (took refused : S → Output → S → Type 0) (old : BoardValue) (sink : S) (new : BoardValue) (later : S)
     : Type 0 where
-  pub board : new ≡ stepped (next_of old) (with_due old nothing_due) new.state.due
+  pub board : new ≡ board_after_step (next_of old) (with_due old nothing_due) new.state.due
   pub taken : List Output
   pub parts : outputs_in (next_of old) ≡ taken ++ due_outputs new
   pub refuses : RefusesAt took refused sink (due_outputs old ++ taken) (due_outputs new) later
 
--- nothing was changed
+-- board and sink were left as they were
 pub record IsUnchanged {S : Type 0} (old : BoardValue) (sink : S) (new : BoardValue) (later : S) : Type 0 where
   pub board : new ≡ old
   pub sink_is : later ≡ sink
@@ -159,29 +159,29 @@ course_at board microseconds tries =
 abbrev pub course : BoardValue → ℕ → Walk BoardView
 course board microseconds = walk_to (step (by_view board.set)) (time_of (board.state.asked + microseconds)) board.state.now
 
--- what it offers in all: what was due, and what its steps give
-abbrev pub given : BoardValue → ℕ → List Output
-given board microseconds = due_outputs board ++ (course board microseconds).outputs
+-- what a call for so many microseconds offers in all: what was due, and what its steps give
+abbrev pub outputs_given : BoardValue → ℕ → List Output
+outputs_given board microseconds = due_outputs board ++ (course board microseconds).outputs
 
 -- the board where a walk has brought it, nothing being due
-abbrev pub brought : BoardValue → ℕ → Walk BoardView → BoardValue
-brought board microseconds walked = record {
+abbrev pub board_after_course : BoardValue → ℕ → Walk BoardView → BoardValue
+board_after_course board microseconds walked = record {
   set = board.set;
   state = record { now = walked.now; asked = board.state.asked + microseconds; due = nothing_due };
-  made = counted board.made (walked.now.steps - board.state.now.steps);
+  made = steps_counted board.made (walked.now.steps - board.state.now.steps);
 }
 
--- the board after the call where the sink takes all
-abbrev pub ran : BoardValue → ℕ → BoardValue
-ran board microseconds = brought board microseconds (course board microseconds)
+-- the board after a call for so many microseconds, where the sink takes all
+abbrev pub board_after_run : BoardValue → ℕ → BoardValue
+board_after_run board microseconds = board_after_course board microseconds (course board microseconds)
 
--- the call came to its end: by the time, or by a stop
+-- a call for so many microseconds came to its end: by the time, or by a stop
 pub record HasRun {S : Type 0} (took : S → Output → S → Type 0) (old : BoardValue) (microseconds : ℕ) (sink : S) (answer : Ran)
     (new : BoardValue) (later : S)
     : Type 0 where
   pub within : old.state.asked + microseconds ≤ most_asked
-  pub board : new ≡ ran old microseconds
-  pub sink_is : TookAll took sink (given old microseconds) later
+  pub board : new ≡ board_after_run old microseconds
+  pub sink_is : TookAll took sink (outputs_given old microseconds) later
   pub ticks : answer.ticks ≡ new.state.now.time - old.state.now.time
   pub stop : answer.stop ≡ (course old microseconds).stop
 
@@ -192,7 +192,7 @@ pub record IsRunRefused {S : Type 0} (took refused : S → Output → S → Type
     : Type 0 where
   pub within : old.state.asked + microseconds ≤ most_asked
   pub steps : ℕ
-  pub board : new ≡ with_due (brought old microseconds (course_at old microseconds steps)) new.state.due
+  pub board : new ≡ with_due (board_after_course old microseconds (course_at old microseconds steps)) new.state.due
   pub all_steps : new.state.now.steps ≡ old.state.now.steps + steps
   pub taken : List Output
   pub parts : due_outputs old ++ (course_at old microseconds steps).outputs ≡ taken ++ due_outputs new
@@ -200,9 +200,9 @@ pub record IsRunRefused {S : Type 0} (took refused : S → Output → S → Type
   pub of_last :
       (before : ℕ) → steps ≡ suc before → IsPrefix (due_outputs old ++ (course_at old microseconds before).outputs) taken
 
-abbrev pub Runs : {S : Type 0} → (S → Output → S → Type 0) → (S → Output → S → Type 0)
+abbrev pub Executes : {S : Type 0} → (S → Output → S → Type 0) → (S → Output → S → Type 0)
     → BoardValue → ℕ → S → Result Ran Fault → BoardValue → S → Type 0
-Runs took refused old microseconds sink (Ok answer) new later = HasRun took old microseconds sink answer new later
-Runs took refused old microseconds sink (Err TooFar) new later =
+Executes took refused old microseconds sink (Ok answer) new later = HasRun took old microseconds sink answer new later
+Executes took refused old microseconds sink (Err TooFar) new later =
     (most_asked < old.state.asked + microseconds) × IsUnchanged old sink new later
-Runs took refused old microseconds sink (Err Refused) new later = IsRunRefused took refused old microseconds sink new later
+Executes took refused old microseconds sink (Err Refused) new later = IsRunRefused took refused old microseconds sink new later

@@ -7,20 +7,20 @@ use Rattle.pac_cpu.specs.declared.once.Once.{Once}
 use Rattle.pac_map.specs.Entry.{Entry}
 use Rattle.pac_map.specs.View.{held_with, held_without}
 use Rattle.pac_roms.specs.Parts.{IsWhole}
-use Rattle.pac_step.specs.BoardView.{IsBoard}
-use Rattle.pac_step.specs.Carried.{moment_view}
-use Rattle.pac_step.specs.History.{board_of}
-use Rattle.pac_step.specs.Host.{Act, StepOn, ResetBoard, HoldToo, LetGo, Keep, GoBack, Host, account_by_history, host_at, after_acts}
-use Rattle.pac_step.specs.Laws.{HasLinesInTime}
-use Rattle.pac_step.specs.Output.{Output}
-use Rattle.pac_step.specs.Shown.{lines_at}
+use Rattle.pac_board_model.specs.BoardView.{IsBoard}
+use Rattle.pac_board_model.specs.Carried.{moment_view}
+use Rattle.pac_board_model.specs.History.{board_after_entries}
+use Rattle.pac_board_model.specs.Host.{Act, StepOn, ResetBoard, HoldToo, LetGo, Keep, GoBack, Host, account_by_history, host_at, after_acts}
+use Rattle.pac_board_model.specs.Laws.{HasLinesInTime}
+use Rattle.pac_board_model.specs.Output.{Output}
+use Rattle.pac_board_model.specs.Shown.{lines_at}
 use Rattle.pac_board.specs.declared.exec.Ran.{Ran}
 use Rattle.pac_board.specs.declared.fault.Fault.{Fault}
 use Rattle.pac_board.specs.declared.fault.Fault.TheVariants.{TooFar, Refused}
 use Rattle.pac_board.specs.declared.fault.Idle.{Idle}
 use Rattle.pac_board.specs.declared.sink.Refused as sinks
-use Rattle.pac_board.specs.State.{BoardValue, State, due_outputs, reset, held, restored}
-use Rattle.pac_board.specs.Calls.{Runs, StepsOnce, Offers, Advances, IsOfferRefused, IsStepRefused, given, next_of, outputs_in}
+use Rattle.pac_board.specs.State.{BoardValue, BoardState, due_outputs, board_after_reset, board_with_inputs, restored_board}
+use Rattle.pac_board.specs.Calls.{Executes, StepsOnce, Offers, Advances, IsOfferRefused, IsStepRefused, outputs_given, next_of, outputs_in}
 
 -- the calls that change a board's state, but for `recompose`, which is for a state that was saved without its lines
 pub data Call : Type 0 where
@@ -36,15 +36,15 @@ pub data Call : Type 0 where
   Restore : (number : ℕ) → Call
 
 -- a host's board, and the snapshots that were taken of it
-pub record Hosted : Type 0 where
+pub record HostedBoard : Type 0 where
   pub board : BoardValue
-  pub kept : List State
+  pub kept : List BoardState
 
 -- ---- what a sink took in a call, by what the call's contract says
 
 abbrev pub run_took : {S : Type 0} (took refused : S → Output → S → Type 0) (old : BoardValue) (microseconds : ℕ) (sink : S)
-    (answer : Result Ran Fault) (new : BoardValue) (later : S) → Runs took refused old microseconds sink answer new later → List Output
-run_took took refused old microseconds sink (Ok ran) new later runs = given old microseconds
+    (answer : Result Ran Fault) (new : BoardValue) (later : S) → Executes took refused old microseconds sink answer new later → List Output
+run_took took refused old microseconds sink (Ok ran) new later runs = outputs_given old microseconds
 run_took took refused old microseconds sink (Err TooFar) new later runs = []
 run_took took refused old microseconds sink (Err Refused) new later runs = runs.taken
 
@@ -67,7 +67,7 @@ offer_took took refused old sink (Err refusal) new later offers = offers.taken
 -- ---- calls
 
 -- a call with some sink and some answer, which does this; and what the sink took
-pub record IsAnswered {S A : Type 0} (does : S → A → S → Type 0)
+pub record IsCallAnswered {S A : Type 0} (does : S → A → S → Type 0)
     (takes : (sink : S) (answer : A) (later : S) → does sink answer later → List Output) (taken : List Output)
     : Type 0 where
   pub sink : S
@@ -77,34 +77,36 @@ pub record IsAnswered {S A : Type 0} (does : S → A → S → Type 0)
   pub taken_is : taken ≡ takes sink answer later done
 
 -- a call that offers nothing leaves this
-abbrev pub IsSilent : Hosted → List Output → Hosted → Type 0
+abbrev pub IsSilent : HostedBoard → List Output → HostedBoard → Type 0
 IsSilent new taken made = (made ≡ new) × (taken ≡ [])
 
 abbrev pub IsCall : {S : Type 0} → (S → Output → S → Type 0) → (S → Output → S → Type 0)
-    → Call → (old : Hosted) (taken : List Output) (new : Hosted) → Type 0
+    → Call → (old : HostedBoard) (taken : List Output) (new : HostedBoard) → Type 0
 IsCall took refused (Exec microseconds) old taken new =
-    IsAnswered (λ sink answer later. Runs took refused old.board microseconds sink answer new.board later)
+    IsCallAnswered (λ sink answer later. Executes took refused old.board microseconds sink answer new.board later)
     (λ sink answer later done. run_took took refused old.board microseconds sink answer new.board later done) taken
     × (new.kept ≡ old.kept)
 IsCall took refused StepOnce old taken new =
-    IsAnswered (λ sink answer later. StepsOnce took refused old.board sink answer new.board later)
+    IsCallAnswered (λ sink answer later. StepsOnce took refused old.board sink answer new.board later)
     (λ sink answer later done. step_took took refused old.board sink answer new.board later done) taken
     × (new.kept ≡ old.kept)
 IsCall took refused Advance old taken new =
     (answer : Result Once Idle) × Advances old.board answer new.board × (taken ≡ []) × (new.kept ≡ old.kept)
 IsCall took refused Offer old taken new =
-    IsAnswered {A = Result (Unit {0}) sinks.Refused} (λ sink answer later. Offers took refused old.board sink answer new.board later)
+    IsCallAnswered {A = Result (Unit {0}) sinks.Refused} (λ sink answer later. Offers took refused old.board sink answer new.board later)
     (λ sink answer later done. offer_took took refused old.board sink answer new.board later done) taken
     × (new.kept ≡ old.kept)
-IsCall took refused Reset old taken new = IsSilent (record { board = reset old.board; kept = old.kept }) taken new
+IsCall took refused Reset old taken new = IsSilent (record { board = board_after_reset old.board; kept = old.kept }) taken new
 IsCall took refused (InputSet mask) old taken new =
-    IsSilent (record { board = held old.board (held_with old.board.state.now.board.memory.held mask); kept = old.kept }) taken new
+    IsSilent (record { board = board_with_inputs old.board (held_with old.board.state.now.board.memory.held mask); kept = old.kept })
+    taken new
 IsCall took refused (InputClear mask) old taken new =
-    IsSilent (record { board = held old.board (held_without old.board.state.now.board.memory.held mask); kept = old.kept }) taken new
+    IsSilent (record { board = board_with_inputs old.board (held_without old.board.state.now.board.memory.held mask); kept = old.kept })
+    taken new
 IsCall took refused Snapshot old taken new =
     IsSilent (record { board = old.board; kept = old.kept ++ old.board.state ∷ [] }) taken new
 IsCall took refused (Restore number) old taken new =
-    IsSilent (record { board = restored old.board (slice_index_or old.kept number old.board.state); kept = old.kept }) taken new
+    IsSilent (record { board = restored_board old.board (slice_index_or old.kept number old.board.state); kept = old.kept }) taken new
 
 -- what a call in which so many steps were done is over the history
 abbrev pub acts_of : Call → (steps : ℕ) → List Act
@@ -118,13 +120,13 @@ acts_of (InputClear mask) steps = LetGo mask ∷ []
 acts_of Snapshot steps = Keep ∷ []
 acts_of (Restore number) steps = GoBack number ∷ []
 
-abbrev pub steps_between : Hosted → Hosted → ℕ
+abbrev pub steps_between : HostedBoard → HostedBoard → ℕ
 steps_between old new = new.board.state.now.steps - old.board.state.now.steps
 
 -- a call, and then others; what the sinks took in all of them, and what they are over the history
 pub record CallThen {S : Type 0} (took refused : S → Output → S → Type 0) (call : Call)
-    (others : Hosted → List Output → List Act → Type 0) (old : Hosted) (taken : List Output) (acts : List Act) : Type 0 where
-  pub between : Hosted
+    (others : HostedBoard → List Output → List Act → Type 0) (old : HostedBoard) (taken : List Output) (acts : List Act) : Type 0 where
+  pub between : HostedBoard
   pub first_taken : List Output
   pub first : IsCall took refused call old first_taken between
   pub more_taken : List Output
@@ -134,7 +136,7 @@ pub record CallThen {S : Type 0} (took refused : S → Output → S → Type 0) 
   pub acts_are : acts ≡ acts_of call (steps_between old between) ++ more_acts
 
 abbrev pub AreCalls : {S : Type 0} → (S → Output → S → Type 0) → (S → Output → S → Type 0)
-    → List Call → (old new : Hosted) → (taken : List Output) → (acts : List Act) → Type 0
+    → List Call → (old new : HostedBoard) → (taken : List Output) → (acts : List Act) → Type 0
 AreCalls took refused [] old new taken acts = (new ≡ old) × (taken ≡ []) × (acts ≡ [])
 AreCalls took refused (call ∷ calls) old new taken acts =
     CallThen took refused call (λ between more acts. AreCalls took refused calls between new more acts) old taken acts
@@ -155,11 +157,12 @@ history items board acts =
 
 -- A board, after calls, stands where the history says, and so do its snapshots: registers, time and steps are those of the history,
 -- and what it keeps is what the entries leave.
-pub record IsOfTheHistory (old : BoardValue) (told : Host (List Entry)) (calls : List Call) (new : Hosted) (taken : List Output)
+pub record IsOfTheHistory (old : BoardValue) (told : Host (List Entry)) (calls : List Call) (new : HostedBoard) (taken : List Output)
     : Type 0 where
   pub set : new.board.set ≡ old.set
-  pub now : new.board.state.now ≡ moment_view (board_of old.set old.state.now.board) told.now
-  pub kept : map (λ (state : State). state.now) new.kept ≡ map (moment_view (board_of old.set old.state.now.board)) told.kept
+  pub now : new.board.state.now ≡ moment_view (board_after_entries old.set old.state.now.board) told.now
+  pub kept : map (λ (state : BoardState). state.now) new.kept
+      ≡ map (moment_view (board_after_entries old.set old.state.now.board)) told.kept
   -- each line of its picture is as it was last composed, and lines were composed at their moments and at no others
   pub picture : new.board.state.now.board.lines ≡ lines_at old.set old.state.now.board told.now.board
   pub lines : HasLinesInTime old.set old.state.now.board old.state.now.time told.now
@@ -168,7 +171,7 @@ pub record IsOfTheHistory (old : BoardValue) (told : Host (List Entry)) (calls :
 
 abbrev pub CallsAreOfTheHistory : {S : Type 0} → (S → Output → S → Type 0) → (S → Output → S → Type 0) → Type 0
 CallsAreOfTheHistory took refused =
-    (items : List Item) (old : BoardValue) (calls : List Call) (new : Hosted) (taken : List Output) (acts : List Act) → IsWhole old.set
+    (items : List Item) (old : BoardValue) (calls : List Call) (new : HostedBoard) (taken : List Output) (acts : List Act) → IsWhole old.set
     → AllLie old.set.program items → IsBoard old.state.now.board
     → AreCalls took refused calls (record { board = old; kept = [] }) new taken acts
     → IsOfTheHistory old (history items old acts) calls new taken

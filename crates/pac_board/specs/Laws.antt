@@ -1,21 +1,21 @@
 -- To be believed: laws of the calls, each proved on a public function of the crate.
 use Rattle.std.specs.Prelude.{◌≡◌, ℕ, zero, suc, ◌+◌, ◌-◌, ◌<◌, List, [], ◌++◌}
 use Rattle.pac_cpu.specs.declared.once.Once.{Once}
-use Rattle.pac_step.specs.Output.{Output}
-use Rattle.pac_board.specs.State.{BoardValue, due_outputs, nothing_due, restored, time_of}
-use Rattle.pac_board.specs.Calls.{course, given, ran, next_of, outputs_in, with_due}
-use Rattle.pac_board.specs.Calls.{Advanced, IsOneStep, IsStepRefused, IsOfferRefused, IsRunRefused}
+use Rattle.pac_board_model.specs.Output.{Output}
+use Rattle.pac_board.specs.State.{BoardValue, due_outputs, nothing_due, restored_board, time_of}
+use Rattle.pac_board.specs.Calls.{course, outputs_given, board_after_run, next_of, outputs_in, with_due}
+use Rattle.pac_board.specs.Calls.{IsAdvanced, IsOneStep, IsStepRefused, IsOfferRefused, IsRunRefused}
 
 -- the T-states that a call for so many microseconds takes
-abbrev pub ticks_of : BoardValue → ℕ → ℕ
-ticks_of board microseconds = (ran board microseconds).state.now.time - board.state.now.time
+abbrev pub run_ticks : BoardValue → ℕ → ℕ
+run_ticks board microseconds = (board_after_run board microseconds).state.now.time - board.state.now.time
 
 -- Time in pieces is time at once: the board is the same, what is given is the same in the same order, and the ticks add up.
 pub record IsCut (board : BoardValue) (first second : ℕ) : Type 0 where
-  pub board_is : ran (ran board first) second ≡ ran board (first + second)
-  pub ticks : ticks_of board first + ticks_of (ran board first) second ≡ ticks_of board (first + second)
-  pub given_is : given board first ++ given (ran board first) second ≡ given board (first + second)
-  pub stop_is : (course (ran board first) second).stop ≡ (course board (first + second)).stop
+  pub board_is : board_after_run (board_after_run board first) second ≡ board_after_run board (first + second)
+  pub ticks : run_ticks board first + run_ticks (board_after_run board first) second ≡ run_ticks board (first + second)
+  pub given_is : outputs_given board first ++ outputs_given (board_after_run board first) second ≡ outputs_given board (first + second)
+  pub stop_is : (course (board_after_run board first) second).stop ≡ (course board (first + second)).stop
 
 abbrev pub TimeCanBeCut : Type 0
 TimeCanBeCut = (board : BoardValue) (first second : ℕ) → IsCut board first second
@@ -41,8 +41,8 @@ AreRefused took refused (suc calls) old sink new later taken =
 -- After a refusal, calls for no time go on, however many of them are refused too: the first that isn't leaves the board that the
 -- refused call would have left, and the outputs of all of them are those that it would have given.
 pub record IsTakenUp (old new : BoardValue) (microseconds : ℕ) (taken : List Output) : Type 0 where
-  pub board_is : ran new 0 ≡ ran old microseconds
-  pub given_is : taken ++ given new 0 ≡ given old microseconds
+  pub board_is : board_after_run new 0 ≡ board_after_run old microseconds
+  pub given_is : taken ++ outputs_given new 0 ≡ outputs_given old microseconds
   pub stop_is : (course new 0).stop ≡ (course old microseconds).stop
 
 abbrev pub RefusalsAreTakenUp : {S : Type 0} → (S → Output → S → Type 0) → (S → Output → S → Type 0) → Type 0
@@ -54,18 +54,18 @@ RefusalsAreTakenUp {S} took refused =
 
 -- A step that is done again after its board was put back comes to the same, and what is due then is what was due before it.
 pub record IsDoneAgain (board other : BoardValue) : Type 0 where
-  pub next_is : next_of (restored other board.state) ≡ next_of board
-  pub due_is : due_outputs (restored other board.state) ≡ due_outputs board
+  pub next_is : next_of (restored_board other board.state) ≡ next_of board
+  pub due_is : due_outputs (restored_board other board.state) ≡ due_outputs board
 
 abbrev pub StepsAreDoneAgain : Type 0
 StepsAreDoneAgain = (board other : BoardValue) → other.set ≡ board.set → IsDoneAgain board other
 
 -- One board is on the way of another's run, which has given these outputs by then: so many microseconds from the one leave the
--- board that as many from the other leave, the outputs so far and those that follow are those of the other's run, and a stop is
--- the same.
+-- board that as many from the other leave, the outputs so far and those that follow are those of the other's run, and a stop
+-- is the one that the other meets.
 pub record IsOnTheWay (old new : BoardValue) (microseconds : ℕ) (taken : List Output) : Type 0 where
-  pub board_is : ran new microseconds ≡ ran old microseconds
-  pub given_is : taken ++ given new microseconds ≡ given old microseconds
+  pub board_is : board_after_run new microseconds ≡ board_after_run old microseconds
+  pub given_is : taken ++ outputs_given new microseconds ≡ outputs_given old microseconds
   pub stop_is : (course new microseconds).stop ≡ (course old microseconds).stop
 
 -- the microseconds leave time for a step
@@ -82,7 +82,7 @@ pub record ArePartsOfRuns {S : Type 0} (took refused : S → Output → S → Ty
       → IsOnTheWay old new microseconds (due_outputs old ++ outputs_in (next_of old))
   pub step_refused : HasTime old microseconds → (refusal : IsStepRefused took refused old sink new later)
       → IsOnTheWay old new microseconds (due_outputs old ++ refusal.taken)
-  pub advanced : (once : Once) → HasTime old microseconds → Advanced old once new → IsOnTheWay old new microseconds []
+  pub advanced : (once : Once) → HasTime old microseconds → IsAdvanced old once new → IsOnTheWay old new microseconds []
   pub offered : new ≡ with_due old nothing_due → IsOnTheWay old new microseconds (due_outputs old)
   pub offer_refused : (refusal : IsOfferRefused took refused old sink new later) → IsOnTheWay old new microseconds refusal.taken
 

@@ -3,11 +3,11 @@
 use Rattle.std.specs.Prelude.{◌≡◌, List, [], ◌∷◌, Result, Ok, Err}
 use Rattle.std.specs.Borrow.{MutBor}
 use Rattle.pac_picture.specs.State as picture
-use Rattle.pac_step.specs.Output.{Output, Image}
+use Rattle.pac_board_model.specs.Output.{Output, Image}
 
 -- a picture as it is offered
-abbrev pub shown : picture.State → Image
-shown picture = record { lines = picture.lines; palette = picture.palette }
+abbrev pub offered_image : picture.PictureState → Image
+offered_image picture = record { lines = picture.lines; palette = picture.palette }
 
 -- one offer, by its answer
 abbrev pub IsOffer : {S A E : Type 0} → (S → Output → S → Type 0) → (S → Output → S → Type 0) → S → Output → Result A E → S → Type 0
@@ -25,7 +25,7 @@ abbrev pub TookAll : {S : Type 0} → (S → Output → S → Type 0) → S → 
 TookAll took old [] new = new ≡ old
 TookAll took old (output ∷ more) new = Then (took old output) (λ between. TookAll took between more new)
 
--- it took some, and refused the first of those that are left
+-- the sink took some outputs, and refused the first of those that are left
 pub record RefusesAt {S : Type 0} (took refused : S → Output → S → Type 0) (old : S) (taken left : List Output) (new : S)
     : Type 0 where
   pub asked : S
@@ -35,10 +35,10 @@ pub record RefusesAt {S : Type 0} (took refused : S → Output → S → Type 0)
   pub left_is : left ≡ first ∷ rest
   pub refusal : refused asked first new
 
--- The same of a sink that is lent. The reference stays the same one, so what the last offer leaves is what the sink's owner has
--- when the loan ends.
-abbrev pub lent_took : {S : Type 0} → (S → Output → S → Type 0) → MutBor S → Output → MutBor S → Type 0
-lent_took took old output new = (new.ghost_name ≡ old.ghost_name) × took old.now output new.now
+-- What a sink that is lent took, or its refusal. The reference stays the same one, so what the last offer leaves is what the sink's
+-- owner has when the loan ends.
+abbrev pub lent_sink_took : {S : Type 0} → (S → Output → S → Type 0) → MutBor S → Output → MutBor S → Type 0
+lent_sink_took took old output new = (new.ghost_name ≡ old.ghost_name) × took old.now output new.now
 
-abbrev pub lent_refused : {S : Type 0} → (S → Output → S → Type 0) → MutBor S → Output → MutBor S → Type 0
-lent_refused refused old output new = (new.ghost_name ≡ old.ghost_name) × refused old.now output new.now
+abbrev pub lent_sink_refused : {S : Type 0} → (S → Output → S → Type 0) → MutBor S → Output → MutBor S → Type 0
+lent_sink_refused refused old output new = (new.ghost_name ≡ old.ghost_name) × refused old.now output new.now

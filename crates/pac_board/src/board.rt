@@ -58,7 +58,7 @@ impl Board {
     /// The board at power-on, with this ROM set and the byte of the DIP switches. Refused for want of memory alone; the
     /// set then comes back.
     pub fn init(alloc: Global, set: RomSet, switches: u8) -> Result<Board, InitRefused>
-        ensures board { IfOk result (λ board. board ≡ state.at_power_on set switches) }
+        ensures board { IfOk result (λ board. board ≡ state.power_on_board set switches) }
         ensures refused { IfErr result (λ refused. refused.set ≡ set) }
     {
         let Ok((picture, memory)) = parts(alloc, &set, switches) else {
@@ -75,21 +75,21 @@ impl Board {
     /// Resets the board as the watchdog does: latch, request, count and processor. Time, steps, what is due and the
     /// picture stay.
     pub fn reset(&mut self)
-        ensures { self.new ≡ state.reset self.old }
+        ensures { self.new ≡ state.board_after_reset self.old }
     {
         self.machine.reset();
     }
 
     /// Holds these inputs too from now on.
     pub fn input_set(&mut self, inputs: Inputs)
-        ensures { self.new ≡ state.held self.old (held_with self.old.state.now.board.memory.held (mask inputs)) }
+        ensures { self.new ≡ state.board_with_inputs self.old (held_with self.old.state.now.board.memory.held (mask inputs)) }
     {
         self.machine.input_set(inputs);
     }
 
     /// Lets these inputs go.
     pub fn input_clear(&mut self, inputs: Inputs)
-        ensures { self.new ≡ state.held self.old (held_without self.old.state.now.board.memory.held (mask inputs)) }
+        ensures { self.new ≡ state.board_with_inputs self.old (held_without self.old.state.now.board.memory.held (mask inputs)) }
     {
         self.machine.input_clear(inputs);
     }

@@ -2,7 +2,7 @@
 
 ghost use Rattle.std.specs.Prelude.{◌≡◌, ◌||◌, is_some, None, false};
 ghost use Rattle.pac_board.specs.Calls.{OffersDue, OffersPart};
-ghost use Rattle.pac_board.specs.Sinks.{shown};
+ghost use Rattle.pac_board.specs.Sinks.{offered_image};
 ghost use Rattle.pac_board.specs.State.{sounds_of, shows_of};
 
 use crate::sink::{Refused, Sink};
@@ -18,7 +18,7 @@ pub struct Due {
 }
 
 impl Due {
-    /// Nothing.
+    /// Nothing is due.
     pub const NOTHING: Due = Due {
         sample: None,
         picture: false,
@@ -35,7 +35,7 @@ impl Due {
     /// Offers what is due to a sink, the sample before this picture, and keeps what it refuses, with what comes after it.
     #[inline]
     pub fn offer<S: Sink>(&mut self, picture: &Picture, sink: &mut S) -> Result<(), Refused>
-        ensures { OffersDue S.took S.refused (shown picture.now) self.old sink.old result self.new sink.new }
+        ensures { OffersDue S.took S.refused (offered_image picture.now) self.old sink.old result self.new sink.new }
     {
         self.offer_sample(sink)?;
         self.offer_picture(picture, sink)
@@ -57,7 +57,8 @@ impl Due {
     /// Offers this picture, where it is due.
     #[inline]
     fn offer_picture<S: Sink>(&mut self, picture: &Picture, sink: &mut S) -> Result<(), Refused>
-        ensures { OffersPart S.took S.refused (shows_of (shown picture.now) self.old.picture) self.old (record self.old { picture = false })
+        ensures { OffersPart S.took S.refused (shows_of (offered_image picture.now) self.old.picture) self.old
+            (record self.old { picture = false })
             sink.old result self.new sink.new }
     {
         if self.picture {

@@ -2,7 +2,7 @@
 
 ghost use Rattle.std.specs.Prelude.{◌≡◌, ◌<◌, ◌≤◌, ◌^◌, []};
 ghost use Rattle.pac_board.specs.State.{latest, due_outputs, nothing_due};
-ghost use Rattle.pac_board.specs.Calls.{counted_once, Offers, Advanced, Advances, StepsOnce, Runs};
+ghost use Rattle.pac_board.specs.Calls.{counted_once, Offers, IsAdvanced, Advances, StepsOnce, Executes};
 ghost use Rattle.pac_board.specs.Turns.{Turns, GoesTo};
 
 use crate::board::Board;
@@ -70,12 +70,12 @@ impl Board {
         Ok(self.go())
     }
 
-    /// The step of a board that may make one.
+    /// Does the step of a board with nothing due and time left; what it gives is due then.
     #[inline(always)]
     fn go(&mut self) -> Once
         requires early { self.old.state.now.time < latest }
         requires nothing { due_outputs self.old ≡ [] }
-        ensures { Advanced self.old result self.new }
+        ensures { IsAdvanced self.old result self.new }
     {
         let (once, due) = self.machine.step();
         note(&mut self.due, due);
@@ -83,7 +83,7 @@ impl Board {
         once
     }
 
-    /// Its step, and the offer of what that gives.
+    /// Does one step of a board with nothing due, and offers what it gives.
     #[inline(always)]
     fn turn<S: Sink>(&mut self, sink: &mut S) -> Result<Once, Refused>
         requires early { self.old.state.now.time < latest }
@@ -95,7 +95,7 @@ impl Board {
         Ok(once)
     }
 
-    /// The offer of what is due, where anything is; after most steps nothing is.
+    /// Offers what is due, where anything is; after most steps nothing is.
     #[inline(always)]
     fn give<S: Sink>(&mut self, sink: &mut S) -> Result<(), Refused>
         ensures { Offers S.took S.refused self.old sink.old result self.new sink.new }
@@ -122,7 +122,7 @@ impl Board {
         }
     }
 
-    /// Steps while the time is before a limit, up to a stop, and the offer of what each gives.
+    /// Does steps while the time is before a limit, up to a stop, and offers what each gives.
     fn run<S: Sink>(&mut self, limit: u64, sink: &mut S) -> Result<Option<Stop>, Refused>
         requires limit { limit ≤ latest }
         requires nothing { due_outputs self.old ≡ [] }
@@ -140,7 +140,7 @@ impl Board {
     /// Lets so many microseconds go by: offers what is due, then does steps, and offers what each gives, while the time is before
     /// that of all microseconds asked so far, or to a stop.
     pub fn exec<S: Sink>(&mut self, us: u32, sink: &mut S) -> Result<Ran, Fault>
-        ensures { Runs S.took S.refused self.old us sink.old result self.new sink.new }
+        ensures { Executes S.took S.refused self.old us sink.old result self.new sink.new }
     {
         let asked = self.asked + u64::from(us);
         if asked > MOST_ASKED {

@@ -1,9 +1,9 @@
 //! A board made from its fields, as a save file has them, and told by them.
 
 ghost use Rattle.std.specs.Prelude.{◌≡◌, ◌≤◌, ◌<◌, ◌↔◌, IfOk, IfErr, true, length};
-ghost use Rattle.pac_wave.specs.Wave.{Fit20Bits, of_list};
-ghost use Rattle.pac_board.specs.State.{most_asked, passed_lines, recomposed, with_view};
-ghost use Rattle.pac_board.specs.Fields.{moment_of, state_of, AreInRange, AreParts};
+ghost use Rattle.pac_wave.specs.Wave.{Fit20Bits, accumulators_of_list};
+ghost use Rattle.pac_board.specs.State.{most_asked, passed_lines, recomposed_view, with_view};
+ghost use Rattle.pac_board.specs.Fields.{moment_of, state_of, AreBoardFields, AreParts};
 
 use crate::board::Board;
 use crate::due::Due;
@@ -30,7 +30,7 @@ pub struct Fields<'a> {
     /// The microseconds asked for so far, at most 2^50.
     pub asked: u64,
     /// RAM and registers, latch, switches and inputs; the watchdog's count is below 16.
-    pub memory: pac_map::Fields<'a>,
+    pub memory: pac_map::MemoryFields<'a>,
     /// The voices' accumulators, each below 2^20.
     pub accumulators: [u32; 3],
     /// What is due.
@@ -41,7 +41,7 @@ pub struct Fields<'a> {
 
 /// Whether accumulators hold what they can.
 fn fit(accumulators: &[u32; 3]) -> bool
-    ensures { (result ≡ true) ↔ Fit20Bits (of_list accumulators.now) }
+    ensures { (result ≡ true) ↔ Fit20Bits (accumulators_of_list accumulators.now) }
 {
     accumulators[0] < 0x10_0000 && accumulators[1] < 0x10_0000 && accumulators[2] < 0x10_0000
 }
@@ -50,9 +50,9 @@ fn fit(accumulators: &[u32; 3]) -> bool
 const LATEST_END: u64 = (1 << 52) + 22;
 
 impl Fields<'_> {
-    /// Whether a board can have these: each field is in its range.
+    /// Whether a board can have these fields: each is in its range.
     pub fn are_in_range(&self) -> bool
-        ensures { (result ≡ true) ↔ AreInRange self.now }
+        ensures { (result ≡ true) ↔ AreBoardFields self.now }
     {
         self.memory.are_in_range()
             && self.memory.count < 16
@@ -65,7 +65,7 @@ impl Fields<'_> {
 
 /// A set's picture with the lines of these fields, and their memory.
 fn parts(alloc: Global, set: &RomSet, fields: &Fields) -> Result<(Picture, Memory), AllocError>
-    requires { AreInRange fields.now }
+    requires { AreBoardFields fields.now }
     ensures { IfOk result (λ parts. AreParts set.now fields.now parts.0 parts.1) }
 {
     let graphics = Graphics::new(alloc, set.tiles(), set.sprites(), set.lookup())?;
@@ -76,9 +76,9 @@ fn parts(alloc: Global, set: &RomSet, fields: &Fields) -> Result<(Picture, Memor
 }
 
 impl Machine {
-    /// What stands by these fields, with this picture and this memory of them.
+    /// The machine of these fields, with their picture and their memory.
     fn of(set: RomSet, picture: Picture, memory: Memory, fields: &Fields) -> Machine
-        requires range { AreInRange fields.now }
+        requires range { AreBoardFields fields.now }
         requires parts { AreParts set fields.now picture memory }
         ensures { result ≡ record { set = set; now = moment_of fields.now } }
     {
@@ -92,11 +92,11 @@ impl Machine {
         }
     }
 
-    /// The fields, with what was asked and what is due.
+    /// The fields, with the microseconds asked for and what is due.
     fn fields(&self, asked: u64, due: Due) -> Fields
         requires { asked ≤ most_asked }
         ensures fields { state_of result ≡ record { now = self.now.now; asked = asked; due = due } }
-        ensures in_range { AreInRange result }
+        ensures in_range { AreBoardFields result }
     {
         Fields {
             regs: self.cpu.regs(),
@@ -115,7 +115,7 @@ impl Machine {
         ensures passed { result ≡ passed_lines self.now.now.time }
         ensures lines { result < length self.now.now.board.lines }
     {
-        // any row tells that all of them are there
+        // the contract of reading any row tells that all of them are there
         let _top = self.picture.row(0);
         (self.clock % 50_688 / 192).saturating_sub(40) as u8
     }
@@ -125,7 +125,7 @@ impl Machine {
         ensures { self.new ≡ record {
           set = self.old.set;
           now = record self.old.now {
-            board = recomposed self.old.set self.old.now.board (passed_lines self.old.now.time);
+            board = recomposed_view self.old.set self.old.now.board (passed_lines self.old.now.time);
           };
         } }
     {
@@ -140,7 +140,7 @@ impl Board {
     /// The board of a ROM set that has these fields, each in its range. Refused for want of memory alone; the set then
     /// comes back.
     pub fn of(alloc: Global, set: RomSet, fields: &Fields) -> Result<Board, InitRefused>
-        requires { AreInRange fields.now }
+        requires { AreBoardFields fields.now }
         ensures board { IfOk result (λ board. board ≡ record { set = set; state = state_of fields.now; made = 0 }) }
         ensures refused { IfErr result (λ refused. refused.set ≡ set) }
     {
@@ -155,10 +155,10 @@ impl Board {
         })
     }
 
-    /// Its fields.
+    /// The fields of the board's state.
     pub fn fields(&self) -> Fields
         ensures fields { state_of result ≡ self.now.state }
-        ensures in_range { AreInRange result }
+        ensures in_range { AreBoardFields result }
     {
         self.machine.fields(self.asked, self.due)
     }
@@ -167,7 +167,7 @@ impl Board {
     /// a state that was saved without them. Takes no memory.
     pub fn recompose(&mut self)
         ensures { self.new ≡ with_view self.old
-            (recomposed self.old.set self.old.state.now.board (passed_lines self.old.state.now.time)) }
+            (recomposed_view self.old.set self.old.state.now.board (passed_lines self.old.state.now.time)) }
     {
         self.machine.recompose();
     }

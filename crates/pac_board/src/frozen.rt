@@ -2,8 +2,8 @@
 
 ghost use Rattle.std.specs.Prelude.{◌≡◌, IfOk};
 ghost use Rattle.pac_picture.specs.Layer.{AreStale};
-ghost use Rattle.pac_step.specs.Trace.{start};
-ghost use Rattle.pac_step.specs.BoardView.{power_on};
+ghost use Rattle.pac_board_model.specs.Trace.{power_on_moment};
+ghost use Rattle.pac_board_model.specs.BoardView.{power_on_board_view};
 
 use crate::machine::Machine;
 use pac_cpu::Cpu;
@@ -28,8 +28,8 @@ impl Model for Frozen {
     ghost use Rattle.std.specs.Prelude.{◌≤◌, ◌<◌, ◌*◌};
     ghost use Rattle.pac_latch.specs.Latched.{watchdog_limit};
     ghost use Rattle.pac_table.specs.Instructions.{least_ticks};
-    ghost use Rattle.pac_step.specs.Step.{Moment};
-    ghost use Rattle.pac_step.specs.BoardView.{BoardView};
+    ghost use Rattle.pac_board_model.specs.Step.{Moment};
+    ghost use Rattle.pac_board_model.specs.BoardView.{BoardView};
     ghost use Rattle.pac_board.specs.State.{latest_end};
 
     ghost Value = { Moment BoardView };
@@ -51,7 +51,7 @@ impl Model for Frozen {
 impl Frozen {
     /// The moment of power-on, all DIP switches 0. Refused for want of memory alone.
     pub fn new(alloc: Global) -> Result<Frozen, AllocError>
-        ensures { IfOk result (λ frozen. frozen ≡ start (power_on 0)) }
+        ensures { IfOk result (λ frozen. frozen ≡ power_on_moment (power_on_board_view 0)) }
     {
         Ok(Frozen {
             cpu: Cpu::power_on(),

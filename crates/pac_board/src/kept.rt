@@ -2,8 +2,8 @@
 
 ghost use Rattle.std.specs.Prelude.{◌≡◌, ◌<◌, ◌==◌, [], IfOk, map};
 ghost use Rattle.pac_tiles.specs.Tiles as tile;
-ghost use Rattle.pac_board.specs.Sinks.{shown};
-ghost use Rattle.pac_board.specs.Kept.{Keeps, Declines, offered, output_of, number_in, colour_in};
+ghost use Rattle.pac_board.specs.Sinks.{offered_image};
+ghost use Rattle.pac_board.specs.Kept.{Keeps, Declines, sink_after_offer, output_of, pixel_number, pixel_colour};
 
 use crate::sink::{Refused, Sink};
 use pac_picture::{Lines, Picture};
@@ -18,17 +18,17 @@ pub struct Shown {
 }
 
 impl Model for Shown {
-    ghost use Rattle.pac_step.specs.Output.{Image};
+    ghost use Rattle.pac_board_model.specs.Output.{Image};
 
     ghost Value = { Image };
 
-    ghost view = { λ shown. record { lines = shown.lines; palette = shown.palette } };
+    ghost view = { λ offered_image. record { lines = offered_image.lines; palette = offered_image.palette } };
 }
 
 impl Shown {
     /// A copy of a picture as it stands. Refused for want of memory alone.
     fn of(alloc: Global, picture: &Picture) -> Result<Shown, AllocError>
-        ensures { IfOk result (λ copy. copy ≡ shown picture.now) }
+        ensures { IfOk result (λ copy. copy ≡ offered_image picture.now) }
     {
         let mut lines = Lines::new(alloc)?;
         lines.copy_from(picture.lines());
@@ -41,7 +41,7 @@ impl Shown {
     pub fn number(&self, x: u16, y: u8) -> u8
         requires x { x < tile.width }
         requires y { y < tile.height }
-        ensures number { result ≡ number_in self.now x y }
+        ensures number { result ≡ pixel_number self.now x y }
         ensures below { result < 16 }
     {
         self.lines.row(y)[x as usize]
@@ -51,7 +51,7 @@ impl Shown {
     pub fn colour(&self, x: u16, y: u8) -> [u8; 3]
         requires x { x < tile.width }
         requires y { y < tile.height }
-        ensures { result ≡ colour_in self.now x y }
+        ensures { result ≡ pixel_colour self.now x y }
     {
         self.palette[self.number(x, y) as usize]
     }
@@ -77,15 +77,15 @@ pub struct Kept {
 
 impl Model for Kept {
     ghost use Rattle.std.specs.Prelude.{map};
-    ghost use Rattle.pac_board.specs.Kept.{Keeping, output_of};
+    ghost use Rattle.pac_board.specs.Kept.{KeepingSink, output_of};
 
-    ghost Value = { Keeping };
+    ghost Value = { KeepingSink };
 
     ghost view = { λ kept. record { outputs = map output_of kept.taken.items; refusal = kept.refusal } };
 }
 
 impl Kept {
-    /// One that has nothing, and refuses the offer of the number `refusal`, once: 1 is its first, 0 is none.
+    /// A sink that took nothing yet, and refuses the offer of the number `refusal`, once: 1 is its first, 0 is none.
     pub fn new(alloc: Global, refusal: u64) -> Kept
         ensures { result ≡ record { outputs = []; refusal = refusal } }
     {
@@ -96,17 +96,17 @@ impl Kept {
         }
     }
 
-    /// What it took, the first first.
+    /// The outputs that the sink took, the first first.
     pub fn taken(&self) -> &[Taken]
         ensures { map output_of result.now ≡ self.now.outputs }
     {
         &self.taken
     }
 
-    /// Whether the offer has come that it refuses. An offer has come then.
+    /// Counts an offer, and tells whether it is the one that the sink refuses.
     fn declines(&mut self) -> bool
         ensures result_is { result ≡ (self.old.refusal == 1) }
-        ensures offer { self.new ≡ offered self.old }
+        ensures offer { self.new ≡ sink_after_offer self.old }
     {
         let declines = self.refusal == 1;
         self.refusal = self.refusal.saturating_sub(1);

@@ -1,7 +1,7 @@
 //! Where samples and pictures go.
 
-ghost use Rattle.pac_step.specs.Output.{Output, Sound, Show};
-ghost use Rattle.pac_board.specs.Sinks.{IsOffer, shown, lent_took, lent_refused};
+ghost use Rattle.pac_board_model.specs.Output.{Output, Sound, Show};
+ghost use Rattle.pac_board.specs.Sinks.{IsOffer, offered_image, lent_sink_took, lent_sink_refused};
 
 use pac_picture::Picture;
 use thiserror::Error;
@@ -13,7 +13,7 @@ pub struct Refused;
 
 /// Takes what a board gives out, or refuses it.
 ///
-/// It says by two relations between its value before and after what taking an output leaves of it and what refusing one
+/// A sink says by two relations between its value before and after what taking an output leaves of it and what refusing one
 /// leaves. It needn't keep what it took.
 pub trait Sink {
     /// What is left of a sink that took this output.
@@ -28,14 +28,14 @@ pub trait Sink {
 
     /// Takes the picture of a frame as it is lent, or refuses it.
     fn picture(&mut self, picture: &Picture) -> Result<(), Refused>
-        ensures { IsOffer took refused self.old (Show (shown picture.now)) result self.new };
+        ensures { IsOffer took refused self.old (Show (offered_image picture.now)) result self.new };
 }
 
 /// A sink that is lent.
 impl<S: Sink> Sink for &mut S {
-    ghost took = { lent_took S.took };
+    ghost took = { lent_sink_took S.took };
 
-    ghost refused = { lent_refused S.refused };
+    ghost refused = { lent_sink_refused S.refused };
 
     /// Offers the sample to the sink that is lent.
     fn sample(&mut self, sample: i16) -> Result<(), Refused> {

@@ -1,7 +1,7 @@
 //! A board's state, kept beside it and put back.
 
 ghost use Rattle.std.specs.Prelude.{◌≡◌, IfOk};
-ghost use Rattle.pac_board.specs.State.{restored};
+ghost use Rattle.pac_board.specs.State.{restored_board};
 
 use crate::board::Board;
 use crate::due::Due;
@@ -19,9 +19,9 @@ pub struct Snapshot {
 
 impl Model for Snapshot {
     ghost use Rattle.std.specs.Prelude.{◌≤◌};
-    ghost use Rattle.pac_board.specs.State.{State, most_asked};
+    ghost use Rattle.pac_board.specs.State.{BoardState, most_asked};
 
-    ghost Value = { State };
+    ghost Value = { BoardState };
 
     ghost view = { λ snapshot. record { now = snapshot.frozen; asked = snapshot.asked; due = snapshot.due } };
 
@@ -53,7 +53,7 @@ impl Board {
 
     /// Goes back to a state, what was due then included. The board keeps its own ROM set. Takes no memory.
     pub fn restore(&mut self, snapshot: &Snapshot)
-        ensures { self.new ≡ restored self.old snapshot.now }
+        ensures { self.new ≡ restored_board self.old snapshot.now }
     {
         self.machine.thaw(&snapshot.frozen);
         self.asked = snapshot.asked;

@@ -205,7 +205,7 @@ fn has_two(picture: &Picture, first: u8, second: u8) -> bool {
     is_right
 }
 
-/// The same as `is_rectangle` of the output of this index, by its colours.
+/// Whether the output of this index is a picture with one colour in a rectangle, and black everywhere else.
 fn gave_rectangle(
     kept: &Kept,
     index: usize,

@@ -4,7 +4,7 @@ use crate::rig::Rig;
 use crate::set::{FRAME, SWITCHES, set};
 use pac_board::Board;
 use pac_roms::RomSet;
-use pac_scarce::Hoard;
+use pac_tests_memory::Hoard;
 use std::alloc::Global;
 use std::process::Abort;
 use std::test::Fail;

@@ -3,7 +3,7 @@
 use crate::set::{SWITCHES, set};
 use pac_board::kept::Kept;
 use pac_board::{Board, Fault, Fields, Snapshot};
-use pac_cpu::{Kind, Once, Stop};
+use pac_cpu::{Once, StepKind, Stop};
 use pac_inputs::Inputs;
 use std::alloc::{AllocError, Global};
 use std::marker::Model;
@@ -60,7 +60,7 @@ impl Rig {
         Rig::with(alloc, pieces, &self.board.fields())
     }
 
-    /// The same, but that an interrupt is requested.
+    /// Another board of the fields of this one, but with an interrupt requested.
     pub fn requested(&self, alloc: Global, pieces: &[(usize, &[u8])]) -> Result<Rig, AllocError> {
         let mut fields = self.board.fields();
         fields.memory.requested = true;
@@ -104,7 +104,7 @@ impl Rig {
     /// Does a step, and tells whether it accepted an interrupt, in so many T-states.
     pub fn accepts(&mut self, wanted: u8) -> bool {
         match self.board.step_once(&mut self.kept) {
-            Ok(Once::Stepped { ticks, kind }) => ticks == wanted && kind == Kind::Accepted,
+            Ok(Once::Stepped { ticks, kind }) => ticks == wanted && kind == StepKind::Accepted,
             _ => false,
         }
     }

@@ -3,7 +3,7 @@
 use crate::rig::Rig;
 use crate::set::FRAME;
 use pac_board::{Fault, Snapshot};
-use pac_scarce::Hoard;
+use pac_tests_memory::Hoard;
 use std::alloc::{AllocError, Global};
 
 /// More turns than are refused.

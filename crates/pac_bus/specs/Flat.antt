@@ -13,9 +13,9 @@ byte_at cells address = slice_index cells.memory address
 abbrev pub input_at : Cells → ℕ → ℕ
 input_at cells port = slice_index cells.ports port
 
-abbrev pub after : Cells → Action → Cells
-after cells (Write address byte) = record cells { memory = slice_set cells.memory address byte }
-after cells (Output port byte) = record cells { ports = slice_set cells.ports port byte }
+abbrev pub cells_after_action : Cells → Action → Cells
+cells_after_action cells (Write address byte) = record cells { memory = slice_set cells.memory address byte }
+cells_after_action cells (Output port byte) = record cells { ports = slice_set cells.ports port byte }
 
 -- every byte and every port is 0
 abbrev pub IsBlank : Cells → Type 0
@@ -26,6 +26,6 @@ IsBlank cells =
     × ((port : ℕ) → input_at cells port ≡ 0)
 
 -- bytes put into memory from an address on
-abbrev pub loaded : Cells → ℕ → List ℕ → Cells
-loaded cells at bytes =
+abbrev pub cells_with_bytes : Cells → ℕ → List ℕ → Cells
+cells_with_bytes cells at bytes =
     record cells { memory = take at cells.memory ++ bytes ++ drop (at + length bytes) cells.memory }

@@ -3,7 +3,7 @@
 ghost use Rattle.std.specs.Prelude.{◌≡◌, ◌+◌, ◌<◌, ◌≤◌, ℕ, IfOk, length, slice_index};
 ghost use Rattle.std.specs.Int.{to_le_bytes, w32};
 ghost use Rattle.pac_bus.specs.Reads.{four_from};
-ghost use Rattle.pac_bus.specs.Flat.{Cells, byte_at, input_at, after, loaded, IsBlank};
+ghost use Rattle.pac_bus.specs.Flat.{Cells, byte_at, input_at, cells_after_action, cells_with_bytes, IsBlank};
 
 use crate::{Bus, packed};
 use std::alloc::{AllocError, Global};
@@ -46,7 +46,7 @@ impl Flat {
     /// Puts bytes into memory from an address on; they must not reach over the end. The ports keep what they have.
     pub fn load(&mut self, at: u16, bytes: &[u8])
         requires { at + length bytes.now ≤ 65536 }
-        ensures { self.new ≡ loaded self.old at bytes.now }
+        ensures { self.new ≡ cells_with_bytes self.old at bytes.now }
     {
         let start = at as usize;
         let end = start + bytes.len();
@@ -87,7 +87,7 @@ impl Bus for Flat {
 
     ghost input_at = { input_at };
 
-    ghost after = { after };
+    ghost after = { cells_after_action };
 
     #[inline(always)]
     fn read(&self, address: u16) -> u8 {

@@ -1,7 +1,7 @@
 //! Instructions to bytes.
 
 ghost use Rattle.std.specs.Prelude.{◌≡◌, ◌+◌, ◌≤◌, ◌++◌, ◌<◌, ◌∷◌, [], ◌==◌, length};
-ghost use Rattle.pac_table.specs.Patterns.{IsDisplacement, immediate_bytes, longest_code, prefix, word_limit};
+ghost use Rattle.pac_table.specs.Patterns.{IsDisplacement, immediate_bytes, longest_code, page_prefix, word_limit};
 ghost use Rattle.pac_table.specs.Instructions.{code};
 
 use arrayvec::ArrayVec;
@@ -33,7 +33,7 @@ impl Code {
         self.bytes.as_slice()
     }
 
-    /// How many bytes there are.
+    /// How many bytes the code has.
     #[inline]
     pub fn len(&self) -> usize
         ensures value { result ≡ length self.now }
@@ -42,7 +42,7 @@ impl Code {
         self.bytes.len()
     }
 
-    /// Whether there are none.
+    /// Whether the code has no byte.
     #[inline]
     pub fn is_empty(&self) -> bool
         ensures { result ≡ (length self.now == 0) }
@@ -54,7 +54,7 @@ impl Code {
 /// Puts the bytes of a page's prefix.
 fn put_prefix(bytes: &mut ArrayVec<u8, 4>, page: Page)
     requires { bytes.old.items ≡ [] }
-    ensures { bytes.new.items ≡ prefix page }
+    ensures { bytes.new.items ≡ page_prefix page }
 {
     match page {
         Page::Plain => {}

@@ -1,7 +1,7 @@
 //! The codes of whole instructions, there and back, and bytes that are no instruction.
 
 use pac_code::{decode, encode};
-use pac_table::{ByteLoad, Effect, Immediate, Instr, Mnemonic, Operands, Place, Shape, rows};
+use pac_table::{ByteLoad, BytePlace, Effect, Immediate, Instr, Mnemonic, Operands, Shape, rows};
 
 /// Four bytes and how many of them are the code; the fields, n or nn, d or e, and the two times.
 static CODES: [([u8; 4], u8, (u8, u8), u16, i8, (u8, u8)); 7] = [
@@ -78,7 +78,7 @@ fn a_store(rt: HostRuntime) {
                 && store.operands() == operands
                 && matches!(
                     store.effect(),
-                    Effect::ByteLoad(ByteLoad::Load(Place::AtWord, Place::Accumulator))
+                    Effect::ByteLoad(ByteLoad::Load(BytePlace::AtWord, BytePlace::Accumulator))
                 )
                 && matches!(store.pattern().immediate, Immediate::Word)
                 && Instr::new(store.row(), 0, 0, 0xFFFF, 0).is_some()

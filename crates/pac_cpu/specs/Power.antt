@@ -5,8 +5,8 @@ use Rattle.pac_table.specs.declared.effects.InterruptMode.TheVariants.{Zero}
 use Rattle.pac_exec.specs.declared.regs.Regs.{Regs}
 
 -- at power-on
-abbrev pub at_power_on : Regs
-at_power_on =
+abbrev pub power_on_regs : Regs
+power_on_regs =
     record {
       a = 0;
       f = 0;
@@ -31,6 +31,6 @@ at_power_on =
     }
 
 -- after a reset
-abbrev pub after_reset : Regs → Regs
-after_reset regs =
+abbrev pub reset_regs : Regs → Regs
+reset_regs regs =
     record regs { pc = 0; i = 0; r = 0; mode = Zero; iff1 = false; iff2 = false; halted = false; after_ei = false }

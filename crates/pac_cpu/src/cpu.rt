@@ -2,8 +2,8 @@
 
 ghost use Rattle.std.specs.Prelude.{◌≡◌, ◌≤◌};
 ghost use Rattle.pac_table.specs.Instructions.{least_ticks, most_ticks};
-ghost use Rattle.pac_cpu.specs.Power.{at_power_on, after_reset};
-ghost use Rattle.pac_cpu.specs.Step.{Stops, cpu_step, surroundings_of, Did, IfStepped, IfStopped};
+ghost use Rattle.pac_cpu.specs.Power.{power_on_regs, reset_regs};
+ghost use Rattle.pac_cpu.specs.Step.{Stops, cpu_step, surroundings_of, DoesCpuStep, IfStepped, IfStopped};
 
 use crate::once::Once;
 use crate::power::blank;
@@ -32,7 +32,7 @@ impl Model for Cpu {
 impl Cpu {
     /// A processor as it is at power-on: every register 0 (this profile).
     pub fn power_on() -> Self
-        ensures { result ≡ at_power_on }
+        ensures { result ≡ power_on_regs }
     {
         Cpu::with_regs(blank())
     }
@@ -56,7 +56,7 @@ impl Cpu {
     /// RESET (UM0080, "Pin Functions"): PC, I, R, the interrupt mode and both interrupt flip-flops are
     /// cleared, with halted and EI's delay; the other registers keep what they have (this profile).
     pub fn reset(&mut self)
-        ensures { self.new ≡ after_reset self.old }
+        ensures { self.new ≡ reset_regs self.old }
     {
         *self = Cpu::with_regs(Regs {
             pc: 0,
@@ -77,7 +77,7 @@ impl Cpu {
     /// asked for.
     #[inline(always)]
     pub fn step<B: Bus>(&mut self, bus: &mut B, request: Option<u8>) -> Once
-        ensures did { Did B.after (cpu_step (surroundings_of B.byte_at B.input_at B.after bus.old) self.old request)
+        ensures did { DoesCpuStep B.after (cpu_step (surroundings_of B.byte_at B.input_at B.after bus.old) self.old request)
             self.old bus.old self.new bus.new result }
         ensures time { IfStepped result (λ ticks kind. (least_ticks ≤ ticks) × (ticks ≤ most_ticks)) }
         ensures stop { IfStopped result (λ stop. (self.new ≡ self.old) × (bus.new ≡ bus.old)) }

@@ -8,4 +8,4 @@ mod power;
 mod step;
 
 pub use cpu::Cpu;
-pub use once::{Cause, Kind, Once, Stop};
+pub use once::{Cause, Once, StepKind, Stop};

@@ -10,7 +10,7 @@ pub enum Once {
         /// Its time in T-states, 4 to 23.
         ticks: u8,
         /// What it was.
-        kind: Kind,
+        kind: StepKind,
     },
     /// Nothing was done, and nothing has changed.
     Stopped(Stop),
@@ -18,7 +18,7 @@ pub enum Once {
 
 /// The kinds of a step.
 #[derive(Clone, Copy, PartialEq, Eq)]
-pub enum Kind {
+pub enum StepKind {
     /// An instruction, or one iteration of a repeating one.
     Ran(Instr),
     /// A halted processor waited.

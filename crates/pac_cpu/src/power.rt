@@ -1,14 +1,14 @@
 //! The registers at power-on.
 
 ghost use Rattle.std.specs.Prelude.{◌≡◌};
-ghost use Rattle.pac_cpu.specs.Power.{at_power_on};
+ghost use Rattle.pac_cpu.specs.Power.{power_on_regs};
 
 use pac_exec::{Alternate, Regs};
 use pac_table::InterruptMode;
 
 /// Each register 0; both sets are alike.
 pub(crate) fn blank() -> Regs
-    ensures { result ≡ at_power_on }
+    ensures { result ≡ power_on_regs }
 {
     let set = Alternate {
         a: 0,

@@ -1,7 +1,7 @@
 //! Each public call once, by UM0080's pages; vectors of every family stand beside.
 
 use pac_bus::{Bus, Flat};
-use pac_cpu::{Cpu, Kind, Once};
+use pac_cpu::{Cpu, Once, StepKind};
 use pac_exec::{Alternate, Regs};
 use pac_table::InterruptMode;
 use std::test::Fail;
@@ -41,7 +41,7 @@ fn steps_to_an_acceptance(rt: HostRuntime) -> Result<(), Fail> {
             halt,
             Once::Stepped {
                 ticks: 4,
-                kind: Kind::Ran(_)
+                kind: StepKind::Ran(_)
             }
         )
     );
@@ -50,7 +50,7 @@ fn steps_to_an_acceptance(rt: HostRuntime) -> Result<(), Fail> {
             accepted,
             Once::Stepped {
                 ticks: 13,
-                kind: Kind::Accepted
+                kind: StepKind::Accepted
             }
         )
     );

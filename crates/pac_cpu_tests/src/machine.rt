@@ -2,7 +2,7 @@
 
 use crate::fields::{byte, hexadecimal, set_byte, set_control, set_word};
 use pac_bus::{Bus, Flat};
-use pac_cpu::{Cause, Cpu, Kind, Once, Stop};
+use pac_cpu::{Cause, Cpu, Once, StepKind, Stop};
 use pac_exec::Regs;
 use std::alloc::Global;
 
@@ -20,9 +20,9 @@ fn is_called(once: Once, word: &str) -> bool {
     match once {
         Once::Stepped { ticks, kind } => {
             let name = match kind {
-                Kind::Ran(_) => "ran",
-                Kind::Halted => "halted",
-                Kind::Accepted => "accepted",
+                StepKind::Ran(_) => "ran",
+                StepKind::Halted => "halted",
+                StepKind::Accepted => "accepted",
             };
             time.parse() == Ok(ticks) && how == name
         }

@@ -1,7 +1,7 @@
 //! Interrupt mode 0: which of the 256 vector bytes are accepted.
 
 use pac_bus::{Bus, Flat};
-use pac_cpu::{Cause, Cpu, Kind, Once, Stop};
+use pac_cpu::{Cause, Cpu, Once, StepKind, Stop};
 use pac_exec::Regs;
 use std::test::Fail;
 
@@ -45,7 +45,7 @@ fn is_accepted(bus: &mut Flat, vector: u8, address: u16) -> bool {
     let regs = cpu.regs();
     once == Once::Stepped {
         ticks: 13,
-        kind: Kind::Accepted,
+        kind: StepKind::Accepted,
     } && (regs.pc, regs.sp, regs.r) == (address, 0x4FEE, 1)
         && !(regs.iff1 || regs.iff2)
         && (bus.read(0x4FEF), bus.read(0x4FEE)) == (0x12, 0x34)

@@ -2,9 +2,9 @@
 use Rattle.std.proofs.Common.{◌≡◌, ℕ, ◌≤◌, Bool, true, false, Option, None, Some, Result, Ok, Err, max, List, [], ◌∷◌, ◌++◌, ◌⊎◌}
 use Rattle.std.proofs.Common.{refl, sym, ap, subst, ◌∙◌, append_assoc, append-nil, arith}
 use mathlib.Core.Logic.{inl, inr}
-use Rattle.pac_step.specs.Output.{Output}
+use Rattle.pac_board_model.specs.Output.{Output}
 use Rattle.pac_board.specs.Sinks.{TookAll}
-use Rattle.pac_board.specs.State.{nothing_due, due_in}
+use Rattle.pac_board.specs.State.{nothing_due, due_outputs_in}
 use Rattle.pac_board.proofs.Sinks.{took-both, refuses-after}
 use Rattle.pac_debug_text.specs.declared.command.Command.{Command}
 use Rattle.pac_debug_text.specs.declared.command.Command.TheVariants as commands
@@ -13,18 +13,18 @@ use Rattle.pac_debug_text.specs.declared.place.Ending.TheVariants as endings
 use Rattle.pac_debug_text.specs.declared.refusal.Refusal.TheVariants as refusals
 use Rattle.pac_debug_text.specs.Commands.{command_of}
 use Rattle.pac_debug_text.specs.Slots.{slot_index}
-use Rattle.pac_session.specs.declared.motion.Motion.{Motion}
-use Rattle.pac_session.specs.Motions.{IsFinishRefused}
-use Rattle.pac_session.specs.Running.{Setting, now_at, outputs_between, outputs_from}
-use Rattle.pac_session.specs.Session.{SessionValue, IsOfferRefused, due_outputs, has_breakpoint}
-use Rattle.pac_session.proofs.Forwards.{between-joined, between-self, joined-to-end}
+use Rattle.pac_debug_session.specs.declared.motion.Motion.{Motion}
+use Rattle.pac_debug_session.specs.Motions.{IsFinishRefused}
+use Rattle.pac_debug_session.specs.Running.{Setting, now_at, outputs_between, outputs_from}
+use Rattle.pac_debug_session.specs.Session.{SessionValue, IsSessionOfferRefused, session_due_outputs, has_breakpoint}
+use Rattle.pac_debug_session.proofs.Forwards.{between-joined, between-self, joined-to-end}
 use Rattle.pac_debug.specs.declared.answer.Answer.{Answer}
 use Rattle.pac_debug.specs.declared.answer.Answer.TheVariants as answers
 use Rattle.pac_debug.specs.declared.line.CommandFault.{CommandFault}
 use Rattle.pac_debug.specs.declared.line.CommandFault.TheVariants as faults
-use Rattle.pac_debug.specs.Obeying.{WentBack, Returned, SetsBreakpoint, Stays, Performed, Obeyed, Did, IsRefused, cleared, kept_at}
+use Rattle.pac_debug.specs.Obeying.{AnswersBack, AnswersReturn, SetsBreakpoint, Stays, IsCommandPerformed, IsCommandObeyed, IsCommandDone, IsCommandRefused, session_without_due, kept_at}
 use Rattle.pac_debug.specs.Obeying.{Scene, Asks, ObeysLines, motion_of}
-use Rattle.pac_debug.specs.Watched.{HasGiven, GaveAll, GaveSome, Gave, to_give}
+use Rattle.pac_debug.specs.Watched.{HasGivenOutputs, GaveAll, GaveSome, LinesGive, outputs_to_give}
 
 -- ---- commands that don't move on
 
@@ -46,12 +46,13 @@ like old new other is setting furthest due =
 still : (old new : SessionValue) → new ≡ old → IsStill old new
 still old new same = like old new old same refl refl refl
 
-went-back : (old : SessionValue) (count : ℕ) (answer : Answer) (new : SessionValue) → WentBack old count answer new → IsStill old new
+went-back : (old : SessionValue) (count : ℕ) (answer : Answer) (new : SessionValue) → AnswersBack old count answer new → IsStill old new
 went-back old count (answers.Moved endings.Back) new went = like old new _ went.session refl refl refl
 went-back old count (answers.Refused (refusals.TooFarBack oldest)) new went = still old new went.session
 went-back old count other new went = absurd went
 
-returned : (old : SessionValue) (kept : Option ℕ) (answer : Answer) (new : SessionValue) → Returned old kept answer new → IsStill old new
+returned : (old : SessionValue) (kept : Option ℕ) (answer : Answer) (new : SessionValue) → AnswersReturn old kept answer new →
+    IsStill old new
 returned old (Some index) answer new came = like old new _ came.1 refl refl refl
 returned old None answer new came = still old new came.1
 
@@ -76,8 +77,8 @@ stays old other answer new done = absurd done
 
 -- ---- a line with words
 
-pub nothing-given : (s : SessionValue) → s.due ≡ nothing_due → due_outputs s ≡ []
-nothing-given s none = ap (λ due. due_in s.setting.set (now_at s.setting s.index).board due) none
+pub nothing-given : (s : SessionValue) → s.due ≡ nothing_due → session_due_outputs s ≡ []
+nothing-given s none = ap (λ due. due_outputs_in s.setting.set (now_at s.setting s.index).board due) none
 
 -- what is given from one furthest index to the same one
 none-between : (setting : Setting) (first second : ℕ) → second ≡ first → outputs_between setting first second ≡ []
@@ -104,7 +105,7 @@ module _ {S : Type 0} (took : S → Output → S → Type 0) where
       }
 
   performed : (old : SessionValue) (command : Command) (found : Option Motion) (sink : S) (answer : Answer) (new : SessionValue) (later : S)
-      → old.due ≡ nothing_due → Performed took old command found sink answer new later → HasDone old sink new later
+      → old.due ≡ nothing_due → IsCommandPerformed took old command found sink answer new later → HasDone old sink new later
   performed old command (Some motion) sink answer new later none moved =
       let is = moved.travelled.session in
       let far : new.furthest ≡ max old.furthest new.index = ap (λ (s : SessionValue). s.furthest) is in
@@ -118,17 +119,17 @@ module _ {S : Type 0} (took : S → Output → S → Type 0) where
       done-still old sink new later none (stays old command answer new done.0) done.1
 
   pub obeyed : (old : SessionValue) (asked : Result Command NoCommand) (sink : S) (answer : Answer) (new : SessionValue) (later : S)
-      → old.due ≡ nothing_due → Obeyed took old asked sink answer new later → HasDone old sink new later
+      → old.due ≡ nothing_due → IsCommandObeyed took old asked sink answer new later → HasDone old sink new later
   obeyed old (Ok command) sink answer new later none done =
       performed old command (motion_of command) sink answer new later none done
   obeyed old (Err reason) sink answer new later none done = done-still old sink new later none (still old new done.1) done.2
 
   did-given : (old : SessionValue) (asked : Result Command NoCommand) (sink : S) (answer : Answer) (new : SessionValue) (later : S)
-      → Did took old asked sink answer new later → GaveAll took old sink new later
+      → IsCommandDone took old asked sink answer new later → GaveAll took old sink new later
   did-given old asked sink answer new later did =
-      let done = obeyed (cleared old) asked did.between answer new later refl did.obeyed in
+      let done = obeyed (session_without_due old) asked did.between answer new later refl did.obeyed in
       let given = outputs_between old.setting old.furthest new.furthest in
-      let taken = due_outputs old ++ given in
+      let taken = session_due_outputs old ++ given in
       record {
         taken = taken;
         given = record {
@@ -136,13 +137,13 @@ module _ {S : Type 0} (took : S → Output → S → Type 0) where
           further = done.further;
           parts = sym (ap (λ xs. taken ++ xs) (nothing-given new done.due) ∙ append-nil taken);
         };
-        sink_is = took-both took (due_outputs old) given sink did.between later did.offered done.sink_is;
+        sink_is = took-both took (session_due_outputs old) given sink did.between later did.offered done.sink_is;
       }
 
   -- ---- a refusal
 
   module _ (refused : S → Output → S → Type 0) where
-    offer-refused : (old : SessionValue) (sink : S) (new : SessionValue) (later : S) → IsOfferRefused took refused old sink new later
+    offer-refused : (old : SessionValue) (sink : S) (new : SessionValue) (later : S) → IsSessionOfferRefused took refused old sink new later
         → GaveSome took refused old sink new later
     offer-refused old sink new later refusal =
         let is = refusal.session in
@@ -153,19 +154,19 @@ module _ {S : Type 0} (took : S → Output → S → Type 0) where
             setting = ap (λ (s : SessionValue). s.setting) is;
             further = omega (arith, far);
             parts =
-                ap (λ xs. due_outputs old ++ xs) (none-between old.setting old.furthest new.furthest far)
-                ∙ append-nil (due_outputs old) ∙ refusal.parts;
+                ap (λ xs. session_due_outputs old ++ xs) (none-between old.setting old.furthest new.furthest far)
+                ∙ append-nil (session_due_outputs old) ∙ refusal.parts;
           };
           refuses = refusal.refuses;
         }
 
     refused-given : (old : SessionValue) (asked : Result Command NoCommand) (sink : S) (new : SessionValue) (later : S)
-        → IsRefused took refused old asked sink new later → GaveSome took refused old sink new later
+        → IsCommandRefused took refused old asked sink new later → GaveSome took refused old sink new later
     refused-given old asked sink new later (inl refusal) = offer-refused old sink new later refusal
     refused-given old asked sink new later (inr refusal) =
         let gone = refusal.held_up.held_up in
         let is = gone.session in
-        let due = due_outputs old in
+        let due = session_due_outputs old in
         let most : new.furthest ≡ max old.furthest new.index = ap (λ (s : SessionValue). s.furthest) is in
         let far : new.furthest ≡ new.index = omega (arith, most, gone.index, gone.fresh) in
         record {
@@ -175,18 +176,19 @@ module _ {S : Type 0} (took : S → Output → S → Type 0) where
             further = omega (arith, most);
             parts =
                 ap (λ n. due ++ outputs_between old.setting old.furthest n) far ∙ ap (λ xs. due ++ xs) gone.parts
-                ∙ sym (append_assoc due gone.taken (due_outputs new));
+                ∙ sym (append_assoc due gone.taken (session_due_outputs new));
           };
-          refuses = refuses-after took refused due gone.taken (due_outputs new) sink refusal.between later refusal.offered gone.refuses;
+          refuses = refuses-after took refused due gone.taken (session_due_outputs new) sink refusal.between later refusal.offered
+              gone.refuses;
         }
 
     pub finish-given : (old : SessionValue) (sink : S) (new : SessionValue) (later : S)
-        → IsOfferRefused took refused old sink new later ⊎ IsFinishRefused took refused old sink new later
+        → IsSessionOfferRefused took refused old sink new later ⊎ IsFinishRefused took refused old sink new later
         → GaveSome took refused old sink new later
     finish-given old sink new later (inl gone) = offer-refused old sink new later gone
     finish-given old sink new later (inr gone) =
         let is = gone.session in
-        let due = due_outputs old in
+        let due = session_due_outputs old in
         let most : new.furthest ≡ max old.furthest new.index = ap (λ (s : SessionValue). s.furthest) is in
         let far : new.furthest ≡ new.index = omega (arith, most, gone.index, gone.fresh) in
         record {
@@ -201,13 +203,13 @@ module _ {S : Type 0} (took : S → Output → S → Type 0) where
 
 -- ---- one after another
 
-given-joined : (old mid new : SessionValue) (one other : List Output) → HasGiven old one mid → HasGiven mid other new
-    → HasGiven old (one ++ other) new
+given-joined : (old mid new : SessionValue) (one other : List Output) → HasGivenOutputs old one mid → HasGivenOutputs mid other new
+    → HasGivenOutputs old (one ++ other) new
 given-joined old mid new one other first second =
     let setting = old.setting in
-    let due = due_outputs old in
-    let due_then = due_outputs mid in
-    let due_now = due_outputs new in
+    let due = session_due_outputs old in
+    let due_then = session_due_outputs mid in
+    let due_now = session_due_outputs new in
     let given = outputs_between setting old.furthest mid.furthest in
     let later = outputs_between setting mid.furthest new.furthest in
     let parts : due_then ++ later ≡ other ++ due_now
@@ -223,15 +225,15 @@ given-joined old mid new one other first second =
     }
 
 -- what was taken, what is due, and what the run gives from there on, is all that was still to be given
-pub all-to-give : (old new : SessionValue) (taken : List Output) → HasGiven old taken new
-    → (taken ++ due_outputs new) ++ outputs_from new.setting new.furthest ≡ to_give old
+pub all-to-give : (old new : SessionValue) (taken : List Output) → HasGivenOutputs old taken new
+    → (taken ++ session_due_outputs new) ++ outputs_from new.setting new.furthest ≡ outputs_to_give old
 all-to-give old new taken gave =
     let setting = old.setting in
     let given = outputs_between setting old.furthest new.furthest in
     let rest = outputs_from setting new.furthest in
-    ap (λ (run : Setting). (taken ++ due_outputs new) ++ outputs_from run new.furthest) gave.setting
-    ∙ ap (λ xs. xs ++ rest) (sym gave.parts) ∙ append_assoc (due_outputs old) given rest
-    ∙ ap (λ xs. due_outputs old ++ xs) (joined-to-end setting old.furthest new.furthest gave.further)
+    ap (λ (run : Setting). (taken ++ session_due_outputs new) ++ outputs_from run new.furthest) gave.setting
+    ∙ ap (λ xs. xs ++ rest) (sym gave.parts) ∙ append_assoc (session_due_outputs old) given rest
+    ∙ ap (λ xs. session_due_outputs old ++ xs) (joined-to-end setting old.furthest new.furthest gave.further)
 
 module _ {S : Type 0} (took refused : S → Output → S → Type 0) where
   none-given : (s : SessionValue) (sink : S) → GaveAll took s sink s sink
@@ -241,7 +243,7 @@ module _ {S : Type 0} (took refused : S → Output → S → Type 0) where
         given = record {
           setting = refl;
           further = omega arith;
-          parts = ap (λ xs. due_outputs s ++ xs) (between-self s.setting s.furthest) ∙ append-nil (due_outputs s);
+          parts = ap (λ xs. session_due_outputs s ++ xs) (between-self s.setting s.furthest) ∙ append-nil (session_due_outputs s);
         };
         sink_is = refl;
       }
@@ -253,7 +255,7 @@ module _ {S : Type 0} (took refused : S → Output → S → Type 0) where
         taken = first.taken ++ second.taken;
         given = given-joined old mid new first.taken second.taken first.given second.given;
         refuses =
-            refuses-after took refused first.taken second.taken (due_outputs new) sink between later first.sink_is second.refuses;
+            refuses-after took refused first.taken second.taken (session_due_outputs new) sink between later first.sink_is second.refuses;
       }
 
   all-after : (old mid new : SessionValue) (sink between later : S) → GaveAll took old sink mid between
@@ -266,7 +268,8 @@ module _ {S : Type 0} (took refused : S → Output → S → Type 0) where
       }
 
   gave-after : {A : Type 0} (result : Result A CommandFault) (old mid new : SessionValue) (sink between later : S)
-      → GaveAll took old sink mid between → Gave took refused mid between result new later → Gave took refused old sink result new later
+      → GaveAll took old sink mid between → LinesGive took refused mid between result new later →
+      LinesGive took refused old sink result new later
   gave-after (Ok done) old mid new sink between later first second = all-after old mid new sink between later first second
   gave-after (Err faults.Refused) old mid new sink between later first second = some-after old mid new sink between later first second
   gave-after (Err (faults.Text fault)) old mid new sink between later first second = all-after old mid new sink between later first second
@@ -275,7 +278,7 @@ module _ {S : Type 0} (took refused : S → Output → S → Type 0) where
 
   module _ {W : Type 0} (wrote : W → List ℕ → W → Type 0) (balked : W → W → Type 0) where
     line-given : {A : Type 0} (found : Option (Result Command NoCommand)) (result : Result A CommandFault) (old new : Scene S W)
-        → Asks took refused wrote balked found old result new → Gave took refused old.session old.sink result new.session new.sink
+        → Asks took refused wrote balked found old result new → LinesGive took refused old.session old.sink result new.session new.sink
     line-given None (Ok done) old new skipped =
         subst (λ (s : SessionValue). GaveAll took old.session old.sink s new.sink) (sym skipped.0)
         (subst (λ (sink : S). GaveAll took old.session old.sink old.session sink) (sym skipped.1) (none-given old.session old.sink))
@@ -289,7 +292,7 @@ module _ {S : Type 0} (took refused : S → Output → S → Type 0) where
 
     pub lines-given : (lines : List (List ℕ)) (result : Result (Unit {0}) CommandFault) (old new : Scene S W)
         → ObeysLines took refused wrote balked lines old result new
-        → Gave took refused old.session old.sink result new.session new.sink
+        → LinesGive took refused old.session old.sink result new.session new.sink
     lines-given [] (Ok done) old new same =
         subst (λ (scene : Scene S W). GaveAll took old.session old.sink scene.session scene.sink) (sym same)
         (none-given old.session old.sink)

@@ -3,32 +3,33 @@ use Rattle.std.proofs.Common.{◌≡◌, ℕ, ◌+◌, ◌<◌, ◌≤◌, nat_l
 use Rattle.std.proofs.Common.{append-nil, length, ◌⊎◌, refl, sym, ap, subst, ◌∙◌, length-append, arith}
 use Rattle.std.proofs.lemmas.Bool.Decides.{nat_tests}
 use mathlib.Core.Logic.{inl, inr}
-use Rattle.pac_step.specs.Output.{Output}
-use Rattle.pac_step.proofs.Walks.{not-both}
+use Rattle.pac_board_model.specs.Output.{Output}
+use Rattle.pac_board_model.proofs.Walks.{not-both}
 use Rattle.pac_board.specs.State.{nothing_due}
 use Rattle.pac_out.specs.declared.WriteFault.{WriteFault}
 use Rattle.pac_debug_text.specs.declared.command.NoCommand.{NoCommand}
 use Rattle.pac_debug_text.specs.declared.command.Command.{Command}
 use Rattle.pac_debug_text.specs.Commands.{command_of}
-use Rattle.pac_session.specs.declared.motion.Motion.{Motion}
-use Rattle.pac_session.specs.Motions.{IsTravelRefused, IsFinishRefused}
-use Rattle.pac_session.specs.Running.{Setting, run, whole_run, outputs_between, outputs_from}
-use Rattle.pac_session.specs.Session.{SessionValue, IsOfferRefused, begun, due_outputs}
-use Rattle.pac_session.proofs.Forwards.{between-joined, joined-to-end}
+use Rattle.pac_debug_session.specs.declared.motion.Motion.{Motion}
+use Rattle.pac_debug_session.specs.Motions.{IsTravelRefused, IsFinishRefused}
+use Rattle.pac_debug_session.specs.Running.{Setting, run, whole_run, outputs_between, outputs_from}
+use Rattle.pac_debug_session.specs.Session.{SessionValue, IsSessionOfferRefused, session_at_start, session_due_outputs}
+use Rattle.pac_debug_session.proofs.Forwards.{between-joined, joined-to-end}
 use Rattle.pac_debug.specs.declared.answer.Answer.TheVariants as answers
 use Rattle.pac_debug.specs.Answers.{ending_of, answer_text}
-use Rattle.pac_debug.specs.Obeying.{Scene, Performed, Obeyed, cleared}
-use Rattle.pac_debug.specs.Watched.{takes_all, TellsOf, TellsAll, HasGiven, RefusedOf, RefusedAt, IsWatchRefused, IsWatchUntold}
+use Rattle.pac_debug.specs.Obeying.{Scene, IsCommandPerformed, IsCommandObeyed, session_without_due}
+use Rattle.pac_debug.specs.Watched.{takes_all, TellsOfCommand, TellsAll, HasGivenOutputs, RefusedOf, RefusedAt, IsWatchRefused, IsWatchUntold}
 use Rattle.pac_debug.specs.Watched.{given_by, FirstGivesMore, ToldUpTo}
 use Rattle.pac_debug.proofs.Giving.{nothing-given, obeyed}
 use Rattle.pac_debug.proofs.Resting.{ComesToRest, comes-to-rest}
 
 -- ---- nothing is due after lines
 
-line-clears : (found : Option (Result Command NoCommand)) (old new : SessionValue) (text : List ℕ) → TellsOf found old text new
+line-clears : (found : Option (Result Command NoCommand)) (old new : SessionValue) (text : List ℕ) → TellsOfCommand found old text new
     → old.due ≡ nothing_due → new.due ≡ nothing_due
 line-clears None old new text tells none = ap (λ (s : SessionValue). s.due) tells.1 ∙ none
-line-clears (Some asked) old new text tells none = (obeyed takes_all (cleared old) asked tt tells.answer new tt refl tells.obeyed).due
+line-clears (Some asked) old new text tells none =
+    (obeyed takes_all (session_without_due old) asked tt tells.answer new tt refl tells.obeyed).due
 
 lines-clear : (lines : List (List ℕ)) (old new : SessionValue) (text : List ℕ) → TellsAll lines old text new → old.due ≡ nothing_due
     → new.due ≡ nothing_due
@@ -39,10 +40,11 @@ lines-clear (line ∷ more) old new text tells none =
 
 -- and the run is the same
 
-line-setting : (found : Option (Result Command NoCommand)) (old new : SessionValue) (text : List ℕ) → TellsOf found old text new
+line-setting : (found : Option (Result Command NoCommand)) (old new : SessionValue) (text : List ℕ) → TellsOfCommand found old text new
     → new.setting ≡ old.setting
 line-setting None old new text tells = ap (λ (s : SessionValue). s.setting) tells.1
-line-setting (Some asked) old new text tells = (obeyed takes_all (cleared old) asked tt tells.answer new tt refl tells.obeyed).setting
+line-setting (Some asked) old new text tells =
+    (obeyed takes_all (session_without_due old) asked tt tells.answer new tt refl tells.obeyed).setting
 
 lines-setting : (lines : List (List ℕ)) (old new : SessionValue) (text : List ℕ) → TellsAll lines old text new → new.setting ≡ old.setting
 lines-setting [] old new text tells = ap (λ (s : SessionValue). s.setting) tells.1
@@ -69,39 +71,40 @@ none-past-all setting index =
     omega (arith, long)
 
 -- what a session from the beginning of its run was taken, and what is due, is all that was given
-all-given : (setting : Setting) (old new : SessionValue) (taken : List Output) → old ≡ begun setting 0 → HasGiven old taken new
-    → length (run setting new.furthest).outputs ≡ length taken + length (due_outputs new)
+all-given : (setting : Setting) (old new : SessionValue) (taken : List Output) → old ≡ session_at_start setting 0 →
+    HasGivenOutputs old taken new
+    → length (run setting new.furthest).outputs ≡ length taken + length (session_due_outputs new)
 all-given setting old new taken fresh given =
-    let first = subst (λ (s : SessionValue). HasGiven s taken new) fresh given in
-    let parts : (run setting new.furthest).outputs ≡ taken ++ due_outputs new = first.parts in
-    ap length parts ∙ length-append taken (due_outputs new)
+    let first = subst (λ (s : SessionValue). HasGivenOutputs s taken new) fresh given in
+    let parts : (run setting new.furthest).outputs ≡ taken ++ session_due_outputs new = first.parts in
+    ap length parts ∙ length-append taken (session_due_outputs new)
 
 module _ {S : Type 0} (took refused : S → Output → S → Type 0) (setting : Setting) (taken : List Output) (old new : SessionValue)
     (sink later : S) (clear : old.due ≡ nothing_due) (same : old.setting ≡ setting)
-    (given : length (run setting new.furthest).outputs ≡ length taken + length (due_outputs new))
-    (some_due : 0 < length (due_outputs new)) where
+    (given : length (run setting new.furthest).outputs ≡ length taken + length (session_due_outputs new))
+    (some_due : 0 < length (session_due_outputs new)) where
   -- nothing was due that could be refused
-  none-offered : {A : Type 0} → IsOfferRefused took refused old sink new later → A
+  none-offered : {A : Type 0} → IsSessionOfferRefused took refused old sink new later → A
   none-offered refusal =
       let none = ap length (nothing-given old clear) in
-      let parts = ap length refusal.parts ∙ length-append refusal.taken (due_outputs new) in
+      let parts = ap length refusal.parts ∙ length-append refusal.taken (session_due_outputs new) in
       absurd (omega (arith, none, parts, some_due))
 
   -- what was given before is what was taken, or less
   no-more : (more : List Output) → old.furthest ≤ new.furthest
-      → outputs_between old.setting old.furthest new.furthest ≡ more ++ due_outputs new
+      → outputs_between old.setting old.furthest new.furthest ≡ more ++ session_due_outputs new
       → length (given_by old) ≤ length taken
   no-more more further parts =
       let here : length (given_by old) ≡ length (run setting old.furthest).outputs
       = ap (λ (it : Setting). length (run it old.furthest).outputs) same in
-      let between : length (outputs_between setting old.furthest new.furthest) ≡ length more + length (due_outputs new)
+      let between : length (outputs_between setting old.furthest new.furthest) ≡ length more + length (session_due_outputs new)
       = ap (λ (it : Setting). length (outputs_between it old.furthest new.furthest)) (sym same)
-      ∙ ap length parts ∙ length-append more (due_outputs new) in
+      ∙ ap length parts ∙ length-append more (session_due_outputs new) in
       let all = more-given setting old.furthest new.furthest further in
       omega (arith, here, between, all, given)
 
   -- the motion that was held up gives more
-  module _ (motion : Motion) (between : S) (gone : IsTravelRefused took refused (cleared old) motion between new later) where
+  module _ (motion : Motion) (between : S) (gone : IsTravelRefused took refused (session_without_due old) motion between new later) where
     stands : new.furthest ≡ new.index
     stands =
         let most : new.furthest ≡ max old.furthest new.index = ap (λ (s : SessionValue). s.furthest) gone.session in
@@ -113,8 +116,8 @@ module _ {S : Type 0} (took refused : S → Output → S → Type 0) (setting : 
         no-more gone.taken (omega (arith, far, gone.index, gone.fresh))
         (ap (λ n. outputs_between old.setting old.furthest n) far ∙ gone.parts)
 
-    abbrev rest : ComesToRest (cleared old) motion
-    rest = comes-to-rest (cleared old) motion
+    abbrev rest : ComesToRest (session_without_due old) motion
+    rest = comes-to-rest (session_without_due old) motion
 
     passes : new.index ≤ rest.new.index
     passes = choose (nat_le rest.new.index gone.last) refl
@@ -143,7 +146,7 @@ module _ {S : Type 0} (took refused : S → Output → S → Type 0) (setting : 
     pub no_more : length (given_by old) ≤ length taken
     pub text : List ℕ
     pub next : SessionValue
-    pub tells : TellsOf found old text next
+    pub tells : TellsOfCommand found old text next
     pub more : length taken < length (given_by next)
 
   at-line : (found : Option (Result Command NoCommand)) → RefusedOf took refused found old sink new later → HeldUpAt found
@@ -152,25 +155,26 @@ module _ {S : Type 0} (took refused : S → Output → S → Type 0) (setting : 
   at-line (Some asked) (inr refusal) =
       let held = refusal.held_up in
       let gone = held.held_up in
-      let rest = comes-to-rest (cleared old) held.motion in
+      let rest = comes-to-rest (session_without_due old) held.motion in
       let answer = answers.Moved (ending_of rest.why) in
-      let moved : Performed takes_all (cleared old) held.command (Some held.motion) tt answer rest.new tt
+      let moved : IsCommandPerformed takes_all (session_without_due old) held.command (Some held.motion) tt answer rest.new tt
       = record { why = rest.why; travelled = rest.travelled; answer_is = refl } in
-      let done : Obeyed takes_all (cleared old) (Ok held.command) tt answer rest.new tt
-      = subst (λ found. Performed takes_all (cleared old) held.command found tt answer rest.new tt) (sym held.motion_is) moved in
+      let done : IsCommandObeyed takes_all (session_without_due old) (Ok held.command) tt answer rest.new tt
+      = subst (λ found. IsCommandPerformed takes_all (session_without_due old) held.command found tt answer rest.new tt)
+      (sym held.motion_is) moved in
       record {
         no_more = less-told held.motion refusal.between gone;
         text = answer_text rest.new answer;
         next = rest.new;
         tells = record {
           answer = answer;
-          obeyed = subst (λ it. Obeyed takes_all (cleared old) it tt answer rest.new tt) (sym held.asked_is) done;
+          obeyed = subst (λ it. IsCommandObeyed takes_all (session_without_due old) it tt answer rest.new tt) (sym held.asked_is) done;
           text_is = refl;
         };
         more = gives-more held.motion refusal.between gone;
       }
 
-  at-end : IsOfferRefused took refused old sink new later ⊎ IsFinishRefused took refused old sink new later
+  at-end : IsSessionOfferRefused took refused old sink new later ⊎ IsFinishRefused took refused old sink new later
       → length (given_by old) ≤ length taken
   at-end (inl refusal) = none-offered refusal
   at-end (inr gone) =
@@ -194,14 +198,14 @@ module _ {S : Type 0} (took refused : S → Output → S → Type 0) (setting : 
 -- ---- a whole session
 
 module _ {S W : Type 0} (took refused : S → Output → S → Type 0) (wrote : W → List ℕ → W → Type 0) (lines : List (List ℕ))
-    (old new : Scene S W) (fresh : old.session ≡ begun old.session.setting 0)
+    (old new : Scene S W) (fresh : old.session ≡ session_at_start old.session.setting 0)
     (held : IsWatchRefused took refused wrote lines old new) where
   pub told-up-to : ToldUpTo old.session.setting lines held.taken held.told
   told-up-to =
       let setting = old.session.setting in
       let none : old.session.due ≡ nothing_due = ap (λ (s : SessionValue). s.due) fresh in
       let clear = lines-clear held.before old.session held.between held.told held.lines none in
-      let left : 0 < length (due_outputs new.session) =
+      let left : 0 < length (session_due_outputs new.session) =
       let first = ap length (sym held.left_is ∙ held.refuses.left_is) in omega (arith, first) in
       let here =
       held-up-in took refused setting held.taken held.between new.session held.sink_between new.sink clear held.gave.given.setting
@@ -218,17 +222,17 @@ module _ {S W : Type 0} (took refused : S → Output → S → Type 0) (wrote : 
 
 -- where a text was refused, the sink took what the lines till then give
 pub untold-gives : {S W : Type 0} (took : S → Output → S → Type 0) (wrote : W → List ℕ → W → Type 0) (balked : W → W → Type 0)
-    (lines : List (List ℕ)) (old new : Scene S W) (fault : WriteFault) → old.session ≡ begun old.session.setting 0
+    (lines : List (List ℕ)) (old new : Scene S W) (fault : WriteFault) → old.session ≡ session_at_start old.session.setting 0
     → (halt : IsWatchUntold took wrote balked lines old fault new) → halt.taken ≡ given_by new.session
 untold-gives took wrote balked lines old new fault fresh halt =
     let given = halt.given in
-    let first = subst (λ (s : SessionValue). HasGiven s halt.taken new.session) fresh given in
-    let parts : (run old.session.setting new.session.furthest).outputs ≡ halt.taken ++ due_outputs new.session = first.parts in
+    let first = subst (λ (s : SessionValue). HasGivenOutputs s halt.taken new.session) fresh given in
+    let parts : (run old.session.setting new.session.furthest).outputs ≡ halt.taken ++ session_due_outputs new.session = first.parts in
     sym (parts ∙ ap (λ xs. halt.taken ++ xs) (nothing-given new.session halt.none_due) ∙ append-nil halt.taken)
     ∙ ap (λ (it : Setting). (run it new.session.furthest).outputs) (sym given.setting)
 
 -- where all lines were told, and the run came to its end, all outputs are enough
-pub all-told : (lines : List (List ℕ)) (old left : SessionValue) (told : List ℕ) → old ≡ begun old.setting 0
+pub all-told : (lines : List (List ℕ)) (old left : SessionValue) (told : List ℕ) → old ≡ session_at_start old.setting 0
     → TellsAll lines old told left → ToldUpTo old.setting lines (whole_run old.setting).outputs told
 all-told lines old left told fresh tells =
     let here : length (given_by left) ≡ length (run old.setting left.furthest).outputs

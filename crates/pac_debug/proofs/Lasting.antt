@@ -3,8 +3,8 @@ use Rattle.std.proofs.Common.{◌≡◌, ℕ, ◌+◌, ◌-◌, ◌<◌, ◌≤�
 use Rattle.std.proofs.lemmas.List.{take_more, take_more_set, get_or-drop, length-drop}
 use Rattle.std.proofs.lemmas.Option.{get_or_from_slice_get, slice_get_within}
 use Rattle.std.specs.Prelude.{slice_get, Some}
-use Rattle.pac_session.specs.Past.{past, told_at}
-use Rattle.pac_session.specs.Running.{Setting}
+use Rattle.pac_debug_session.specs.Past.{past_steps, told_at}
+use Rattle.pac_debug_session.specs.Running.{Setting}
 
 pub one-more : {X : Type 0} (written all : List X) (first i : ℕ) (x : X) → i < length written → slice_get all (first + i) ≡ Some x
     → take i written ≡ take i (drop first all) → take (i + 1) (set written i x) ≡ take (i + 1) (drop first all)
@@ -16,4 +16,4 @@ one-more written all first i x room is front =
     ∙ sym (take_more (drop first all) i x within ∙ ap (λ y. take i (drop first all) ++ y ∷ []) here)
 
 pub told-few : (setting : Setting) (index : ℕ) → length (told_at setting index) ≤ 256
-told-few setting index = omega (arith, length-drop (length (past setting index) - 256) (past setting index))
+told-few setting index = omega (arith, length-drop (length (past_steps setting index) - 256) (past_steps setting index))

@@ -6,13 +6,13 @@ use Rattle.std.proofs.lemmas.Bool.Decides.{nat_tests}
 use Rattle.std.proofs.lemmas.List.Filters.{length-filter_both}
 use mathlib.Core.Logic.{inl, inr}
 use Rattle.pac_cpu.specs.declared.once.Stop.{Stop}
-use Rattle.pac_step.specs.BoardView.{BoardView, power_on}
-use Rattle.pac_step.specs.Step.{Next, Goes, Ends}
-use Rattle.pac_step.specs.Trace.{by_view, frame_steps}
-use Rattle.pac_step.specs.Walk.{Walk, after_step, onward_if, has_ended}
-use Rattle.pac_step.proofs.Runs.{runs-end}
-use Rattle.pac_step.proofs.Walks.{ended-for-good, not-both}
-use Rattle.pac_inputs.specs.Stretches.{total}
+use Rattle.pac_board_model.specs.BoardView.{BoardView, power_on_board_view}
+use Rattle.pac_board_model.specs.Step.{Next, Goes, Ends}
+use Rattle.pac_board_model.specs.Trace.{by_view, frame_steps}
+use Rattle.pac_board_model.specs.Walk.{Walk, walk_after_step, onward_if, has_ended}
+use Rattle.pac_board_model.proofs.Runs.{runs-end}
+use Rattle.pac_board_model.proofs.Walks.{ended-for-good, not-both}
+use Rattle.pac_inputs.specs.Stretches.{total_frames}
 use Rattle.pac_debug_text.specs.declared.command.Command.{Command}
 use Rattle.pac_debug_text.specs.declared.command.Command.TheVariants as commands
 use Rattle.pac_debug_text.specs.declared.command.NoCommand.{NoCommand}
@@ -20,19 +20,19 @@ use Rattle.pac_debug_text.specs.declared.place.Ending.TheVariants as endings
 use Rattle.pac_debug_text.specs.declared.refusal.Refusal.TheVariants as refusals
 use Rattle.pac_debug_text.specs.Commands.{command_of}
 use Rattle.pac_debug_text.specs.Slots.{slot_index}
-use Rattle.pac_session.specs.declared.motion.Ending.{Ending}
-use Rattle.pac_session.specs.declared.motion.Ending.TheVariants.{AtStop, AtEnd}
-use Rattle.pac_session.specs.declared.motion.Motion.{Motion}
-use Rattle.pac_session.specs.declared.motion.Motion.TheVariants as motions
-use Rattle.pac_session.specs.Motions.{RestsBy, HasTravelled, rests, has_met, word_of, moved_to, oldest_index, back_to, kept_in}
-use Rattle.pac_session.specs.Running.{Setting, IsLeast, play_of, run, next_from, limit, is_late, stop_in, stop_at, goes_at}
-use Rattle.pac_session.specs.Session.{SessionValue, breaks_at, has_breakpoint, without_breakpoint, most_breakpoints}
-use Rattle.pac_session.proofs.Travelled.{met-by}
+use Rattle.pac_debug_session.specs.declared.motion.MotionEnd.{MotionEnd}
+use Rattle.pac_debug_session.specs.declared.motion.MotionEnd.TheVariants.{AtStop, AtEnd}
+use Rattle.pac_debug_session.specs.declared.motion.Motion.{Motion}
+use Rattle.pac_debug_session.specs.declared.motion.Motion.TheVariants as motions
+use Rattle.pac_debug_session.specs.Motions.{RestsBy, HasTravelled, rests, has_met, motion_ending, moved_to, oldest_index, back_to, session_with_slot}
+use Rattle.pac_debug_session.specs.Running.{Setting, IsLeast, play_of, run, next_from, limit, is_late, stop_in, stop_at, goes_at}
+use Rattle.pac_debug_session.specs.Session.{SessionValue, breaks_at, has_breakpoint, without_breakpoint, most_breakpoints}
+use Rattle.pac_debug_session.proofs.Travelled.{met-by}
 use Rattle.pac_debug.specs.declared.answer.Answer.{Answer}
 use Rattle.pac_debug.specs.declared.answer.Answer.TheVariants as answers
 use Rattle.pac_debug.specs.Answers.{ending_of, answer_text}
-use Rattle.pac_debug.specs.Obeying.{WentBack, Returned, SetsBreakpoint, Performed, Obeyed, cleared, kept_at, motion_of}
-use Rattle.pac_debug.specs.Watched.{takes_all, TellsOf}
+use Rattle.pac_debug.specs.Obeying.{AnswersBack, AnswersReturn, SetsBreakpoint, IsCommandPerformed, IsCommandObeyed, session_without_due, kept_at, motion_of}
+use Rattle.pac_debug.specs.Watched.{takes_all, TellsOfCommand}
 use Rattle.pac_debug.specs.Laws.{AllLinesTell}
 use Rattle.pac_debug.proofs.Telling.{all-taken, told-then}
 
@@ -83,8 +83,9 @@ search-up test (suc n) from met =
 
 module _ (setting : Setting) where
   -- where it met a stop, it meets it again
-  step-stopped : (w : Walk BoardView) (stop : Stop) (h : Next BoardView) → next_from setting w.now ≡ h → (after_step w h).stop ≡ Some stop
-      → stop_in (next_from setting (after_step w h).now) ≡ Some stop
+  step-stopped : (w : Walk BoardView) (stop : Stop) (h : Next BoardView) → next_from setting w.now ≡ h →
+      (walk_after_step w h).stop ≡ Some stop
+      → stop_in (next_from setting (walk_after_step w h).now) ≡ Some stop
   step-stopped w stop (Goes now outputs kind) is e = absurd (cc)
   step-stopped w stop (Ends other) is e = ap stop_in is ∙ e
 
@@ -118,12 +119,12 @@ module _ (setting : Setting) where
       by-time false e = by-stop (run setting index).stop refl e
 
   abbrev last : ℕ
-  last = frame_steps * total setting.script
+  last = frame_steps * total_frames setting.script
 
   over-later : (from : ℕ) → not (goes_at setting (from + last)) ≡ true
   over-later from =
       let same : from + last ≡ last + from = omega arith in
-      let ended = (runs-end (by_view setting.set) (play_of setting.script) (power_on setting.switches) last).0 in
+      let ended = (runs-end (by_view setting.set) (play_of setting.script) (power_on_board_view setting.switches) last).0 in
       let stays = ended-for-good (next_from setting) (limit setting) (run setting 0).now last from (from + last) same ended in
       over (from + last) (ap (has_ended (limit setting)) stays ∙ ended)
 
@@ -135,7 +136,7 @@ module _ (s : SessionValue) (motion : Motion) where
   rests-over false index ended = ended
 
   record RestsSomehow (index : ℕ) : Type 0 where
-    pub why : Ending
+    pub why : MotionEnd
     pub why_is : RestsBy s motion s.index index why
 
   stopped-by : (index : ℕ) (found : Option Stop) → stop_at s.setting index ≡ found → is_late s.setting index ≡ false
@@ -152,12 +153,12 @@ module _ (s : SessionValue) (motion : Motion) where
       → rests s motion s.index index ≡ true → RestsSomehow index
   rests-by index true met e f rest = record { why = AtEnd; why_is = e }
   rests-by index false true e f rest =
-      record { why = word_of motion (breaks_at s index); why_is = met-by s motion s.index index e f }
+      record { why = motion_ending motion (breaks_at s index); why_is = met-by s motion s.index index e f }
   rests-by index false false e f rest =
       stopped-by index (stop_at s.setting index) refl e f (ap (λ met. met || not (goes_at s.setting index)) (sym f) ∙ rest)
 
   pub record ComesToRest : Type 0 where
-    pub why : Ending
+    pub why : MotionEnd
     pub new : SessionValue
     pub travelled : HasTravelled takes_all s motion tt why new tt
 
@@ -179,13 +180,13 @@ module _ (s : SessionValue) (motion : Motion) where
 record IsDone (old : SessionValue) (asked : Result Command NoCommand) : Type 0 where
   pub answer : Answer
   pub new : SessionValue
-  pub obeyed : Obeyed takes_all old asked tt answer new tt
+  pub obeyed : IsCommandObeyed takes_all old asked tt answer new tt
   pub few : length new.breakpoints ≤ most_breakpoints
 
 record GoesBack (old : SessionValue) (count : ℕ) : Type 0 where
   pub answer : Answer
   pub new : SessionValue
-  pub went : WentBack old count answer new
+  pub went : AnswersBack old count answer new
   pub breakpoints : new.breakpoints ≡ old.breakpoints
 
 goes-back : (old : SessionValue) (count : ℕ) → GoesBack old count
@@ -219,7 +220,7 @@ goes-back old count =
 record ComesBack (old : SessionValue) (kept : Option ℕ) : Type 0 where
   pub answer : Answer
   pub new : SessionValue
-  pub returned : Returned old kept answer new
+  pub returned : AnswersReturn old kept answer new
   pub breakpoints : new.breakpoints ≡ old.breakpoints
 
 comes-back : (old : SessionValue) (kept : Option ℕ) → ComesBack old kept
@@ -260,7 +261,7 @@ moves-on old command motion is few =
     record {
       answer = answers.Moved (ending_of gone.why);
       new = gone.new;
-      obeyed = subst (λ found. Performed takes_all old command found tt (answers.Moved (ending_of gone.why)) gone.new tt) (sym is)
+      obeyed = subst (λ found. IsCommandPerformed takes_all old command found tt (answers.Moved (ending_of gone.why)) gone.new tt) (sym is)
           (record { why = gone.why; travelled = gone.travelled; answer_is = refl });
       few = subst (λ (s : SessionValue). length s.breakpoints ≤ most_breakpoints) (sym gone.travelled.session) few;
     }
@@ -286,7 +287,7 @@ does old (commands.Return slot) few =
       few = subst (λ list. length list ≤ most_breakpoints) (sym back.breakpoints) few;
     }
 does old (commands.Keep slot) few =
-    record { answer = answers.Done; new = kept_in old (slot_index slot); obeyed = ((refl, refl), refl); few = few }
+    record { answer = answers.Done; new = session_with_slot old (slot_index slot); obeyed = ((refl, refl), refl); few = few }
 does old (commands.Break at) few =
     let set_is = sets-breakpoint old at (has_breakpoint old at) (nat_lt (length old.breakpoints) most_breakpoints) refl few in
     record { answer = set_is.answer; new = set_is.new; obeyed = (set_is.sets, refl); few = set_is.few }
@@ -304,7 +305,7 @@ does old (commands.History count) few = record { answer = answers.Steps count; n
 record LineTells (found : Option (Result Command NoCommand)) (old : SessionValue) : Type 0 where
   pub text : List ℕ
   pub new : SessionValue
-  pub tells : TellsOf found old text new
+  pub tells : TellsOfCommand found old text new
   pub few : length new.breakpoints ≤ most_breakpoints
 
 line-tells : (found : Option (Result Command NoCommand)) (old : SessionValue) → length old.breakpoints ≤ most_breakpoints
@@ -312,13 +313,13 @@ line-tells : (found : Option (Result Command NoCommand)) (old : SessionValue) �
 line-tells None old few = record { text = []; new = old; tells = (refl, refl); few = few }
 line-tells (Some (Err none)) old few =
     record {
-      text = answer_text (cleared old) (answers.Refused refusals.NoCommand);
-      new = cleared old;
+      text = answer_text (session_without_due old) (answers.Refused refusals.NoCommand);
+      new = session_without_due old;
       tells = record { answer = answers.Refused refusals.NoCommand; obeyed = (refl, refl, refl); text_is = refl };
       few = few;
     }
 line-tells (Some (Ok command)) old few =
-    let done = does (cleared old) command few in
+    let done = does (session_without_due old) command few in
     record {
       text = answer_text done.new done.answer;
       new = done.new;

@@ -4,8 +4,8 @@ use Rattle.std.proofs.Common.{◌⊎◌, refl, sym, ap, subst, ◌∙◌, arith}
 use Rattle.std.proofs.lemmas.Bool.Decides.{nat_tests}
 use mathlib.Core.Logic.{inl, inr}
 use Rattle.pac_cpu.specs.declared.once.Stop.{Stop}
-use Rattle.pac_step.specs.Output.{Output}
-use Rattle.pac_step.proofs.Walks.{not-both}
+use Rattle.pac_board_model.specs.Output.{Output}
+use Rattle.pac_board_model.proofs.Walks.{not-both}
 use Rattle.pac_debug_text.specs.declared.command.Command.{Command}
 use Rattle.pac_debug_text.specs.declared.command.Command.TheVariants as commands
 use Rattle.pac_debug_text.specs.declared.command.NoCommand.{NoCommand}
@@ -13,17 +13,17 @@ use Rattle.pac_debug_text.specs.declared.place.Ending.TheVariants as endings
 use Rattle.pac_debug_text.specs.declared.refusal.Refusal.TheVariants as refusals
 use Rattle.pac_debug_text.specs.Commands.{command_of}
 use Rattle.pac_debug_text.specs.Slots.{slot_index}
-use Rattle.pac_session.specs.declared.motion.Ending.{Ending}
-use Rattle.pac_session.specs.declared.motion.Ending.TheVariants.{AtStop, AtEnd, AtBreakpoint, AtFrame, AtStep}
-use Rattle.pac_session.specs.declared.motion.Motion.{Motion}
-use Rattle.pac_session.specs.Motions.{RestsBy, IsDone, IsBack, IsTooOld, has_met, word_of, moved_to, oldest_index}
-use Rattle.pac_session.specs.Running.{IsLeast, is_late, stop_at}
-use Rattle.pac_session.specs.Session.{SessionValue, breaks_at, has_breakpoint}
+use Rattle.pac_debug_session.specs.declared.motion.MotionEnd.{MotionEnd}
+use Rattle.pac_debug_session.specs.declared.motion.MotionEnd.TheVariants.{AtStop, AtEnd, AtBreakpoint, AtFrame, AtStep}
+use Rattle.pac_debug_session.specs.declared.motion.Motion.{Motion}
+use Rattle.pac_debug_session.specs.Motions.{RestsBy, IsDone, IsBack, IsTooOld, has_met, motion_ending, moved_to, oldest_index}
+use Rattle.pac_debug_session.specs.Running.{IsLeast, is_late, stop_at}
+use Rattle.pac_debug_session.specs.Session.{SessionValue, breaks_at, has_breakpoint}
 use Rattle.pac_debug.specs.declared.answer.Answer.{Answer}
 use Rattle.pac_debug.specs.declared.answer.Answer.TheVariants as answers
 use Rattle.pac_debug.specs.Answers.{ending_of, answer_text}
-use Rattle.pac_debug.specs.Obeying.{WentBack, Returned, SetsBreakpoint, Stays, HasMoved, Performed, Obeyed, kept_at, motion_of}
-use Rattle.pac_debug.specs.Watched.{TellsOf, TellsAll}
+use Rattle.pac_debug.specs.Obeying.{AnswersBack, AnswersReturn, SetsBreakpoint, Stays, HasMoved, IsCommandPerformed, IsCommandObeyed, kept_at, motion_of}
+use Rattle.pac_debug.specs.Watched.{TellsOfCommand, TellsAll}
 use Rattle.pac_debug.specs.Laws.{TellsOneThing}
 
 -- ---- where a motion rests
@@ -40,22 +40,22 @@ least-once test from index other one two = choose (nat_lt index other) (nat_lt o
     choose false false e f = grind (arith, nat_tests)
 
 -- why it rests, by the same tests in the same order
-why : (late met : Bool) → Option Stop → Ending → Ending
+why : (late met : Bool) → Option Stop → MotionEnd → MotionEnd
 why true met stop word = AtEnd
 why false true stop word = word
 why false false (Some stop) word = AtStop stop
 why false false None word = AtEnd
 
 module _ (s : SessionValue) (motion : Motion) (from index : ℕ) where
-  abbrev why_here : Ending
+  abbrev why_here : MotionEnd
   why_here =
-      why (is_late s.setting index) (has_met s motion from index) (stop_at s.setting index) (word_of motion (breaks_at s index))
+      why (is_late s.setting index) (has_met s motion from index) (stop_at s.setting index) (motion_ending motion (breaks_at s index))
 
-  done-why : (rest : Ending) → IsDone s motion from index rest → rest ≡ why_here
+  done-why : (rest : MotionEnd) → IsDone s motion from index rest → rest ≡ why_here
   unfolding why
   done-why rest done = rw (done.early, done.met) done.word
 
-  rests-why : (rest : Ending) → RestsBy s motion from index rest → rest ≡ why_here
+  rests-why : (rest : MotionEnd) → RestsBy s motion from index rest → rest ≡ why_here
   unfolding why
   rests-why AtEnd late = rw late refl
   rests-why (AtStop stop) stopped = rw (stopped.early, stopped.unmet, stopped.stop_is) refl
@@ -90,8 +90,8 @@ near-and-far old count oldest new last near far = choose far.older
     choose (inl less) = let enough = near.enough in omega (arith, enough, less)
     choose (inr less) = let kept = near.kept in omega (arith, kept, less)
 
-back-once : (old : SessionValue) (count : ℕ) (one other : Answer) (new last : SessionValue) → WentBack old count one new
-    → WentBack old count other last → Same one other new last
+back-once : (old : SessionValue) (count : ℕ) (one other : Answer) (new last : SessionValue) → AnswersBack old count one new
+    → AnswersBack old count other last → Same one other new last
 back-once old count (answers.Moved endings.Back) (answers.Moved endings.Back) new last a b = (refl, a.session ∙ sym b.session)
 back-once old count (answers.Moved endings.Back) (answers.Refused (refusals.TooFarBack oldest)) new last a b =
     absurd (near-and-far old count oldest new last a b)
@@ -108,8 +108,8 @@ outright : (one other : Answer) (new last : SessionValue) (answer : Answer) (ses
     → (other ≡ answer) × (last ≡ session) → Same one other new last
 outright one other new last answer session a b = (a.0 ∙ sym b.0, a.1 ∙ sym b.1)
 
-return-once : (old : SessionValue) (kept : Option ℕ) (one other : Answer) (new last : SessionValue) → Returned old kept one new
-    → Returned old kept other last → Same one other new last
+return-once : (old : SessionValue) (kept : Option ℕ) (one other : Answer) (new last : SessionValue) → AnswersReturn old kept one new
+    → AnswersReturn old kept other last → Same one other new last
 return-once old (Some index) one other new last a b = outright one other new last _ _ a b
 return-once old None one other new last a b = outright one other new last _ _ a b
 
@@ -142,13 +142,13 @@ stays-once old rest one other new last a b = absurd a
 
 module _ {S : Type 0} (took : S → Output → S → Type 0) (old : SessionValue) (sink : S) where
   performed-once : (command : Command) (found : Option Motion) (one other : Answer) (new last : SessionValue) (later end : S)
-      → Performed took old command found sink one new later → Performed took old command found sink other last end
+      → IsCommandPerformed took old command found sink one new later → IsCommandPerformed took old command found sink other last end
       → Same one other new last
   performed-once command (Some motion) one other new last later end a b = moved-once took old sink motion one other new last later end a b
   performed-once command None one other new last later end a b = stays-once old command one other new last a.0 b.0
 
   obeyed-once : (asked : Result Command NoCommand) (one other : Answer) (new last : SessionValue) (later end : S)
-      → Obeyed took old asked sink one new later → Obeyed took old asked sink other last end → Same one other new last
+      → IsCommandObeyed took old asked sink one new later → IsCommandObeyed took old asked sink other last end → Same one other new last
   obeyed-once (Ok command) one other new last later end a b =
       performed-once command (motion_of command) one other new last later end a b
   obeyed-once (Err none) one other new last later end a b = (a.0 ∙ sym b.0, a.1 ∙ sym b.1)
@@ -156,7 +156,7 @@ module _ {S : Type 0} (took : S → Output → S → Type 0) (old : SessionValue
 -- ---- lines
 
 told-once : (old : SessionValue) (found : Option (Result Command NoCommand)) (text other : List ℕ) (new last : SessionValue)
-    → TellsOf found old text new → TellsOf found old other last → (text ≡ other) × (new ≡ last)
+    → TellsOfCommand found old text new → TellsOfCommand found old other last → (text ≡ other) × (new ≡ last)
 told-once old None text other new last a b = (a.0 ∙ sym b.0, a.1 ∙ sym b.1)
 told-once old (Some asked) text other new last a b =
     let same = obeyed-once _ _ tt asked a.answer b.answer new last tt tt a.obeyed b.obeyed in (

@@ -3,7 +3,7 @@ use Rattle.std.proofs.Common.{◌≡◌, ℕ, Option, None, Some, Result, Ok, Er
 use Rattle.std.proofs.Common.{true, true≢false}
 use Rattle.std.proofs.lemmas.List.Elements.{All-nil, All-cons}
 use mathlib.Core.Logic.{inl, inr}
-use Rattle.pac_step.specs.Output.{Output}
+use Rattle.pac_board_model.specs.Output.{Output}
 use Rattle.pac_board.specs.Sinks.{TookAll}
 use Rattle.pac_board.specs.State.{nothing_due}
 use Rattle.pac_out.specs.declared.counted.Counted.{Counted}
@@ -13,13 +13,13 @@ use Rattle.pac_out.proofs.Files.{takes-nothing, takes-joined}
 use Rattle.pac_debug_text.specs.declared.command.Command.{Command}
 use Rattle.pac_debug_text.specs.declared.command.NoCommand.{NoCommand}
 use Rattle.pac_debug_text.specs.Commands.{command_of}
-use Rattle.pac_session.specs.declared.motion.Motion.{Motion}
-use Rattle.pac_session.specs.Session.{SessionValue}
+use Rattle.pac_debug_session.specs.declared.motion.Motion.{Motion}
+use Rattle.pac_debug_session.specs.Session.{SessionValue}
 use Rattle.pac_debug.specs.declared.answer.Answer.{Answer}
 use Rattle.pac_debug.specs.declared.line.CommandFault.TheVariants as faults
 use Rattle.pac_debug.specs.Answers.{answer_text}
-use Rattle.pac_debug.specs.Obeying.{HasMoved, Performed, Obeyed, Did, Scene, Asks, ObeysLines, cleared, motion_of}
-use Rattle.pac_debug.specs.Watched.{takes_all, Told, TellsOf, TellsAll, TookTold, RefusedOf, RefusedAt}
+use Rattle.pac_debug.specs.Obeying.{HasMoved, IsCommandPerformed, IsCommandObeyed, IsCommandDone, Scene, Asks, ObeysLines, session_without_due, motion_of}
+use Rattle.pac_debug.specs.Watched.{takes_all, WordsTell, TellsOfCommand, TellsAll, TookTold, RefusedOf, RefusedAt}
 use Rattle.pac_debug.proofs.Giving.{obeyed as done-after}
 
 -- ---- any sink for another
@@ -45,18 +45,19 @@ module _ {S : Type 0} (took : S → Output → S → Type 0) where
       }
 
   performed-anyhow : (old : SessionValue) (command : Command) (found : Option Motion) (sink : S) (answer : Answer) (new : SessionValue)
-      (later : S) → Performed took old command found sink answer new later → Performed takes_all old command found tt answer new tt
+      (later : S) → IsCommandPerformed took old command found sink answer new later →
+      IsCommandPerformed takes_all old command found tt answer new tt
   performed-anyhow old command (Some motion) sink answer new later moved = moved-anyhow old motion sink answer new later moved
   performed-anyhow old command None sink answer new later done = (done.0, refl)
 
   obeyed-anyhow : (old : SessionValue) (asked : Result Command NoCommand) (sink : S) (answer : Answer) (new : SessionValue) (later : S)
-      → Obeyed took old asked sink answer new later → Obeyed takes_all old asked tt answer new tt
+      → IsCommandObeyed took old asked sink answer new later → IsCommandObeyed takes_all old asked tt answer new tt
   obeyed-anyhow old (Ok command) sink answer new later done =
       performed-anyhow old command (motion_of command) sink answer new later done
   obeyed-anyhow old (Err none) sink answer new later done = (done.0, done.1, refl)
 
   told : (old : SessionValue) (asked : Result Command NoCommand) (sink : S) (answer : Answer) (new : SessionValue) (later : S)
-      → Did took old asked sink answer new later → Told old asked (answer_text new answer) new
+      → IsCommandDone took old asked sink answer new later → WordsTell old asked (answer_text new answer) new
   told old asked sink answer new later did =
       record {
         answer = answer;
@@ -66,7 +67,8 @@ module _ {S : Type 0} (took : S → Output → S → Type 0) where
 
 -- ---- texts in turn
 
-pub told-then : (line : List ℕ) (more : List (List ℕ)) (old mid new : SessionValue) (one other : List ℕ) → TellsOf (command_of line) old one mid
+pub told-then : (line : List ℕ) (more : List (List ℕ)) (old mid new : SessionValue) (one other : List ℕ) →
+    TellsOfCommand (command_of line) old one mid
     → TellsAll more mid other new → TellsAll (line ∷ more) old (one ++ other) new
 told-then line more old mid new one other first rest =
     record { text_before = one; between = mid; text_after = other; before = first; after = rest; text_is = refl }
@@ -77,7 +79,7 @@ module _ {S W : Type 0} (took refused : S → Output → S → Type 0) (wrote : 
 
   record LineTold (found : Option (Result Command NoCommand)) (old new : Scene S W) : Type 0 where
     pub text : List ℕ
-    pub tells : TellsOf found old.session text new.session
+    pub tells : TellsOfCommand found old.session text new.session
     pub takes : Takes wrote old.text text new.text
     pub later : old.text.failed ≡ true → found ≡ None
 
@@ -169,7 +171,7 @@ module _ {S W : Type 0} (took refused : S → Output → S → Type 0) (wrote : 
   -- the text of one of them couldn't be written
   pub record LineUntold (found : Option (Result Command NoCommand)) (old : Scene S W) (fault : WriteFault) (new : Scene S W) : Type 0 where
     pub text : List ℕ
-    pub tells : TellsOf found old.session text new.session
+    pub tells : TellsOfCommand found old.session text new.session
     pub due : new.session.due ≡ nothing_due
     pub refuses : Refuses wrote balked old.text text fault new.text
 
@@ -190,7 +192,8 @@ module _ {S W : Type 0} (took refused : S → Output → S → Type 0) (wrote : 
       record {
         text = answer_text new.session answered.answer;
         tells = told took old.session asked old.sink answered.answer new.session new.sink did;
-        due = (done-after took (cleared old.session) asked did.between answered.answer new.session new.sink refl did.obeyed).due;
+        due = (done-after took (session_without_due old.session) asked did.between answered.answer new.session new.sink refl
+            did.obeyed).due;
         refuses = answered.told;
       }
 

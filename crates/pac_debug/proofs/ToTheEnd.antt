@@ -1,24 +1,24 @@
 -- A whole session: its lines, and then the run's end.
 use Rattle.std.proofs.Common.{◌≡◌, ℕ, ◌/◌, not, Ok, Err, List, [], ◌++◌, ◌⊎◌, refl, sym, subst, ◌∙◌, append_assoc, append-nil}
 use mathlib.Core.List.{IsPrefix}
-use Rattle.pac_step.specs.Output.{Output}
-use Rattle.pac_step.specs.Step.{frame_ticks}
+use Rattle.pac_board_model.specs.Output.{Output}
+use Rattle.pac_board_model.specs.Step.{frame_ticks}
 use Rattle.pac_board.specs.Sinks.{TookAll}
 use Rattle.pac_board.proofs.Sinks.{took-both}
 use Rattle.pac_out.specs.declared.counted.Counted.{Counted}
-use Rattle.pac_session.specs.declared.motion.Outcome.{Outcome}
-use Rattle.pac_session.specs.Motions.{IsOutcome, IsFinished, IsFinishRefused}
-use Rattle.pac_session.specs.Running.{IsLeast, Setting, whole_run, goes_at, outputs_from}
-use Rattle.pac_session.specs.Session.{SessionValue, IsOfferRefused, due_outputs}
+use Rattle.pac_debug_session.specs.declared.motion.RunTotals.{RunTotals}
+use Rattle.pac_debug_session.specs.Motions.{IsOutcome, IsFinished, IsFinishRefused}
+use Rattle.pac_debug_session.specs.Running.{IsLeast, Setting, whole_run, goes_at, outputs_from}
+use Rattle.pac_debug_session.specs.Session.{SessionValue, IsSessionOfferRefused, session_due_outputs}
 use Rattle.pac_debug.specs.declared.line.CommandFault.{CommandFault}
 use Rattle.pac_debug.specs.declared.line.CommandFault.TheVariants as faults
 use Rattle.pac_debug.specs.Obeying.{Scene, ObeysLines}
-use Rattle.pac_debug.specs.Watched.{HasGiven, GaveAll, Gave, TookTold, to_give, Watched, IsWatchRefused, Watches}
+use Rattle.pac_debug.specs.Watched.{HasGivenOutputs, GaveAll, LinesGive, TookTold, outputs_to_give, IsSessionWatched, IsWatchRefused, WatchesSession}
 use Rattle.pac_debug.proofs.Giving.{all-to-give, some-after, finish-given, lines-given}
 use Rattle.pac_debug.proofs.Telling.{lines-told, lines-refused, lines-untold}
 
 -- a run's outcome is that of its setting
-outcome-of : (s other : SessionValue) (outcome : Outcome) → s.setting ≡ other.setting → IsOutcome s outcome → IsOutcome other outcome
+outcome-of : (s other : SessionValue) (outcome : RunTotals) → s.setting ≡ other.setting → IsOutcome s outcome → IsOutcome other outcome
 outcome-of s other outcome same is =
     record {
       frames = subst (λ (run : Setting). outcome.frames ≡ (whole_run run).now.time / frame_ticks) same is.frames;
@@ -28,29 +28,30 @@ outcome-of s other outcome same is =
     }
 
 -- what was taken, and what is due, are among what was to be given
-among : (old new : SessionValue) (taken : List Output) → HasGiven old taken new → IsPrefix (taken ++ due_outputs new) (to_give old)
+among : (old new : SessionValue) (taken : List Output) → HasGivenOutputs old taken new →
+    IsPrefix (taken ++ session_due_outputs new) (outputs_to_give old)
 among old new taken given = (outputs_from new.setting new.furthest, all-to-give old new taken given)
 
-taken-among : (old new : SessionValue) (taken : List Output) → HasGiven old taken new → IsPrefix taken (to_give old)
+taken-among : (old new : SessionValue) (taken : List Output) → HasGivenOutputs old taken new → IsPrefix taken (outputs_to_give old)
 taken-among old new taken given =
     let rest = outputs_from new.setting new.furthest in (
-      due_outputs new ++ rest,
-      sym (append_assoc taken (due_outputs new) rest) ∙ all-to-give old new taken given,
+      session_due_outputs new ++ rest,
+      sym (append_assoc taken (session_due_outputs new) rest) ∙ all-to-give old new taken given,
     )
 
 module _ {S W : Type 0} (took refused : S → Output → S → Type 0) (wrote : W → List ℕ → W → Type 0) (balked : W → W → Type 0)
     (lines : List (List ℕ)) (old mid : Scene S W) where
   -- all lines were answered, and the run came to its end
   pub finished : (done : Unit {0}) → ObeysLines took refused wrote balked lines old (Ok done) mid
-      → GaveAll took old.session old.sink mid.session mid.sink → (outcome : Outcome) (end : SessionValue) (later : S)
+      → GaveAll took old.session old.sink mid.session mid.sink → (outcome : RunTotals) (end : SessionValue) (later : S)
       → IsFinished took mid.session mid.sink outcome end later
-      → Watched took wrote lines old outcome (record { session = end; sink = later; text = mid.text })
+      → IsSessionWatched took wrote lines old outcome (record { session = end; sink = later; text = mid.text })
   finished done obeyed gave outcome end later finish =
       let told = lines-told took refused wrote balked lines done old mid obeyed in
       let same = gave.given.setting in
-      let given = to_give mid.session in
-      let all : gave.taken ++ given ≡ to_give old.session
-      = sym (append_assoc gave.taken (due_outputs mid.session) (outputs_from mid.session.setting mid.session.furthest))
+      let given = outputs_to_give mid.session in
+      let all : gave.taken ++ given ≡ outputs_to_give old.session
+      = sym (append_assoc gave.taken (session_due_outputs mid.session) (outputs_from mid.session.setting mid.session.furthest))
       ∙ all-to-give old.session mid.session gave.taken gave.given in
       record {
         between = mid.session;
@@ -69,7 +70,7 @@ module _ {S W : Type 0} (took refused : S → Output → S → Type 0) (wrote : 
   -- all lines were answered, and the sink refused on the way to the end
   pub held-up : (done : Unit {0}) → ObeysLines took refused wrote balked lines old (Ok done) mid
       → GaveAll took old.session old.sink mid.session mid.sink → (end : SessionValue) (later : S)
-      → IsOfferRefused took refused mid.session mid.sink end later ⊎ IsFinishRefused took refused mid.session mid.sink end later
+      → IsSessionOfferRefused took refused mid.session mid.sink end later ⊎ IsFinishRefused took refused mid.session mid.sink end later
       → IsWatchRefused took refused wrote lines old (record { session = end; sink = later; text = mid.text })
   held-up done obeyed gave end later refusal =
       let told = lines-told took refused wrote balked lines done old mid obeyed in
@@ -87,7 +88,7 @@ module _ {S W : Type 0} (took refused : S → Output → S → Type 0) (wrote : 
         gave = gave;
         refusal = refusal;
         taken = some.taken;
-        left = due_outputs end;
+        left = session_due_outputs end;
         left_is = refl;
         given = some.given;
         among = among old.session end some.taken some.given;
@@ -96,8 +97,8 @@ module _ {S W : Type 0} (took refused : S → Output → S → Type 0) (wrote : 
 
   -- a line wasn't answered
   pub ended-early : (fault : CommandFault) → ObeysLines took refused wrote balked lines old (Err fault) mid
-      → Gave {A = Unit {0}} took refused old.session old.sink (Err fault) mid.session mid.sink
-      → Watches took refused wrote balked lines old (Err fault) mid
+      → LinesGive {A = Unit {0}} took refused old.session old.sink (Err fault) mid.session mid.sink
+      → WatchesSession took refused wrote balked lines old (Err fault) mid
   ended-early faults.Refused obeyed gave =
       let halt = lines-refused took refused wrote balked lines old mid obeyed in
       let told = lines-told took refused wrote balked halt.before tt old halt.mid halt.obeyed in
@@ -113,7 +114,7 @@ module _ {S W : Type 0} (took refused : S → Output → S → Type 0) (wrote : 
         gave = lines-given took refused wrote balked halt.before (Ok tt) old halt.mid halt.obeyed;
         refusal = halt.refusal;
         taken = gave.taken;
-        left = due_outputs mid.session;
+        left = session_due_outputs mid.session;
         left_is = refl;
         given = gave.given;
         among = among old.session mid.session gave.taken gave.given;

@@ -1,6 +1,6 @@
 -- To be believed: what a command line does to a session, and what it is answered with.
 use Rattle.std.specs.Prelude.{◌≡◌, ◌<◌, ℕ, Bool, true, false, List, [], ◌∷◌, ◌++◌, length, Option, None, Some, Result, Ok, Err, ◌⊎◌, slice_index_or}
-use Rattle.pac_step.specs.Output.{Output}
+use Rattle.pac_board_model.specs.Output.{Output}
 use Rattle.pac_board.specs.Sinks.{TookAll, Then}
 use Rattle.pac_board.specs.State.{nothing_due}
 use Rattle.pac_out.specs.declared.counted.Counted.{Counted}
@@ -12,11 +12,11 @@ use Rattle.pac_debug_text.specs.declared.place.Ending.TheVariants as endings
 use Rattle.pac_debug_text.specs.declared.refusal.Refusal.TheVariants as refusals
 use Rattle.pac_debug_text.specs.Commands.{command_of}
 use Rattle.pac_debug_text.specs.Slots.{slot_index}
-use Rattle.pac_session.specs.declared.motion.Ending.{Ending}
-use Rattle.pac_session.specs.declared.motion.Motion.{Motion}
-use Rattle.pac_session.specs.declared.motion.Motion.TheVariants as motions
-use Rattle.pac_session.specs.Motions.{HasTravelled, IsTravelRefused, IsBack, IsTooOld, kept_in}
-use Rattle.pac_session.specs.Session.{SessionValue, IsOfferRefused, due_outputs, has_breakpoint, without_breakpoint, most_breakpoints}
+use Rattle.pac_debug_session.specs.declared.motion.MotionEnd.{MotionEnd}
+use Rattle.pac_debug_session.specs.declared.motion.Motion.{Motion}
+use Rattle.pac_debug_session.specs.declared.motion.Motion.TheVariants as motions
+use Rattle.pac_debug_session.specs.Motions.{HasTravelled, IsTravelRefused, IsBack, IsTooOld, session_with_slot}
+use Rattle.pac_debug_session.specs.Session.{SessionValue, IsSessionOfferRefused, session_due_outputs, has_breakpoint, without_breakpoint, most_breakpoints}
 use Rattle.pac_debug.specs.declared.answer.Answer.{Answer}
 use Rattle.pac_debug.specs.declared.answer.Answer.TheVariants as answers
 use Rattle.pac_debug.specs.declared.line.CommandFault.{CommandFault}
@@ -29,20 +29,20 @@ use Rattle.pac_debug.specs.Answers.{ending_of, answer_text}
 pub record HasMoved {S : Type 0} (took : S → Output → S → Type 0) (old : SessionValue) (motion : Motion) (sink : S) (answer : Answer)
     (new : SessionValue) (later : S)
     : Type 0 where
-  pub why : Ending
+  pub why : MotionEnd
   pub travelled : HasTravelled took old motion sink why new later
   pub answer_is : answer ≡ answers.Moved (ending_of why)
 
 -- back by so many steps, unless that is older than the oldest index
-abbrev pub WentBack : SessionValue → (count : ℕ) → Answer → SessionValue → Type 0
-WentBack old count (answers.Moved endings.Back) new = IsBack old count new
-WentBack old count (answers.Refused (refusals.TooFarBack oldest)) new = IsTooOld old count oldest new
-WentBack old count other new = ⊥
+abbrev pub AnswersBack : SessionValue → (count : ℕ) → Answer → SessionValue → Type 0
+AnswersBack old count (answers.Moved endings.Back) new = IsBack old count new
+AnswersBack old count (answers.Refused (refusals.TooFarBack oldest)) new = IsTooOld old count oldest new
+AnswersBack old count other new = ⊥
 
 -- to what a slot keeps, unless it keeps nothing
-abbrev pub Returned : SessionValue → (kept : Option ℕ) → Answer → SessionValue → Type 0
-Returned old (Some index) answer new = (answer ≡ answers.Moved endings.Return) × (new ≡ record old { index = index })
-Returned old None answer new = (answer ≡ answers.Refused refusals.EmptySlot) × (new ≡ old)
+abbrev pub AnswersReturn : SessionValue → (kept : Option ℕ) → Answer → SessionValue → Type 0
+AnswersReturn old (Some index) answer new = (answer ≡ answers.Moved endings.Return) × (new ≡ record old { index = index })
+AnswersReturn old None answer new = (answer ≡ answers.Refused refusals.EmptySlot) × (new ≡ old)
 
 -- a breakpoint is set: a second time changes nothing, and a 65th is refused
 abbrev pub SetsBreakpoint : SessionValue → (address : ℕ) → (is_set : Bool) → Answer → SessionValue → Type 0
@@ -59,9 +59,9 @@ kept_at s slot = slice_index_or s.slots slot None
 
 -- a command that doesn't move on
 abbrev pub Stays : SessionValue → Command → Answer → SessionValue → Type 0
-Stays old (commands.Back count) answer new = WentBack old count answer new
-Stays old (commands.Return slot) answer new = Returned old (kept_at old (slot_index slot)) answer new
-Stays old (commands.Keep slot) answer new = (answer ≡ answers.Done) × (new ≡ kept_in old (slot_index slot))
+Stays old (commands.Back count) answer new = AnswersBack old count answer new
+Stays old (commands.Return slot) answer new = AnswersReturn old (kept_at old (slot_index slot)) answer new
+Stays old (commands.Keep slot) answer new = (answer ≡ answers.Done) × (new ≡ session_with_slot old (slot_index slot))
 Stays old (commands.Break at) answer new = SetsBreakpoint old at (has_breakpoint old at) answer new
 Stays old (commands.Unbreak at) answer new = (answer ≡ answers.Done) × (new ≡ without_breakpoint old at)
 Stays old commands.Regs answer new = (answer ≡ answers.Registers) × (new ≡ old)
@@ -84,16 +84,18 @@ Moves took refused old motion sink (Ok answer) new later = HasMoved took old mot
 Moves took refused old motion sink (Err refusal) new later = IsTravelRefused took refused old motion sink new later
 
 -- a command, by its motion
-abbrev pub Performed : {S : Type 0} → (S → Output → S → Type 0) → SessionValue → Command → Option Motion → S → Answer → SessionValue → S
+abbrev pub IsCommandPerformed : {S : Type 0} → (S → Output → S → Type 0) → SessionValue → Command → Option Motion → S → Answer →
+    SessionValue → S
     → Type 0
-Performed took old command (Some motion) sink answer new later = HasMoved took old motion sink answer new later
-Performed took old command None sink answer new later = Stays old command answer new × (later ≡ sink)
+IsCommandPerformed took old command (Some motion) sink answer new later = HasMoved took old motion sink answer new later
+IsCommandPerformed took old command None sink answer new later = Stays old command answer new × (later ≡ sink)
 
 -- a line with words, be it a command or none
-abbrev pub Obeyed : {S : Type 0} → (S → Output → S → Type 0) → SessionValue → Result Command NoCommand → S → Answer → SessionValue → S
+abbrev pub IsCommandObeyed : {S : Type 0} → (S → Output → S → Type 0) → SessionValue → Result Command NoCommand → S → Answer →
+    SessionValue → S
     → Type 0
-Obeyed took old (Ok command) sink answer new later = Performed took old command (motion_of command) sink answer new later
-Obeyed took old (Err none) sink answer new later =
+IsCommandObeyed took old (Ok command) sink answer new later = IsCommandPerformed took old command (motion_of command) sink answer new later
+IsCommandObeyed took old (Err none) sink answer new later =
     (answer ≡ answers.Refused refusals.NoCommand) × (new ≡ old) × (later ≡ sink)
 
 -- the sink refused an output on the way
@@ -108,41 +110,41 @@ pub record IsHeldUp {S : Type 0} (took refused : S → Output → S → Type 0) 
 
 abbrev pub Obeys : {S E : Type 0} → (S → Output → S → Type 0) → (S → Output → S → Type 0)
     → SessionValue → Result Command NoCommand → S → Result Answer E → SessionValue → S → Type 0
-Obeys took refused old asked sink (Ok answer) new later = Obeyed took old asked sink answer new later
+Obeys took refused old asked sink (Ok answer) new later = IsCommandObeyed took old asked sink answer new later
 Obeys took refused old asked sink (Err refusal) new later = IsHeldUp took refused old asked sink new later
 
 -- ---- a line with words
 
 -- the session when what was due was taken
-abbrev pub cleared : SessionValue → SessionValue
-cleared s = record s { due = nothing_due; replayed = 0 }
+abbrev pub session_without_due : SessionValue → SessionValue
+session_without_due s = record s { due = nothing_due; replayed = 0 }
 
--- It was done: what was due was taken first.
-pub record Did {S : Type 0} (took : S → Output → S → Type 0) (old : SessionValue) (asked : Result Command NoCommand) (sink : S)
+-- The line was done: what was due was taken first.
+pub record IsCommandDone {S : Type 0} (took : S → Output → S → Type 0) (old : SessionValue) (asked : Result Command NoCommand) (sink : S)
     (answer : Answer) (new : SessionValue) (later : S)
     : Type 0 where
   pub between : S
-  pub offered : TookAll took sink (due_outputs old) between
-  pub obeyed : Obeyed took (cleared old) asked between answer new later
+  pub offered : TookAll took sink (session_due_outputs old) between
+  pub obeyed : IsCommandObeyed took (session_without_due old) asked between answer new later
 
 -- The sink took what was due, and refused an output on the way.
 pub record IsRefusedLater {S : Type 0} (took refused : S → Output → S → Type 0) (old : SessionValue) (asked : Result Command NoCommand)
     (sink : S) (new : SessionValue) (later : S)
     : Type 0 where
   pub between : S
-  pub offered : TookAll took sink (due_outputs old) between
-  pub held_up : IsHeldUp took refused (cleared old) asked between new later
+  pub offered : TookAll took sink (session_due_outputs old) between
+  pub held_up : IsHeldUp took refused (session_without_due old) asked between new later
 
 -- the sink refused what was due, or an output on the way
-abbrev pub IsRefused : {S : Type 0} → (S → Output → S → Type 0) → (S → Output → S → Type 0)
+abbrev pub IsCommandRefused : {S : Type 0} → (S → Output → S → Type 0) → (S → Output → S → Type 0)
     → SessionValue → Result Command NoCommand → S → SessionValue → S → Type 0
-IsRefused took refused old asked sink new later =
-    IsOfferRefused took refused old sink new later ⊎ IsRefusedLater took refused old asked sink new later
+IsCommandRefused took refused old asked sink new later =
+    IsSessionOfferRefused took refused old sink new later ⊎ IsRefusedLater took refused old asked sink new later
 
-abbrev pub Does : {S E : Type 0} → (S → Output → S → Type 0) → (S → Output → S → Type 0)
+abbrev pub DoesCommand : {S E : Type 0} → (S → Output → S → Type 0) → (S → Output → S → Type 0)
     → SessionValue → Result Command NoCommand → S → Result Answer E → SessionValue → S → Type 0
-Does took refused old asked sink (Ok answer) new later = Did took old asked sink answer new later
-Does took refused old asked sink (Err refusal) new later = IsRefused took refused old asked sink new later
+DoesCommand took refused old asked sink (Ok answer) new later = IsCommandDone took old asked sink answer new later
+DoesCommand took refused old asked sink (Err refusal) new later = IsCommandRefused took refused old asked sink new later
 
 -- ---- a command line
 
@@ -152,21 +154,21 @@ pub record Scene (S W : Type 0) : Type 0 where
   pub sink : S
   pub text : Counted W
 
--- It was done, and this is what became of its answer's text: the command is done whether that could be written or not.
+-- The line was done, and this became of its answer's text: the command is done whether that could be written or not.
 pub record HasAnswered {S W : Type 0} (took : S → Output → S → Type 0) (Told : Counted W → List ℕ → Counted W → Type 0)
     (asked : Result Command NoCommand) (old new : Scene S W)
     : Type 0 where
   pub answer : Answer
-  pub did : Did took old.session asked old.sink answer new.session new.sink
+  pub did : IsCommandDone took old.session asked old.sink answer new.session new.sink
   pub told : Told old.text (answer_text new.session answer) new.text
 
 -- a line with words: it is answered; or the sink refused, and nothing is told; or its text's writer refused, now or before
-abbrev pub Answers : {S W A : Type 0} → (took refused : S → Output → S → Type 0) → (wrote : W → List ℕ → W → Type 0)
+abbrev pub AnswersWords : {S W A : Type 0} → (took refused : S → Output → S → Type 0) → (wrote : W → List ℕ → W → Type 0)
     → (balked : W → W → Type 0) → Result Command NoCommand → Scene S W → Result A CommandFault → Scene S W → Type 0
-Answers took refused wrote balked asked old (Ok done) new = HasAnswered took (HasPut wrote) asked old new
-Answers took refused wrote balked asked old (Err faults.Refused) new =
-    IsRefused took refused old.session asked old.sink new.session new.sink × (new.text ≡ old.text)
-Answers took refused wrote balked asked old (Err (faults.Text fault)) new =
+AnswersWords took refused wrote balked asked old (Ok done) new = HasAnswered took (HasPut wrote) asked old new
+AnswersWords took refused wrote balked asked old (Err faults.Refused) new =
+    IsCommandRefused took refused old.session asked old.sink new.session new.sink × (new.text ≡ old.text)
+AnswersWords took refused wrote balked asked old (Err (faults.Text fault)) new =
     HasAnswered took (λ before text after. Refuses wrote balked before text fault after) asked old new
 
 -- a line without words, which does nothing
@@ -178,7 +180,7 @@ Skips old (Err fault) new = ⊥
 abbrev pub Asks : {S W A : Type 0} → (took refused : S → Output → S → Type 0) → (wrote : W → List ℕ → W → Type 0)
     → (balked : W → W → Type 0) → Option (Result Command NoCommand) → Scene S W → Result A CommandFault → Scene S W → Type 0
 Asks took refused wrote balked None old result new = Skips old result new
-Asks took refused wrote balked (Some asked) old result new = Answers took refused wrote balked asked old result new
+Asks took refused wrote balked (Some asked) old result new = AnswersWords took refused wrote balked asked old result new
 
 abbrev pub Commands : {S W A : Type 0} → (took refused : S → Output → S → Type 0) → (wrote : W → List ℕ → W → Type 0)
     → (balked : W → W → Type 0) → (line : List ℕ) → Scene S W → Result A CommandFault → Scene S W → Type 0
@@ -187,9 +189,9 @@ Commands took refused wrote balked line old result new = Asks took refused wrote
 -- ---- a text of commands
 
 -- a line that is answered, or that has no words
-abbrev pub IsAnswered : {S W : Type 0} → (took refused : S → Output → S → Type 0) → (wrote : W → List ℕ → W → Type 0)
+abbrev pub IsLineAnswered : {S W : Type 0} → (took refused : S → Output → S → Type 0) → (wrote : W → List ℕ → W → Type 0)
     → (balked : W → W → Type 0) → (line : List ℕ) → (old new : Scene S W) → Type 0
-IsAnswered took refused wrote balked line old new = Commands {A = Unit {0}} took refused wrote balked line old (Ok tt) new
+IsLineAnswered took refused wrote balked line old new = Commands {A = Unit {0}} took refused wrote balked line old (Ok tt) new
 
 -- the lines of a text, one after another, up to the first that isn't answered
 abbrev pub ObeysLines : {S W : Type 0} → (took refused : S → Output → S → Type 0) → (wrote : W → List ℕ → W → Type 0)
@@ -197,7 +199,8 @@ abbrev pub ObeysLines : {S W : Type 0} → (took refused : S → Output → S �
 ObeysLines took refused wrote balked [] old (Ok done) new = new ≡ old
 ObeysLines took refused wrote balked [] old (Err fault) new = ⊥
 ObeysLines took refused wrote balked (line ∷ more) old (Ok done) new =
-    Then (IsAnswered took refused wrote balked line old) (λ between. ObeysLines took refused wrote balked more between (Ok done) new)
+    Then (IsLineAnswered took refused wrote balked line old) (λ between. ObeysLines took refused wrote balked more between (Ok done) new)
 ObeysLines took refused wrote balked (line ∷ more) old (Err fault) new =
     Commands {A = Unit {0}} took refused wrote balked line old (Err fault) new
-    ⊎ Then (IsAnswered took refused wrote balked line old) (λ between. ObeysLines took refused wrote balked more between (Err fault) new)
+    ⊎ Then (IsLineAnswered took refused wrote balked line old)
+    (λ between. ObeysLines took refused wrote balked more between (Err fault) new)

@@ -4,7 +4,7 @@
 use Rattle.std.specs.Prelude.{◌≡◌, ◌<◌, ◌≤◌, ℕ, not, true, List, [], ◌∷◌, ◌++◌, length, All, Option, None, Some, Result, Ok, Err}
 use Rattle.std.specs.Prelude.{◌⊎◌}
 use mathlib.Core.List.{IsPrefix}
-use Rattle.pac_step.specs.Output.{Output}
+use Rattle.pac_board_model.specs.Output.{Output}
 use Rattle.pac_board.specs.Sinks.{TookAll, RefusesAt}
 use Rattle.pac_board.specs.State.{nothing_due}
 use Rattle.pac_out.specs.declared.counted.Counted.{Counted}
@@ -13,15 +13,15 @@ use Rattle.pac_out.specs.Counted.{Takes, Refuses}
 use Rattle.pac_debug_text.specs.declared.command.Command.{Command}
 use Rattle.pac_debug_text.specs.declared.command.NoCommand.{NoCommand}
 use Rattle.pac_debug_text.specs.Commands.{command_of}
-use Rattle.pac_session.specs.declared.motion.Outcome.{Outcome}
-use Rattle.pac_session.specs.Motions.{IsOutcome, IsFinishRefused, moved_to}
-use Rattle.pac_session.specs.Running.{Setting, IsLeast, goes_at, run, outputs_between, outputs_from}
-use Rattle.pac_session.specs.Session.{SessionValue, IsOfferRefused, begun, due_outputs}
+use Rattle.pac_debug_session.specs.declared.motion.RunTotals.{RunTotals}
+use Rattle.pac_debug_session.specs.Motions.{IsOutcome, IsFinishRefused, moved_to}
+use Rattle.pac_debug_session.specs.Running.{Setting, IsLeast, goes_at, run, outputs_between, outputs_from}
+use Rattle.pac_debug_session.specs.Session.{SessionValue, IsSessionOfferRefused, session_at_start, session_due_outputs}
 use Rattle.pac_debug.specs.declared.answer.Answer.{Answer}
 use Rattle.pac_debug.specs.declared.line.CommandFault.{CommandFault}
 use Rattle.pac_debug.specs.declared.line.CommandFault.TheVariants as faults
 use Rattle.pac_debug.specs.Answers.{answer_text}
-use Rattle.pac_debug.specs.Obeying.{Scene, Obeyed, IsRefused, cleared}
+use Rattle.pac_debug.specs.Obeying.{Scene, IsCommandObeyed, IsCommandRefused, session_without_due}
 
 -- ---- what is told
 
@@ -30,18 +30,18 @@ abbrev pub takes_all : Unit {0} → Output → Unit {0} → Type 0
 takes_all old output new = Unit {0}
 
 -- What a line with words tells, and where it leaves the session: what is due is taken first.
-pub record Told (old : SessionValue) (asked : Result Command NoCommand) (text : List ℕ) (new : SessionValue) : Type 0 where
+pub record WordsTell (old : SessionValue) (asked : Result Command NoCommand) (text : List ℕ) (new : SessionValue) : Type 0 where
   pub answer : Answer
-  pub obeyed : Obeyed takes_all (cleared old) asked tt answer new tt
+  pub obeyed : IsCommandObeyed takes_all (session_without_due old) asked tt answer new tt
   pub text_is : text ≡ answer_text new answer
 
--- a line; one without words tells nothing and changes nothing
-abbrev pub TellsOf : Option (Result Command NoCommand) → SessionValue → List ℕ → SessionValue → Type 0
-TellsOf None old text new = (text ≡ []) × (new ≡ old)
-TellsOf (Some asked) old text new = Told old asked text new
+-- what a line tells; one without words tells nothing and changes nothing
+abbrev pub TellsOfCommand : Option (Result Command NoCommand) → SessionValue → List ℕ → SessionValue → Type 0
+TellsOfCommand None old text new = (text ≡ []) × (new ≡ old)
+TellsOfCommand (Some asked) old text new = WordsTell old asked text new
 
-abbrev pub Tells : (line : List ℕ) → SessionValue → (text : List ℕ) → SessionValue → Type 0
-Tells line old text new = TellsOf (command_of line) old text new
+abbrev pub TellsOfLine : (line : List ℕ) → SessionValue → (text : List ℕ) → SessionValue → Type 0
+TellsOfLine line old text new = TellsOfCommand (command_of line) old text new
 
 -- Something is told first, and then the rest, from where that leaves the session.
 pub record TellsInTurn (first : List ℕ → SessionValue → Type 0) (rest : SessionValue → List ℕ → Type 0) (text : List ℕ) : Type 0 where
@@ -52,10 +52,10 @@ pub record TellsInTurn (first : List ℕ → SessionValue → Type 0) (rest : Se
   pub after : rest between text_after
   pub text_is : text ≡ text_before ++ text_after
 
--- lines, one after another
+-- what lines tell, one after another
 abbrev pub TellsAll : (lines : List (List ℕ)) → SessionValue → (text : List ℕ) → SessionValue → Type 0
 TellsAll [] old text new = (text ≡ []) × (new ≡ old)
-TellsAll (line ∷ more) old text new = TellsInTurn (Tells line old) (λ between rest. TellsAll more between rest new) text
+TellsAll (line ∷ more) old text new = TellsInTurn (TellsOfLine line old) (λ between rest. TellsAll more between rest new) text
 
 -- ---- how far lines come
 
@@ -67,10 +67,10 @@ given_by s = (run s.setting s.furthest).outputs
 pub record GivesMore (line : List ℕ) (old : SessionValue) (taken : List Output) : Type 0 where
   pub text : List ℕ
   pub new : SessionValue
-  pub tells : Tells line old text new
+  pub tells : TellsOfLine line old text new
   pub more : length taken < length (given_by new)
 
--- the first of some lines does, if there is one
+-- the first of some lines, if there is one, gives more than these outputs
 abbrev pub FirstGivesMore : (lines : List (List ℕ)) → SessionValue → (taken : List Output) → Type 0
 FirstGivesMore [] old taken = Unit {0}
 FirstGivesMore (line ∷ more) old taken = GivesMore line old taken
@@ -82,7 +82,7 @@ pub record ToldUpTo (setting : Setting) (lines : List (List ℕ)) (taken : List 
   pub after : List (List ℕ)
   pub parts : lines ≡ before ++ after
   pub left : SessionValue
-  pub tells : TellsAll before (begun setting 0) told left
+  pub tells : TellsAll before (session_at_start setting 0) told left
   pub no_more : length (given_by left) ≤ length taken
   pub next : FirstGivesMore after left taken
 
@@ -90,31 +90,32 @@ pub record ToldUpTo (setting : Setting) (lines : List (List ℕ)) (taken : List 
 
 -- From one moment of a session to a later one these outputs were taken: each output that was due, and each one from the furthest index
 -- to the new furthest index, was taken, once and in order, or is due now.
-pub record HasGiven (old : SessionValue) (taken : List Output) (new : SessionValue) : Type 0 where
+pub record HasGivenOutputs (old : SessionValue) (taken : List Output) (new : SessionValue) : Type 0 where
   pub setting : new.setting ≡ old.setting
   pub further : old.furthest ≤ new.furthest
-  pub parts : due_outputs old ++ outputs_between old.setting old.furthest new.furthest ≡ taken ++ due_outputs new
+  pub parts : session_due_outputs old ++ outputs_between old.setting old.furthest new.furthest ≡ taken ++ session_due_outputs new
 
 -- the sink took all that was offered
 pub record GaveAll {S : Type 0} (took : S → Output → S → Type 0) (old : SessionValue) (sink : S) (new : SessionValue) (later : S)
     : Type 0 where
   pub taken : List Output
-  pub given : HasGiven old taken new
+  pub given : HasGivenOutputs old taken new
   pub sink_is : TookAll took sink taken later
 
 -- the sink took some, and refused the first of those that are due now
 pub record GaveSome {S : Type 0} (took refused : S → Output → S → Type 0) (old : SessionValue) (sink : S) (new : SessionValue) (later : S)
     : Type 0 where
   pub taken : List Output
-  pub given : HasGiven old taken new
-  pub refuses : RefusesAt took refused sink taken (due_outputs new) later
+  pub given : HasGivenOutputs old taken new
+  pub refuses : RefusesAt took refused sink taken (session_due_outputs new) later
 
 -- what lines gave to the sink, whatever they asked, by their answer; a text that can't be written leaves its line done
-abbrev pub Gave : {S A : Type 0} → (took refused : S → Output → S → Type 0) → SessionValue → S → Result A CommandFault → SessionValue → S
+abbrev pub LinesGive : {S A : Type 0} → (took refused : S → Output → S → Type 0) → SessionValue → S → Result A CommandFault →
+    SessionValue → S
     → Type 0
-Gave took refused old sink (Ok done) new later = GaveAll took old sink new later
-Gave took refused old sink (Err faults.Refused) new later = GaveSome took refused old sink new later
-Gave took refused old sink (Err (faults.Text fault)) new later = GaveAll took old sink new later
+LinesGive took refused old sink (Ok done) new later = GaveAll took old sink new later
+LinesGive took refused old sink (Err faults.Refused) new later = GaveSome took refused old sink new later
+LinesGive took refused old sink (Err (faults.Text fault)) new later = GaveAll took old sink new later
 
 -- ---- a whole session
 
@@ -125,12 +126,12 @@ pub record TookTold {W : Type 0} (wrote : W → List ℕ → W → Type 0) (line
   pub later : old.failed ≡ true → All (λ line. command_of line ≡ None) lines
 
 -- what a session has still to give, in order: what is due, and what the run gives from the furthest index on
-abbrev pub to_give : SessionValue → List Output
-to_give s = due_outputs s ++ outputs_from s.setting s.furthest
+abbrev pub outputs_to_give : SessionValue → List Output
+outputs_to_give s = session_due_outputs s ++ outputs_from s.setting s.furthest
 
 -- All lines were answered, and the run went on to its end. The sink took all that the session had still to give, once and in order.
-pub record Watched {S W : Type 0} (took : S → Output → S → Type 0) (wrote : W → List ℕ → W → Type 0) (asked : List (List ℕ))
-    (old : Scene S W) (result : Outcome) (new : Scene S W)
+pub record IsSessionWatched {S W : Type 0} (took : S → Output → S → Type 0) (wrote : W → List ℕ → W → Type 0) (asked : List (List ℕ))
+    (old : Scene S W) (result : RunTotals) (new : Scene S W)
     : Type 0 where
   -- where the lines leave the session, and what they tell
   pub between : SessionValue
@@ -138,7 +139,7 @@ pub record Watched {S W : Type 0} (took : S → Output → S → Type 0) (wrote 
   pub lines : TellsAll asked old.session told between
   pub text : TookTold wrote asked old.text told new.text
   pub outcome : IsOutcome old.session result
-  pub sink : TookAll took old.sink (to_give old.session) new.sink
+  pub sink : TookAll took old.sink (outputs_to_give old.session) new.sink
   -- from there it went on to the first index at which the run goes no further
   pub rest : IsLeast (λ index. not (goes_at old.session.setting index)) between.index new.session.index
   pub session : new.session ≡ record (moved_to between new.session.index) { replayed = 0 }
@@ -147,17 +148,17 @@ pub record Watched {S W : Type 0} (took : S → Output → S → Type 0) (wrote 
 abbrev pub RefusedOf : {S : Type 0} → (took refused : S → Output → S → Type 0) → Option (Result Command NoCommand) → SessionValue → S
     → SessionValue → S → Type 0
 RefusedOf took refused None old sink new later = ⊥
-RefusedOf took refused (Some asked) old sink new later = IsRefused took refused old asked sink new later
+RefusedOf took refused (Some asked) old sink new later = IsCommandRefused took refused old asked sink new later
 
--- at the next line; or, where none is left, on the way to the run's end
+-- the sink refused an output at the next line; or, where none is left, on the way to the run's end
 abbrev pub RefusedAt : {S : Type 0} → (took refused : S → Output → S → Type 0) → (lines : List (List ℕ)) → SessionValue → S
     → SessionValue → S → Type 0
 RefusedAt took refused [] old sink new later =
-    IsOfferRefused took refused old sink new later ⊎ IsFinishRefused took refused old sink new later
+    IsSessionOfferRefused took refused old sink new later ⊎ IsFinishRefused took refused old sink new later
 RefusedAt took refused (line ∷ more) old sink new later = RefusedOf took refused (command_of line) old sink new later
 
--- The sink refused an output. The lines before were answered, and no more is told. The sink took all outputs up to that one, once and in
--- order; that one and those after it are due.
+-- The sink refused an output. The lines before were answered, and no more is told. The sink took all outputs before the refused one,
+-- once and in order; that one and those after it are due.
 pub record IsWatchRefused {S W : Type 0} (took refused : S → Output → S → Type 0) (wrote : W → List ℕ → W → Type 0)
     (asked : List (List ℕ)) (old new : Scene S W)
     : Type 0 where
@@ -175,9 +176,9 @@ pub record IsWatchRefused {S W : Type 0} (took refused : S → Output → S → 
   -- what the sink took in all, and what is due
   pub taken : List Output
   pub left : List Output
-  pub left_is : left ≡ due_outputs new.session
-  pub given : HasGiven old.session taken new.session
-  pub among : IsPrefix (taken ++ left) (to_give old.session)
+  pub left_is : left ≡ session_due_outputs new.session
+  pub given : HasGivenOutputs old.session taken new.session
+  pub among : IsPrefix (taken ++ left) (outputs_to_give old.session)
   pub refuses : RefusesAt took refused old.sink taken left new.sink
 
 -- The writer refused the text of a line. The lines before were answered, and that one is done, too. The sink took the outputs that these
@@ -195,19 +196,19 @@ pub record IsWatchUntold {S W : Type 0} (took : S → Output → S → Type 0) (
   pub told : List ℕ
   pub lines : TellsAll before old.session told between
   pub text : TookTold wrote before old.text told file_between
-  -- what that one tells
+  -- what the line tells whose text was refused
   pub more : List ℕ
-  pub tells : Tells line between more new.session
+  pub tells : TellsOfLine line between more new.session
   pub refuses : Refuses wrote balked file_between more fault new.text
   pub taken : List Output
-  pub given : HasGiven old.session taken new.session
+  pub given : HasGivenOutputs old.session taken new.session
   pub none_due : new.session.due ≡ nothing_due
-  pub among : IsPrefix taken (to_give old.session)
+  pub among : IsPrefix taken (outputs_to_give old.session)
   pub sink : TookAll took old.sink taken new.sink
 
 -- a whole session, by its answer: what the lines ask, one after another, and then the run's end
-abbrev pub Watches : {S W : Type 0} → (took refused : S → Output → S → Type 0) → (wrote : W → List ℕ → W → Type 0)
-    → (balked : W → W → Type 0) → (lines : List (List ℕ)) → Scene S W → Result Outcome CommandFault → Scene S W → Type 0
-Watches took refused wrote balked lines old (Ok outcome) new = Watched took wrote lines old outcome new
-Watches took refused wrote balked lines old (Err faults.Refused) new = IsWatchRefused took refused wrote lines old new
-Watches took refused wrote balked lines old (Err (faults.Text fault)) new = IsWatchUntold took wrote balked lines old fault new
+abbrev pub WatchesSession : {S W : Type 0} → (took refused : S → Output → S → Type 0) → (wrote : W → List ℕ → W → Type 0)
+    → (balked : W → W → Type 0) → (lines : List (List ℕ)) → Scene S W → Result RunTotals CommandFault → Scene S W → Type 0
+WatchesSession took refused wrote balked lines old (Ok outcome) new = IsSessionWatched took wrote lines old outcome new
+WatchesSession took refused wrote balked lines old (Err faults.Refused) new = IsWatchRefused took refused wrote lines old new
+WatchesSession took refused wrote balked lines old (Err (faults.Text fault)) new = IsWatchUntold took wrote balked lines old fault new

@@ -3,8 +3,8 @@
 ghost use Rattle.std.specs.Prelude.{◌≡◌};
 ghost use Rattle.pac_debug.specs.Answers.{ending_of};
 
+use pac_debug_session::MotionEnd;
 use pac_debug_text::{Ending, Refusal};
-use pac_session::Ending as Rest;
 
 /// What is told of a command that was done, or that was refused by the table of refusals.
 #[derive(Clone, Copy)]
@@ -36,14 +36,14 @@ pub enum Answer {
 }
 
 /// The word for why a motion rests.
-pub(crate) fn ending_of(rest: Rest) -> Ending
+pub(crate) fn ending_of(rest: MotionEnd) -> Ending
     ensures { result ≡ ending_of rest }
 {
     match rest {
-        Rest::AtStop(_) => Ending::Stop,
-        Rest::AtEnd => Ending::End,
-        Rest::AtBreakpoint => Ending::Break,
-        Rest::AtFrame => Ending::Frame,
-        Rest::AtStep => Ending::Step,
+        MotionEnd::AtStop(_) => Ending::Stop,
+        MotionEnd::AtEnd => Ending::End,
+        MotionEnd::AtBreakpoint => Ending::Break,
+        MotionEnd::AtFrame => Ending::Frame,
+        MotionEnd::AtStep => Ending::Step,
     }
 }

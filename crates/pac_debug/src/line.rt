@@ -6,10 +6,10 @@ ghost use Rattle.pac_debug.specs.Obeying.{Commands};
 use crate::obey::perform;
 use crate::tell::tell;
 use pac_board::Sink;
+use pac_debug_session::Session;
 use pac_debug_text::read_command;
 use pac_out::counted::Counted;
 use pac_out::{Out, WriteFault};
-use pac_session::Session;
 use thiserror::Error;
 
 /// Why a command line wasn't answered.

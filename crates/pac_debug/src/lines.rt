@@ -2,14 +2,14 @@
 
 ghost use Rattle.std.specs.Str.Lines.{lines};
 ghost use Rattle.pac_debug.specs.Obeying.{ObeysLines};
-ghost use Rattle.pac_debug.specs.Watched.{Gave};
+ghost use Rattle.pac_debug.specs.Watched.{LinesGive};
 
 use crate::line::{CommandFault, command};
 use pac_board::Sink;
+use pac_debug_session::Session;
 use pac_lex::first_line;
 use pac_out::Out;
 use pac_out::counted::Counted;
-use pac_session::Session;
 
 /// Does what the lines of a text ask, one after another, up to the first one that isn't answered. A line ends at a line feed, with
 /// one carriage return before it dropped, or at the end of the text. Whatever they ask, each output of the run up to the furthest
@@ -23,7 +23,7 @@ pub fn commands<S: Sink, W: Out>(
     ensures obeys { ObeysLines S.took S.refused W.took W.refused (lines bytes.now)
         (record { session = session.old; sink = sink.old; text = text.old }) result
         (record { session = session.new; sink = sink.new; text = text.new }) }
-    ensures given { Gave S.took S.refused session.old sink.old result session.new sink.new }
+    ensures given { LinesGive S.took S.refused session.old sink.old result session.new sink.new }
 {
     let mut rest = bytes;
     while let Some((line, after)) = first_line(rest) {

@@ -2,21 +2,21 @@
 
 ghost use Rattle.std.specs.Prelude.{◌≡◌, ◌≤◌, IfOk, IfSome, None, Some, Ok, Err};
 ghost use Rattle.pac_board.specs.State as state;
-ghost use Rattle.pac_debug_text.specs.Commands.{IsInRange};
+ghost use Rattle.pac_debug_text.specs.Commands.{IsCommandInRange};
 ghost use Rattle.pac_debug_text.specs.Slots.{slot_index};
-ghost use Rattle.pac_session.specs.Session.{has_breakpoint};
-ghost use Rattle.pac_debug.specs.Obeying.{WentBack, Returned, SetsBreakpoint, Stays, Obeys, Does, Moves, kept_at, motion_of};
+ghost use Rattle.pac_debug_session.specs.Session.{has_breakpoint};
+ghost use Rattle.pac_debug.specs.Obeying.{AnswersBack, AnswersReturn, SetsBreakpoint, Stays, Obeys, DoesCommand, Moves, kept_at, motion_of};
 
 use crate::answer::{Answer, ending_of};
 use pac_board::{Refused, Sink};
+use pac_debug_session::{Motion, Session};
 use pac_debug_text::{Command, Ending, NoCommand, Refusal, Slot};
-use pac_session::{Motion, Session};
 
 /// Goes back by so many steps.
 fn go_back(session: &mut Session, count: u32) -> Answer
     requires count { 1 ≤ count }
     requires nothing { session.old.due ≡ state.nothing_due }
-    ensures { WentBack session.old count result session.new }
+    ensures { AnswersBack session.old count result session.new }
 {
     match session.back(count) {
         Ok(()) => Answer::Moved(Ending::Back),
@@ -27,7 +27,7 @@ fn go_back(session: &mut Session, count: u32) -> Answer
 /// Goes to what a slot keeps.
 fn return_to(session: &mut Session, slot: Slot) -> Answer
     requires nothing { session.old.due ≡ state.nothing_due }
-    ensures { Returned session.old (kept_at session.old (slot_index slot)) result session.new }
+    ensures { AnswersReturn session.old (kept_at session.old (slot_index slot)) result session.new }
 {
     match session.go_to(slot.index()) {
         Ok(()) => Answer::Moved(Ending::Return),
@@ -60,7 +60,7 @@ fn motion_of(command: Command) -> Option<Motion>
 /// Does a command that doesn't move on.
 fn stay(session: &mut Session, command: Command) -> Answer
     requires nothing { session.old.due ≡ state.nothing_due }
-    requires range { IsInRange command }
+    requires range { IsCommandInRange command }
     requires motion { motion_of command ≡ None }
     ensures { Stays session.old command result session.new }
 {
@@ -100,7 +100,7 @@ fn obey<S: Sink>(
     sink: &mut S,
 ) -> Result<Answer, Refused>
     requires nothing { session.old.due ≡ state.nothing_due }
-    requires range { IfOk asked IsInRange }
+    requires range { IfOk asked IsCommandInRange }
     ensures { Obeys S.took S.refused session.old asked sink.old result session.new sink.new }
 {
     let Ok(command) = asked else {
@@ -118,8 +118,8 @@ pub(crate) fn perform<S: Sink>(
     asked: Result<Command, NoCommand>,
     sink: &mut S,
 ) -> Result<Answer, Refused>
-    requires range { IfOk asked IsInRange }
-    ensures { Does S.took S.refused session.old asked sink.old result session.new sink.new }
+    requires range { IfOk asked IsCommandInRange }
+    ensures { DoesCommand S.took S.refused session.old asked sink.old result session.new sink.new }
 {
     session.offer(sink)?;
     obey(session, asked, sink)

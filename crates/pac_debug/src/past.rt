@@ -2,20 +2,20 @@
 
 ghost use Rattle.std.specs.Prelude.{◌≡◌, ◌<◌, ◌≤◌, length, slice_get, Some, take};
 ghost use Rattle.pac_table.specs.Instructions.{code};
-ghost use Rattle.pac_session.specs.Past.{told_at};
-ghost use Rattle.pac_debug.specs.Answers.{padded, done_of, told_lines, last_steps};
+ghost use Rattle.pac_debug_session.specs.Past.{told_at};
+ghost use Rattle.pac_debug.specs.Answers.{padded_bytes, done_of, told_lines, last_steps};
 
 use pac_code::encode;
-use pac_cpu::Kind;
-use pac_debug_text::{Done, PastStep};
-use pac_session::Session;
+use pac_cpu::StepKind;
+use pac_debug_session::Session;
+use pac_debug_text::{Done, HistoryLine};
 use pac_table::Instr;
 
 /// The most steps that are told (this profile).
 pub(crate) const MOST_STEPS: usize = 256;
 
-/// A step, before one is told.
-const NO_STEP: PastStep = PastStep {
+/// What fills the places of steps before one is put there.
+const NO_STEP: HistoryLine = HistoryLine {
     index: 0,
     pc: 0,
     done: Done::Halted,
@@ -23,7 +23,7 @@ const NO_STEP: PastStep = PastStep {
 
 /// The bytes of an instruction, and zeros after them.
 fn padded_code(instruction: &Instr) -> [u8; 4]
-    ensures { result ≡ padded (code instruction.now) }
+    ensures { result ≡ padded_bytes (code instruction.now) }
 {
     let code = encode(instruction);
     let bytes = code.as_slice();
@@ -33,25 +33,25 @@ fn padded_code(instruction: &Instr) -> [u8; 4]
 }
 
 /// What a step was.
-fn done_of(kind: Kind) -> Done
+fn done_of(kind: StepKind) -> Done
     ensures { result ≡ done_of kind }
 {
     match kind {
-        Kind::Ran(instruction) => Done::Ran(padded_code(&instruction)),
-        Kind::Halted => Done::Halted,
-        Kind::Accepted => Done::Accepted,
+        StepKind::Ran(instruction) => Done::Ran(padded_code(&instruction)),
+        StepKind::Halted => Done::Halted,
+        StepKind::Accepted => Done::Accepted,
     }
 }
 
 /// A step of a session, of those that are told; the oldest is at place 0.
-fn line_at(session: &Session, place: usize) -> PastStep
+fn line_at(session: &Session, place: usize) -> HistoryLine
     requires { place < length (told_at session.now.setting session.now.index) }
     ensures { slice_get (told_lines session.now) place ≡ Some result }
 {
     let Some(step) = session.history(place) else {
         unreachable!();
     };
-    PastStep {
+    HistoryLine {
         index: step.index,
         pc: step.pc,
         done: done_of(step.kind),
@@ -59,7 +59,7 @@ fn line_at(session: &Session, place: usize) -> PastStep
 }
 
 /// The last steps of a session, so many at most, the oldest first; and how many there are.
-pub(crate) fn last_steps(session: &Session, count: u16) -> ([PastStep; MOST_STEPS], usize)
+pub(crate) fn last_steps(session: &Session, count: u16) -> ([HistoryLine; MOST_STEPS], usize)
     ensures exact { take result.1 result.0 ≡ last_steps session.now count }
     ensures within { result.1 ≤ length result.0 }
 {

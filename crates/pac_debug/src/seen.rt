@@ -2,12 +2,12 @@
 
 ghost use Rattle.std.specs.Prelude.{◌≡◌};
 ghost use Rattle.pac_debug_text.specs.Peeks.{bytes_from};
-ghost use Rattle.pac_debug.specs.Answers.{byte_at, place_of, latches_of};
+ghost use Rattle.pac_debug.specs.Answers.{session_byte_at, session_place, latches_of};
 
 use pac_board::Board;
+use pac_debug_session::Session;
 use pac_debug_text::{Latches, Peek, Place};
 use pac_num::offset;
-use pac_session::Session;
 
 /// A board, as its processor reads it.
 #[derive(Drop)]
@@ -29,7 +29,7 @@ impl<'a> Peek for Reader<'a> {
 
 /// The four bytes from an address on.
 fn four_bytes(session: &Session, at: u16) -> [u8; 4]
-    ensures { result ≡ bytes_from (byte_at session.now) at 4 }
+    ensures { result ≡ bytes_from (session_byte_at session.now) at 4 }
 {
     let board = session.board();
     let second = offset(at, 1);
@@ -45,7 +45,7 @@ fn four_bytes(session: &Session, at: u16) -> [u8; 4]
 
 /// Where a session stands.
 pub(crate) fn place_of(session: &Session) -> Place
-    ensures { result ≡ place_of session.now }
+    ensures { result ≡ session_place session.now }
 {
     let board = session.board();
     let regs = board.regs();

@@ -8,12 +8,12 @@ ghost use Rattle.pac_debug.specs.Answers.{answer_text, last_steps};
 use crate::answer::Answer;
 use crate::past::last_steps;
 use crate::seen::{Reader, latches_of, place_of};
+use pac_debug_session::Session;
 use pac_debug_text::{
     put_history, put_instructions, put_memory, put_ok, put_place, put_refusal, put_registers,
 };
 use pac_out::counted::Counted;
 use pac_out::{Out, WriteFault};
-use pac_session::Session;
 
 /// Writes the last steps of a session, so many at most.
 fn tell_steps<W: Out>(

@@ -1,14 +1,14 @@
 //! Whole sessions.
 
 ghost use Rattle.std.specs.Str.Lines.{lines};
-ghost use Rattle.pac_debug.specs.Watched.{Watches};
+ghost use Rattle.pac_debug.specs.Watched.{WatchesSession};
 
 use crate::line::CommandFault;
 use crate::lines::commands;
 use pac_board::Sink;
+use pac_debug_session::{RunTotals, Session};
 use pac_out::Out;
 use pac_out::counted::Counted;
-use pac_session::{Outcome, Session};
 
 /// Does what the lines of a text ask, one after another, goes on then to the end of the run, and says what the run came to. Whatever
 /// the lines ask, the sink is given each output of the run that it wasn't given before, once and in order. Ends at the first line
@@ -18,8 +18,8 @@ pub fn watch<S: Sink, W: Out>(
     bytes: &[u8],
     sink: &mut S,
     text: &mut Counted<W>,
-) -> Result<Outcome, CommandFault>
-    ensures { Watches S.took S.refused W.took W.refused (lines bytes.now)
+) -> Result<RunTotals, CommandFault>
+    ensures { WatchesSession S.took S.refused W.took W.refused (lines bytes.now)
         (record { session = session.old; sink = sink.old; text = text.old }) result
         (record { session = session.new; sink = sink.new; text = text.new }) }
 {

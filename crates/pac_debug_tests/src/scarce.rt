@@ -5,11 +5,11 @@ ghost use Rattle.std.specs.Prelude.{⊤};
 use crate::set::{CELL, session, text_of};
 use pac_board::{Refused, Sink};
 use pac_debug::commands;
+use pac_debug_session::Session;
 use pac_out::counted::Counted;
-use pac_out::memory::Memory;
+use pac_out::memory::MemoryWriter;
 use pac_picture::Picture;
-use pac_scarce::Hoard;
-use pac_session::Session;
+use pac_tests_memory::Hoard;
 use std::alloc::Global;
 
 /// A sink that counts what it takes, and keeps none of it.
@@ -59,7 +59,7 @@ const TEXT: &str = "ok\n\
     refused G3\n";
 
 /// Whether a session's commands are all answered while no memory is left, and give the outputs of a frame.
-fn is_obeyed(alloc: Global, session: &mut Session, text: &mut Counted<Memory>) -> bool {
+fn is_obeyed(alloc: Global, session: &mut Session, text: &mut Counted<MemoryWriter>) -> bool {
     let mut tally = Tally {
         samples: 0,
         pictures: 0,

@@ -1,17 +1,17 @@
 //! Sessions whose program is given as bytes, with a sink that keeps what they give, and how they answer.
 
 ghost use Rattle.std.specs.Prelude.{◌≡◌, IfOk};
-ghost use Rattle.pac_session.specs.Session.{IsNew};
+ghost use Rattle.pac_debug_session.specs.Session.{IsNew};
 
 use pac_board::Board;
 use pac_board::kept::Kept;
 use pac_debug::{CommandFault, command, commands};
+use pac_debug_session::Session;
 use pac_inputs::read_script;
 use pac_out::counted::Counted;
 use pac_out::faulty::Faulty;
-use pac_out::memory::Memory;
+use pac_out::memory::MemoryWriter;
 use pac_roms::{Raw, RomSet};
-use pac_session::Session;
 use std::alloc::{AllocError, Global};
 use std::marker::Model;
 
@@ -60,8 +60,8 @@ pub fn session(alloc: Global, bytes: &[u8], script: &[u8]) -> Result<Session, Al
 }
 
 /// A text that takes so many bytes.
-pub fn text_of(alloc: Global, room: usize) -> Option<Counted<Memory>> {
-    match Memory::new(alloc, room) {
+pub fn text_of(alloc: Global, room: usize) -> Option<Counted<MemoryWriter>> {
+    match MemoryWriter::new(alloc, room) {
         Ok(memory) => Some(Counted::new(memory)),
         Err(_) => None,
     }
@@ -119,12 +119,12 @@ impl Rig {
     }
 
     /// Does what a command line asks; why it isn't answered, if it isn't.
-    fn obey(&mut self, line: &[u8], text: &mut Counted<Memory>) -> Option<CommandFault> {
+    fn obey(&mut self, line: &[u8], text: &mut Counted<MemoryWriter>) -> Option<CommandFault> {
         command(&mut self.session, line, &mut self.kept, text).err()
     }
 
     /// Does what the lines of a text ask, one after another, up to the first that isn't answered; whether all were.
-    fn obey_each(&mut self, lines: &str, text: &mut Counted<Memory>) -> bool {
+    fn obey_each(&mut self, lines: &str, text: &mut Counted<MemoryWriter>) -> bool {
         for line in lines.split('\n') {
             if self.obey(line.as_bytes(), text).is_some() {
                 return false;
@@ -134,7 +134,7 @@ impl Rig {
     }
 
     /// Does what the lines of a text of commands ask; whether all were answered.
-    fn obey_all(&mut self, lines: &str, text: &mut Counted<Memory>) -> bool {
+    fn obey_all(&mut self, lines: &str, text: &mut Counted<MemoryWriter>) -> bool {
         commands(&mut self.session, lines.as_bytes(), &mut self.kept, text).is_ok()
     }
 
@@ -170,7 +170,7 @@ impl Rig {
     }
 
     /// How a text is told to be refused at a command line: the count of its bytes that were taken.
-    fn count_told(&mut self, line: &[u8], text: &mut Counted<Memory>) -> Option<u64> {
+    fn count_told(&mut self, line: &[u8], text: &mut Counted<MemoryWriter>) -> Option<u64> {
         match self.obey(line, text) {
             Some(CommandFault::Text(fault)) => Some(fault.count),
             _ => None,

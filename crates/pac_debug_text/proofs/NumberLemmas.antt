@@ -4,8 +4,8 @@ use Rattle.std.specs.Prelude.{nat_le}
 use Rattle.std.specs.List.{list_all}
 use Rattle.std.specs.Char.{is_ascii_digit, is_ascii_hexdigit}
 use Rattle.std.proofs.lemmas.Bool.{and_right, cond-false, cond-true, cases_Bool}
-use Rattle.pac_lex.specs.Numbers.{digit}
-use Rattle.pac_debug_text.specs.Numbers.{hex_digit, address_of}
+use Rattle.pac_lex.specs.Numbers.{value_of_digit}
+use Rattle.pac_debug_text.specs.Numbers.{hex_digit_number, address_of}
 use Rattle.std.proofs.lemmas.Bool.Decides.{nat_tests}
 
 -- the number whose first digits came to n, and whose other digits are these
@@ -35,7 +35,7 @@ too-large most n c digits large =
 -- a hexadecimal digit, by what it counts
 record IsDigit (c n : ℕ) : Type 0 where
   hexadecimal : is_ascii_hexdigit c ≡ true
-  counts : digit c ≡ n
+  counts : value_of_digit c ≡ n
 
 one-number : (x : Option ℕ) (n m : ℕ) → Some n ≡ x → x ≡ Some m → m ≡ n
 one-number x n m e f = cc
@@ -43,16 +43,16 @@ one-number x n m e f = cc
 no-number : (x : Option ℕ) (n : ℕ) → Some n ≡ x → x ≡ None → ⊥
 no-number x n e f = cc
 
-is-digit : (c n : ℕ) → Some n ≡ hex_digit c → IsDigit c n
+is-digit : (c n : ℕ) → Some n ≡ hex_digit_number c → IsDigit c n
 is-digit c n found = elim (cases_Bool (is_ascii_hexdigit c)) [
-  | inl e ↦ record { hexadecimal = e; counts = one-number (hex_digit c) n (digit c) found (cond-true _ _ _ e) }
-  | inr e ↦ absurd (no-number (hex_digit c) n found (cond-false _ _ _ e))
+  | inl e ↦ record { hexadecimal = e; counts = one-number (hex_digit_number c) n (value_of_digit c) found (cond-true _ _ _ e) }
+  | inr e ↦ absurd (no-number (hex_digit_number c) n found (cond-false _ _ _ e))
 ]
 
 -- four of them are an address
 pub four-digits : (word : List ℕ) (a b c d : ℕ) → length word ≡ 4
-    → Some a ≡ hex_digit (get_or word 0 0) → Some b ≡ hex_digit (get_or word 1 0)
-    → Some c ≡ hex_digit (get_or word 2 0) → Some d ≡ hex_digit (get_or word 3 0)
+    → Some a ≡ hex_digit_number (get_or word 0 0) → Some b ≡ hex_digit_number (get_or word 1 0)
+    → Some c ≡ hex_digit_number (get_or word 2 0) → Some d ≡ hex_digit_number (get_or word 3 0)
     → Some (16 * c + d + 256 * (16 * a + b)) ≡ address_of word
 four-digits [] a b c d four e f g h = absurd (omega (arith, four))
 four-digits (w ∷ []) a b c d four e f g h = absurd (omega (arith, four))

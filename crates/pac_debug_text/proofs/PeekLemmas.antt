@@ -2,45 +2,46 @@
 use Rattle.std.proofs.Common.{◌≡◌, ℕ, suc, ◌+◌, ◌-◌, ◌/◌, ◌<◌, List, [], ◌++◌, sym, ap, ◌∙◌, arith}
 use Rattle.std.specs.Prelude.{min}
 use Rattle.std.specs.List.{flat_map}
-use Rattle.pac_num.specs.Numbers.{address}
+use Rattle.pac_num.specs.Numbers.{wrapped_address}
 use Rattle.pac_dis.specs.Texts.{size_at}
 use Rattle.pac_dis_text.specs.Lines.{line_text}
-use Rattle.pac_debug_text.specs.Peeks.{bytes_from, byte_text, row_text, rows_text, row_bytes, memory_text, instructions_text}
+use Rattle.pac_debug_text.specs.Peeks.{bytes_from, spaced_byte, row_text, rows_text, memory_row_bytes, memory_text, instructions_text}
 
 -- the bytes that are left, as text
 abbrev pub bytes_text : (ℕ → ℕ) → ℕ → ℕ → List ℕ
-bytes_text byte at count = flat_map byte_text (bytes_from byte at count)
+bytes_text byte at count = flat_map spaced_byte (bytes_from byte at count)
 
 pub bytes-more : (byte : ℕ → ℕ) (at later left shown : ℕ) → left ≡ suc later → shown ≡ byte at
-    → bytes_text byte at left ≡ byte_text shown ++ bytes_text byte (address (at + 1)) later
+    → bytes_text byte at left ≡ spaced_byte shown ++ bytes_text byte (wrapped_address (at + 1)) later
 unfolding bytes_from
 bytes-more byte at later left shown is seen =
-    ap (bytes_text byte at) is ∙ ap (λ b. byte_text b ++ bytes_text byte (address (at + 1)) later) (sym seen)
+    ap (bytes_text byte at) is ∙ ap (λ b. spaced_byte b ++ bytes_text byte (wrapped_address (at + 1)) later) (sym seen)
 
 pub bytes-none : (byte : ℕ → ℕ) (at left : ℕ) → left ≡ 0 → bytes_text byte at left ≡ []
 unfolding bytes_from
 bytes-none byte at left is = ap (bytes_text byte at) is
 
-pub rows-more : (byte : ℕ → ℕ) (at left shown : ℕ) → 0 < left → shown ≡ min left row_bytes
-    → memory_text byte at left ≡ row_text byte at shown ++ memory_text byte (address (at + row_bytes)) (left - shown)
+pub rows-more : (byte : ℕ → ℕ) (at left shown : ℕ) → 0 < left → shown ≡ min left memory_row_bytes
+    → memory_text byte at left ≡ row_text byte at shown ++ memory_text byte (wrapped_address (at + memory_row_bytes)) (left - shown)
 unfolding rows_text
 rows-more byte at left shown some seen =
-    let one : (left + (row_bytes - 1)) / row_bytes ≡ suc ((left - row_bytes + (row_bytes - 1)) / row_bytes) = omega (arith, some) in
-    let fewer : left - row_bytes ≡ left - shown = omega (arith, seen) in
+    let one : (left + (memory_row_bytes - 1)) / memory_row_bytes
+    ≡ suc ((left - memory_row_bytes + (memory_row_bytes - 1)) / memory_row_bytes) = omega (arith, some) in
+    let fewer : left - memory_row_bytes ≡ left - shown = omega (arith, seen) in
     ap (λ rows. rows_text byte rows at left) one
-    ∙ ap (λ n. row_text byte at n ++ memory_text byte (address (at + row_bytes)) (left - row_bytes)) (sym seen)
-    ∙ ap (λ n. row_text byte at shown ++ memory_text byte (address (at + row_bytes)) n) fewer
+    ∙ ap (λ n. row_text byte at n ++ memory_text byte (wrapped_address (at + memory_row_bytes)) (left - memory_row_bytes)) (sym seen)
+    ∙ ap (λ n. row_text byte at shown ++ memory_text byte (wrapped_address (at + memory_row_bytes)) n) fewer
 
 pub rows-none : (byte : ℕ → ℕ) (at left : ℕ) → left ≡ 0 → memory_text byte at left ≡ []
 unfolding rows_text
 rows-none byte at left is = ap (memory_text byte at) is
 
 pub instructions-more : (byte : ℕ → ℕ) (at later left : ℕ) (code : List ℕ) → left ≡ suc later → code ≡ bytes_from byte at 4
-    → instructions_text byte left at ≡ line_text at code ++ instructions_text byte later (address (at + size_at code))
+    → instructions_text byte left at ≡ line_text at code ++ instructions_text byte later (wrapped_address (at + size_at code))
 unfolding instructions_text
 instructions-more byte at later left code is seen =
     ap (λ n. instructions_text byte n at) is
-    ∙ ap (λ shown. line_text at shown ++ instructions_text byte later (address (at + size_at shown))) (sym seen)
+    ∙ ap (λ shown. line_text at shown ++ instructions_text byte later (wrapped_address (at + size_at shown))) (sym seen)
 
 pub instructions-none : (byte : ℕ → ℕ) (at left : ℕ) → left ≡ 0 → instructions_text byte left at ≡ []
 unfolding instructions_text

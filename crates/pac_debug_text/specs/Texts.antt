@@ -7,10 +7,10 @@ use Rattle.pac_table.specs.declared.effects.InterruptMode.TheVariants.{Zero, One
 use Rattle.pac_exec.specs.declared.regs.Regs.{Regs}
 use Rattle.pac_exec.specs.declared.regs.Alternate.{Alternate}
 use Rattle.pac_dis.specs.Texts.{text_at}
-use Rattle.pac_listing.specs.Listing.{joined}
+use Rattle.pac_listing.specs.Listing.{joined_pieces}
 use Rattle.pac_debug_text.specs.declared.history.Done.{Done}
 use Rattle.pac_debug_text.specs.declared.history.Done.TheVariants as done
-use Rattle.pac_debug_text.specs.declared.history.PastStep.{PastStep}
+use Rattle.pac_debug_text.specs.declared.history.HistoryLine.{HistoryLine}
 use Rattle.pac_debug_text.specs.declared.place.Ending.{Ending}
 use Rattle.pac_debug_text.specs.declared.place.Ending.TheVariants as endings
 use Rattle.pac_debug_text.specs.declared.place.Place.{Place}
@@ -24,7 +24,7 @@ abbrev pub ok_text : List ℕ
 ok_text = codes "ok\n"
 
 abbrev pub too_far_back_text : ℕ → List ℕ
-too_far_back_text oldest = joined (codes "refused G2 oldest " ∷ decimal oldest ∷ codes "\n" ∷ [])
+too_far_back_text oldest = joined_pieces (codes "refused G2 oldest " ∷ decimal oldest ∷ codes "\n" ∷ [])
 
 abbrev pub refusal_text : Refusal → List ℕ
 refusal_text refusals.NoCommand = codes "refused G1\n"
@@ -55,7 +55,7 @@ next_text false pc code = text_at pc code
 -- the line of a place: `break 2 20 0005 HALT`
 unfoldable pub place_text : Ending → Place → List ℕ
 place_text ending place =
-    joined (ending_text ending ∷ codes " " ∷ decimal place.index ∷ codes " " ∷ decimal place.time ∷ codes " " ∷ hex_word place.pc
+    joined_pieces (ending_text ending ∷ codes " " ∷ decimal place.index ∷ codes " " ∷ decimal place.time ∷ codes " " ∷ hex_word place.pc
     ∷ codes " " ∷ next_text place.halted place.pc place.code ∷ codes "\n" ∷ [])
 
 -- ---- what was done
@@ -69,12 +69,12 @@ done_text pc done.Halted = halted_text
 done_text pc done.Accepted = interrupt_text
 
 -- the line of a step, by what was there before it: `12667 000C INTERRUPT`
-unfoldable pub past_step_text : PastStep → List ℕ
+unfoldable pub past_step_text : HistoryLine → List ℕ
 past_step_text step =
-    joined (decimal step.index ∷ codes " " ∷ hex_word step.pc ∷ codes " " ∷ done_text step.pc step.done ∷ codes "\n" ∷ [])
+    joined_pieces (decimal step.index ∷ codes " " ∷ hex_word step.pc ∷ codes " " ∷ done_text step.pc step.done ∷ codes "\n" ∷ [])
 
 -- the lines of steps, in their order
-abbrev pub history_text : List PastStep → List ℕ
+abbrev pub history_text : List HistoryLine → List ℕ
 history_text steps = flat_map past_step_text steps
 
 -- ---- the registers
@@ -91,30 +91,31 @@ flag_text true = codes "1"
 -- the pairs in use, a line
 unfoldable pub pairs_text : Regs → List ℕ
 pairs_text regs =
-    joined (codes "AF=" ∷ hex_byte regs.a ∷ hex_byte regs.f ∷ codes " BC=" ∷ hex_byte regs.b ∷ hex_byte regs.c
+    joined_pieces (codes "AF=" ∷ hex_byte regs.a ∷ hex_byte regs.f ∷ codes " BC=" ∷ hex_byte regs.b ∷ hex_byte regs.c
     ∷ codes " DE=" ∷ hex_byte regs.d ∷ hex_byte regs.e ∷ codes " HL=" ∷ hex_byte regs.h ∷ hex_byte regs.l
     ∷ codes " IX=" ∷ hex_word regs.ix ∷ codes " IY=" ∷ hex_word regs.iy ∷ codes " SP=" ∷ hex_word regs.sp
     ∷ codes " PC=" ∷ hex_word regs.pc ∷ codes "\n" ∷ [])
 
--- the second set, in the next line
+-- the second set of registers, which begins the second line
 unfoldable pub alternate_text : Alternate → List ℕ
 alternate_text other =
-    joined (codes "AF'=" ∷ hex_byte other.a ∷ hex_byte other.f ∷ codes " BC'=" ∷ hex_byte other.b ∷ hex_byte other.c
+    joined_pieces (codes "AF'=" ∷ hex_byte other.a ∷ hex_byte other.f ∷ codes " BC'=" ∷ hex_byte other.b ∷ hex_byte other.c
     ∷ codes " DE'=" ∷ hex_byte other.d ∷ hex_byte other.e ∷ codes " HL'=" ∷ hex_byte other.h ∷ hex_byte other.l ∷ [])
 
--- and what interrupts hang on: I, R, the mode, IFF1 and IFF2
+-- what interrupts hang on, after the second set: I, R, the mode, IFF1 and IFF2
 unfoldable pub interrupts_text : Regs → List ℕ
 interrupts_text regs =
-    joined (codes " I=" ∷ hex_byte regs.i ∷ codes " R=" ∷ hex_byte regs.r ∷ codes " IM=" ∷ mode_text regs.mode
+    joined_pieces (codes " I=" ∷ hex_byte regs.i ∷ codes " R=" ∷ hex_byte regs.r ∷ codes " IM=" ∷ mode_text regs.mode
     ∷ codes " IFF=" ∷ flag_text regs.iff1 ∷ flag_text regs.iff2 ∷ [])
 
--- and the board's latch, its vector and the count of its watchdog, which is decimal
+-- the board's latch, its vector and the count of its watchdog, which is decimal: the end of the second line
 unfoldable pub latches_text : Latches → List ℕ
 latches_text latches =
-    joined (codes " LATCH=" ∷ hex_byte latches.latch ∷ codes " VEC=" ∷ hex_byte latches.vector ∷ codes " WD=" ∷ decimal latches.watchdog
+    joined_pieces (codes " LATCH=" ∷ hex_byte latches.latch ∷ codes " VEC=" ∷ hex_byte latches.vector ∷ codes " WD=" ∷
+    decimal latches.watchdog
     ∷ codes "\n" ∷ [])
 
--- the two lines
+-- the two lines of the registers
 abbrev pub registers_text : Regs → Latches → List ℕ
 registers_text regs latches =
-    joined (pairs_text regs ∷ alternate_text regs.alternate ∷ interrupts_text regs ∷ latches_text latches ∷ [])
+    joined_pieces (pairs_text regs ∷ alternate_text regs.alternate ∷ interrupts_text regs ∷ latches_text latches ∷ [])

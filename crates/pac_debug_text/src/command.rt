@@ -1,7 +1,7 @@
 //! The commands of the debugger, and how a line tells one.
 
 ghost use Rattle.std.specs.Prelude.{◌≡◌, option_map, option_and_then, IfSome, IfOk};
-ghost use Rattle.pac_lex.specs.Words.{words};
+ghost use Rattle.pac_lex.specs.Words.{words_of_line};
 ghost use Rattle.pac_debug_text.specs.Numbers as number;
 ghost use Rattle.pac_debug_text.specs.Commands as spec;
 
@@ -18,7 +18,7 @@ pub enum Command {
     Step(u32),
     /// `continue`: on to a breakpoint, a stop or the end.
     Continue,
-    /// `frames n`: the same, or until so many more vertical blanks have come, 1 to 36,000.
+    /// `frames n`: like `continue`, or until so many more vertical blanks have come, 1 to 36,000.
     Frames(u32),
     /// `back n`: so many steps back, 1 to 1,000,000.
     Back(u32),
@@ -28,7 +28,7 @@ pub enum Command {
     Keep(Slot),
     /// `break a`: a breakpoint at an address.
     Break(u16),
-    /// `unbreak a`: none there.
+    /// `unbreak a`: the breakpoint at an address is taken away.
     Unbreak(u16),
     /// `regs`: the registers.
     Regs,
@@ -64,7 +64,7 @@ const MOST_SHOWN: u32 = 256;
 
 /// The only word of a line, if it has one and no more.
 fn only_word(line: &[u8]) -> Option<&[u8]>
-    ensures { option_map (λ word. word.now) result ≡ spec.only (λ word. Some word) (words line.now) }
+    ensures { option_map (λ word. word.now) result ≡ spec.single_word (λ word. Some word) (words_of_line line.now) }
 {
     let (word, rest) = next_word(line)?;
     if next_word(rest).is_some() {
@@ -75,7 +75,7 @@ fn only_word(line: &[u8]) -> Option<&[u8]>
 
 /// A command without operands.
 fn alone(line: &[u8], command: Command) -> Option<Command>
-    ensures { result ≡ spec.none command (words line.now) }
+    ensures { result ≡ spec.without_words command (words_of_line line.now) }
 {
     if next_word(line).is_some() {
         return None;
@@ -85,7 +85,7 @@ fn alone(line: &[u8], command: Command) -> Option<Command>
 
 /// A number from 1 to the most, as the only word of a line.
 fn only_number(line: &[u8], most: u32) -> Option<u32>
-    ensures exact { result ≡ spec.only (number.number_within most) (words line.now) }
+    ensures exact { result ≡ spec.single_word (number.number_within most) (words_of_line line.now) }
     ensures within { IfSome result (spec.IsWithin most) }
 {
     number_within(only_word(line)?, most)
@@ -93,7 +93,7 @@ fn only_number(line: &[u8], most: u32) -> Option<u32>
 
 /// A number from 1 to 256, as the only word of a line.
 fn only_count(line: &[u8]) -> Option<u16>
-    ensures exact { result ≡ spec.only (number.number_within spec.most_shown) (words line.now) }
+    ensures exact { result ≡ spec.single_word (number.number_within spec.most_shown) (words_of_line line.now) }
     ensures within { IfSome result (spec.IsWithin spec.most_shown) }
 {
     Some(only_number(line, MOST_SHOWN)? as u16)
@@ -101,14 +101,14 @@ fn only_count(line: &[u8]) -> Option<u16>
 
 /// An address, as the only word of a line.
 fn only_address(line: &[u8]) -> Option<u16>
-    ensures { result ≡ spec.only number.address_of (words line.now) }
+    ensures { result ≡ spec.single_word number.address_of (words_of_line line.now) }
 {
     address_of(only_word(line)?)
 }
 
 /// A slot, as the only word of a line.
 fn only_slot(line: &[u8]) -> Option<Slot>
-    ensures { result ≡ spec.only spec.slot_of (words line.now) }
+    ensures { result ≡ spec.single_word spec.slot_of (words_of_line line.now) }
 {
     match only_number(line, 4)? {
         1 => Some(Slot::First),
@@ -120,7 +120,7 @@ fn only_slot(line: &[u8]) -> Option<Slot>
 
 /// An address and a count from 1 to 256, as the only words of a line.
 fn stretch(line: &[u8]) -> Option<(u16, u16)>
-    ensures exact { result ≡ spec.stretch (words line.now) }
+    ensures exact { result ≡ spec.address_and_count (words_of_line line.now) }
     ensures within { IfSome result (λ found. spec.IsWithin spec.most_shown found.1) }
 {
     let (first, rest) = next_word(line)?;
@@ -131,8 +131,8 @@ fn stretch(line: &[u8]) -> Option<(u16, u16)>
 
 /// The command of a verb and what follows its name.
 fn command_named(verb: Verb, line: &[u8]) -> Option<Command>
-    ensures exact { result ≡ spec.command_named verb (words line.now) }
-    ensures ranges { IfSome result spec.IsInRange }
+    ensures exact { result ≡ spec.command_named verb (words_of_line line.now) }
+    ensures ranges { IfSome result spec.IsCommandInRange }
 {
     Some(match verb {
         Verb::Step => Command::Step(only_number(line, MOST_STEPS)?),
@@ -163,7 +163,7 @@ fn command_named(verb: Verb, line: &[u8]) -> Option<Command>
 #[tactic(auto, unfolding(crate::specs::Commands::command_of))]
 pub fn read_command(line: &[u8]) -> Option<Result<Command, NoCommand>>
     ensures exact { result ≡ spec.command_of line.now }
-    ensures ranges { IfSome result (λ answer. IfOk answer spec.IsInRange) }
+    ensures ranges { IfSome result (λ answer. IfOk answer spec.IsCommandInRange) }
 {
     let (name, operands) = next_word(line)?;
     let Some(verb) = verb_of(name) else {

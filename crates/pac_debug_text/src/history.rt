@@ -26,7 +26,7 @@ pub enum Done {
 
 /// A step that was done.
 #[derive(Clone, Copy, Debug, PartialEq, Eq)]
-pub struct PastStep {
+pub struct HistoryLine {
     /// How many steps lie before it.
     pub index: u64,
     /// The program counter before it.
@@ -60,7 +60,7 @@ fn interrupt_text() -> Text
 fn gather_past_step<W: Out>(
     pending: &mut Pending,
     output: &mut Counted<W>,
-    step: PastStep,
+    step: HistoryLine,
 ) -> Result<(), WriteFault>
     ensures { Gathers W.took W.refused pending.old output.old (text.past_step_text step) result pending.new output.new }
 {
@@ -81,7 +81,7 @@ fn gather_past_step<W: Out>(
 fn gather_history<W: Out>(
     pending: &mut Pending,
     output: &mut Counted<W>,
-    steps: &[PastStep],
+    steps: &[HistoryLine],
 ) -> Result<(), WriteFault>
     ensures { Gathers W.took W.refused pending.old output.old (text.history_text steps.now) result pending.new output.new }
 {
@@ -93,7 +93,7 @@ fn gather_history<W: Out>(
 
 /// Writes the lines of steps, in their order: index and PC before the step, and its instruction's text, `HALTED` or
 /// `INTERRUPT`.
-pub fn put_history<W: Out>(output: &mut Counted<W>, steps: &[PastStep]) -> Result<(), WriteFault>
+pub fn put_history<W: Out>(output: &mut Counted<W>, steps: &[HistoryLine]) -> Result<(), WriteFault>
     ensures { Puts W.took W.refused output.old (text.history_text steps.now) result output.new }
 {
     let mut pending = Pending::new();

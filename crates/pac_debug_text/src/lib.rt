@@ -13,7 +13,7 @@ mod slot;
 mod verb;
 
 pub use command::{Command, NoCommand, read_command};
-pub use history::{Done, PastStep, put_history};
+pub use history::{Done, HistoryLine, put_history};
 pub use peek::{Peek, put_instructions, put_memory};
 pub use place::{Ending, Place, put_place};
 pub use refusal::{Refusal, put_ok, put_refusal};

@@ -27,7 +27,7 @@ pub(crate) fn number_within(word: &[u8], most: u32) -> Option<u32>
 
 /// What a hexadecimal digit counts, in either case.
 fn hex_digit(byte: u8) -> Option<u8>
-    ensures value { result ≡ number.hex_digit byte }
+    ensures value { result ≡ number.hex_digit_number byte }
     ensures below { IfSome result (λ n. n < 16) }
 {
     match byte {

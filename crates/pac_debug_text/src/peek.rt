@@ -2,7 +2,7 @@
 
 ghost use Rattle.std.specs.Prelude.{◌≡◌, ◌≤◌, ◌-◌, ℕ, min};
 ghost use Rattle.std.specs.List.{flat_map};
-ghost use Rattle.pac_num.specs.Numbers.{address};
+ghost use Rattle.pac_num.specs.Numbers.{wrapped_address};
 ghost use Rattle.pac_out.specs.Counted.{Puts};
 ghost use Rattle.pac_out.specs.Pending.{Gathers};
 ghost use Rattle.pac_debug_text.specs.Peeks as text;
@@ -29,7 +29,7 @@ fn gather_byte<W: Out>(
     output: &mut Counted<W>,
     byte: u8,
 ) -> Result<(), WriteFault>
-    ensures { Gathers W.took W.refused pending.old output.old (text.byte_text byte) result pending.new output.new }
+    ensures { Gathers W.took W.refused pending.old output.old (text.spaced_byte byte) result pending.new output.new }
 {
     let pieces: [&[u8]; 2] = [b" ", &hex_byte(byte)];
     pending.put_pieces(output, &pieces)
@@ -43,7 +43,8 @@ fn gather_bytes<W: Out, P: Peek>(
     at: u16,
     count: u16,
 ) -> Result<(), WriteFault>
-    ensures { Gathers W.took W.refused pending.old output.old (flat_map text.byte_text (text.bytes_from (P.byte_at memory.now) at count)) result pending.new output.new }
+    ensures { Gathers W.took W.refused pending.old output.old
+        (flat_map text.spaced_byte (text.bytes_from (P.byte_at memory.now) at count)) result pending.new output.new }
 {
     let mut next = at;
     for _ in 0..count {
@@ -74,7 +75,8 @@ fn gather_row<W: Out, P: Peek>(
     at: u16,
     count: u16,
 ) -> Result<(), WriteFault>
-    ensures { Gathers W.took W.refused pending.old output.old (text.row_text (P.byte_at memory.now) at count) result pending.new output.new }
+    ensures { Gathers W.took W.refused pending.old output.old (text.row_text (P.byte_at memory.now) at count) result pending.new
+        output.new }
 {
     gather_row_head(pending, output, at)?;
     gather_bytes(pending, output, memory, at, count)?;
@@ -89,7 +91,8 @@ fn gather_rows<W: Out, P: Peek>(
     at: u16,
     count: u16,
 ) -> Result<(), WriteFault>
-    ensures { Gathers W.took W.refused pending.old output.old (text.memory_text (P.byte_at memory.now) at count) result pending.new output.new }
+    ensures { Gathers W.took W.refused pending.old output.old (text.memory_text (P.byte_at memory.now) at count) result pending.new
+        output.new }
 {
     let mut next = at;
     let mut left = count;
@@ -140,7 +143,8 @@ fn gather_instructions<W: Out, P: Peek>(
     at: u16,
     count: u16,
 ) -> Result<(), WriteFault>
-    ensures { Gathers W.took W.refused pending.old output.old (text.instructions_text (P.byte_at memory.now) count at) result pending.new output.new }
+    ensures { Gathers W.took W.refused pending.old output.old (text.instructions_text (P.byte_at memory.now) count at) result pending.new
+        output.new }
 {
     let mut next = at;
     for _ in 0..count {

@@ -32,7 +32,7 @@ pub enum Ending {
 }
 
 impl Ending {
-    /// Its word.
+    /// The word that begins the line of a place.
     fn word(self) -> &'static [u8]
         ensures { result.now ≡ text.ending_text self }
     {

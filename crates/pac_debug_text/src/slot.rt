@@ -18,7 +18,7 @@ pub enum Slot {
 impl Slot {
     ghost use Rattle.pac_debug_text.specs.Slots.{slot_index};
 
-    /// Its place among the four, from 0.
+    /// The slot's place among the four, from 0.
     pub fn index(self) -> usize
         ensures exact { result ≡ slot_index self }
         ensures below { result < 4 }

@@ -1,22 +1,22 @@
 //! Texts, byte for byte.
 
 use pac_debug_text::{
-    Done, Ending, Latches, PastStep, Peek, Place, Refusal, put_history, put_instructions,
+    Done, Ending, HistoryLine, Latches, Peek, Place, Refusal, put_history, put_instructions,
     put_memory, put_ok, put_place, put_refusal, put_registers,
 };
 use pac_exec::{Alternate, Regs};
 use pac_out::WriteFault;
 use pac_out::counted::Counted;
 use pac_out::faulty::Faulty;
-use pac_out::memory::Memory;
+use pac_out::memory::MemoryWriter;
 use pac_table::InterruptMode;
 use std::alloc::Global;
 use std::process::Abort;
 use std::test::Fail;
 
 /// A file in memory with room for a text.
-fn file(alloc: Global) -> Result<Counted<Memory>, Fail> {
-    Ok(Counted::new(Memory::new(alloc, 1000)?))
+fn file(alloc: Global) -> Result<Counted<MemoryWriter>, Fail> {
+    Ok(Counted::new(MemoryWriter::new(alloc, 1000)?))
 }
 
 /// A text was put whole.
@@ -136,17 +136,17 @@ fn answers(rt: HostRuntime) -> Result<(), Fail> {
 #[test]
 fn steps_that_were_done(rt: HostRuntime) -> Result<(), Fail> {
     let steps = [
-        PastStep {
+        HistoryLine {
             index: 1,
             pc: 2,
             done: Done::Ran([0x32, 0x40, 0x40, 0x76]),
         },
-        PastStep {
+        HistoryLine {
             index: 12_666,
             pc: 6,
             done: Done::Halted,
         },
-        PastStep {
+        HistoryLine {
             index: 12_667,
             pc: 0x0C,
             done: Done::Accepted,
@@ -234,7 +234,7 @@ fn few_registers() -> Regs {
 }
 
 /// The registers' two lines.
-fn registers(alloc: Global, regs: &Regs, latches: Latches) -> Result<Counted<Memory>, Fail> {
+fn registers(alloc: Global, regs: &Regs, latches: Latches) -> Result<Counted<MemoryWriter>, Fail> {
     let mut file = file(alloc)?;
     put_registers(&mut file, regs, latches)?;
     Ok(file)

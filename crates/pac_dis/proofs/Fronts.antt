@@ -4,9 +4,9 @@ use Rattle.std.proofs.Common.{ap, arith}
 use Rattle.std.specs.Prelude.{option_and_then}
 use Rattle.std.proofs.lemmas.List.{length-take}
 use Rattle.std.proofs.lemmas.Bool.{cond-true, cond-false, le-leb, lt-leb}
-use Rattle.pac_table.specs.Instructions.{Instruction, code, decoded}
+use Rattle.pac_table.specs.Instructions.{Instruction, code, decoded_instruction}
 use Rattle.pac_code.specs.Codes.{Begins}
-use Rattle.pac_dis.specs.Front.{first_four, fitting, front}
+use Rattle.pac_dis.specs.Front.{first_four, fitting_instruction, front_instruction}
 
 -- a front of the bytes that is no longer than four is one of the four
 take-first_four : (n : ℕ) (bytes : List ℕ) → n ≤ 4 → n ≤ length bytes → take n (first_four bytes) ≡ take n bytes
@@ -35,18 +35,18 @@ first_four-begins prefix bytes most within begins = sym (take-first_four (length
 
 -- ---- by what the four bytes hold
 
-pub front-found : (bytes : List ℕ) (i : Instruction) → decoded (first_four bytes) ≡ Some i → length (code i) ≤ length bytes →
-    Some i ≡ front bytes
-unfolding front
+pub front-found : (bytes : List ℕ) (i : Instruction) → decoded_instruction (first_four bytes) ≡ Some i → length (code i) ≤ length bytes →
+    Some i ≡ front_instruction bytes
+unfolding front_instruction
 front-found bytes i is within =
-    sym (ap (option_and_then (fitting (length bytes))) is ∙ cond-true _ _ _ (le-leb (length (code i)) (length bytes) within))
+    sym (ap (option_and_then (fitting_instruction (length bytes))) is ∙ cond-true _ _ _ (le-leb (length (code i)) (length bytes) within))
 
-pub front-cut : (bytes : List ℕ) (i : Instruction) → decoded (first_four bytes) ≡ Some i → length bytes < length (code i) →
-    None ≡ front bytes
-unfolding front
+pub front-cut : (bytes : List ℕ) (i : Instruction) → decoded_instruction (first_four bytes) ≡ Some i → length bytes < length (code i) →
+    None ≡ front_instruction bytes
+unfolding front_instruction
 front-cut bytes i is beyond =
-    sym (ap (option_and_then (fitting (length bytes))) is ∙ cond-false _ _ _ (lt-leb (length (code i)) (length bytes) beyond))
+    sym (ap (option_and_then (fitting_instruction (length bytes))) is ∙ cond-false _ _ _ (lt-leb (length (code i)) (length bytes) beyond))
 
-pub front-none : (bytes : List ℕ) → decoded (first_four bytes) ≡ None → None ≡ front bytes
-unfolding front
-front-none bytes is = sym (ap (option_and_then (fitting (length bytes))) is)
+pub front-none : (bytes : List ℕ) → decoded_instruction (first_four bytes) ≡ None → None ≡ front_instruction bytes
+unfolding front_instruction
+front-none bytes is = sym (ap (option_and_then (fitting_instruction (length bytes))) is)

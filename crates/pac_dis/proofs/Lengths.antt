@@ -15,25 +15,25 @@ use Rattle.pac_table.specs.declared.operands.Mnemonic.TheVariants as mnemonic
 use Rattle.pac_table.specs.declared.operands.Shape.{Shape}
 use Rattle.pac_table.specs.declared.operands.Shape.TheVariants as shape
 use Rattle.pac_table.specs.declared.operands.Operands.{Operands}
-use Rattle.pac_names.specs.declared.names.Name.{Name}
-use Rattle.pac_names.specs.declared.writing.NumberKind.{NumberKind}
-use Rattle.pac_names.specs.declared.writing.NumberKind.TheVariants as kind
-use Rattle.pac_names.specs.declared.writing.Writing.{Writing}
-use Rattle.pac_names.specs.declared.writing.Writing.TheVariants.{Nothing, Named, AlternateAf, AtName, FirstField, SecondField}
-use Rattle.pac_names.specs.declared.writing.Writing.TheVariants.{Indexed, Number, AtNumber}
+use Rattle.pac_table_names.specs.declared.names.Name.{Name}
+use Rattle.pac_table_names.specs.declared.writing.NumberKind.{NumberKind}
+use Rattle.pac_table_names.specs.declared.writing.NumberKind.TheVariants as kind
+use Rattle.pac_table_names.specs.declared.writing.Writing.{Writing}
+use Rattle.pac_table_names.specs.declared.writing.Writing.TheVariants.{Nothing, Named, AlternateAf, AtName, FirstField, SecondField}
+use Rattle.pac_table_names.specs.declared.writing.Writing.TheVariants.{Indexed, Number, AtNumber}
 use Rattle.pac_table.specs.declared.table.Row.{Row}
-use Rattle.pac_names.specs.Names.{names_of, operation_name, text, names_in, name_at, writing_of, has_accumulator, present, listed}
+use Rattle.pac_table_names.specs.Names.{names_of, operation_name, text_of_name, names_in, name_at, writing_of, has_accumulator, present_shape, listed_shapes}
 use Rattle.pac_table.specs.Forms.{is_family}
 use Rattle.pac_table.specs.declared.patterns.Field.{Field}
 use Rattle.pac_table.specs.declared.patterns.Field.TheVariants as field
-use Rattle.pac_table.specs.Patterns.{lists, size, IsDisplacement, IsSignedByte}
+use Rattle.pac_table.specs.Patterns.{lists, field_size, IsDisplacement, IsSignedByte}
 use Rattle.pac_table.specs.Table.{table}
 use Rattle.pac_table.specs.Instructions.{Instruction, IsInstruction, row_at, operands_of, pattern_of}
 use Rattle.pac_table.proofs.TableRules.{row-passes}
 use Rattle.pac_num.specs.Hexadecimal.{hex_byte, hex_word}
 use Rattle.pac_dis.specs.Numerals.{leading_zero, byte_text, word_text, displacement_text}
 use Rattle.pac_dis.specs.Texts.{number_text, name_text, in_parentheses, operand_text, shape_text}
-use Rattle.pac_dis.specs.Texts.{blank, comma, marked, operand_texts, instruction_text}
+use Rattle.pac_dis.specs.Texts.{blank_code, comma_code, marked_operands, operand_texts, instruction_text}
 use Rattle.pac_dis.specs.Texts.{operation_text}
 
 -- ---- numbers
@@ -95,17 +95,17 @@ length-number-le at i (kind.Mode number) = omega arith
 
 -- the most bytes that an entry of a list has, where some have none
 abbrev longest : {A : Type 0} → (A → ℕ) → List (Option A) → ℕ
-longest size [] = 0
-longest size (entry ∷ entries) = max (option_map_or size entry 0) (longest size entries)
+longest field_size [] = 0
+longest field_size (entry ∷ entries) = max (option_map_or field_size entry 0) (longest field_size entries)
 
-entry-le : {A : Type 0} (size : A → ℕ) (entries : List (Option A)) (k : ℕ) →
-    option_map_or size (get_or entries k None) 0 ≤ longest size entries
-entry-le size [] k = omega arith
-entry-le size (entry ∷ entries) zero = omega arith
-entry-le size (entry ∷ entries) (suc k) = omega (arith, entry-le size entries k)
+entry-le : {A : Type 0} (field_size : A → ℕ) (entries : List (Option A)) (k : ℕ) →
+    option_map_or field_size (get_or entries k None) 0 ≤ longest field_size entries
+entry-le field_size [] k = omega arith
+entry-le field_size (entry ∷ entries) zero = omega arith
+entry-le field_size (entry ∷ entries) (suc k) = omega (arith, entry-le field_size entries k)
 
 abbrev name_length : Name → ℕ
-name_length name = length (text name)
+name_length name = length (text_of_name name)
 
 length-name : (name : Option Name) → length (name_text name) ≡ option_map_or name_length name 0
 length-name None = refl
@@ -131,7 +131,7 @@ length-operand-le : (at : ℕ) (i : Instruction) (some : Writing) → IsSignedBy
 length-operand-le at i Nothing is = omega arith
 length-operand-le at i (Named name) is = omega arith
 length-operand-le at i AlternateAf is = omega arith
-length-operand-le at i (AtName name) is = omega (arith, length-in-parentheses (text name))
+length-operand-le at i (AtName name) is = omega (arith, length-in-parentheses (text_of_name name))
 length-operand-le at i (FirstField names) is =
     omega (arith, length-name (name_at names i.p), entry-le name_length (names_in names) i.p)
 length-operand-le at i (SecondField names) is =
@@ -139,8 +139,8 @@ length-operand-le at i (SecondField names) is =
 length-operand-le at i (Indexed name) is =
     omega (
       arith,
-      length-in-parentheses (text name ++ displacement_text i.disp),
-      length-append (text name) (displacement_text i.disp),
+      length-in-parentheses (text_of_name name ++ displacement_text i.disp),
+      length-append (text_of_name name) (displacement_text i.disp),
       length-displacement-le i.disp is,
     )
 length-operand-le at i (Number some) is = length-number-le at i some
@@ -154,21 +154,21 @@ abbrev room : List (List ℕ) → ℕ
 room [] = 0
 room (operand ∷ operands) = length operand + 1 + room operands
 
-length-marked : (mark : ℕ) (operands : List (List ℕ)) → length (marked mark operands) ≡ room operands
+length-marked : (mark : ℕ) (operands : List (List ℕ)) → length (marked_operands mark operands) ≡ room operands
 length-marked mark [] = refl
 length-marked mark (operand ∷ operands) =
-    omega (arith, length-append operand (marked comma operands), length-marked comma operands)
+    omega (arith, length-append operand (marked_operands comma_code operands), length-marked comma_code operands)
 
 room-of-text : (operand : List ℕ) (most : ℕ) → length operand ≤ most → room (operand ∷ []) ≤ most + 1
 room-of-text operand most within = omega (arith, within)
 
 room-present : (at : ℕ) (i : Instruction) (some : Shape) → IsSignedByte i.disp →
-    room (map (shape_text at i) (present some)) ≤ longest_operand (writing_of some) + 1
+    room (map (shape_text at i) (present_shape some)) ≤ longest_operand (writing_of some) + 1
 room-present at i shape.Absent is = omega arith
 room-present at i some is = room-of-text (shape_text at i some) _ (length-operand-le at i (writing_of some) is)
 
 room-listed : (at : ℕ) (i : Instruction) (first second : Shape) → IsSignedByte i.disp →
-    room (map (shape_text at i) (listed first second)) ≤
+    room (map (shape_text at i) (listed_shapes first second)) ≤
     (longest_operand (writing_of first) + 1) + (longest_operand (writing_of second) + 1)
 room-listed at i shape.Absent second is = omega arith
 room-listed at i first second is =
@@ -185,7 +185,7 @@ has-room mnemonic.Alu value is = refl
 has-room some value is = absurd (cc)
 
 room-written : (at : ℕ) (i : Instruction) (form : Operands) (b : Bool) → IsSignedByte i.disp → has_accumulator form.mnemonic i.p ≡ b →
-    room (map (shape_text at i) (if b then listed shape.Accumulator form.first else listed form.first form.second)) ≤
+    room (map (shape_text at i) (if b then listed_shapes shape.Accumulator form.first else listed_shapes form.first form.second)) ≤
     accumulator_room form.mnemonic +
     (longest_operand (writing_of form.first) + 1) + (longest_operand (writing_of form.second) + 1)
 room-written at i form true is has =
@@ -242,8 +242,8 @@ text-le at i is =
     let name = operation_name (operands_of i).mnemonic i.p in
     omega (
       arith,
-      length-append (unwrap_or name []) (marked blank (operand_texts at i)),
-      length-marked blank (operand_texts at i),
+      length-append (unwrap_or name []) (marked_operands blank_code (operand_texts at i)),
+      length-marked blank_code (operand_texts at i),
       length-operation name,
       operation-le (operands_of i).mnemonic i.p,
       room-operands at i (is-signed i is),
@@ -287,7 +287,7 @@ eight-at (suc (suc (suc (suc (suc (suc zero)))))) below = refl
 eight-at (suc (suc (suc (suc (suc (suc (suc zero))))))) below = refl
 eight-at (suc (suc (suc (suc (suc (suc (suc (suc k)))))))) below = absurd (omega (arith, below))
 
-size-le : (some : Field) → size some ≤ 8
+size-le : (some : Field) → field_size some ≤ 8
 size-le field.Absent = omega arith
 size-le field.RegisterHigh = omega arith
 size-le field.RegisterLow = omega arith
@@ -304,7 +304,7 @@ size-le field.ShiftOperation = omega arith
 -- the first field holds a number below 8
 field-below : (i : Instruction) → IsInstruction i → i.p < 8
 field-below i is =
-    let within : i.p < size (pattern_of i).first = ltb-true _ _ (and_parts _ _ is.first).0 in
+    let within : i.p < field_size (pattern_of i).first = ltb-true _ _ (and_parts _ _ is.first).0 in
     omega (arith, within, size-le (pattern_of i).first)
 
 second-of-or : (a b : Bool) → a ≡ true → (not a || b) ≡ true → b ≡ true
@@ -323,11 +323,11 @@ operation-named i is =
 pub text-shown : (at : ℕ) (i : Instruction) → IsInstruction i → 0 < length (instruction_text at i)
 unfolding instruction_text
 text-shown at i is =
-    omega (arith, length-append (operation_text i) (marked blank (operand_texts at i)), operation-named i is)
+    omega (arith, length-append (operation_text i) (marked_operands blank_code (operand_texts at i)), operation-named i is)
 
 -- after the name of the operation there is room for the operands
-pub operands-fit : (at : ℕ) (i : Instruction) (text : List ℕ) → IsInstruction i → length text ≡ length (operation_text i) →
-    length text + length (marked blank (operand_texts at i)) ≤ 16
+pub operands-fit : (at : ℕ) (i : Instruction) (text_of_name : List ℕ) → IsInstruction i → length text_of_name ≡ length (operation_text i) →
+    length text_of_name + length (marked_operands blank_code (operand_texts at i)) ≤ 16
 unfolding instruction_text
-operands-fit at i text is same =
-    omega (arith, length-append (operation_text i) (marked blank (operand_texts at i)), text-fits at i is, same)
+operands-fit at i text_of_name is same =
+    omega (arith, length-append (operation_text i) (marked_operands blank_code (operand_texts at i)), text-fits at i is, same)

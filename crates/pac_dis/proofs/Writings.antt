@@ -6,12 +6,12 @@ use Rattle.std.proofs.lemmas.Bool.{and_parts, leb-true, ltb-true}
 use Rattle.pac_table.specs.declared.patterns.Immediate.{Immediate}
 use Rattle.pac_table.specs.declared.operands.Shape.{Shape}
 use Rattle.pac_table.specs.declared.operands.Shape.TheVariants as shape
-use Rattle.pac_names.specs.declared.writing.NumberKind.{NumberKind}
-use Rattle.pac_names.specs.declared.writing.NumberKind.TheVariants as kind
-use Rattle.pac_names.specs.declared.writing.Writing.{Writing}
-use Rattle.pac_names.specs.declared.writing.Writing.TheVariants.{Number, AtNumber}
+use Rattle.pac_table_names.specs.declared.writing.NumberKind.{NumberKind}
+use Rattle.pac_table_names.specs.declared.writing.NumberKind.TheVariants as kind
+use Rattle.pac_table_names.specs.declared.writing.Writing.{Writing}
+use Rattle.pac_table_names.specs.declared.writing.Writing.TheVariants.{Number, AtNumber}
 use Rattle.pac_table.specs.declared.table.Row.{Row}
-use Rattle.pac_names.specs.Names.{writing_of, present, listed, written}
+use Rattle.pac_table_names.specs.Names.{writing_of, present_shape, listed_shapes, written_operands}
 use Rattle.pac_table.specs.Patterns.{word_limit}
 use Rattle.pac_table.specs.Table.{table}
 use Rattle.pac_table.specs.Instructions.{Instruction, IsInstruction, operands_of, pattern_of}
@@ -60,23 +60,23 @@ ranges : (i : Instruction) → IsInstruction i →
     (has_range (pattern_of i).immediate (writing_of (operands_of i).second) ≡ true)
 ranges i is = and_parts _ _ (row-passes row_has_range rows-have-range i.row is.row)
 
-shows-present : (i : Instruction) (some : Shape) → ShowsNumbers i (writing_of some) → ShowsEach i (present some)
+shows-present : (i : Instruction) (some : Shape) → ShowsNumbers i (writing_of some) → ShowsEach i (present_shape some)
 shows-present i shape.Absent shows = tt
 shows-present i some shows = (shows, tt)
 
 shows-listed : (i : Instruction) (first second : Shape) → ShowsNumbers i (writing_of first) → ShowsNumbers i (writing_of second) →
-    ShowsEach i (listed first second)
+    ShowsEach i (listed_shapes first second)
 shows-listed i shape.Absent second shows more = tt
 shows-listed i first second shows more = (shows, shows-present i second more)
 
 shows-written : (i : Instruction) (form : Operands) (b : Bool) →
     ShowsNumbers i (writing_of form.first) → ShowsNumbers i (writing_of form.second) →
-    ShowsEach i (if b then listed shape.Accumulator form.first else listed form.first form.second)
+    ShowsEach i (if b then listed_shapes shape.Accumulator form.first else listed_shapes form.first form.second)
 shows-written i form true shows more = shows-listed i shape.Accumulator form.first tt shows
 shows-written i form false shows more = shows-listed i form.first form.second shows more
 
 -- each number that is written in an instruction of the table is in range
-pub shows-each : (i : Instruction) → IsInstruction i → ShowsEach i (written (operands_of i) i.p)
+pub shows-each : (i : Instruction) → IsInstruction i → ShowsEach i (written_operands (operands_of i) i.p)
 shows-each i is =
     let immediate = (pattern_of i).immediate in
     shows-written i (operands_of i) _ (shows-numbers i immediate _ is.word (ranges i is).0)

@@ -1,11 +1,11 @@
 -- For proofs: that the numbers which are written as a byte or as one digit are in that range, in each instruction of the table.
 use Rattle.std.specs.Prelude.{◌<◌, ⊤, List, [], ◌∷◌}
 use Rattle.pac_table.specs.declared.operands.Shape.{Shape}
-use Rattle.pac_names.specs.declared.writing.NumberKind.{NumberKind}
-use Rattle.pac_names.specs.declared.writing.NumberKind.TheVariants as kind
-use Rattle.pac_names.specs.declared.writing.Writing.{Writing}
-use Rattle.pac_names.specs.declared.writing.Writing.TheVariants.{Number, AtNumber}
-use Rattle.pac_names.specs.Names.{writing_of}
+use Rattle.pac_table_names.specs.declared.writing.NumberKind.{NumberKind}
+use Rattle.pac_table_names.specs.declared.writing.NumberKind.TheVariants as kind
+use Rattle.pac_table_names.specs.declared.writing.Writing.{Writing}
+use Rattle.pac_table_names.specs.declared.writing.Writing.TheVariants.{Number, AtNumber}
+use Rattle.pac_table_names.specs.Names.{writing_of}
 use Rattle.pac_table.specs.Instructions.{Instruction}
 
 -- a number of an instruction is in range: n is a byte, and an interrupt mode one digit
@@ -14,13 +14,13 @@ IsShown instruction kind.Byte = instruction.word < 256
 IsShown instruction (kind.Mode number) = number < 10
 IsShown instruction _ = ⊤
 
--- the number of an operand is, if it has one
+-- the number of an operand is in range, if it has one
 abbrev pub ShowsNumbers : Instruction → Writing → Type 0
 ShowsNumbers instruction (Number kind) = IsShown instruction kind
 ShowsNumbers instruction (AtNumber kind) = IsShown instruction kind
 ShowsNumbers instruction _ = ⊤
 
--- each operand's is
+-- the number of each operand is in range
 abbrev pub ShowsEach : Instruction → List Shape → Type 0
 ShowsEach instruction [] = ⊤
 ShowsEach instruction (shape ∷ shapes) = ShowsNumbers instruction (writing_of shape) × ShowsEach instruction shapes

@@ -1,4 +1,4 @@
-//! The text of what stands at the front of some bytes.
+//! The text of what some bytes begin with.
 
 ghost use Rattle.std.specs.Prelude.{◌≡◌, ◌≤◌, ◌<◌, ◌+◌, ◌++◌, length};
 ghost use Rattle.arrayvec.specs.ArrayString.{array_string_len};
@@ -11,8 +11,8 @@ use crate::front::front;
 use crate::numerals::put_byte;
 use crate::operands::put_operands;
 use crate::text::Text;
-use pac_names::operation_name;
 use pac_table::Instr;
+use pac_table_names::operation_name;
 
 /// Appends the name of an instruction's operation.
 fn put_operation(text: &mut Text, instr: &Instr)
@@ -49,9 +49,9 @@ fn data_text(byte: u8) -> Text
     text
 }
 
-/// The text of what stands at the front of some bytes, the first of them at an address, and how many of them it has:
-/// the instruction whose whole code they begin with, one to four bytes; where there is none, as at an undocumented
-/// opcode and at a code that is cut short, the first byte alone as `DEFB`.
+/// The text of what some bytes begin with, the first of them at an address, and how many of them it has: the instruction
+/// whose whole code is their prefix, one to four bytes; where there is none, as at an undocumented opcode and at a code
+/// that is cut short, the first byte alone as `DEFB`.
 pub fn disassemble(bytes: &[u8], at: u16) -> (Text, u8)
     requires { 0 < length bytes.now }
     ensures text { result.0.bytes ≡ spec.text_at at bytes.now }

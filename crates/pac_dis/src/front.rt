@@ -1,10 +1,10 @@
-//! The instruction at the front of some bytes.
+//! The instruction that some bytes begin with.
 
 ghost use Rattle.std.specs.Prelude.{◌≡◌, ◌≤◌, IfSome, Some, option_map, length, slice_index};
 ghost use Rattle.pac_table.specs.Instructions.{Instruction, IsInstruction, code};
 ghost use Rattle.pac_code.specs.Codes.{Begins};
 ghost use Rattle.pac_table.specs.Patterns.{longest_code};
-ghost use Rattle.pac_dis.specs.Front.{front, first_four};
+ghost use Rattle.pac_dis.specs.Front.{front_instruction, first_four};
 
 use pac_code::decode;
 use pac_table::Instr;
@@ -30,7 +30,7 @@ fn first_four(bytes: &[u8]) -> [u8; 4]
 
 /// The instruction whose whole code some bytes begin with, and the count of its bytes.
 pub fn front(bytes: &[u8]) -> Option<(Instr, u8)>
-    ensures exact { option_map (λ found. found.0) result ≡ front bytes.now }
+    ensures exact { option_map (λ found. found.0) result ≡ front_instruction bytes.now }
     ensures size { IfSome result (λ found. found.1 ≡ length (code found.0)) }
     ensures at_least { IfSome result (λ found. 1 ≤ found.1) }
     ensures at_most { IfSome result (λ found. found.1 ≤ longest_code) }

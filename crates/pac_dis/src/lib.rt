@@ -1,4 +1,4 @@
-//! Instructions as text: what stands at the front of some bytes, as an assembler takes it (UM0080's mnemonics).
+//! Instructions as text: what bytes begin with, as an assembler takes it (UM0080's mnemonics).
 #![tactic(auto)]
 
 ghost use Rattle.pac_dis.specs.Texts.{TextsFit};

@@ -2,7 +2,7 @@
 
 ghost use Rattle.std.specs.Prelude.{◌≡◌, ◌<◌, ◌≤◌, ◌+◌, ◌++◌, length, map};
 ghost use Rattle.arrayvec.specs.ArrayString.{array_string_len};
-ghost use Rattle.pac_names.specs.Names.{listed, present, text as name_written, writing_of};
+ghost use Rattle.pac_table_names.specs.Names.{listed_shapes, present_shape, text_of_name, writing_of};
 ghost use Rattle.pac_table.specs.Instructions.{IsInstruction};
 ghost use Rattle.pac_dis.specs.Numerals.{displacement_text};
 ghost use Rattle.pac_dis.specs.Texts as spec;
@@ -11,9 +11,9 @@ ghost use Rattle.pac_dis.specs.Texts.{longest_text};
 
 use crate::numerals::{put_byte, put_digit, put_displacement, put_word};
 use crate::text::{Text, put_character};
-use pac_names::{Name, NumberKind, Writing, written};
 use pac_num::{displaced, offset};
 use pac_table::{Instr, Shape};
+use pac_table_names::{Name, NumberKind, Writing, written};
 
 /// What the first field of an instruction holds.
 fn first_field(instr: &Instr) -> u8
@@ -60,8 +60,8 @@ fn put_name(text: &mut Text, name: Option<Name>)
 
 /// Appends a name in parentheses.
 fn put_at_name(text: &mut Text, name: Name)
-    requires { array_string_len text.old + length (spec.in_parentheses (name_written name)) ≤ longest_text }
-    ensures { text.new.bytes ≡ text.old.bytes ++ spec.in_parentheses (name_written name) }
+    requires { array_string_len text.old + length (spec.in_parentheses (text_of_name name)) ≤ longest_text }
+    ensures { text.new.bytes ≡ text.old.bytes ++ spec.in_parentheses (text_of_name name) }
 {
     text.push_str("(");
     text.push_str(name.text());
@@ -70,8 +70,9 @@ fn put_at_name(text: &mut Text, name: Name)
 
 /// Appends IX or IY with a displacement, in parentheses.
 fn put_indexed(text: &mut Text, name: Name, displacement: i8)
-    requires { array_string_len text.old + length (spec.in_parentheses (name_written name ++ displacement_text displacement)) ≤ longest_text }
-    ensures { text.new.bytes ≡ text.old.bytes ++ spec.in_parentheses (name_written name ++ displacement_text displacement) }
+    requires { array_string_len text.old + length (spec.in_parentheses (text_of_name name ++ displacement_text displacement)) ≤
+        longest_text }
+    ensures { text.new.bytes ≡ text.old.bytes ++ spec.in_parentheses (text_of_name name ++ displacement_text displacement) }
 {
     text.push_str("(");
     text.push_str(name.text());
@@ -113,8 +114,9 @@ fn put_writing(text: &mut Text, at: u16, instr: &Instr, writing: Writing)
 fn put_operand(text: &mut Text, mark: u8, at: u16, instr: &Instr, shape: Shape)
     requires ascii { mark < 128 }
     requires shown { ShowsNumbers instr.now (writing_of shape) }
-    requires room { array_string_len text.old + length (spec.marked mark (map (spec.shape_text at instr.now) (present shape))) ≤ longest_text }
-    ensures { text.new.bytes ≡ text.old.bytes ++ spec.marked mark (map (spec.shape_text at instr.now) (present shape)) }
+    requires room { array_string_len text.old + length
+        (spec.marked_operands mark (map (spec.shape_text at instr.now) (present_shape shape))) ≤ longest_text }
+    ensures { text.new.bytes ≡ text.old.bytes ++ spec.marked_operands mark (map (spec.shape_text at instr.now) (present_shape shape)) }
 {
     if matches!(shape, Shape::Absent) {
         return;
@@ -125,9 +127,11 @@ fn put_operand(text: &mut Text, mark: u8, at: u16, instr: &Instr, shape: Shape)
 
 /// Appends one operand after another; after one that isn't there there is none.
 fn put_both(text: &mut Text, at: u16, instr: &Instr, first: Shape, second: Shape)
-    requires shown { ShowsEach instr.now (listed first second) }
-    requires room { array_string_len text.old + length (spec.marked spec.blank (map (spec.shape_text at instr.now) (listed first second))) ≤ longest_text }
-    ensures { text.new.bytes ≡ text.old.bytes ++ spec.marked spec.blank (map (spec.shape_text at instr.now) (listed first second)) }
+    requires shown { ShowsEach instr.now (listed_shapes first second) }
+    requires room { array_string_len text.old + length
+        (spec.marked_operands spec.blank_code (map (spec.shape_text at instr.now) (listed_shapes first second))) ≤ longest_text }
+    ensures { text.new.bytes ≡ text.old.bytes
+        ++ spec.marked_operands spec.blank_code (map (spec.shape_text at instr.now) (listed_shapes first second)) }
 {
     if matches!(first, Shape::Absent) {
         return;
@@ -139,8 +143,9 @@ fn put_both(text: &mut Text, at: u16, instr: &Instr, first: Shape, second: Shape
 /// Appends the operands of an instruction whose code stands at an address.
 pub fn put_operands(text: &mut Text, at: u16, instr: &Instr)
     requires valid { IsInstruction instr.now }
-    requires room { array_string_len text.old + length (spec.marked spec.blank (spec.operand_texts at instr.now)) ≤ longest_text }
-    ensures { text.new.bytes ≡ text.old.bytes ++ spec.marked spec.blank (spec.operand_texts at instr.now) }
+    requires room { array_string_len text.old + length (spec.marked_operands spec.blank_code (spec.operand_texts at instr.now)) ≤
+        longest_text }
+    ensures { text.new.bytes ≡ text.old.bytes ++ spec.marked_operands spec.blank_code (spec.operand_texts at instr.now) }
 {
     let (first, second) = written(instr.operands(), instr.p());
     put_both(text, at, instr, first, second);

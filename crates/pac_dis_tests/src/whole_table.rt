@@ -2,11 +2,11 @@
 
 ghost use Rattle.std.specs.Prelude.{None};
 
+use pac_asm_operation::Operation;
 use pac_code::{Code, encode};
 use pac_dis::disassemble;
-use pac_expr::Symbols;
+use pac_expr::SymbolLookup;
 use pac_lex::{LexError, tokens};
-use pac_operation::Operation;
 use pac_table::Instr;
 use std::alloc::Global;
 use std::test::Fail;
@@ -14,7 +14,7 @@ use std::test::Fail;
 /// No name is defined.
 struct NoNames;
 
-impl Symbols for NoNames {
+impl SymbolLookup for NoNames {
     ghost lookup = { λ _ name. None };
 
     fn symbol(&self, _name: &[u8]) -> Option<i32> {

@@ -1,31 +1,31 @@
 -- Lines one after another.
 use Rattle.std.proofs.Common.{◌≡◌, ℕ, zero, suc, ◌+◌, ◌-◌, ◌<◌, ◌≤◌, List, [], ◌∷◌, ◌++◌, length, drop, refl, ap, ◌∙◌, arith}
-use Rattle.pac_num.specs.Numbers.{address}
+use Rattle.pac_num.specs.Numbers.{wrapped_address}
 use Rattle.pac_dis.specs.Texts.{size_at}
 use Rattle.pac_dis_text.specs.Lines.{line_text, lines_after}
 
-address-same : (at : ℕ) → at < 65536 → at ≡ address (at + 0)
+address-same : (at : ℕ) → at < 65536 → at ≡ wrapped_address (at + 0)
 address-same at below = omega (arith, below)
 
-address-further : (at shown : ℕ) → address (address (at + 1) + shown) ≡ address (at + suc shown)
+address-further : (at shown : ℕ) → wrapped_address (wrapped_address (at + 1) + shown) ≡ wrapped_address (at + suc shown)
 address-further at shown = omega arith
 
-address-below : (at : ℕ) → address at < 65536
+address-below : (at : ℕ) → wrapped_address at < 65536
 address-below at = omega arith
 
 -- bytes of which so many stand in a line before
 lines-later : (shown at : ℕ) (bytes : List ℕ) → at < 65536
-    → lines_after shown at bytes ≡ lines_after 0 (address (at + shown)) (drop shown bytes)
+    → lines_after shown at bytes ≡ lines_after 0 (wrapped_address (at + shown)) (drop shown bytes)
 unfolding lines_after
 lines-later zero at bytes below = ap (λ a. lines_after 0 a bytes) (address-same at below)
 lines-later (suc shown) at [] below = refl
 lines-later (suc shown) at (byte ∷ bytes) below =
-    lines-later shown (address (at + 1)) bytes (address-below (at + 1))
+    lines-later shown (wrapped_address (at + 1)) bytes (address-below (at + 1))
     ∙ ap (λ a. lines_after 0 a (drop shown bytes)) (address-further at shown)
 
 -- what follows the line that bytes begin with
 abbrev pub later_lines : ℕ → List ℕ → List ℕ
-later_lines at bytes = lines_after (size_at bytes - 1) (address (at + 1)) (drop 1 bytes)
+later_lines at bytes = lines_after (size_at bytes - 1) (wrapped_address (at + 1)) (drop 1 bytes)
 
 -- bytes that are left begin a line
 pub lines-more : (at : ℕ) (bytes : List ℕ) → 0 < length bytes → lines_after 0 at bytes ≡ line_text at bytes ++ later_lines at bytes
@@ -35,12 +35,12 @@ lines-more at (byte ∷ bytes) more = refl
 
 -- and what follows is the lines of the bytes that it doesn't show
 pub lines-rest : (at size : ℕ) (bytes : List ℕ) → size ≡ size_at bytes → 1 ≤ size
-    → later_lines at bytes ≡ lines_after 0 (address (at + size)) (drop size bytes)
+    → later_lines at bytes ≡ lines_after 0 (wrapped_address (at + size)) (drop size bytes)
 lines-rest at zero bytes is some = absurd (omega (arith, some))
 lines-rest at (suc size) bytes is some =
     let one_less : size_at bytes - 1 ≡ size = omega (arith, is) in
-    ap (λ n. lines_after n (address (at + 1)) (drop 1 bytes)) one_less
-    ∙ lines-later size (address (at + 1)) (drop 1 bytes) (address-below (at + 1))
+    ap (λ n. lines_after n (wrapped_address (at + 1)) (drop 1 bytes)) one_less
+    ∙ lines-later size (wrapped_address (at + 1)) (drop 1 bytes) (address-below (at + 1))
     ∙ (λ i. lines_after 0 (address-further at size i) (drop-more size bytes i))
   where
     drop-more : (n : ℕ) (xs : List ℕ) → drop n (drop 1 xs) ≡ drop (suc n) xs

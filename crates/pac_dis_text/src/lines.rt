@@ -13,7 +13,7 @@ use pac_out::counted::Counted;
 use pac_out::pending::Pending;
 use pac_out::{Out, WriteFault};
 
-/// Gathers the line of what stands at the front of some bytes, the first of them at an address, as
+/// Gathers the line of what some bytes begin with, the first of them at an address, as
 /// `0002 324040   LD (4040H),A`, and tells how many of the bytes it shows.
 #[tactic(auto, unfolding(crate::specs::Lines::line_text))]
 pub fn put_line<W: Out>(

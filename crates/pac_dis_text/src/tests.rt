@@ -2,7 +2,7 @@
 
 use crate::put_disassembly;
 use pac_out::counted::Counted;
-use pac_out::memory::Memory;
+use pac_out::memory::MemoryWriter;
 use std::test::Fail;
 
 /// Bytes and their disassembly.
@@ -28,7 +28,7 @@ static ROWS: [(&[u8], &[u8]); 6] = [
 #[test]
 fn disassemblies_byte_for_byte(rt: HostRuntime) -> Result<(), Fail> {
     for (bytes, text) in &ROWS {
-        let mut file = Counted::new(Memory::new(rt.alloc(), 200)?);
+        let mut file = Counted::new(MemoryWriter::new(rt.alloc(), 200)?);
         assert_eq!(rt; put_disassembly(&mut file, bytes), Ok(()));
         assert_eq!(rt; file.writer.bytes(), *text);
     }

@@ -2,16 +2,16 @@
 //! T-states.
 
 ghost use Rattle.pac_exec.specs.BitOperations.{bit_operation_effect, test_bit_transition, reset_bit_transition, set_bit_transition};
-ghost use Rattle.pac_exec.specs.Transition.{Did, DidInRegisters};
+ghost use Rattle.pac_exec.specs.Transition.{DoesTransition, DoesInRegisters};
 
 use crate::places::{get, put_byte};
 use crate::regs::Regs;
 use pac_bus::Bus;
-use pac_table::{BitOperation, Instr, Place};
+use pac_table::{BitOperation, BytePlace, Instr};
 
 /// BIT.
-fn test_bit<B: Bus>(place: Place, instr: &Instr, regs: &mut Regs, bus: &B) -> u8
-    ensures { DidInRegisters (test_bit_transition place instr.now regs.old (B.byte_at bus.now)) regs.new result }
+fn test_bit<B: Bus>(place: BytePlace, instr: &Instr, regs: &mut Regs, bus: &B) -> u8
+    ensures { DoesInRegisters (test_bit_transition place instr.now regs.old (B.byte_at bus.now)) regs.new result }
 {
     let byte = get(place, instr, regs, bus);
     regs.f = pac_alu::test_bit(byte, instr.p(), regs.f);
@@ -19,16 +19,16 @@ fn test_bit<B: Bus>(place: Place, instr: &Instr, regs: &mut Regs, bus: &B) -> u8
 }
 
 /// RES.
-fn reset_bit<B: Bus>(place: Place, instr: &Instr, regs: &mut Regs, bus: &mut B) -> u8
-    ensures { Did B.after (reset_bit_transition place instr.now regs.old (B.byte_at bus.old)) bus.old regs.new bus.new result }
+fn reset_bit<B: Bus>(place: BytePlace, instr: &Instr, regs: &mut Regs, bus: &mut B) -> u8
+    ensures { DoesTransition B.after (reset_bit_transition place instr.now regs.old (B.byte_at bus.old)) bus.old regs.new bus.new result }
 {
     let byte = pac_alu::reset_bit(get(place, instr, regs, bus), instr.p());
     put_byte(place, byte, instr, regs, bus)
 }
 
 /// SET.
-fn set_bit<B: Bus>(place: Place, instr: &Instr, regs: &mut Regs, bus: &mut B) -> u8
-    ensures { Did B.after (set_bit_transition place instr.now regs.old (B.byte_at bus.old)) bus.old regs.new bus.new result }
+fn set_bit<B: Bus>(place: BytePlace, instr: &Instr, regs: &mut Regs, bus: &mut B) -> u8
+    ensures { DoesTransition B.after (set_bit_transition place instr.now regs.old (B.byte_at bus.old)) bus.old regs.new bus.new result }
 {
     let byte = pac_alu::set_bit(get(place, instr, regs, bus), instr.p());
     put_byte(place, byte, instr, regs, bus)
@@ -42,7 +42,7 @@ pub fn perform_bit_operation<B: Bus>(
     regs: &mut Regs,
     bus: &mut B,
 ) -> u8
-    ensures { Did B.after (bit_operation_effect with instr.now regs.old (B.byte_at bus.old)) bus.old regs.new bus.new result }
+    ensures { DoesTransition B.after (bit_operation_effect with instr.now regs.old (B.byte_at bus.old)) bus.old regs.new bus.new result }
 {
     match with {
         BitOperation::Test(place) => test_bit(place, instr, regs, bus),

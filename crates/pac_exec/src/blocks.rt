@@ -3,8 +3,8 @@
 
 ghost use Rattle.std.specs.Prelude.{◌≡◌, []};
 ghost use Rattle.pac_exec.specs.Blocks as blocks;
-ghost use Rattle.pac_exec.specs.Blocks.{DidIteration};
-ghost use Rattle.pac_exec.specs.Transition.{Did};
+ghost use Rattle.pac_exec.specs.Blocks.{DoesIteration};
+ghost use Rattle.pac_exec.specs.Transition.{DoesTransition};
 
 use crate::regs::{Regs, b_left};
 use pac_alu::decrement_word;
@@ -15,7 +15,7 @@ use pac_table::{Block, BlockOperation, Direction, Instr};
 /// Where a pointer goes.
 #[inline]
 fn moved(direction: Direction, address: u16) -> u16
-    ensures { result ≡ blocks.moved direction address }
+    ensures { result ≡ blocks.moved_pointer direction address }
 {
     match direction {
         Direction::Up => offset(address, 1),
@@ -25,7 +25,7 @@ fn moved(direction: Direction, address: u16) -> u16
 
 /// One byte of LDI or LDD; whether another one follows where the instruction repeats.
 fn copy<B: Bus>(direction: Direction, regs: &mut Regs, bus: &mut B) -> bool
-    ensures { DidIteration B.after (blocks.copied direction regs.old (B.byte_at bus.old)) bus.old regs.new bus.new result }
+    ensures { DoesIteration B.after (blocks.copy_iteration direction regs.old (B.byte_at bus.old)) bus.old regs.new bus.new result }
 {
     let count = decrement_word(regs.bc());
     let byte = bus.read(regs.hl());
@@ -39,7 +39,7 @@ fn copy<B: Bus>(direction: Direction, regs: &mut Regs, bus: &mut B) -> bool
 
 /// One byte of CPI or CPD; whether another one follows where the instruction repeats.
 fn compare<B: Bus>(direction: Direction, regs: &mut Regs, bus: &B) -> bool
-    ensures { DidIteration B.after (blocks.compared direction regs.old (B.byte_at bus.now)) bus.now regs.new bus.now result }
+    ensures { DoesIteration B.after (blocks.compare_iteration direction regs.old (B.byte_at bus.now)) bus.now regs.new bus.now result }
 {
     let count = decrement_word(regs.bc());
     let byte = bus.read(regs.hl());
@@ -53,8 +53,8 @@ fn compare<B: Bus>(direction: Direction, regs: &mut Regs, bus: &B) -> bool
 /// instruction repeats.
 #[inline]
 fn count_byte(direction: Direction, regs: &mut Regs) -> bool
-    ensures regs { regs.new ≡ (blocks.byte_passed direction [] regs.old).regs }
-    ensures goes_on { result ≡ (blocks.byte_passed direction [] regs.old).goes_on }
+    ensures regs { regs.new ≡ (blocks.port_iteration direction [] regs.old).regs }
+    ensures goes_on { result ≡ (blocks.port_iteration direction [] regs.old).goes_on }
 {
     let count = b_left(regs);
     regs.set_hl(moved(direction, regs.hl()));
@@ -65,7 +65,7 @@ fn count_byte(direction: Direction, regs: &mut Regs) -> bool
 
 /// One byte of INI or IND; whether another one follows where the instruction repeats.
 fn take_in<B: Bus>(direction: Direction, regs: &mut Regs, bus: &mut B) -> bool
-    ensures { DidIteration B.after (blocks.taken_in direction regs.old (B.input_at bus.old)) bus.old regs.new bus.new result }
+    ensures { DoesIteration B.after (blocks.input_iteration direction regs.old (B.input_at bus.old)) bus.old regs.new bus.new result }
 {
     let byte = bus.input(regs.c);
     bus.write(regs.hl(), byte);
@@ -74,7 +74,7 @@ fn take_in<B: Bus>(direction: Direction, regs: &mut Regs, bus: &mut B) -> bool
 
 /// One byte of OUTI or OUTD; whether another one follows where the instruction repeats.
 fn give_out<B: Bus>(direction: Direction, regs: &mut Regs, bus: &mut B) -> bool
-    ensures { DidIteration B.after (blocks.given_out direction regs.old (B.byte_at bus.old)) bus.old regs.new bus.new result }
+    ensures { DoesIteration B.after (blocks.output_iteration direction regs.old (B.byte_at bus.old)) bus.old regs.new bus.new result }
 {
     let byte = bus.read(regs.hl());
     bus.output(regs.c, byte);
@@ -88,7 +88,8 @@ fn iterate<B: Bus>(
     regs: &mut Regs,
     bus: &mut B,
 ) -> bool
-    ensures { DidIteration B.after (blocks.iteration operation direction regs.old (B.byte_at bus.old) (B.input_at bus.old)) bus.old regs.new bus.new result }
+    ensures { DoesIteration B.after (blocks.iteration operation direction regs.old (B.byte_at bus.old) (B.input_at bus.old)) bus.old
+        regs.new bus.new result }
 {
     match operation {
         BlockOperation::Load => copy(direction, regs, bus),
@@ -100,7 +101,8 @@ fn iterate<B: Bus>(
 
 /// A step of a block instruction; its time in T-states.
 pub fn block<B: Bus>(block: Block, instr: &Instr, regs: &mut Regs, bus: &mut B) -> u8
-    ensures { Did B.after (blocks.block_transition block instr.now regs.old (B.byte_at bus.old) (B.input_at bus.old)) bus.old regs.new bus.new result }
+    ensures { DoesTransition B.after (blocks.block_transition block instr.now regs.old (B.byte_at bus.old) (B.input_at bus.old)) bus.old
+        regs.new bus.new result }
 {
     let goes_on = iterate(block.operation, block.direction, regs, bus);
     if block.repeats && goes_on {

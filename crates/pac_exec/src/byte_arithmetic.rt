@@ -1,35 +1,35 @@
 //! Arithmetic of 8 bits and of the carry (UM0080, "8-Bit Arithmetic Group" and "General-Purpose Arithmetic
 //! and CPU Control Groups"). Each gives its time in T-states.
 
-ghost use Rattle.pac_exec.specs.ByteArithmetic.{byte_arithmetic_effect, in_accumulator, in_place, alu_transition, increment_transition, decrement_transition, decimal_adjust_transition, complement_transition, negate_transition, set_carry_transition, complement_carry_transition};
-ghost use Rattle.pac_exec.specs.Transition.{Did, DidInRegisters};
+ghost use Rattle.pac_exec.specs.ByteArithmetic.{byte_arithmetic_effect, outcome_in_accumulator, outcome_in_place, alu_transition, increment_transition, decrement_transition, decimal_adjust_transition, complement_transition, negate_transition, set_carry_transition, complement_carry_transition};
+ghost use Rattle.pac_exec.specs.Transition.{DoesTransition, DoesInRegisters};
 
 use crate::places::{get, put};
 use crate::regs::Regs;
-use pac_alu::{Operation, Outcome};
+use pac_alu::{ByteOperation, ByteResult};
 use pac_bus::Bus;
-use pac_table::{ByteArithmetic, Instr, Place};
+use pac_table::{ByteArithmetic, BytePlace, Instr};
 
-/// Puts what an operation leaves into A and F; the instruction's time.
+/// Puts what an operation leaves into A and F; the instruction's time in T-states.
 #[inline(always)]
-pub fn put_in_accumulator(outcome: Outcome, instr: &Instr, regs: &mut Regs) -> u8
-    ensures { DidInRegisters (in_accumulator outcome instr.now regs.old) regs.new result }
+pub fn put_in_accumulator(outcome: ByteResult, instr: &Instr, regs: &mut Regs) -> u8
+    ensures { DoesInRegisters (outcome_in_accumulator outcome instr.now regs.old) regs.new result }
 {
     regs.a = outcome.value;
     regs.f = outcome.f;
     instr.ticks()
 }
 
-/// Puts what an operation leaves into a place and F; the instruction's time.
+/// Puts what an operation leaves into a place and F; the instruction's time in T-states.
 #[inline(always)]
 pub fn put_in_place<B: Bus>(
-    outcome: Outcome,
-    place: Place,
+    outcome: ByteResult,
+    place: BytePlace,
     instr: &Instr,
     regs: &mut Regs,
     bus: &mut B,
 ) -> u8
-    ensures { Did B.after (in_place outcome place instr.now regs.old) bus.old regs.new bus.new result }
+    ensures { DoesTransition B.after (outcome_in_place outcome place instr.now regs.old) bus.old regs.new bus.new result }
 {
     put(place, outcome.value, instr, regs, bus);
     regs.f = outcome.f;
@@ -38,19 +38,19 @@ pub fn put_in_place<B: Bus>(
 
 /// ADD, ADC, SUB, SBC, AND, XOR, OR and CP.
 #[inline(always)]
-fn alu<B: Bus>(place: Place, instr: &Instr, regs: &mut Regs, bus: &B) -> u8
-    ensures { DidInRegisters (alu_transition place instr.now regs.old (B.byte_at bus.now)) regs.new result }
+fn alu<B: Bus>(place: BytePlace, instr: &Instr, regs: &mut Regs, bus: &B) -> u8
+    ensures { DoesInRegisters (alu_transition place instr.now regs.old (B.byte_at bus.now)) regs.new result }
 {
     let operand = get(place, instr, regs, bus);
-    let operation = Operation::from_field(instr.p());
+    let operation = ByteOperation::from_field(instr.p());
     let outcome = pac_alu::arithmetic(operation, regs.a, operand, regs.f);
     put_in_accumulator(outcome, instr, regs)
 }
 
 /// INC of a byte.
 #[inline(always)]
-fn increment<B: Bus>(place: Place, instr: &Instr, regs: &mut Regs, bus: &mut B) -> u8
-    ensures { Did B.after (increment_transition place instr.now regs.old (B.byte_at bus.old)) bus.old regs.new bus.new result }
+fn increment<B: Bus>(place: BytePlace, instr: &Instr, regs: &mut Regs, bus: &mut B) -> u8
+    ensures { DoesTransition B.after (increment_transition place instr.now regs.old (B.byte_at bus.old)) bus.old regs.new bus.new result }
 {
     let outcome = pac_alu::increment(get(place, instr, regs, bus), regs.f);
     put_in_place(outcome, place, instr, regs, bus)
@@ -58,8 +58,8 @@ fn increment<B: Bus>(place: Place, instr: &Instr, regs: &mut Regs, bus: &mut B) 
 
 /// DEC of a byte.
 #[inline(always)]
-fn decrement<B: Bus>(place: Place, instr: &Instr, regs: &mut Regs, bus: &mut B) -> u8
-    ensures { Did B.after (decrement_transition place instr.now regs.old (B.byte_at bus.old)) bus.old regs.new bus.new result }
+fn decrement<B: Bus>(place: BytePlace, instr: &Instr, regs: &mut Regs, bus: &mut B) -> u8
+    ensures { DoesTransition B.after (decrement_transition place instr.now regs.old (B.byte_at bus.old)) bus.old regs.new bus.new result }
 {
     let outcome = pac_alu::decrement(get(place, instr, regs, bus), regs.f);
     put_in_place(outcome, place, instr, regs, bus)
@@ -68,7 +68,7 @@ fn decrement<B: Bus>(place: Place, instr: &Instr, regs: &mut Regs, bus: &mut B) 
 /// DAA.
 #[inline(always)]
 fn decimal_adjust(instr: &Instr, regs: &mut Regs) -> u8
-    ensures { DidInRegisters (decimal_adjust_transition instr.now regs.old) regs.new result }
+    ensures { DoesInRegisters (decimal_adjust_transition instr.now regs.old) regs.new result }
 {
     let outcome = pac_alu::decimal_adjust(regs.a, regs.f);
     put_in_accumulator(outcome, instr, regs)
@@ -77,7 +77,7 @@ fn decimal_adjust(instr: &Instr, regs: &mut Regs) -> u8
 /// CPL.
 #[inline(always)]
 fn complement(instr: &Instr, regs: &mut Regs) -> u8
-    ensures { DidInRegisters (complement_transition instr.now regs.old) regs.new result }
+    ensures { DoesInRegisters (complement_transition instr.now regs.old) regs.new result }
 {
     let outcome = pac_alu::complement(regs.a, regs.f);
     put_in_accumulator(outcome, instr, regs)
@@ -86,7 +86,7 @@ fn complement(instr: &Instr, regs: &mut Regs) -> u8
 /// NEG.
 #[inline(always)]
 fn negate(instr: &Instr, regs: &mut Regs) -> u8
-    ensures { DidInRegisters (negate_transition instr.now regs.old) regs.new result }
+    ensures { DoesInRegisters (negate_transition instr.now regs.old) regs.new result }
 {
     let outcome = pac_alu::negate(regs.a, regs.f);
     put_in_accumulator(outcome, instr, regs)
@@ -95,7 +95,7 @@ fn negate(instr: &Instr, regs: &mut Regs) -> u8
 /// SCF.
 #[inline(always)]
 fn set_carry(instr: &Instr, regs: &mut Regs) -> u8
-    ensures { DidInRegisters (set_carry_transition instr.now regs.old) regs.new result }
+    ensures { DoesInRegisters (set_carry_transition instr.now regs.old) regs.new result }
 {
     regs.f = pac_alu::set_carry(regs.f);
     instr.ticks()
@@ -104,7 +104,7 @@ fn set_carry(instr: &Instr, regs: &mut Regs) -> u8
 /// CCF.
 #[inline(always)]
 fn complement_carry(instr: &Instr, regs: &mut Regs) -> u8
-    ensures { DidInRegisters (complement_carry_transition instr.now regs.old) regs.new result }
+    ensures { DoesInRegisters (complement_carry_transition instr.now regs.old) regs.new result }
 {
     regs.f = pac_alu::complement_carry(regs.f);
     instr.ticks()
@@ -119,7 +119,7 @@ pub fn perform_byte_arithmetic<B: Bus>(
     regs: &mut Regs,
     bus: &mut B,
 ) -> u8
-    ensures { Did B.after (byte_arithmetic_effect with instr.now regs.old (B.byte_at bus.old)) bus.old regs.new bus.new result }
+    ensures { DoesTransition B.after (byte_arithmetic_effect with instr.now regs.old (B.byte_at bus.old)) bus.old regs.new bus.new result }
 {
     match with {
         ByteArithmetic::Alu(place) => alu(place, instr, regs, bus),

@@ -1,8 +1,8 @@
 //! Calls and returns (UM0080, "Call and Return Group"). PC stands after the code. Each gives its time in
 //! T-states, the shorter one where a condition isn't met.
 
-ghost use Rattle.pac_exec.specs.Calls.{call_effect, called, call_transition, call_if_transition, restart_transition, return_transition, return_if_transition, return_from_interrupt_transition, return_from_non_maskable_transition};
-ghost use Rattle.pac_exec.specs.Transition.{Did, DidInRegisters};
+ghost use Rattle.pac_exec.specs.Calls.{call_effect, call_to_address, call_transition, call_if_transition, restart_transition, return_transition, return_if_transition, return_from_interrupt_transition, return_from_non_maskable_transition};
+ghost use Rattle.pac_exec.specs.Transition.{DoesTransition, DoesInRegisters};
 
 use crate::jumps::meets_condition;
 use crate::pairs::{pop_word, push_word};
@@ -13,7 +13,7 @@ use pac_table::Instr;
 /// Pushes PC and goes to an address.
 #[inline(always)]
 fn call_address<B: Bus>(address: u16, instr: &Instr, regs: &mut Regs, bus: &mut B) -> u8
-    ensures { Did B.after (called address instr.now regs.old) bus.old regs.new bus.new result }
+    ensures { DoesTransition B.after (call_to_address address instr.now regs.old) bus.old regs.new bus.new result }
 {
     push_word(regs.pc, regs, bus);
     regs.pc = address;
@@ -23,7 +23,7 @@ fn call_address<B: Bus>(address: u16, instr: &Instr, regs: &mut Regs, bus: &mut 
 /// CALL nn.
 #[inline(always)]
 fn call<B: Bus>(instr: &Instr, regs: &mut Regs, bus: &mut B) -> u8
-    ensures { Did B.after (call_transition instr.now regs.old) bus.old regs.new bus.new result }
+    ensures { DoesTransition B.after (call_transition instr.now regs.old) bus.old regs.new bus.new result }
 {
     call_address(instr.word(), instr, regs, bus)
 }
@@ -31,7 +31,7 @@ fn call<B: Bus>(instr: &Instr, regs: &mut Regs, bus: &mut B) -> u8
 /// CALL cc,nn.
 #[inline(always)]
 fn call_if<B: Bus>(instr: &Instr, regs: &mut Regs, bus: &mut B) -> u8
-    ensures { Did B.after (call_if_transition instr.now regs.old) bus.old regs.new bus.new result }
+    ensures { DoesTransition B.after (call_if_transition instr.now regs.old) bus.old regs.new bus.new result }
 {
     if meets_condition(instr, regs) {
         call(instr, regs, bus)
@@ -43,7 +43,7 @@ fn call_if<B: Bus>(instr: &Instr, regs: &mut Regs, bus: &mut B) -> u8
 /// RST p.
 #[inline(always)]
 fn restart<B: Bus>(instr: &Instr, regs: &mut Regs, bus: &mut B) -> u8
-    ensures { Did B.after (restart_transition instr.now regs.old) bus.old regs.new bus.new result }
+    ensures { DoesTransition B.after (restart_transition instr.now regs.old) bus.old regs.new bus.new result }
 {
     call_address(8 * instr.p() as u16, instr, regs, bus)
 }
@@ -51,7 +51,7 @@ fn restart<B: Bus>(instr: &Instr, regs: &mut Regs, bus: &mut B) -> u8
 /// RET.
 #[inline(always)]
 fn return_to_caller<B: Bus>(instr: &Instr, regs: &mut Regs, bus: &B) -> u8
-    ensures { DidInRegisters (return_transition instr.now regs.old (B.byte_at bus.now)) regs.new result }
+    ensures { DoesInRegisters (return_transition instr.now regs.old (B.byte_at bus.now)) regs.new result }
 {
     regs.pc = pop_word(regs, bus);
     instr.ticks()
@@ -60,7 +60,7 @@ fn return_to_caller<B: Bus>(instr: &Instr, regs: &mut Regs, bus: &B) -> u8
 /// RET cc.
 #[inline(always)]
 fn return_if<B: Bus>(instr: &Instr, regs: &mut Regs, bus: &B) -> u8
-    ensures { DidInRegisters (return_if_transition instr.now regs.old (B.byte_at bus.now)) regs.new result }
+    ensures { DoesInRegisters (return_if_transition instr.now regs.old (B.byte_at bus.now)) regs.new result }
 {
     if meets_condition(instr, regs) {
         return_to_caller(instr, regs, bus)
@@ -72,7 +72,7 @@ fn return_if<B: Bus>(instr: &Instr, regs: &mut Regs, bus: &B) -> u8
 /// RETI: in this profile both interrupt flip-flops stay.
 #[inline(always)]
 fn return_from_interrupt<B: Bus>(instr: &Instr, regs: &mut Regs, bus: &B) -> u8
-    ensures { DidInRegisters (return_from_interrupt_transition instr.now regs.old (B.byte_at bus.now)) regs.new result }
+    ensures { DoesInRegisters (return_from_interrupt_transition instr.now regs.old (B.byte_at bus.now)) regs.new result }
 {
     return_to_caller(instr, regs, bus)
 }
@@ -80,7 +80,7 @@ fn return_from_interrupt<B: Bus>(instr: &Instr, regs: &mut Regs, bus: &B) -> u8
 /// RETN: IFF1 becomes IFF2.
 #[inline(always)]
 fn return_from_non_maskable<B: Bus>(instr: &Instr, regs: &mut Regs, bus: &B) -> u8
-    ensures { DidInRegisters (return_from_non_maskable_transition instr.now regs.old (B.byte_at bus.now)) regs.new result }
+    ensures { DoesInRegisters (return_from_non_maskable_transition instr.now regs.old (B.byte_at bus.now)) regs.new result }
 {
     regs.iff1 = regs.iff2;
     return_to_caller(instr, regs, bus)
@@ -95,7 +95,7 @@ pub fn perform_call<B: Bus>(
     regs: &mut Regs,
     bus: &mut B,
 ) -> u8
-    ensures { Did B.after (call_effect with instr.now regs.old (B.byte_at bus.old)) bus.old regs.new bus.new result }
+    ensures { DoesTransition B.after (call_effect with instr.now regs.old (B.byte_at bus.old)) bus.old regs.new bus.new result }
 {
     match with {
         pac_table::Call::Always => call(instr, regs, bus),

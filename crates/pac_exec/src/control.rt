@@ -2,14 +2,14 @@
 //! T-states.
 
 ghost use Rattle.pac_exec.specs.Control.{control_effect, halt_transition, disable_interrupts_transition, enable_interrupts_transition, set_interrupt_mode_transition};
-ghost use Rattle.pac_exec.specs.Transition.{DidInRegisters};
+ghost use Rattle.pac_exec.specs.Transition.{DoesInRegisters};
 
 use crate::regs::Regs;
 use pac_table::{Control, Instr, InterruptMode};
 
 /// HALT.
 fn halt(instr: &Instr, regs: &mut Regs) -> u8
-    ensures { DidInRegisters (halt_transition instr.now regs.old) regs.new result }
+    ensures { DoesInRegisters (halt_transition instr.now regs.old) regs.new result }
 {
     regs.halted = true;
     instr.ticks()
@@ -17,7 +17,7 @@ fn halt(instr: &Instr, regs: &mut Regs) -> u8
 
 /// DI.
 fn disable_interrupts(instr: &Instr, regs: &mut Regs) -> u8
-    ensures { DidInRegisters (disable_interrupts_transition instr.now regs.old) regs.new result }
+    ensures { DoesInRegisters (disable_interrupts_transition instr.now regs.old) regs.new result }
 {
     regs.set_interrupts(false);
     instr.ticks()
@@ -25,7 +25,7 @@ fn disable_interrupts(instr: &Instr, regs: &mut Regs) -> u8
 
 /// EI.
 fn enable_interrupts(instr: &Instr, regs: &mut Regs) -> u8
-    ensures { DidInRegisters (enable_interrupts_transition instr.now regs.old) regs.new result }
+    ensures { DoesInRegisters (enable_interrupts_transition instr.now regs.old) regs.new result }
 {
     regs.set_interrupts(true);
     regs.after_ei = true;
@@ -34,7 +34,7 @@ fn enable_interrupts(instr: &Instr, regs: &mut Regs) -> u8
 
 /// IM.
 fn set_interrupt_mode(mode: InterruptMode, instr: &Instr, regs: &mut Regs) -> u8
-    ensures { DidInRegisters (set_interrupt_mode_transition mode instr.now regs.old) regs.new result }
+    ensures { DoesInRegisters (set_interrupt_mode_transition mode instr.now regs.old) regs.new result }
 {
     regs.mode = mode;
     instr.ticks()
@@ -43,7 +43,7 @@ fn set_interrupt_mode(mode: InterruptMode, instr: &Instr, regs: &mut Regs) -> u8
 /// What is done to the processor's states, by its function; the time in T-states.
 #[tactic(auto, unfolding(crate::specs::Control::control_effect))]
 pub fn perform_control(with: Control, instr: &Instr, regs: &mut Regs) -> u8
-    ensures { DidInRegisters (control_effect with instr.now regs.old) regs.new result }
+    ensures { DoesInRegisters (control_effect with instr.now regs.old) regs.new result }
 {
     match with {
         Control::Nop => instr.ticks(),

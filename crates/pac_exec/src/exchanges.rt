@@ -1,7 +1,7 @@
 //! The exchanges (UM0080, "Exchange, Block Transfer, and Search Group"). Each gives its time in T-states.
 
 ghost use Rattle.pac_exec.specs.Exchanges.{exchange_effect, exchange_de_hl_transition, exchange_af_transition, exchange_banks_transition, exchange_stack_top_transition};
-ghost use Rattle.pac_exec.specs.Transition.{Did, DidInRegisters};
+ghost use Rattle.pac_exec.specs.Transition.{DoesTransition, DoesInRegisters};
 
 use crate::pairs::{get_pair, read_word, set_pair};
 use crate::regs::Regs;
@@ -12,7 +12,7 @@ use std::mem::swap;
 
 /// EX DE,HL.
 fn exchange_de_hl(instr: &Instr, regs: &mut Regs) -> u8
-    ensures { DidInRegisters (exchange_de_hl_transition instr.now regs.old) regs.new result }
+    ensures { DoesInRegisters (exchange_de_hl_transition instr.now regs.old) regs.new result }
 {
     swap(&mut regs.d, &mut regs.h);
     swap(&mut regs.e, &mut regs.l);
@@ -21,7 +21,7 @@ fn exchange_de_hl(instr: &Instr, regs: &mut Regs) -> u8
 
 /// EX AF,AF'.
 fn exchange_af(instr: &Instr, regs: &mut Regs) -> u8
-    ensures { DidInRegisters (exchange_af_transition instr.now regs.old) regs.new result }
+    ensures { DoesInRegisters (exchange_af_transition instr.now regs.old) regs.new result }
 {
     regs.exchange_af();
     instr.ticks()
@@ -29,7 +29,7 @@ fn exchange_af(instr: &Instr, regs: &mut Regs) -> u8
 
 /// EXX.
 fn exchange_banks(instr: &Instr, regs: &mut Regs) -> u8
-    ensures { DidInRegisters (exchange_banks_transition instr.now regs.old) regs.new result }
+    ensures { DoesInRegisters (exchange_banks_transition instr.now regs.old) regs.new result }
 {
     regs.exchange_bank();
     instr.ticks()
@@ -37,7 +37,8 @@ fn exchange_banks(instr: &Instr, regs: &mut Regs) -> u8
 
 /// EX (SP),HL.
 fn exchange_stack_top<B: Bus>(pair: Pair, instr: &Instr, regs: &mut Regs, bus: &mut B) -> u8
-    ensures { Did B.after (exchange_stack_top_transition pair instr.now regs.old (B.byte_at bus.old)) bus.old regs.new bus.new result }
+    ensures { DoesTransition B.after (exchange_stack_top_transition pair instr.now regs.old (B.byte_at bus.old)) bus.old regs.new bus.new
+        result }
 {
     let top = read_word(regs.sp, bus);
     let word = get_pair(pair, instr, regs);
@@ -50,7 +51,7 @@ fn exchange_stack_top<B: Bus>(pair: Pair, instr: &Instr, regs: &mut Regs, bus: &
 /// An exchange, by its function; the time in T-states.
 #[tactic(auto, unfolding(crate::specs::Exchanges::exchange_effect))]
 pub fn perform_exchange<B: Bus>(with: Exchange, instr: &Instr, regs: &mut Regs, bus: &mut B) -> u8
-    ensures { Did B.after (exchange_effect with instr.now regs.old (B.byte_at bus.old)) bus.old regs.new bus.new result }
+    ensures { DoesTransition B.after (exchange_effect with instr.now regs.old (B.byte_at bus.old)) bus.old regs.new bus.new result }
 {
     match with {
         Exchange::DeHl => exchange_de_hl(instr, regs),

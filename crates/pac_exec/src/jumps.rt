@@ -2,9 +2,9 @@
 //! where a condition isn't met.
 
 ghost use Rattle.std.specs.Prelude.{◌≡◌};
-ghost use Rattle.pac_alu.specs.Flags.{condition_of, is_met};
+ghost use Rattle.pac_alu.specs.Flags.{field_condition, is_met};
 ghost use Rattle.pac_exec.specs.Jumps.{jump_effect, jump_transition, jump_if_transition, jump_to_pair_transition, jump_relative_transition, jump_relative_if_transition, decrement_and_jump_transition};
-ghost use Rattle.pac_exec.specs.Transition.{DidInRegisters};
+ghost use Rattle.pac_exec.specs.Transition.{DoesInRegisters};
 
 use crate::pairs::get_pair;
 use crate::regs::{Regs, b_left};
@@ -15,7 +15,7 @@ use pac_table::{Instr, Pair};
 /// Whether the condition in an instruction's first field is met.
 #[inline(always)]
 pub fn meets_condition(instr: &Instr, regs: &Regs) -> bool
-    ensures { result ≡ is_met (condition_of instr.now.p) regs.now.f }
+    ensures { result ≡ is_met (field_condition instr.now.p) regs.now.f }
 {
     Condition::from_field(instr.p()).is_met(regs.f)
 }
@@ -23,7 +23,7 @@ pub fn meets_condition(instr: &Instr, regs: &Regs) -> bool
 /// JP nn.
 #[inline(always)]
 fn jump(instr: &Instr, regs: &mut Regs) -> u8
-    ensures { DidInRegisters (jump_transition instr.now regs.old) regs.new result }
+    ensures { DoesInRegisters (jump_transition instr.now regs.old) regs.new result }
 {
     regs.pc = instr.word();
     instr.ticks()
@@ -32,7 +32,7 @@ fn jump(instr: &Instr, regs: &mut Regs) -> u8
 /// JP cc,nn.
 #[inline(always)]
 fn jump_if(instr: &Instr, regs: &mut Regs) -> u8
-    ensures { DidInRegisters (jump_if_transition instr.now regs.old) regs.new result }
+    ensures { DoesInRegisters (jump_if_transition instr.now regs.old) regs.new result }
 {
     if meets_condition(instr, regs) {
         jump(instr, regs)
@@ -44,7 +44,7 @@ fn jump_if(instr: &Instr, regs: &mut Regs) -> u8
 /// JP (HL).
 #[inline(always)]
 fn jump_to_pair(pair: Pair, instr: &Instr, regs: &mut Regs) -> u8
-    ensures { DidInRegisters (jump_to_pair_transition pair instr.now regs.old) regs.new result }
+    ensures { DoesInRegisters (jump_to_pair_transition pair instr.now regs.old) regs.new result }
 {
     regs.pc = get_pair(pair, instr, regs);
     instr.ticks()
@@ -53,7 +53,7 @@ fn jump_to_pair(pair: Pair, instr: &Instr, regs: &mut Regs) -> u8
 /// JR e.
 #[inline(always)]
 fn jump_relative(instr: &Instr, regs: &mut Regs) -> u8
-    ensures { DidInRegisters (jump_relative_transition instr.now regs.old) regs.new result }
+    ensures { DoesInRegisters (jump_relative_transition instr.now regs.old) regs.new result }
 {
     regs.pc = displaced(regs.pc, instr.disp());
     instr.ticks()
@@ -62,7 +62,7 @@ fn jump_relative(instr: &Instr, regs: &mut Regs) -> u8
 /// JR cc,e.
 #[inline(always)]
 fn jump_relative_if(instr: &Instr, regs: &mut Regs) -> u8
-    ensures { DidInRegisters (jump_relative_if_transition instr.now regs.old) regs.new result }
+    ensures { DoesInRegisters (jump_relative_if_transition instr.now regs.old) regs.new result }
 {
     if meets_condition(instr, regs) {
         jump_relative(instr, regs)
@@ -74,7 +74,7 @@ fn jump_relative_if(instr: &Instr, regs: &mut Regs) -> u8
 /// DJNZ e.
 #[inline(always)]
 fn decrement_and_jump(instr: &Instr, regs: &mut Regs) -> u8
-    ensures { DidInRegisters (decrement_and_jump_transition instr.now regs.old) regs.new result }
+    ensures { DoesInRegisters (decrement_and_jump_transition instr.now regs.old) regs.new result }
 {
     regs.b = b_left(regs);
     if regs.b != 0 {
@@ -88,7 +88,7 @@ fn decrement_and_jump(instr: &Instr, regs: &mut Regs) -> u8
 #[inline(always)]
 #[tactic(auto, unfolding(crate::specs::Jumps::jump_effect))]
 pub fn perform_jump(with: pac_table::Jump, instr: &Instr, regs: &mut Regs) -> u8
-    ensures { DidInRegisters (jump_effect with instr.now regs.old) regs.new result }
+    ensures { DoesInRegisters (jump_effect with instr.now regs.old) regs.new result }
 {
     match with {
         pac_table::Jump::Absolute => jump(instr, regs),

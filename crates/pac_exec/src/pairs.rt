@@ -1,7 +1,7 @@
 //! Registers and cells of 16 bits, and the stack.
 
 ghost use Rattle.std.specs.Prelude.{◌≡◌};
-ghost use Rattle.pac_bus.specs.Action.{after_all};
+ghost use Rattle.pac_bus.specs.Action.{bus_after_actions};
 ghost use Rattle.pac_exec.specs.Pairs as pairs;
 
 use crate::regs::Regs;
@@ -68,7 +68,7 @@ pub fn set_stack_pair(pair: Pair, word: u16, instr: &Instr, regs: &mut Regs)
 /// Pushes a word: the high byte to SP-1, then the low byte to SP-2, where SP then points.
 pub fn push_word<B: Bus>(word: u16, regs: &mut Regs, bus: &mut B)
     ensures regs { regs.new ≡ pairs.with_room regs.old }
-    ensures bus { bus.new ≡ after_all B.after bus.old (pairs.push_writes regs.old.sp word) }
+    ensures bus { bus.new ≡ bus_after_actions B.after bus.old (pairs.push_writes regs.old.sp word) }
 {
     bus.write(offset(regs.sp, 65535), high_byte(word));
     regs.sp = offset(regs.sp, 65534);

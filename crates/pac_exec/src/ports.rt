@@ -2,7 +2,7 @@
 //! in T-states.
 
 ghost use Rattle.pac_exec.specs.Ports.{port_effect, input_byte_transition, output_byte_transition, input_transition, output_transition};
-ghost use Rattle.pac_exec.specs.Transition.{Did, DidInRegisters};
+ghost use Rattle.pac_exec.specs.Transition.{DoesTransition, DoesInRegisters};
 
 use crate::regs::Regs;
 use pac_bus::Bus;
@@ -11,7 +11,7 @@ use pac_table::{Instr, Port};
 
 /// IN A,(n).
 fn input_byte<B: Bus>(instr: &Instr, regs: &mut Regs, bus: &B) -> u8
-    ensures { DidInRegisters (input_byte_transition instr.now regs.old (B.input_at bus.now)) regs.new result }
+    ensures { DoesInRegisters (input_byte_transition instr.now regs.old (B.input_at bus.now)) regs.new result }
 {
     regs.a = bus.input(low_byte(instr.word()));
     instr.ticks()
@@ -19,7 +19,7 @@ fn input_byte<B: Bus>(instr: &Instr, regs: &mut Regs, bus: &B) -> u8
 
 /// OUT (n),A.
 fn output_byte<B: Bus>(instr: &Instr, regs: &Regs, bus: &mut B) -> u8
-    ensures { Did B.after (output_byte_transition instr.now regs.now) bus.old regs.now bus.new result }
+    ensures { DoesTransition B.after (output_byte_transition instr.now regs.now) bus.old regs.now bus.new result }
 {
     bus.output(low_byte(instr.word()), regs.a);
     instr.ticks()
@@ -27,7 +27,7 @@ fn output_byte<B: Bus>(instr: &Instr, regs: &Regs, bus: &mut B) -> u8
 
 /// IN r,(C).
 fn input<B: Bus>(instr: &Instr, regs: &mut Regs, bus: &B) -> u8
-    ensures { DidInRegisters (input_transition instr.now regs.old (B.input_at bus.now)) regs.new result }
+    ensures { DoesInRegisters (input_transition instr.now regs.old (B.input_at bus.now)) regs.new result }
 {
     let byte = bus.input(regs.c);
     regs.set_register(instr.p(), byte);
@@ -37,7 +37,7 @@ fn input<B: Bus>(instr: &Instr, regs: &mut Regs, bus: &B) -> u8
 
 /// OUT (C),r.
 fn output<B: Bus>(instr: &Instr, regs: &Regs, bus: &mut B) -> u8
-    ensures { Did B.after (output_transition instr.now regs.now) bus.old regs.now bus.new result }
+    ensures { DoesTransition B.after (output_transition instr.now regs.now) bus.old regs.now bus.new result }
 {
     bus.output(regs.c, regs.register(instr.p()));
     instr.ticks()
@@ -46,7 +46,7 @@ fn output<B: Bus>(instr: &Instr, regs: &Regs, bus: &mut B) -> u8
 /// Input or output of a byte, by its function; the time in T-states.
 #[tactic(auto, unfolding(crate::specs::Ports::port_effect))]
 pub fn perform_port<B: Bus>(with: Port, instr: &Instr, regs: &mut Regs, bus: &mut B) -> u8
-    ensures { Did B.after (port_effect with instr.now regs.old (B.input_at bus.old)) bus.old regs.new bus.new result }
+    ensures { DoesTransition B.after (port_effect with instr.now regs.old (B.input_at bus.old)) bus.old regs.new bus.new result }
 {
     match with {
         Port::InputByte => input_byte(instr, regs, bus),

@@ -65,7 +65,7 @@ pub struct Regs {
     pub r: u8,
     /// Whether interrupts are accepted.
     pub iff1: bool,
-    /// What a non-maskable interrupt would have kept of it.
+    /// What a non-maskable interrupt would have kept of `iff1`.
     pub iff2: bool,
     /// How an interrupt is answered.
     pub mode: InterruptMode,
@@ -79,7 +79,7 @@ impl Regs {
     /// The register that a field r names: B 0, C 1, D 2, E 3, H 4, L 5, A 7.
     #[inline]
     pub fn register(&self, r: u8) -> u8
-        ensures { result ≡ registers.register self.now r }
+        ensures { result ≡ registers.register_numbered self.now r }
     {
         match r {
             0 => self.b,

@@ -2,14 +2,14 @@
 
 ghost use Rattle.std.specs.Prelude.{◌≡◌};
 ghost use Rattle.pac_exec.specs.Shifts.{rotate_and_shift_effect, named_after, rotate_accumulator_transition, shift_transition, in_digits, rotate_digit_left_transition, rotate_digit_right_transition};
-ghost use Rattle.pac_exec.specs.Transition.{Did, DidInRegisters};
+ghost use Rattle.pac_exec.specs.Transition.{DoesTransition, DoesInRegisters};
 
 use crate::byte_arithmetic::{put_in_accumulator, put_in_place};
 use crate::places::get;
 use crate::regs::Regs;
 use pac_alu::{Digits, Shift};
 use pac_bus::Bus;
-use pac_table::{Instr, Place, RotateAndShift, Rotation};
+use pac_table::{BytePlace, Instr, RotateAndShift, Rotation};
 
 /// The rotation of a byte that a rotation of A is named after.
 fn shift_of_rotation(rotation: Rotation) -> Shift
@@ -25,24 +25,24 @@ fn shift_of_rotation(rotation: Rotation) -> Shift
 
 /// RLCA, RRCA, RLA and RRA.
 fn rotate_accumulator(rotation: Rotation, instr: &Instr, regs: &mut Regs) -> u8
-    ensures { DidInRegisters (rotate_accumulator_transition rotation instr.now regs.old) regs.new result }
+    ensures { DoesInRegisters (rotate_accumulator_transition rotation instr.now regs.old) regs.new result }
 {
     let outcome = pac_alu::rotate_accumulator(shift_of_rotation(rotation), regs.a, regs.f);
     put_in_accumulator(outcome, instr, regs)
 }
 
 /// RLC, RRC, RL, RR, SLA, SRA and SRL.
-fn shift<B: Bus>(place: Place, instr: &Instr, regs: &mut Regs, bus: &mut B) -> u8
-    ensures { Did B.after (shift_transition place instr.now regs.old (B.byte_at bus.old)) bus.old regs.new bus.new result }
+fn shift<B: Bus>(place: BytePlace, instr: &Instr, regs: &mut Regs, bus: &mut B) -> u8
+    ensures { DoesTransition B.after (shift_transition place instr.now regs.old (B.byte_at bus.old)) bus.old regs.new bus.new result }
 {
     let byte = get(place, instr, regs, bus);
     let outcome = pac_alu::shift_byte(Shift::from_field(instr.p()), byte, regs.f);
     put_in_place(outcome, place, instr, regs, bus)
 }
 
-/// Puts rotated digits into A, F and the cell at HL; the instruction's time.
+/// Puts rotated digits into A, F and the cell at HL; the instruction's time in T-states.
 fn put_digits<B: Bus>(digits: Digits, instr: &Instr, regs: &mut Regs, bus: &mut B) -> u8
-    ensures { Did B.after (in_digits digits instr.now regs.old) bus.old regs.new bus.new result }
+    ensures { DoesTransition B.after (in_digits digits instr.now regs.old) bus.old regs.new bus.new result }
 {
     bus.write(regs.hl(), digits.memory);
     regs.a = digits.a;
@@ -52,7 +52,7 @@ fn put_digits<B: Bus>(digits: Digits, instr: &Instr, regs: &mut Regs, bus: &mut 
 
 /// RLD.
 fn rotate_digit_left<B: Bus>(instr: &Instr, regs: &mut Regs, bus: &mut B) -> u8
-    ensures { Did B.after (rotate_digit_left_transition instr.now regs.old (B.byte_at bus.old)) bus.old regs.new bus.new result }
+    ensures { DoesTransition B.after (rotate_digit_left_transition instr.now regs.old (B.byte_at bus.old)) bus.old regs.new bus.new result }
 {
     let digits = pac_alu::rotate_digits_left(regs.a, bus.read(regs.hl()), regs.f);
     put_digits(digits, instr, regs, bus)
@@ -60,7 +60,8 @@ fn rotate_digit_left<B: Bus>(instr: &Instr, regs: &mut Regs, bus: &mut B) -> u8
 
 /// RRD.
 fn rotate_digit_right<B: Bus>(instr: &Instr, regs: &mut Regs, bus: &mut B) -> u8
-    ensures { Did B.after (rotate_digit_right_transition instr.now regs.old (B.byte_at bus.old)) bus.old regs.new bus.new result }
+    ensures { DoesTransition B.after (rotate_digit_right_transition instr.now regs.old (B.byte_at bus.old)) bus.old regs.new bus.new
+        result }
 {
     let digits = pac_alu::rotate_digits_right(regs.a, bus.read(regs.hl()), regs.f);
     put_digits(digits, instr, regs, bus)
@@ -74,7 +75,7 @@ pub fn perform_rotate_and_shift<B: Bus>(
     regs: &mut Regs,
     bus: &mut B,
 ) -> u8
-    ensures { Did B.after (rotate_and_shift_effect with instr.now regs.old (B.byte_at bus.old)) bus.old regs.new bus.new result }
+    ensures { DoesTransition B.after (rotate_and_shift_effect with instr.now regs.old (B.byte_at bus.old)) bus.old regs.new bus.new result }
 {
     match with {
         RotateAndShift::RotateAccumulator(rotation) => rotate_accumulator(rotation, instr, regs),

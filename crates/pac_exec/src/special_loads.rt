@@ -1,14 +1,14 @@
 //! Loads between A and the registers I and R (UM0080, "8-Bit Load Group"). Each gives its time in T-states.
 
 ghost use Rattle.pac_exec.specs.SpecialLoads.{load_from_special_transition, load_special_transition};
-ghost use Rattle.pac_exec.specs.Transition.{DidInRegisters};
+ghost use Rattle.pac_exec.specs.Transition.{DoesInRegisters};
 
 use crate::regs::Regs;
 use pac_table::{Instr, Special};
 
 /// LD A,I and LD A,R; R has counted the instruction's own fetches.
 pub fn load_from_special(special: Special, instr: &Instr, regs: &mut Regs) -> u8
-    ensures { DidInRegisters (load_from_special_transition special instr.now regs.old) regs.new result }
+    ensures { DoesInRegisters (load_from_special_transition special instr.now regs.old) regs.new result }
 {
     regs.a = match special {
         Special::Interrupt => regs.i,
@@ -20,7 +20,7 @@ pub fn load_from_special(special: Special, instr: &Instr, regs: &mut Regs) -> u8
 
 /// LD I,A and LD R,A, which sets all eight bits of R.
 pub fn load_special(special: Special, instr: &Instr, regs: &mut Regs) -> u8
-    ensures { DidInRegisters (load_special_transition special instr.now regs.old) regs.new result }
+    ensures { DoesInRegisters (load_special_transition special instr.now regs.old) regs.new result }
 {
     match special {
         Special::Interrupt => regs.i = regs.a,

@@ -1,8 +1,8 @@
 //! Arithmetic of 16 bits (UM0080, "16-Bit Arithmetic Group"). Each gives its time in T-states.
 
 ghost use Rattle.std.specs.Prelude.{◌≡◌};
-ghost use Rattle.pac_exec.specs.WordArithmetic.{word_arithmetic_effect, addend, in_pair, add_pair_transition, add_pair_with_carry_transition, subtract_pair_with_carry_transition, increment_pair_transition, decrement_pair_transition};
-ghost use Rattle.pac_exec.specs.Transition.{DidInRegisters};
+ghost use Rattle.pac_exec.specs.WordArithmetic.{word_arithmetic_effect, addend, outcome_in_pair, add_pair_transition, add_pair_with_carry_transition, subtract_pair_with_carry_transition, increment_pair_transition, decrement_pair_transition};
+ghost use Rattle.pac_exec.specs.Transition.{DoesInRegisters};
 
 use crate::pairs::{get_pair, set_pair};
 use crate::regs::Regs;
@@ -24,10 +24,10 @@ fn addend_of(pair: Pair, instr: &Instr, regs: &Regs) -> u16
     }
 }
 
-/// Puts what an operation leaves into a pair and F; the instruction's time.
+/// Puts what an operation leaves into a pair and F; the instruction's time in T-states.
 #[inline(always)]
 fn put_in_pair(outcome: WordOutcome, pair: Pair, instr: &Instr, regs: &mut Regs) -> u8
-    ensures { DidInRegisters (in_pair outcome pair instr.now regs.old) regs.new result }
+    ensures { DoesInRegisters (outcome_in_pair outcome pair instr.now regs.old) regs.new result }
 {
     set_pair(pair, outcome.value, instr, regs);
     regs.f = outcome.f;
@@ -37,7 +37,7 @@ fn put_in_pair(outcome: WordOutcome, pair: Pair, instr: &Instr, regs: &mut Regs)
 /// ADD HL,ss and ADD IX,pp.
 #[inline(always)]
 fn add_pair(pair: Pair, instr: &Instr, regs: &mut Regs) -> u8
-    ensures { DidInRegisters (add_pair_transition pair instr.now regs.old) regs.new result }
+    ensures { DoesInRegisters (add_pair_transition pair instr.now regs.old) regs.new result }
 {
     let sum = add_words(
         get_pair(pair, instr, regs),
@@ -50,7 +50,7 @@ fn add_pair(pair: Pair, instr: &Instr, regs: &mut Regs) -> u8
 /// ADC HL,ss.
 #[inline(always)]
 fn add_pair_with_carry(instr: &Instr, regs: &mut Regs) -> u8
-    ensures { DidInRegisters (add_pair_with_carry_transition instr.now regs.old) regs.new result }
+    ensures { DoesInRegisters (add_pair_with_carry_transition instr.now regs.old) regs.new result }
 {
     let sum = add_words_with_carry(regs.hl(), regs.pair(instr.p()), regs.f);
     put_in_pair(sum, Pair::Hl, instr, regs)
@@ -59,7 +59,7 @@ fn add_pair_with_carry(instr: &Instr, regs: &mut Regs) -> u8
 /// SBC HL,ss.
 #[inline(always)]
 fn subtract_pair_with_carry(instr: &Instr, regs: &mut Regs) -> u8
-    ensures { DidInRegisters (subtract_pair_with_carry_transition instr.now regs.old) regs.new result }
+    ensures { DoesInRegisters (subtract_pair_with_carry_transition instr.now regs.old) regs.new result }
 {
     let difference = subtract_words_with_carry(regs.hl(), regs.pair(instr.p()), regs.f);
     put_in_pair(difference, Pair::Hl, instr, regs)
@@ -68,7 +68,7 @@ fn subtract_pair_with_carry(instr: &Instr, regs: &mut Regs) -> u8
 /// INC of a pair.
 #[inline(always)]
 fn increment_pair(pair: Pair, instr: &Instr, regs: &mut Regs) -> u8
-    ensures { DidInRegisters (increment_pair_transition pair instr.now regs.old) regs.new result }
+    ensures { DoesInRegisters (increment_pair_transition pair instr.now regs.old) regs.new result }
 {
     let word = increment_word(get_pair(pair, instr, regs));
     set_pair(pair, word, instr, regs);
@@ -78,7 +78,7 @@ fn increment_pair(pair: Pair, instr: &Instr, regs: &mut Regs) -> u8
 /// DEC of a pair.
 #[inline(always)]
 fn decrement_pair(pair: Pair, instr: &Instr, regs: &mut Regs) -> u8
-    ensures { DidInRegisters (decrement_pair_transition pair instr.now regs.old) regs.new result }
+    ensures { DoesInRegisters (decrement_pair_transition pair instr.now regs.old) regs.new result }
 {
     let word = decrement_word(get_pair(pair, instr, regs));
     set_pair(pair, word, instr, regs);
@@ -89,7 +89,7 @@ fn decrement_pair(pair: Pair, instr: &Instr, regs: &mut Regs) -> u8
 #[inline(always)]
 #[tactic(auto, unfolding(crate::specs::WordArithmetic::word_arithmetic_effect))]
 pub fn perform_word_arithmetic(with: WordArithmetic, instr: &Instr, regs: &mut Regs) -> u8
-    ensures { DidInRegisters (word_arithmetic_effect with instr.now regs.old) regs.new result }
+    ensures { DoesInRegisters (word_arithmetic_effect with instr.now regs.old) regs.new result }
 {
     match with {
         WordArithmetic::AddPair(pair) => add_pair(pair, instr, regs),

@@ -1,7 +1,7 @@
 //! Loads of 16 bits, the stack's among them (UM0080, "16-Bit Load Group"). Each gives its time in T-states.
 
 ghost use Rattle.pac_exec.specs.WordLoads.{word_load_effect, load_pair_transition, load_pair_from_memory_transition, store_pair_transition, load_stack_pointer_transition, push_transition, pop_transition};
-ghost use Rattle.pac_exec.specs.Transition.{Did, DidInRegisters};
+ghost use Rattle.pac_exec.specs.Transition.{DoesTransition, DoesInRegisters};
 
 use crate::pairs::{
     get_pair, get_stack_pair, pop_word, push_word, read_word, set_pair, set_stack_pair,
@@ -14,7 +14,7 @@ use pac_table::{Instr, Pair, WordLoad};
 /// LD dd,nn.
 #[inline(always)]
 fn load_pair(pair: Pair, instr: &Instr, regs: &mut Regs) -> u8
-    ensures { DidInRegisters (load_pair_transition pair instr.now regs.old) regs.new result }
+    ensures { DoesInRegisters (load_pair_transition pair instr.now regs.old) regs.new result }
 {
     set_pair(pair, instr.word(), instr, regs);
     instr.ticks()
@@ -23,7 +23,7 @@ fn load_pair(pair: Pair, instr: &Instr, regs: &mut Regs) -> u8
 /// LD dd,(nn).
 #[inline(always)]
 fn load_pair_from_memory<B: Bus>(pair: Pair, instr: &Instr, regs: &mut Regs, bus: &B) -> u8
-    ensures { DidInRegisters (load_pair_from_memory_transition pair instr.now regs.old (B.byte_at bus.now)) regs.new result }
+    ensures { DoesInRegisters (load_pair_from_memory_transition pair instr.now regs.old (B.byte_at bus.now)) regs.new result }
 {
     let word = read_word(instr.word(), bus);
     set_pair(pair, word, instr, regs);
@@ -33,7 +33,7 @@ fn load_pair_from_memory<B: Bus>(pair: Pair, instr: &Instr, regs: &mut Regs, bus
 /// LD (nn),dd.
 #[inline(always)]
 fn store_pair<B: Bus>(pair: Pair, instr: &Instr, regs: &Regs, bus: &mut B) -> u8
-    ensures { Did B.after (store_pair_transition pair instr.now regs.now) bus.old regs.now bus.new result }
+    ensures { DoesTransition B.after (store_pair_transition pair instr.now regs.now) bus.old regs.now bus.new result }
 {
     let word = get_pair(pair, instr, regs);
     bus.write(instr.word(), low_byte(word));
@@ -44,7 +44,7 @@ fn store_pair<B: Bus>(pair: Pair, instr: &Instr, regs: &Regs, bus: &mut B) -> u8
 /// LD SP,HL.
 #[inline(always)]
 fn load_stack_pointer(pair: Pair, instr: &Instr, regs: &mut Regs) -> u8
-    ensures { DidInRegisters (load_stack_pointer_transition pair instr.now regs.old) regs.new result }
+    ensures { DoesInRegisters (load_stack_pointer_transition pair instr.now regs.old) regs.new result }
 {
     regs.sp = get_pair(pair, instr, regs);
     instr.ticks()
@@ -53,7 +53,7 @@ fn load_stack_pointer(pair: Pair, instr: &Instr, regs: &mut Regs) -> u8
 /// PUSH.
 #[inline(always)]
 fn push<B: Bus>(pair: Pair, instr: &Instr, regs: &mut Regs, bus: &mut B) -> u8
-    ensures { Did B.after (push_transition pair instr.now regs.old) bus.old regs.new bus.new result }
+    ensures { DoesTransition B.after (push_transition pair instr.now regs.old) bus.old regs.new bus.new result }
 {
     let word = get_stack_pair(pair, instr, regs);
     push_word(word, regs, bus);
@@ -63,7 +63,7 @@ fn push<B: Bus>(pair: Pair, instr: &Instr, regs: &mut Regs, bus: &mut B) -> u8
 /// POP.
 #[inline(always)]
 fn pop<B: Bus>(pair: Pair, instr: &Instr, regs: &mut Regs, bus: &B) -> u8
-    ensures { DidInRegisters (pop_transition pair instr.now regs.old (B.byte_at bus.now)) regs.new result }
+    ensures { DoesInRegisters (pop_transition pair instr.now regs.old (B.byte_at bus.now)) regs.new result }
 {
     let word = pop_word(regs, bus);
     set_stack_pair(pair, word, instr, regs);
@@ -74,7 +74,7 @@ fn pop<B: Bus>(pair: Pair, instr: &Instr, regs: &mut Regs, bus: &B) -> u8
 #[inline(always)]
 #[tactic(auto, unfolding(crate::specs::WordLoads::word_load_effect))]
 pub fn perform_word_load<B: Bus>(with: WordLoad, instr: &Instr, regs: &mut Regs, bus: &mut B) -> u8
-    ensures { Did B.after (word_load_effect with instr.now regs.old (B.byte_at bus.old)) bus.old regs.new bus.new result }
+    ensures { DoesTransition B.after (word_load_effect with instr.now regs.old (B.byte_at bus.old)) bus.old regs.new bus.new result }
 {
     match with {
         WordLoad::LoadPair(pair) => load_pair(pair, instr, regs),

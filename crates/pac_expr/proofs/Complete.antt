@@ -6,26 +6,27 @@ use Rattle.pac_expr.specs.declared.expr.Sign.{Sign}
 use Rattle.pac_expr.specs.declared.expr.Sign.TheVariants as signs
 use Rattle.pac_expr.specs.declared.expr.Operator.{Operator}
 use Rattle.pac_expr.specs.declared.expr.Operator.TheVariants.{Add, Subtract, Multiply, Divide}
-use Rattle.pac_expr.specs.Trees.{Tree, atom, group, signed, joined, Mark, closing, sign_mark, operator_mark, spelling, rank, sum_rank}
-use Rattle.pac_expr.specs.Trees.{IsRanked, IsExpression, marks}
-use Rattle.pac_expr.specs.Values.{Answer, HasValue, value_of}
+use Rattle.pac_expr.specs.Trees.{Tree, atom, group, signed, joined, Mark, closing, sign_mark, operator_mark, spelling, rank_of_operator, sum_rank}
+use Rattle.pac_expr.specs.Trees.{IsRanked, IsExpression, token_marks}
+use Rattle.pac_expr.specs.Values.{ValueResult, HasValue, tree_value}
 use Rattle.pac_lex.specs.declared.token.Token.{Token}
-use Rattle.pac_expr.specs.Parsing.{Waiting, sign, left, parenthesis, settled, needs, stands, operated, closed, whole, onward, tree_of}
-use Rattle.pac_expr.specs.Parsing.{completed, waiting_rank}
-use Rattle.pac_expr.specs.Reading.{room}
+use Rattle.pac_expr.specs.Parsing.{Waiting, sign, left, parenthesis, settled_operand, needs, stands, state_after_operator, closed_group, whole_tree, tree_onward, tree_of}
+use Rattle.pac_expr.specs.Parsing.{completed_tree, waiting_rank}
+use Rattle.pac_expr.specs.Reading.{highest_rank}
 use Rattle.pac_expr.proofs.Sound.{found}
 
 -- what waits first is completed where it binds as tight, and else left
 pub settled-more : (n : ℕ) (t : Tree) (w : Waiting) (waiting : List Waiting) → waiting_rank w ≤ n
-    → settled n t (w ∷ waiting) ≡ settled n (completed w t) waiting
+    → settled_operand n t (w ∷ waiting) ≡ settled_operand n (completed_tree w t) waiting
 settled-more n t w waiting low = rw (le-leb (waiting_rank w) n low)
 
 pub settled-here : (n : ℕ) (t : Tree) (w : Waiting) (waiting : List Waiting) → n < waiting_rank w
-    → settled n t (w ∷ waiting) ≡ (t, w ∷ waiting)
+    → settled_operand n t (w ∷ waiting) ≡ (t, w ∷ waiting)
 settled-here n t w waiting high = rw (lt-leb (waiting_rank w) n high)
 
 -- nothing is completed that binds looser
-pub settled-stays : (n : ℕ) (t : Tree) (waiting : List Waiting) → 0 < n → n ≤ room waiting → settled n t waiting ≡ (t, waiting)
+pub settled-stays : (n : ℕ) (t : Tree) (waiting : List Waiting) → 0 < n → n ≤ highest_rank waiting →
+    settled_operand n t waiting ≡ (t, waiting)
 settled-stays n t [] some low = refl
 settled-stays n t (sign s ∷ waiting) some low = absurd (omega arith)
 settled-stays n t (left operator l ∷ waiting) some low = settled-here n t (left operator l) waiting (omega arith)
@@ -35,22 +36,22 @@ settled-stays n t (parenthesis ∷ waiting) some low = settled-here n t parenthe
 record Comes (t : Tree) (n : ℕ) (waiting : List Waiting) (rest : List Mark) : Type 0 where
   tree : Tree
   before : List Waiting
-  runs : onward (Some (needs waiting)) (spelling t ++ rest) ≡ onward (Some (stands tree before)) rest
-  settles : (k : ℕ) → n ≤ k → settled k tree before ≡ settled k t waiting
+  runs : tree_onward (Some (needs waiting)) (spelling t ++ rest) ≡ tree_onward (Some (stands tree before)) rest
+  settles : (k : ℕ) → n ≤ k → settled_operand k tree before ≡ settled_operand k t waiting
 
 pub sign-runs : (s : Sign) (waiting : List Waiting) (ms : List Mark)
-    → onward (Some (needs waiting)) (sign_mark s ∷ ms) ≡ onward (Some (needs (sign s ∷ waiting))) ms
+    → tree_onward (Some (needs waiting)) (sign_mark s ∷ ms) ≡ tree_onward (Some (needs (sign s ∷ waiting))) ms
 sign-runs signs.Plus waiting ms = refl
 sign-runs signs.Minus waiting ms = refl
 
 pub operator-runs : (operator : Operator) (t : Tree) (waiting : List Waiting) (ms : List Mark)
-    → onward (Some (stands t waiting)) (operator_mark operator ∷ ms) ≡ onward (Some (operated operator t waiting)) ms
+    → tree_onward (Some (stands t waiting)) (operator_mark operator ∷ ms) ≡ tree_onward (Some (state_after_operator operator t waiting)) ms
 operator-runs Add t waiting ms = refl
 operator-runs Subtract t waiting ms = refl
 operator-runs Multiply t waiting ms = refl
 operator-runs Divide t waiting ms = refl
 
-pub some-rank : (operator : Operator) → 0 < rank operator
+pub some-rank : (operator : Operator) → 0 < rank_of_operator operator
 some-rank Add = omega arith
 some-rank Subtract = omega arith
 some-rank Multiply = omega arith
@@ -61,8 +62,8 @@ group-comes : (t : Tree) (n : ℕ) (waiting : List Waiting) (rest : List Mark) �
 group-comes t n waiting rest h = record {
   tree = group t;
   before = waiting;
-  runs = ap (onward (Some (needs (parenthesis ∷ waiting)))) (append_assoc (spelling t) (closing ∷ []) rest) ∙ h.runs
-      ∙ ap (λ (s : Tree × List Waiting). onward (closed s) rest) (h.settles sum_rank (omega arith));
+  runs = ap (tree_onward (Some (needs (parenthesis ∷ waiting)))) (append_assoc (spelling t) (closing ∷ []) rest) ∙ h.runs
+      ∙ ap (λ (s : Tree × List Waiting). tree_onward (closed_group s) rest) (h.settles sum_rank (omega arith));
   settles = λ k low. refl;
 }
 
@@ -75,35 +76,37 @@ sign-comes s t n waiting rest h = record {
   settles = λ k low. h.settles k (omega arith) ∙ settled-more k t (sign s) waiting (omega arith);
 }
 
-joined-comes : (operator : Operator) (l r : Tree) (n : ℕ) (waiting : List Waiting) (rest : List Mark) → rank operator ≤ n → n ≤ room waiting
-    → Comes l (rank operator) waiting (operator_mark operator ∷ (spelling r ++ rest))
-    → Comes r (rank operator - 1) (left operator l ∷ waiting) rest → Comes (joined operator l r) n waiting rest
+joined-comes : (operator : Operator) (l r : Tree) (n : ℕ) (waiting : List Waiting) (rest : List Mark) → rank_of_operator operator ≤ n →
+    n ≤ highest_rank waiting
+    → Comes l (rank_of_operator operator) waiting (operator_mark operator ∷ (spelling r ++ rest))
+    → Comes r (rank_of_operator operator - 1) (left operator l ∷ waiting) rest → Comes (joined operator l r) n waiting rest
 joined-comes operator l r n waiting rest low most hl hr = record {
   tree = hr.tree;
   before = hr.before;
-  runs = ap (onward (Some (needs waiting))) (append_assoc (spelling l) (operator_mark operator ∷ spelling r) rest) ∙ hl.runs
+  runs = ap (tree_onward (Some (needs waiting))) (append_assoc (spelling l) (operator_mark operator ∷ spelling r) rest) ∙ hl.runs
       ∙ operator-runs operator hl.tree hl.before (spelling r ++ rest)
-      ∙ ap (λ (s : Tree × List Waiting). onward (Some (needs (left operator s.0 ∷ s.1))) (spelling r ++ rest))
-      (hl.settles (rank operator) (omega arith) ∙ settled-stays (rank operator) l waiting (some-rank operator) (omega arith))
+      ∙ ap (λ (s : Tree × List Waiting). tree_onward (Some (needs (left operator s.0 ∷ s.1))) (spelling r ++ rest))
+      (hl.settles (rank_of_operator operator) (omega arith)
+      ∙ settled-stays (rank_of_operator operator) l waiting (some-rank operator) (omega arith))
       ∙ hr.runs;
   settles = λ k high. hr.settles k (omega arith) ∙ settled-more k r (left operator l) waiting (omega arith);
 }
 
-comes : (t : Tree) (n : ℕ) (waiting : List Waiting) (rest : List Mark) → IsRanked n t → n ≤ room waiting → Comes t n waiting rest
+comes : (t : Tree) (n : ℕ) (waiting : List Waiting) (rest : List Mark) → IsRanked n t → n ≤ highest_rank waiting → Comes t n waiting rest
 comes (atom a) n waiting rest r most = record { tree = atom a; before = waiting; runs = refl; settles = λ k low. refl }
 comes (group t) n waiting rest r most =
     group-comes t n waiting rest (comes t sum_rank (parenthesis ∷ waiting) (closing ∷ rest) r (omega arith))
 comes (signed s t) n waiting rest r most = sign-comes s t n waiting rest (comes t 0 (sign s ∷ waiting) rest r (omega arith))
 comes (joined operator l r) n waiting rest (low, p, q) most =
     joined-comes operator l r n waiting rest low most
-    (comes l (rank operator) waiting (operator_mark operator ∷ (spelling r ++ rest)) p (omega arith))
-    (comes r (rank operator - 1) (left operator l ∷ waiting) rest q (omega arith))
+    (comes l (rank_of_operator operator) waiting (operator_mark operator ∷ (spelling r ++ rest)) p (omega arith))
+    (comes r (rank_of_operator operator - 1) (left operator l ∷ waiting) rest q (omega arith))
 
 given-back : (t : Tree) → IsRanked sum_rank t → tree_of (spelling t) ≡ Some t
 unfolding tree_of
 given-back t r =
     let h = comes t sum_rank [] [] r (omega arith) in
-    ap tree_of (sym (append-nil (spelling t))) ∙ h.runs ∙ ap whole (h.settles sum_rank (omega arith))
+    ap tree_of (sym (append-nil (spelling t))) ∙ h.runs ∙ ap whole_tree (h.settles sum_rank (omega arith))
 
 -- The function of the tokens gives the ranked tree that they spell, and nothing where there is none.
 pub tree-of-spelling : (ms : List Mark) (t : Tree) → (tree_of ms ≡ Some t) ↔ (IsRanked sum_rank t × (ms ≡ spelling t))
@@ -111,16 +114,17 @@ tree-of-spelling ms t = (found ms t, λ (ranked, is). ap tree_of is ∙ given-ba
 
 -- ---- what `value` says
 
-pub value-found : (names : List ℕ → Option ℤ) (line : ℕ) (tokens : List Token) (result : Option Answer)
-    → result ≡ option_map (value_of names line) (tree_of (marks tokens)) → IfSome result (HasValue names line tokens)
-value-found names line tokens result e = rw e (by-tree (tree_of (marks tokens)) refl)
+pub value-found : (names : List ℕ → Option ℤ) (line : ℕ) (tokens : List Token) (result : Option ValueResult)
+    → result ≡ option_map (tree_value names line) (tree_of (token_marks tokens)) → IfSome result (HasValue names line tokens)
+value-found names line tokens result e = rw e (by-tree (tree_of (token_marks tokens)) refl)
   where
-    by-tree : (o : Option Tree) → tree_of (marks tokens) ≡ o → IfSome (option_map (value_of names line) o) (HasValue names line tokens)
+    by-tree : (o : Option Tree) → tree_of (token_marks tokens) ≡ o →
+        IfSome (option_map (tree_value names line) o) (HasValue names line tokens)
     by-tree None is = tt
-    by-tree (Some t) is = record { tree = t; is_spelled = found (marks tokens) t is; is_value = refl }
+    by-tree (Some t) is = record { tree = t; is_spelled = found (token_marks tokens) t is; is_value = refl }
 
-pub value-only : (names : List ℕ → Option ℤ) (line : ℕ) (tokens : List Token) (result : Option Answer)
-    → result ≡ option_map (value_of names line) (tree_of (marks tokens))
-    → (t : Tree) → IsExpression tokens t → result ≡ Some (value_of names line t)
+pub value-only : (names : List ℕ → Option ℤ) (line : ℕ) (tokens : List Token) (result : Option ValueResult)
+    → result ≡ option_map (tree_value names line) (tree_of (token_marks tokens))
+    → (t : Tree) → IsExpression tokens t → result ≡ Some (tree_value names line t)
 value-only names line tokens result e t is =
-    e ∙ ap (option_map (value_of names line)) ((tree-of-spelling (marks tokens) t).1 is)
+    e ∙ ap (option_map (tree_value names line)) ((tree-of-spelling (token_marks tokens) t).1 is)

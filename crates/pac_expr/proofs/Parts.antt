@@ -8,20 +8,20 @@ use Rattle.pac_expr.specs.declared.expr.Sign.TheVariants as signs
 use Rattle.pac_expr.specs.declared.expr.Operator.{Operator}
 use Rattle.pac_expr.specs.declared.expr.Operator.TheVariants.{Add, Subtract, Multiply, Divide}
 use Rattle.pac_expr.specs.Trees.{Atom, Tree, atom, group, signed, joined, Mark, single, opening, closing, plus, minus, star, slash, other}
-use Rattle.pac_expr.specs.Trees.{sign_mark, operator_mark, marks, rank, sum_rank}
-use Rattle.pac_expr.specs.Parsing.{Waiting, sign, left, parenthesis, needs, stands, onward, tree_of}
-use Rattle.pac_expr.specs.Values.{Answer, atom_value, sign_value, joined_value, value_of}
-use Rattle.pac_expr.specs.Reading.{room, Begins, Refuses, Ends, atom_in}
+use Rattle.pac_expr.specs.Trees.{sign_mark, operator_mark, token_marks, rank_of_operator, sum_rank}
+use Rattle.pac_expr.specs.Parsing.{Waiting, sign, left, parenthesis, needs, stands, tree_onward, tree_of}
+use Rattle.pac_expr.specs.Values.{ValueResult, atom_value, sign_value, joined_value, tree_value}
+use Rattle.pac_expr.specs.Reading.{highest_rank, BeginsWithTree, BeginsNoTree, EndsTree, atom_in}
 use Rattle.pac_expr.proofs.Complete.{settled-stays, sign-runs, operator-runs, some-rank}
 
 -- ---- an operand
 
 pub single-begins : (names : List ℕ → Option ℤ) (line : ℕ) (a : Atom) (rest : List Mark)
-    → Begins names line 0 (single a ∷ rest) (atom_value names line a) rest
+    → BeginsWithTree names line 0 (single a ∷ rest) (atom_value names line a) rest
 single-begins names line a rest = record { tree = atom a; value = refl; goes = λ w low. refl }
 
 sign-stands : (s : Sign) (t : Tree) (waiting : List Waiting) (rest : List Mark)
-    → onward (Some (stands t (sign s ∷ waiting))) rest ≡ onward (Some (stands (signed s t) waiting)) rest
+    → tree_onward (Some (stands t (sign s ∷ waiting))) rest ≡ tree_onward (Some (stands (signed s t) waiting)) rest
 sign-stands s t waiting [] = refl
 sign-stands s t waiting (single a ∷ ms) = refl
 sign-stands s t waiting (opening ∷ ms) = refl
@@ -32,27 +32,28 @@ sign-stands s t waiting (star ∷ ms) = refl
 sign-stands s t waiting (slash ∷ ms) = refl
 sign-stands s t waiting (other ∷ ms) = refl
 
-pub sign-begins : (names : List ℕ → Option ℤ) (line : ℕ) (s : Sign) (ms : List Mark) (answer : Answer) (rest : List Mark)
-    → Begins names line 0 ms answer rest → Begins names line 0 (sign_mark s ∷ ms) (sign_value s answer) rest
+pub sign-begins : (names : List ℕ → Option ℤ) (line : ℕ) (s : Sign) (ms : List Mark) (answer : ValueResult) (rest : List Mark)
+    → BeginsWithTree names line 0 ms answer rest → BeginsWithTree names line 0 (sign_mark s ∷ ms) (sign_value s answer) rest
 sign-begins names line s ms answer rest h = record {
   tree = signed s h.tree;
   value = ap (sign_value s) h.value;
   goes = λ w low. sign-runs s w ms ∙ h.goes (sign s ∷ w) (omega arith) ∙ sign-stands s h.tree w rest;
 }
 
-sign-refused : (s : Sign) (ms : List Mark) → Refuses 0 ms → Refuses 0 (sign_mark s ∷ ms)
+sign-refused : (s : Sign) (ms : List Mark) → BeginsNoTree 0 ms → BeginsNoTree 0 (sign_mark s ∷ ms)
 sign-refused s ms h = λ w low. sign-runs s w ms ∙ h (sign s ∷ w) (omega arith)
 
-pub group-begins : (names : List ℕ → Option ℤ) (line : ℕ) (ms : List Mark) (answer : Answer) (rest : List Mark)
-    → Begins names line sum_rank ms answer (closing ∷ rest) → Begins names line 0 (opening ∷ ms) answer rest
+pub group-begins : (names : List ℕ → Option ℤ) (line : ℕ) (ms : List Mark) (answer : ValueResult) (rest : List Mark)
+    → BeginsWithTree names line sum_rank ms answer (closing ∷ rest) → BeginsWithTree names line 0 (opening ∷ ms) answer rest
 group-begins names line ms answer rest h =
     record { tree = group h.tree; value = h.value; goes = λ w low. h.goes (parenthesis ∷ w) (omega arith) }
 
 -- ---- an operator between two operands
 
 -- what follows the right operand binds no tighter than the operator
-joined-stands : (operator : Operator) (l r : Tree) (waiting : List Waiting) (rest : List Mark) → Ends (rank operator - 1) rest
-    → onward (Some (stands r (left operator l ∷ waiting))) rest ≡ onward (Some (stands (joined operator l r) waiting)) rest
+joined-stands : (operator : Operator) (l r : Tree) (waiting : List Waiting) (rest : List Mark) →
+    EndsTree (rank_of_operator operator - 1) rest
+    → tree_onward (Some (stands r (left operator l ∷ waiting))) rest ≡ tree_onward (Some (stands (joined operator l r) waiting)) rest
 joined-stands operator l r waiting (single a ∷ ms) e = refl
 joined-stands operator l r waiting (opening ∷ ms) e = refl
 joined-stands operator l r waiting (other ∷ ms) e = refl
@@ -65,18 +66,20 @@ joined-stands Subtract l r waiting rest e = refl
 joined-stands Multiply l r waiting rest e = refl
 joined-stands Divide l r waiting rest e = refl
 
-left-runs : (names : List ℕ → Option ℤ) (line n : ℕ) (operator : Operator) (ms : List Mark) (answer : Answer) (after : List Mark)
-    → (h : Begins names line n ms answer (operator_mark operator ∷ after)) → rank operator ≤ n → (w : List Waiting) → n ≤ room w
-    → onward (Some (needs w)) ms ≡ onward (Some (needs (left operator h.tree ∷ w))) after
+left-runs : (names : List ℕ → Option ℤ) (line n : ℕ) (operator : Operator) (ms : List Mark) (answer : ValueResult) (after : List Mark)
+    → (h : BeginsWithTree names line n ms answer (operator_mark operator ∷ after)) → rank_of_operator operator ≤ n → (w : List Waiting) →
+    n ≤ highest_rank w
+    → tree_onward (Some (needs w)) ms ≡ tree_onward (Some (needs (left operator h.tree ∷ w))) after
 left-runs names line n operator ms answer after h low w roomy =
     h.goes w roomy ∙ operator-runs operator h.tree w after
-    ∙ ap (λ (s : Tree × List Waiting). onward (Some (needs (left operator s.0 ∷ s.1))) after)
-    (settled-stays (rank operator) h.tree w (some-rank operator) (omega arith))
+    ∙ ap (λ (s : Tree × List Waiting). tree_onward (Some (needs (left operator s.0 ∷ s.1))) after)
+    (settled-stays (rank_of_operator operator) h.tree w (some-rank operator) (omega arith))
 
-pub joined-begins : (names : List ℕ → Option ℤ) (line n : ℕ) (operator : Operator) (ms : List Mark) (l r : Answer) (after rest : List Mark)
-    → Begins names line n ms l (operator_mark operator ∷ after) → rank operator ≤ n
-    → Begins names line (rank operator - 1) after r rest → Ends (rank operator - 1) rest
-    → Begins names line n ms (joined_value operator l r) rest
+pub joined-begins : (names : List ℕ →
+    Option ℤ) (line n : ℕ) (operator : Operator) (ms : List Mark) (l r : ValueResult) (after rest : List Mark)
+    → BeginsWithTree names line n ms l (operator_mark operator ∷ after) → rank_of_operator operator ≤ n
+    → BeginsWithTree names line (rank_of_operator operator - 1) after r rest → EndsTree (rank_of_operator operator - 1) rest
+    → BeginsWithTree names line n ms (joined_value operator l r) rest
 joined-begins names line n operator ms l r after rest hl low hr ends = record {
   tree = joined operator hl.tree hr.tree;
   value = ap₂ (joined_value operator) hl.value hr.value;
@@ -86,13 +89,13 @@ joined-begins names line n operator ms l r after rest hl low hr ends = record {
 
 -- ---- the whole expression
 
-pub whole-value : (names : List ℕ → Option ℤ) (line : ℕ) (ms : List Mark) (answer : Answer)
-    → Begins names line sum_rank ms answer [] → option_map (value_of names line) (tree_of ms) ≡ Some answer
+pub whole-value : (names : List ℕ → Option ℤ) (line : ℕ) (ms : List Mark) (answer : ValueResult)
+    → BeginsWithTree names line sum_rank ms answer [] → option_map (tree_value names line) (tree_of ms) ≡ Some answer
 unfolding tree_of
-whole-value names line ms answer h = ap (option_map (value_of names line)) (h.goes [] (omega arith)) ∙ ap Some h.value
+whole-value names line ms answer h = ap (option_map (tree_value names line)) (h.goes [] (omega arith)) ∙ ap Some h.value
 
 -- where more follows than the longest part, there is no tree
-more-stands : (t : Tree) (m : Mark) (ms : List Mark) → Ends sum_rank (m ∷ ms) → onward (Some (stands t [])) (m ∷ ms) ≡ None
+more-stands : (t : Tree) (m : Mark) (ms : List Mark) → EndsTree sum_rank (m ∷ ms) → tree_onward (Some (stands t [])) (m ∷ ms) ≡ None
 more-stands t (single a) ms e = refl
 more-stands t opening ms e = refl
 more-stands t closing ms e = refl
@@ -102,25 +105,25 @@ more-stands t star ms e = absurd (omega arith)
 more-stands t slash ms e = absurd (omega arith)
 more-stands t other ms e = refl
 
-pub more-none : (names : List ℕ → Option ℤ) (line : ℕ) (ms : List Mark) (answer : Answer) (rest : List Mark)
-    → Begins names line sum_rank ms answer rest → Ends sum_rank rest → (rest ≡ [] → ⊥)
-    → option_map (value_of names line) (tree_of ms) ≡ None
+pub more-none : (names : List ℕ → Option ℤ) (line : ℕ) (ms : List Mark) (answer : ValueResult) (rest : List Mark)
+    → BeginsWithTree names line sum_rank ms answer rest → EndsTree sum_rank rest → (rest ≡ [] → ⊥)
+    → option_map (tree_value names line) (tree_of ms) ≡ None
 unfolding tree_of
 more-none names line ms answer [] h ends some = absurd (some refl)
 more-none names line ms answer (m ∷ rest) h ends some =
-    ap (option_map (value_of names line)) (h.goes [] (omega arith) ∙ more-stands h.tree m rest ends)
+    ap (option_map (tree_value names line)) (h.goes [] (omega arith) ∙ more-stands h.tree m rest ends)
 
-pub refused-none : (names : List ℕ → Option ℤ) (line : ℕ) (ms : List Mark) → Refuses sum_rank ms
-    → option_map (value_of names line) (tree_of ms) ≡ None
+pub refused-none : (names : List ℕ → Option ℤ) (line : ℕ) (ms : List Mark) → BeginsNoTree sum_rank ms
+    → option_map (tree_value names line) (tree_of ms) ≡ None
 unfolding tree_of
-refused-none names line ms h = ap (option_map (value_of names line)) (h [] (omega arith))
+refused-none names line ms h = ap (option_map (tree_value names line)) (h [] (omega arith))
 
 -- ---- as the code tells them
 
-pub plus-comes : {R : Type 0} (names : List ℕ → Option ℤ) (line : ℕ) (ms after : List Mark) (result : Option R) (answer : R → Answer)
+pub plus-comes : {R : Type 0} (names : List ℕ → Option ℤ) (line : ℕ) (ms after : List Mark) (result : Option R) (answer : R → ValueResult)
     → (rest : R → List Mark) → ms ≡ plus ∷ after
-    → MatchOption result (Refuses 0 after) (λ r. Begins names line 0 after (answer r) (rest r))
-    → MatchOption result (Refuses 0 ms) (λ r. Begins names line 0 ms (answer r) (rest r))
+    → MatchOption result (BeginsNoTree 0 after) (λ r. BeginsWithTree names line 0 after (answer r) (rest r))
+    → MatchOption result (BeginsNoTree 0 ms) (λ r. BeginsWithTree names line 0 ms (answer r) (rest r))
 plus-comes names line ms after None answer rest is h = rw is (sign-refused signs.Plus after h)
 plus-comes names line ms after (Some r) answer rest is h = rw is (sign-begins names line signs.Plus after (answer r) (rest r) h)
 
@@ -128,10 +131,10 @@ pub atom-found : (m : Mark) (a : Atom) → Some a ≡ atom_in m → m ≡ single
 atom-found (single b) a e = cc
 atom-found m a e = absurd cc
 
-pub none-left : (tokens : List Token) → length tokens == 0 ≡ true → marks tokens ≡ []
+pub none-left : (tokens : List Token) → length tokens == 0 ≡ true → token_marks tokens ≡ []
 none-left [] e = refl
 none-left (token ∷ tokens) e = absurd (omega (arith, eqb-true (length (token ∷ tokens)) 0 e))
 
-pub some-left : (tokens : List Token) → length tokens == 0 ≡ false → marks tokens ≡ [] → ⊥
+pub some-left : (tokens : List Token) → length tokens == 0 ≡ false → token_marks tokens ≡ [] → ⊥
 some-left [] e h = cc
 some-left (token ∷ tokens) e h = cc

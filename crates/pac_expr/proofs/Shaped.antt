@@ -5,23 +5,25 @@ use Rattle.std.proofs.Common.{sym, ap, ◌∙◌, arith}
 use Rattle.std.proofs.lemmas.Bool.{leb-true, ne_eqb}
 use Rattle.pac_expr.specs.declared.expr.Operator.TheVariants.{Add, Subtract, Multiply, Divide}
 use Rattle.pac_expr.specs.Trees.{Tree, Mark, single, closing, plus, minus, star, slash, product_rank, sum_rank}
-use Rattle.pac_expr.specs.Parsing.{Waiting, sign, left, parenthesis, completed, waiting_rank, settled, State, needs, stands}
-use Rattle.pac_expr.specs.Parsing.{closed, next, whole, finished, onward, tree_of}
-use Rattle.pac_expr.specs.Shape.{Shape, open_in, shape_of, continued_shape, next_shape, shaped}
+use Rattle.pac_expr.specs.Parsing.{Waiting, sign, left, parenthesis, completed_tree, waiting_rank, settled_operand, ParseState, needs, stands}
+use Rattle.pac_expr.specs.Parsing.{closed_group, state_after_mark, whole_tree, finished_tree, tree_onward, tree_of}
+use Rattle.pac_expr.specs.Shape.{ParseShape, open_parentheses, shape_of, continued_shape, next_shape, ends_expression}
 
 -- settling leaves the open parentheses
 keeps-if : (b : Bool) (n : ℕ) (t : Tree) (w : Waiting) (waiting : List Waiting) (s : Tree × List Waiting) → nat_le (waiting_rank w) n ≡ b
-    → n ≤ sum_rank → open_in s.1 ≡ open_in waiting → open_in (cond b s (t, w ∷ waiting)).1 ≡ open_in (w ∷ waiting)
+    → n ≤ sum_rank → open_parentheses s.1 ≡ open_parentheses waiting →
+    open_parentheses (cond b s (t, w ∷ waiting)).1 ≡ open_parentheses (w ∷ waiting)
 keeps-if true n t (sign s) waiting x is low e = e
 keeps-if true n t (left operator l) waiting x is low e = e
 keeps-if true n t parenthesis waiting x is low e = absurd (omega (arith, leb-true 3 n is))
 keeps-if false n t w waiting x is low e = refl
 
-settled-keeps : (n : ℕ) (t : Tree) (waiting : List Waiting) → n ≤ sum_rank → open_in (settled n t waiting).1 ≡ open_in waiting
+settled-keeps : (n : ℕ) (t : Tree) (waiting : List Waiting) → n ≤ sum_rank →
+    open_parentheses (settled_operand n t waiting).1 ≡ open_parentheses waiting
 settled-keeps n t [] low = refl
 settled-keeps n t (w ∷ waiting) low =
-    keeps-if (nat_le (waiting_rank w) n) n t w waiting (settled n (completed w t) waiting) refl low
-    (settled-keeps n (completed w t) waiting low)
+    keeps-if (nat_le (waiting_rank w) n) n t w waiting (settled_operand n (completed_tree w t) waiting) refl low
+    (settled-keeps n (completed_tree w t) waiting low)
 
 -- what a whole sum leaves: nothing, or an open parenthesis first
 abbrev Stops : List Waiting → Type 0
@@ -39,31 +41,31 @@ stops-if false t (left Multiply l) waiting s is h = absurd cc
 stops-if false t (left Divide l) waiting s is h = absurd cc
 stops-if false t parenthesis waiting s is h = tt
 
-settled-stops : (t : Tree) (waiting : List Waiting) → Stops (settled sum_rank t waiting).1
+settled-stops : (t : Tree) (waiting : List Waiting) → Stops (settled_operand sum_rank t waiting).1
 settled-stops t [] = tt
 settled-stops t (w ∷ waiting) =
-    stops-if (nat_le (waiting_rank w) sum_rank) t w waiting (settled sum_rank (completed w t) waiting) refl
-    (settled-stops (completed w t) waiting)
+    stops-if (nat_le (waiting_rank w) sum_rank) t w waiting (settled_operand sum_rank (completed_tree w t) waiting) refl
+    (settled-stops (completed_tree w t) waiting)
 
 one-less : (n k : ℕ) → k ≡ n + 1
     → Some (true, n) ≡ continued_shape k closing
 one-less n k e = rw (ne_eqb k 0 (λ z. omega arith)) (ap (λ (j : ℕ). Some (true, j)) (omega arith))
 
 -- a closing parenthesis after a whole sum, and the end there
-closed-shape : (s : Tree × List Waiting) (k : ℕ) → Stops s.1 → open_in s.1 ≡ k
-    → option_map shape_of (closed s) ≡ continued_shape k closing
+closed-shape : (s : Tree × List Waiting) (k : ℕ) → Stops s.1 → open_parentheses s.1 ≡ k
+    → option_map shape_of (closed_group s) ≡ continued_shape k closing
 closed-shape (t, []) k h e = rw (← e) refl
-closed-shape (t, parenthesis ∷ waiting) k h e = one-less (open_in waiting) k (sym e)
+closed-shape (t, parenthesis ∷ waiting) k h e = one-less (open_parentheses waiting) k (sym e)
 closed-shape (t, sign x ∷ waiting) k h e = absurd h
 closed-shape (t, left operator l ∷ waiting) k h e = absurd h
 
-whole-shape : (s : Tree × List Waiting) (k : ℕ) → Stops s.1 → open_in s.1 ≡ k → is_some (whole s) ≡ k == 0
+whole-shape : (s : Tree × List Waiting) (k : ℕ) → Stops s.1 → open_parentheses s.1 ≡ k → is_some (whole_tree s) ≡ k == 0
 whole-shape (t, []) k h e = rw (← e) refl
 whole-shape (t, parenthesis ∷ waiting) k h e = sym (ne_eqb k 0 (λ z. omega arith))
 whole-shape (t, sign x ∷ waiting) k h e = absurd h
 whole-shape (t, left operator l ∷ waiting) k h e = absurd h
 
-next-shape : (s : State) (m : Mark) → option_map shape_of (next s m) ≡ next_shape (shape_of s) m
+next-shape : (s : ParseState) (m : Mark) → option_map shape_of (state_after_mark s m) ≡ next_shape (shape_of s) m
 next-shape (needs waiting) (single a) = refl
 next-shape (needs waiting) m = refl
 next-shape (stands t waiting) plus = ap (λ (k : ℕ). Some (false, k)) (settled-keeps sum_rank t waiting (omega arith))
@@ -71,19 +73,22 @@ next-shape (stands t waiting) minus = ap (λ (k : ℕ). Some (false, k)) (settle
 next-shape (stands t waiting) star = ap (λ (k : ℕ). Some (false, k)) (settled-keeps product_rank t waiting (omega arith))
 next-shape (stands t waiting) slash = ap (λ (k : ℕ). Some (false, k)) (settled-keeps product_rank t waiting (omega arith))
 next-shape (stands t waiting) closing =
-    closed-shape (settled sum_rank t waiting) (open_in waiting) (settled-stops t waiting) (settled-keeps sum_rank t waiting (omega arith))
+    closed-shape (settled_operand sum_rank t waiting) (open_parentheses waiting) (settled-stops t waiting)
+    (settled-keeps sum_rank t waiting (omega arith))
 next-shape (stands t waiting) m = refl
 
-finished-shape : (s : State) → is_some (finished s) ≡ shaped (Some (shape_of s)) []
+finished-shape : (s : ParseState) → is_some (finished_tree s) ≡ ends_expression (Some (shape_of s)) []
 finished-shape (needs waiting) = refl
 finished-shape (stands t waiting) =
-    whole-shape (settled sum_rank t waiting) (open_in waiting) (settled-stops t waiting) (settled-keeps sum_rank t waiting (omega arith))
+    whole-shape (settled_operand sum_rank t waiting) (open_parentheses waiting) (settled-stops t waiting)
+    (settled-keeps sum_rank t waiting (omega arith))
 
-onward-shape : (o : Option State) (ms : List Mark) → is_some (onward o ms) ≡ shaped (option_map shape_of o) ms
+onward-shape : (o : Option ParseState) (ms : List Mark) → is_some (tree_onward o ms) ≡ ends_expression (option_map shape_of o) ms
 onward-shape None ms = refl
 onward-shape (Some s) [] = finished-shape s
-onward-shape (Some s) (m ∷ ms) = onward-shape (next s m) ms ∙ ap (λ (o : Option Shape). shaped o ms) (next-shape s m)
+onward-shape (Some s) (m ∷ ms) = onward-shape (state_after_mark s m) ms
+    ∙ ap (λ (o : Option ParseShape). ends_expression o ms) (next-shape s m)
 
-pub tree-shape : (ms : List Mark) → is_some (tree_of ms) ≡ shaped (Some (false, 0)) ms
+pub tree-shape : (ms : List Mark) → is_some (tree_of ms) ≡ ends_expression (Some (false, 0)) ms
 unfolding tree_of
 tree-shape ms = onward-shape (Some (needs [])) ms

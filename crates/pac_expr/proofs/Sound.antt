@@ -4,11 +4,11 @@ use Rattle.std.proofs.Common.{sym, ap, ◌∙◌, arith, append_assoc, append-ni
 use Rattle.std.proofs.lemmas.Bool.{leb-true, leb-false}
 use Rattle.pac_expr.specs.declared.expr.Operator.{Operator}
 use Rattle.pac_expr.specs.declared.expr.Operator.TheVariants.{Add, Subtract, Multiply, Divide}
-use Rattle.pac_expr.specs.Trees.{Tree, Mark, single, opening, closing, plus, minus, star, slash, sign_mark, operator_mark, spelling, rank}
+use Rattle.pac_expr.specs.Trees.{Tree, Mark, single, opening, closing, plus, minus, star, slash, sign_mark, operator_mark, spelling, rank_of_operator}
 use Rattle.pac_expr.specs.Trees.{sum_rank, IsRanked}
-use Rattle.pac_expr.specs.Parsing.{Waiting, sign, left, parenthesis, completed, waiting_rank, settled, State, needs, stands, operated}
-use Rattle.pac_expr.specs.Reading.{room}
-use Rattle.pac_expr.specs.Parsing.{closed, next, whole, finished, onward, tree_of}
+use Rattle.pac_expr.specs.Parsing.{Waiting, sign, left, parenthesis, completed_tree, waiting_rank, settled_operand, ParseState, needs, stands, state_after_operator}
+use Rattle.pac_expr.specs.Reading.{highest_rank}
+use Rattle.pac_expr.specs.Parsing.{closed_group, state_after_mark, whole_tree, finished_tree, tree_onward, tree_of}
 
 -- the tokens that it was read from
 abbrev own_marks : Waiting → List Mark
@@ -23,7 +23,8 @@ waiting_marks (w ∷ waiting) = waiting_marks waiting ++ own_marks w
 abbrev Fits : List Waiting → Type 0
 Fits [] = Unit {0}
 Fits (sign s ∷ waiting) = Fits waiting
-Fits (left operator l ∷ waiting) = IsRanked (rank operator) l × (rank operator ≤ room waiting) × Fits waiting
+Fits (left operator l ∷ waiting) = IsRanked (rank_of_operator operator) l × (rank_of_operator operator ≤ highest_rank waiting)
+    × Fits waiting
 Fits (parenthesis ∷ waiting) = Fits waiting
 
 -- ---- an operand that completes what waits
@@ -32,16 +33,17 @@ record Settles (n : ℕ) (t : Tree) (waiting : List Waiting) (s : Tree × List W
   spells : waiting_marks s.1 ++ spelling s.0 ≡ waiting_marks waiting ++ spelling t
   fits : Fits s.1
   ranked : IsRanked n s.0
-  low : n ≤ room s.1
+  low : n ≤ highest_rank s.1
 
 -- what an operand completes is ranked as its operator, and fits where that did
 record Completes (n : ℕ) (t : Tree) (w : Waiting) (waiting : List Waiting) : Type 0 where
   fits : Fits waiting
-  ranked : IsRanked n (completed w t)
-  roomy : IsRanked (room waiting) (completed w t)
-  spells : own_marks w ++ spelling t ≡ spelling (completed w t)
+  ranked : IsRanked n (completed_tree w t)
+  roomy : IsRanked (highest_rank waiting) (completed_tree w t)
+  spells : own_marks w ++ spelling t ≡ spelling (completed_tree w t)
 
-completes : (n : ℕ) (t : Tree) (w : Waiting) (waiting : List Waiting) → n ≤ sum_rank → Fits (w ∷ waiting) → IsRanked (room (w ∷ waiting)) t
+completes : (n : ℕ) (t : Tree) (w : Waiting) (waiting : List Waiting) → n ≤ sum_rank → Fits (w ∷ waiting) →
+    IsRanked (highest_rank (w ∷ waiting)) t
     → waiting_rank w ≤ n → Completes n t w waiting
 completes n t (sign s) waiting most fits r low = record { fits = fits; ranked = r; roomy = r; spells = refl }
 completes n t (left operator l) waiting most (ranked, below, fits) r low =
@@ -49,13 +51,13 @@ completes n t (left operator l) waiting most (ranked, below, fits) r low =
     record { fits = fits; ranked = (low, ranked, r); roomy = (below, ranked, r); spells = spells }
 completes n t parenthesis waiting most fits r low = absurd (omega arith)
 
-above : (n : ℕ) (w : Waiting) (waiting : List Waiting) → n ≤ sum_rank → n < waiting_rank w → n ≤ room (w ∷ waiting)
+above : (n : ℕ) (w : Waiting) (waiting : List Waiting) → n ≤ sum_rank → n < waiting_rank w → n ≤ highest_rank (w ∷ waiting)
 above n (sign s) waiting most high = absurd (omega arith)
 above n (left operator l) waiting most high = omega arith
 above n parenthesis waiting most high = most
 
 more-settled : (n : ℕ) (t : Tree) (w : Waiting) (waiting : List Waiting) (s : Tree × List Waiting) → Completes n t w waiting
-    → Settles n (completed w t) waiting s → Settles n t (w ∷ waiting) s
+    → Settles n (completed_tree w t) waiting s → Settles n t (w ∷ waiting) s
 more-settled n t w waiting s h more = record {
   spells = more.spells ∙ ap (λ (ms : List Mark). waiting_marks waiting ++ ms) (sym h.spells)
       ∙ sym (append_assoc (waiting_marks waiting) (own_marks w) (spelling t));
@@ -70,17 +72,19 @@ by-test : (b : Bool) (n : ℕ) (t : Tree) (w : Waiting) (waiting : List Waiting)
 by-test true n t w waiting s e more here = more (leb-true (waiting_rank w) n e)
 by-test false n t w waiting s e more here = here (leb-false (waiting_rank w) n e)
 
-settles : (n : ℕ) (t : Tree) (waiting : List Waiting) → n ≤ sum_rank → Fits waiting → IsRanked n t → IsRanked (room waiting) t
-    → Settles n t waiting (settled n t waiting)
+settles : (n : ℕ) (t : Tree) (waiting : List Waiting) → n ≤ sum_rank → Fits waiting → IsRanked n t → IsRanked (highest_rank waiting) t
+    → Settles n t waiting (settled_operand n t waiting)
 settles n t [] most fits r s = record { spells = refl; fits = tt; ranked = r; low = most }
-settles n t (w ∷ waiting) most fits r s = by-test (nat_le (waiting_rank w) n) n t w waiting (settled n (completed w t) waiting) refl
+settles n t (w ∷ waiting) most fits r s =
+    by-test (nat_le (waiting_rank w) n) n t w waiting (settled_operand n (completed_tree w t) waiting) refl
     (λ low. let h = completes n t w waiting most fits s low in
-    more-settled n t w waiting (settled n (completed w t) waiting) h (settles n (completed w t) waiting most h.fits h.ranked h.roomy))
+    more-settled n t w waiting (settled_operand n (completed_tree w t) waiting) h
+    (settles n (completed_tree w t) waiting most h.fits h.ranked h.roomy))
     (λ high. record { spells = refl; fits = fits; ranked = r; low = above n w waiting most high })
 
 -- ---- the tokens taken so far
 
-abbrev Reads : State → List Mark → Type 0
+abbrev Reads : ParseState → List Mark → Type 0
 Reads (needs waiting) taken = Fits waiting × (waiting_marks waiting ≡ taken)
 Reads (stands t waiting) taken = Fits waiting × ((n : ℕ) → IsRanked n t) × (waiting_marks waiting ++ spelling t ≡ taken)
 
@@ -88,25 +92,26 @@ one-more : (xs taken : List Mark) (m : Mark) → xs ≡ taken → xs ++ m ∷ []
 one-more xs taken m e = ap (λ (ms : List Mark). ms ++ m ∷ []) e
 
 operates : (operator : Operator) (t : Tree) (waiting : List Waiting) (taken : List Mark) → Reads (stands t waiting) taken
-    → Reads (operated operator t waiting) (taken ++ operator_mark operator ∷ [])
+    → Reads (state_after_operator operator t waiting) (taken ++ operator_mark operator ∷ [])
 operates operator t waiting taken (fits, ranked, e) =
-    let s = settled (rank operator) t waiting in
-    let h : Settles (rank operator) t waiting s =
-    settles (rank operator) t waiting (low operator) fits (ranked (rank operator)) (ranked (room waiting)) in (
+    let s = settled_operand (rank_of_operator operator) t waiting in
+    let h : Settles (rank_of_operator operator) t waiting s =
+    settles (rank_of_operator operator) t waiting (low operator) fits (ranked (rank_of_operator operator))
+    (ranked (highest_rank waiting)) in (
       (h.ranked, h.low, h.fits),
       sym (append_assoc (waiting_marks s.1) (spelling s.0) (operator_mark operator ∷ []))
           ∙ one-more (waiting_marks s.1 ++ spelling s.0) taken (operator_mark operator) (h.spells ∙ e),
     )
   where
-    low : (o : Operator) → rank o ≤ sum_rank
+    low : (o : Operator) → rank_of_operator o ≤ sum_rank
     low Add = omega arith
     low Subtract = omega arith
     low Multiply = omega arith
     low Divide = omega arith
 
-closes : (t : Tree) (waiting : List Waiting) (taken : List Mark) → Fits waiting → IsRanked sum_rank t → sum_rank ≤ room waiting
+closes : (t : Tree) (waiting : List Waiting) (taken : List Mark) → Fits waiting → IsRanked sum_rank t → sum_rank ≤ highest_rank waiting
     → waiting_marks waiting ++ spelling t ≡ taken
-    → IfSome (closed (t, waiting)) (λ state. Reads state (taken ++ closing ∷ []))
+    → IfSome (closed_group (t, waiting)) (λ state. Reads state (taken ++ closing ∷ []))
 closes t [] taken fits r low e = tt
 closes t (sign s ∷ waiting) taken fits r low e = absurd (omega arith)
 closes t (left Add l ∷ waiting) taken fits r low e = absurd (omega arith)
@@ -121,8 +126,8 @@ closes t (parenthesis ∷ waiting) taken fits r low e = (
       (sym (append_assoc (waiting_marks waiting) (opening ∷ []) (spelling t)) ∙ e),
 )
 
-reads-next : (state : State) (m : Mark) (taken : List Mark) → Reads state taken
-    → IfSome (next state m) (λ after. Reads after (taken ++ m ∷ []))
+reads-next : (state : ParseState) (m : Mark) (taken : List Mark) → Reads state taken
+    → IfSome (state_after_mark state m) (λ after. Reads after (taken ++ m ∷ []))
 reads-next (needs waiting) (single a) taken (fits, e) = (fits, (λ n. tt), one-more (waiting_marks waiting) taken (single a) e)
 reads-next (needs waiting) opening taken (fits, e) = (fits, one-more (waiting_marks waiting) taken opening e)
 reads-next (needs waiting) plus taken (fits, e) = (fits, one-more (waiting_marks waiting) taken plus e)
@@ -132,34 +137,37 @@ reads-next (stands t waiting) minus taken h = operates Subtract t waiting taken 
 reads-next (stands t waiting) star taken h = operates Multiply t waiting taken h
 reads-next (stands t waiting) slash taken h = operates Divide t waiting taken h
 reads-next (stands t waiting) closing taken (fits, ranked, e) =
-    let s = settled sum_rank t waiting in
-    let h : Settles sum_rank t waiting s = settles sum_rank t waiting (omega arith) fits (ranked sum_rank) (ranked (room waiting)) in
+    let s = settled_operand sum_rank t waiting in
+    let h : Settles sum_rank t waiting s =
+    settles sum_rank t waiting (omega arith) fits (ranked sum_rank) (ranked (highest_rank waiting)) in
     closes s.0 s.1 taken h.fits h.ranked h.low (h.spells ∙ e)
 reads-next state m taken h = tt
 
 -- ---- the whole expression
 
 reads-whole : (t : Tree) (waiting : List Waiting) (u : Tree) (taken : List Mark) → IsRanked sum_rank t
-    → waiting_marks waiting ++ spelling t ≡ taken → whole (t, waiting) ≡ Some u → IsRanked sum_rank u × (taken ≡ spelling u)
+    → waiting_marks waiting ++ spelling t ≡ taken → whole_tree (t, waiting) ≡ Some u → IsRanked sum_rank u × (taken ≡ spelling u)
 reads-whole t [] u taken r e is =
     let same : t ≡ u = cc in
     (rw same at r, sym e ∙ ap spelling same)
 reads-whole t (w ∷ waiting) u taken r e is = absurd (cc)
 
-reads-end : (state : State) (u : Tree) (taken : List Mark) → Reads state taken → finished state ≡ Some u
+reads-end : (state : ParseState) (u : Tree) (taken : List Mark) → Reads state taken → finished_tree state ≡ Some u
     → IsRanked sum_rank u × (taken ≡ spelling u)
 reads-end (needs waiting) u taken h is = absurd (cc)
 reads-end (stands t waiting) u taken (fits, ranked, e) is =
-    let s = settled sum_rank t waiting in
-    let h : Settles sum_rank t waiting s = settles sum_rank t waiting (omega arith) fits (ranked sum_rank) (ranked (room waiting)) in
+    let s = settled_operand sum_rank t waiting in
+    let h : Settles sum_rank t waiting s =
+    settles sum_rank t waiting (omega arith) fits (ranked sum_rank) (ranked (highest_rank waiting)) in
     reads-whole s.0 s.1 u taken h.ranked (h.spells ∙ e) is
 
-reads-on : (o : Option State) (ms : List Mark) (u : Tree) (taken : List Mark) → IfSome o (λ state. Reads state taken) → onward o ms ≡ Some u
+reads-on : (o : Option ParseState) (ms : List Mark) (u : Tree) (taken : List Mark) → IfSome o (λ state. Reads state taken) →
+    tree_onward o ms ≡ Some u
     → IsRanked sum_rank u × (taken ++ ms ≡ spelling u)
 reads-on None ms u taken h is = absurd (cc)
 reads-on (Some state) [] u taken h is = rw append-nil (reads-end state u taken h is)
 reads-on (Some state) (m ∷ ms) u taken h is =
-    let on = reads-on (next state m) ms u (taken ++ m ∷ []) (reads-next state m taken h) is in
+    let on = reads-on (state_after_mark state m) ms u (taken ++ m ∷ []) (reads-next state m taken h) is in
     (on.0, sym (append_assoc taken (m ∷ []) ms) ∙ on.1)
 
 -- a tree that is found is ranked and spells the tokens

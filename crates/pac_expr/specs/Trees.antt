@@ -1,13 +1,13 @@
 -- To be believed: expressions as trees, and the tokens that spell them: the assembler's notation of this profile, whose
 -- operators bind as in arithmetic.
 use Rattle.std.specs.Prelude.{◌≡◌, ℕ, ◌-◌, ◌≤◌, List, [], ◌∷◌, ◌++◌, Option, Some, None, map}
-use Rattle.pac_lex.specs.declared.token.Kind.{Kind}
-use Rattle.pac_lex.specs.declared.token.Kind.TheVariants as kinds
+use Rattle.pac_lex.specs.declared.token.TokenKind.{TokenKind}
+use Rattle.pac_lex.specs.declared.token.TokenKind.TheVariants as kinds
 use Rattle.pac_lex.specs.declared.token.Token.{Token}
 use Rattle.pac_lex.specs.Texts.{one_character}
 use Rattle.pac_lex.specs.Tokens.{Lexeme, views}
-use Rattle.pac_expr.specs.declared.expr.Operand.{Operand}
-use Rattle.pac_expr.specs.declared.expr.Operand.TheVariants as operands
+use Rattle.pac_expr.specs.declared.expr.Primary.{Primary}
+use Rattle.pac_expr.specs.declared.expr.Primary.TheVariants as operands
 use Rattle.pac_expr.specs.declared.expr.Sign.{Sign}
 use Rattle.pac_expr.specs.declared.expr.Sign.TheVariants as signs
 use Rattle.pac_expr.specs.declared.expr.Operator.{Operator}
@@ -27,7 +27,7 @@ pub data Tree : Type 0 where
   signed : Sign → Tree → Tree
   joined : Operator → Tree → Tree → Tree
 
-abbrev pub atom_of : Operand → Atom
+abbrev pub atom_of : Primary → Atom
 atom_of (operands.Number n) = number n
 atom_of (operands.Character c) = character c
 atom_of (operands.Name text) = name text.now
@@ -49,7 +49,7 @@ abbrev pub text_mark : Option ℕ → Mark
 text_mark None = other
 text_mark (Some c) = single (character c)
 
-abbrev pub kind_mark : Kind → List ℕ → Mark
+abbrev pub kind_mark : TokenKind → List ℕ → Mark
 kind_mark (kinds.Number n) text = single (number n)
 kind_mark kinds.Text text = text_mark (one_character text)
 kind_mark kinds.Name text = single (name text)
@@ -68,11 +68,11 @@ lexeme_mark lexeme = kind_mark lexeme.kind lexeme.text
 abbrev pub marks_of : List Lexeme → List Mark
 marks_of lexemes = map lexeme_mark lexemes
 
-abbrev pub mark : Token → Mark
-mark token = kind_mark token.kind token.text.now
+abbrev pub token_mark : Token → Mark
+token_mark token = kind_mark token.kind token.text.now
 
-abbrev pub marks : List Token → List Mark
-marks tokens = marks_of (views tokens)
+abbrev pub token_marks : List Token → List Mark
+token_marks tokens = marks_of (views tokens)
 
 abbrev pub sign_mark : Sign → Mark
 sign_mark signs.Plus = plus
@@ -98,11 +98,11 @@ product_rank = 1
 abbrev pub sum_rank : ℕ
 sum_rank = 2
 
-abbrev pub rank : Operator → ℕ
-rank Add = sum_rank
-rank Subtract = sum_rank
-rank Multiply = product_rank
-rank Divide = product_rank
+abbrev pub rank_of_operator : Operator → ℕ
+rank_of_operator Add = sum_rank
+rank_of_operator Subtract = sum_rank
+rank_of_operator Multiply = product_rank
+rank_of_operator Divide = product_rank
 
 -- The tree is one whose operators outside its groups have this rank at most. The left operand of an
 -- operator may have its rank, the right one only a lower rank, so operators of one rank join from left
@@ -111,8 +111,9 @@ abbrev pub IsRanked : ℕ → Tree → Type 0
 IsRanked n (atom a) = Unit {0}
 IsRanked n (group t) = IsRanked sum_rank t
 IsRanked n (signed sign t) = IsRanked 0 t
-IsRanked n (joined operator left right) = (rank operator ≤ n) × IsRanked (rank operator) left × IsRanked (rank operator - 1) right
+IsRanked n (joined operator left right) = (rank_of_operator operator ≤ n) × IsRanked (rank_of_operator operator) left
+    × IsRanked (rank_of_operator operator - 1) right
 
 -- an expression of the source: a tree with its parentheses where they are needed, and its tokens
 abbrev pub IsExpression : List Token → Tree → Type 0
-IsExpression tokens t = IsRanked sum_rank t × (marks tokens ≡ spelling t)
+IsExpression tokens t = IsRanked sum_rank t × (token_marks tokens ≡ spelling t)

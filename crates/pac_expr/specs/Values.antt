@@ -12,57 +12,57 @@ use Rattle.pac_lex.specs.declared.token.Token.{Token}
 use Rattle.pac_expr.specs.Trees.{Atom, number, character, name, here, Tree, atom, group, signed, joined, IsExpression}
 
 -- a number, or why there is none
-abbrev pub Answer : Type 0
-Answer = Result ℤ ValueError
+abbrev pub ValueResult : Type 0
+ValueResult = Result ℤ ValueError
 
 -- a result has 32 bits with its sign
-abbrev pub ranged : ℤ → Answer
-ranged z = if int_le (negsuc 2147483647) z && int_le z (pos 2147483647) then Ok z else Err OutOfRange
+abbrev pub value_in_range : ℤ → ValueResult
+value_in_range z = if int_le (negsuc 2147483647) z && int_le z (pos 2147483647) then Ok z else Err OutOfRange
 
 -- what a name stands for
-abbrev pub defined : Option ℤ → Answer
-defined None = Err Undefined
-defined (Some z) = Ok z
+abbrev pub defined_value : Option ℤ → ValueResult
+defined_value None = Err Undefined
+defined_value (Some z) = Ok z
 
 -- the first of two faults, in the order of their codes
-abbrev pub first : ValueError → ValueError → ValueError
-first Undefined fault = Undefined
-first OutOfRange Undefined = Undefined
-first OutOfRange OutOfRange = OutOfRange
-first OutOfRange DivisionByZero = OutOfRange
-first DivisionByZero fault = fault
+abbrev pub first_value_error : ValueError → ValueError → ValueError
+first_value_error Undefined fault = Undefined
+first_value_error OutOfRange Undefined = Undefined
+first_value_error OutOfRange OutOfRange = OutOfRange
+first_value_error OutOfRange DivisionByZero = OutOfRange
+first_value_error DivisionByZero fault = fault
 
 -- what an operator makes of two numbers; a quotient is cut toward zero
-abbrev pub operate : Operator → ℤ → ℤ → Answer
-operate Add x y = ranged (x +ℤ y)
-operate Subtract x y = ranged (x -ℤ y)
-operate Multiply x y = ranged (x *ℤ y)
-operate Divide x y = if int_eq y (pos 0) then Err DivisionByZero else ranged (int_div x y)
+abbrev pub operator_value : Operator → ℤ → ℤ → ValueResult
+operator_value Add x y = value_in_range (x +ℤ y)
+operator_value Subtract x y = value_in_range (x -ℤ y)
+operator_value Multiply x y = value_in_range (x *ℤ y)
+operator_value Divide x y = if int_eq y (pos 0) then Err DivisionByZero else value_in_range (int_div x y)
 
 -- what a sign makes of its operand's value, and an operator of its operands'
-abbrev pub sign_value : Sign → Answer → Answer
+abbrev pub sign_value : Sign → ValueResult → ValueResult
 sign_value signs.Plus answer = answer
-sign_value signs.Minus (Ok z) = ranged (neg_ℤ z)
+sign_value signs.Minus (Ok z) = value_in_range (neg_ℤ z)
 sign_value signs.Minus (Err fault) = Err fault
 
-abbrev pub joined_value : Operator → Answer → Answer → Answer
-joined_value operator (Ok x) (Ok y) = operate operator x y
+abbrev pub joined_value : Operator → ValueResult → ValueResult → ValueResult
+joined_value operator (Ok x) (Ok y) = operator_value operator x y
 joined_value operator (Ok x) (Err fault) = Err fault
 joined_value operator (Err fault) (Ok y) = Err fault
-joined_value operator (Err fault) (Err other) = Err (first fault other)
+joined_value operator (Err fault) (Err other) = Err (first_value_error fault other)
 
-abbrev pub atom_value : (List ℕ → Option ℤ) → ℕ → Atom → Answer
+abbrev pub atom_value : (List ℕ → Option ℤ) → ℕ → Atom → ValueResult
 atom_value names line (number n) = Ok (pos n)
 atom_value names line (character c) = Ok (pos c)
-atom_value names line (name text) = defined (names text)
+atom_value names line (name text) = defined_value (names text)
 atom_value names line here = Ok (pos line)
 
 -- the value of a tree, where names tells what names stand for and line is the address of the line
-abbrev pub value_of : (List ℕ → Option ℤ) → ℕ → Tree → Answer
-value_of names line (atom a) = atom_value names line a
-value_of names line (group t) = value_of names line t
-value_of names line (signed sign t) = sign_value sign (value_of names line t)
-value_of names line (joined operator left right) = joined_value operator (value_of names line left) (value_of names line right)
+abbrev pub tree_value : (List ℕ → Option ℤ) → ℕ → Tree → ValueResult
+tree_value names line (atom a) = atom_value names line a
+tree_value names line (group t) = tree_value names line t
+tree_value names line (signed sign t) = sign_value sign (tree_value names line t)
+tree_value names line (joined operator left right) = joined_value operator (tree_value names line left) (tree_value names line right)
 
 -- a name of the tree isn't defined
 abbrev pub HasUndefined : (List ℕ → Option ℤ) → Tree → Type 0
@@ -75,7 +75,7 @@ HasUndefined names (signed sign t) = HasUndefined names t
 HasUndefined names (joined operator left right) = HasUndefined names left ⊎ HasUndefined names right
 
 -- the tokens of an expression have this value: they spell a tree of it
-pub record HasValue (names : List ℕ → Option ℤ) (line : ℕ) (tokens : List Token) (answer : Answer) : Type 0 where
+pub record HasValue (names : List ℕ → Option ℤ) (line : ℕ) (tokens : List Token) (answer : ValueResult) : Type 0 where
   pub tree : Tree
   pub is_spelled : IsExpression tokens tree
-  pub is_value : value_of names line tree ≡ answer
+  pub is_value : tree_value names line tree ≡ answer

@@ -2,9 +2,9 @@
 
 ghost use Rattle.std.specs.Prelude.{◌≡◌, ℕ, ℤ, List, Option, Some};
 ghost use Rattle.pac_expr.specs.Trees.{atom_of};
-ghost use Rattle.pac_expr.specs.Values.{atom_value, sign_value, joined_value, operate, first};
+ghost use Rattle.pac_expr.specs.Values.{atom_value, sign_value, joined_value, operator_value, first_value_error};
 
-use crate::expr::{Operand, Operator, Sign};
+use crate::expr::{Operator, Primary, Sign};
 use std::fmt;
 
 /// Why an expression has no value. Where several faults are in one, the first in this order is told.
@@ -19,11 +19,11 @@ pub enum ValueError {
 }
 
 impl fmt::Display for ValueError {
-    ghost use Rattle.pac_expr.specs.Codes.{code};
+    ghost use Rattle.pac_expr.specs.Codes.{value_error_code};
 
-    ghost output = { λ fault. Some (code fault) };
+    ghost output = { λ fault. Some (value_error_code fault) };
 
-    /// Its code.
+    /// The code: `E1`, `E2` or `E3`.
     fn fmt<W: fmt::Write>(&self, f: &mut fmt::Formatter<W>) -> fmt::Result {
         match self {
             ValueError::Undefined => write!(f, "E1"),
@@ -34,7 +34,7 @@ impl fmt::Display for ValueError {
 }
 
 /// What names stand for.
-pub trait Symbols {
+pub trait SymbolLookup {
     /// The number of each name that is defined.
     ghost lookup: { Self → List ℕ → Option ℤ };
 
@@ -44,18 +44,18 @@ pub trait Symbols {
 }
 
 /// The value of an operand.
-pub(crate) fn operand_value<S: Symbols>(
-    operand: &Operand<'_>,
+pub(crate) fn operand_value<S: SymbolLookup>(
+    operand: &Primary<'_>,
     symbols: &S,
     here: u16,
 ) -> Result<i32, ValueError>
     ensures { result ≡ atom_value (S.lookup symbols.now) here (atom_of operand.now) }
 {
     match operand {
-        Operand::Number(number) => Ok(i32::from(*number)),
-        Operand::Character(code) => Ok(i32::from(*code)),
-        Operand::Name(name) => symbols.symbol(name).ok_or(ValueError::Undefined),
-        Operand::Here => Ok(i32::from(here)),
+        Primary::Number(number) => Ok(i32::from(*number)),
+        Primary::Character(code) => Ok(i32::from(*code)),
+        Primary::Name(name) => symbols.symbol(name).ok_or(ValueError::Undefined),
+        Primary::Here => Ok(i32::from(here)),
     }
 }
 
@@ -90,7 +90,7 @@ pub(crate) fn joined(
 
 /// What an operator makes of two numbers.
 fn operated(operator: Operator, left: i32, right: i32) -> Result<i32, ValueError>
-    ensures { result ≡ operate operator left right }
+    ensures { result ≡ operator_value operator left right }
 {
     match operator {
         Operator::Add => left.checked_add(right).ok_or(ValueError::OutOfRange),
@@ -107,7 +107,7 @@ fn operated(operator: Operator, left: i32, right: i32) -> Result<i32, ValueError
 
 /// The first of two faults, in the order of their codes.
 fn first(fault: ValueError, other: ValueError) -> ValueError
-    ensures { result ≡ first fault other }
+    ensures { result ≡ first_value_error fault other }
 {
     match fault {
         ValueError::Undefined => ValueError::Undefined,

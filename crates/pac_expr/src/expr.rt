@@ -1,11 +1,11 @@
 //! What expressions are made of.
 
 ghost use Rattle.std.specs.Prelude.{◌≡◌};
-ghost use Rattle.pac_expr.specs.Trees.{rank};
+ghost use Rattle.pac_expr.specs.Trees.{rank_of_operator};
 
 /// What an expression is made of in the end.
 #[derive(Clone, Copy)]
-pub(crate) enum Operand<'a> {
+pub(crate) enum Primary<'a> {
     /// A number of the source, 0 to 65,535.
     Number(u16),
     /// A text of one character: its code.
@@ -39,7 +39,7 @@ const PRODUCT_RANK: u8 = 1;
 
 /// The rank of an operator: the lower, the tighter it binds.
 pub(crate) fn operator_rank(operator: Operator) -> u8
-    ensures { result ≡ rank operator }
+    ensures { result ≡ rank_of_operator operator }
 {
     match operator {
         Operator::Add | Operator::Subtract => SUM_RANK,

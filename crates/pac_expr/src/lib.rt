@@ -8,7 +8,7 @@ mod expr;
 mod reading;
 mod shape;
 
-pub use evaluation::{Symbols, ValueError};
+pub use evaluation::{SymbolLookup, ValueError};
 pub use expr::{Operator, Sign};
 pub use reading::value;
 pub use shape::is_expression;

@@ -2,11 +2,11 @@
 
 ghost use Rattle.std.specs.Prelude.{◌≡◌, ◌<◌, ◌^◌, is_some, Some, false};
 ghost use Rattle.pac_lex.specs.Tokens.{views};
-ghost use Rattle.pac_expr.specs.Trees.{marks, mark};
+ghost use Rattle.pac_expr.specs.Trees.{token_marks, token_mark};
 ghost use Rattle.pac_expr.specs.Parsing.{tree_in};
-ghost use Rattle.pac_expr.specs.Shape.{begun_shape, continued_shape, next_shape, shaped};
+ghost use Rattle.pac_expr.specs.Shape.{begun_shape, continued_shape, next_shape, ends_expression};
 
-use pac_lex::{Kind, Token, one_character};
+use pac_lex::{Token, TokenKind, one_character};
 
 /// Whether these tokens, all of them, spell an expression. It takes no memory.
 pub fn is_expression(tokens: &[Token<'_>]) -> bool
@@ -15,9 +15,9 @@ pub fn is_expression(tokens: &[Token<'_>]) -> bool
     is_shaped(tokens)
 }
 
-/// The same, told by two facts alone: whether an operand stands, and how many parentheses are open.
+/// Whether tokens spell an expression, by two facts alone: whether an operand stands, and how many parentheses are open.
 fn is_shaped(tokens: &[Token<'_>]) -> bool
-    ensures { result ≡ shaped (Some (false, 0)) (marks tokens.now) }
+    ensures { result ≡ ends_expression (Some (false, 0)) (token_marks tokens.now) }
 {
     let mut shape = (false, 0);
     for token in tokens {
@@ -29,10 +29,10 @@ fn is_shaped(tokens: &[Token<'_>]) -> bool
     shape.0 && shape.1 == 0
 }
 
-/// Both facts after one token more; `None` where no expression goes on with it.
+/// Whether an operand stands and how many parentheses are open after one token more; `None` where no expression goes on so.
 fn next_shape(stands: bool, depth: usize, token: &Token<'_>) -> Option<(bool, usize)>
     requires { depth < 2 ^ 63 }
-    ensures { result ≡ next_shape (stands, depth) (mark token.now) }
+    ensures { result ≡ next_shape (stands, depth) (token_mark token.now) }
 {
     if stands {
         continued_shape(depth, token)
@@ -41,27 +41,29 @@ fn next_shape(stands: bool, depth: usize, token: &Token<'_>) -> Option<(bool, us
     }
 }
 
-/// The same for a token where an operand must come.
+/// Like `next_shape`, where an operand must come.
 fn begun_shape(depth: usize, token: &Token<'_>) -> Option<(bool, usize)>
     requires { depth < 2 ^ 63 }
-    ensures { result ≡ begun_shape depth (mark token.now) }
+    ensures { result ≡ begun_shape depth (token_mark token.now) }
 {
     match token.kind {
-        Kind::Number(_) | Kind::Name | Kind::Dollar => Some((true, depth)),
-        Kind::Text => one_character(token.text).map(|_| (true, depth)),
-        Kind::Open => Some((false, depth + 1)),
-        Kind::Plus | Kind::Minus => Some((false, depth)),
+        TokenKind::Number(_) | TokenKind::Name | TokenKind::Dollar => Some((true, depth)),
+        TokenKind::Text => one_character(token.text).map(|_| (true, depth)),
+        TokenKind::Open => Some((false, depth + 1)),
+        TokenKind::Plus | TokenKind::Minus => Some((false, depth)),
         _ => None,
     }
 }
 
-/// The same for a token after an operand.
+/// Like `next_shape`, after an operand.
 fn continued_shape(depth: usize, token: &Token<'_>) -> Option<(bool, usize)>
-    ensures { result ≡ continued_shape depth (mark token.now) }
+    ensures { result ≡ continued_shape depth (token_mark token.now) }
 {
     match token.kind {
-        Kind::Plus | Kind::Minus | Kind::Star | Kind::Slash => Some((false, depth)),
-        Kind::Close => depth.checked_sub(1).map(|depth| (true, depth)),
+        TokenKind::Plus | TokenKind::Minus | TokenKind::Star | TokenKind::Slash => Some((
+            false, depth,
+        )),
+        TokenKind::Close => depth.checked_sub(1).map(|depth| (true, depth)),
         _ => None,
     }
 }

@@ -24,7 +24,7 @@ fn outcome_of(alloc: Global, line: &[u8]) -> Outcome {
     }
 }
 
-/// The same by its tokens.
+/// What a line's tokens come to at 1234H.
 fn outcome_in(found: &[Token<'_>]) -> Outcome {
     let answer = value(found, &OneByteNames, 0x1234);
     if is_expression(found) != answer.is_some() {

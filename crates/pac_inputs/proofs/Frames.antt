@@ -4,15 +4,15 @@ use Rattle.std.specs.Prelude.{nat_le}
 use Rattle.std.proofs.lemmas.Bool.{cases_Bool, lt-ltb, le-ltb}
 use Rattle.std.proofs.lemmas.Bool.Decides.{nat_tests}
 use Rattle.pac_inputs.specs.declared.line.Stretch.{Stretch}
-use Rattle.pac_inputs.specs.declared.script.Entry.{Entry}
-use Rattle.pac_inputs.specs.Stretches.{total, held_after}
-use Rattle.pac_inputs.specs.Entries.{stretch_after, stretches, Rises, held_up_to}
+use Rattle.pac_inputs.specs.declared.script.HeldUntil.{HeldUntil}
+use Rattle.pac_inputs.specs.Stretches.{total_frames, held_after}
+use Rattle.pac_inputs.specs.Entries.{stretch_after, entry_stretches, Rises, held_up_to}
 
-ends : (before : ℕ) (entry : Entry) → before ≤ entry.end → before + (entry.end - before) ≡ entry.end
+ends : (before : ℕ) (entry : HeldUntil) → before ≤ entry.end → before + (entry.end - before) ≡ entry.end
 ends before entry h = omega (arith, h)
 
-pub found-up-to : (before : ℕ) (entries : List Entry) (frame : ℕ) → Rises before entries → before < frame
-    → held_after before (stretches before entries) frame ≡ held_up_to entries frame
+pub found-up-to : (before : ℕ) (entries : List HeldUntil) (frame : ℕ) → Rises before entries → before < frame
+    → held_after before (entry_stretches before entries) frame ≡ held_up_to entries frame
 found-up-to before [] frame h later = refl
 found-up-to before (entry ∷ entries) frame (first, more) later =
     rw (ends before entry first, lt-ltb before frame later)
@@ -26,44 +26,45 @@ nothing-first before [] = refl
 nothing-first before (line ∷ lines) = rw (le-ltb before 0 (omega arith)) (nothing-first (before + line.frames) lines)
 
 -- an entry after others
-pub entry-after : (before : ℕ) (entries : List Entry) (entry : Entry) → Rises before entries
-    → stretches before (entries ++ entry ∷ []) ≡ stretches before entries
-    ++ stretch_after (before + total (stretches before entries)) entry ∷ []
+pub entry-after : (before : ℕ) (entries : List HeldUntil) (entry : HeldUntil) → Rises before entries
+    → entry_stretches before (entries ++ entry ∷ []) ≡ entry_stretches before entries
+    ++ stretch_after (before + total_frames (entry_stretches before entries)) entry ∷ []
 entry-after before [] entry h = ap (λ n. stretch_after n entry ∷ []) (none before)
   where
     none : (n : ℕ) → n ≡ n + 0
     none n = omega arith
 entry-after before (first ∷ entries) entry (rises, more) =
-    let rest = total (stretches first.end entries) in
+    let rest = total_frames (entry_stretches first.end entries) in
     let same : first.end + rest ≡ before + ((first.end - before) + rest) = omega (arith, rises) in
     ap (λ lines. stretch_after before first ∷ lines)
-    (entry-after first.end entries entry more ∙ ap (λ n. stretches first.end entries ++ stretch_after n entry ∷ []) same)
+    (entry-after first.end entries entry more ∙ ap (λ n. entry_stretches first.end entries ++ stretch_after n entry ∷ []) same)
 
-pub rises-after : (before : ℕ) (entries : List Entry) (entry : Entry) → Rises before entries
-    → before + total (stretches before entries) ≤ entry.end → Rises before (entries ++ entry ∷ [])
+pub rises-after : (before : ℕ) (entries : List HeldUntil) (entry : HeldUntil) → Rises before entries
+    → before + total_frames (entry_stretches before entries) ≤ entry.end → Rises before (entries ++ entry ∷ [])
 rises-after before [] entry h end = let last : before + 0 ≤ entry.end = end in (omega (arith, last), tt)
 rises-after before (first ∷ entries) entry (rises, more) end =
-    let last : before + ((first.end - before) + total (stretches first.end entries)) ≤ entry.end = end in
+    let last : before + ((first.end - before) + total_frames (entry_stretches first.end entries)) ≤ entry.end = end in
     (rises, rises-after first.end entries entry more (omega (arith, rises, last)))
 
-pub total-after : (lines : List Stretch) (line : Stretch) → total (lines ++ line ∷ []) ≡ total lines + line.frames
+pub total-after : (lines : List Stretch) (line : Stretch) → total_frames (lines ++ line ∷ []) ≡ total_frames lines + line.frames
 total-after [] line = omega arith
 total-after (first ∷ lines) line = let more = total-after lines line in omega (arith, more)
 
 -- the frames of a table's lines are those up to its last one's end
-last-of : (before : ℕ) (first : Entry) (entries : List Entry) (d : Entry) → Rises before (first ∷ entries)
-    → before + total (stretches before (first ∷ entries)) ≡ (get_or (first ∷ entries) (length entries) d).end
+last-of : (before : ℕ) (first : HeldUntil) (entries : List HeldUntil) (d : HeldUntil) → Rises before (first ∷ entries)
+    → before + total_frames (entry_stretches before (first ∷ entries)) ≡ (get_or (first ∷ entries) (length entries) d).end
 last-of before first [] d (rises, more) = omega (arith, rises)
 last-of before first (second ∷ entries) d (rises, more) =
-    let rest : first.end + total (stretches first.end (second ∷ entries)) ≡ (get_or (second ∷ entries) (length entries) d).end =
+    let rest : first.end + total_frames (entry_stretches first.end (second ∷ entries))
+    ≡ (get_or (second ∷ entries) (length entries) d).end =
     last-of first.end second entries d more in
     omega (arith, rises, rest)
 
-pub last-ends : (entries : List Entry) (d : Entry) → Rises 0 entries → 0 < length entries
-    → total (stretches 0 entries) ≡ (get_or entries (length entries - 1) d).end
+pub last-ends : (entries : List HeldUntil) (d : HeldUntil) → Rises 0 entries → 0 < length entries
+    → total_frames (entry_stretches 0 entries) ≡ (get_or entries (length entries - 1) d).end
 last-ends [] d h some = absurd (omega (arith, some))
 last-ends (first ∷ entries) d h some =
-    let last : 0 + total (stretches 0 (first ∷ entries)) ≡ (get_or (first ∷ entries) (length entries) d).end =
+    let last : 0 + total_frames (entry_stretches 0 (first ∷ entries)) ≡ (get_or (first ∷ entries) (length entries) d).end =
     last-of 0 first entries d h in
     rw sub-one (omega (arith, last))
 

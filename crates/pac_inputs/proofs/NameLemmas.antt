@@ -10,8 +10,8 @@ use Rattle.std.specs.Cmp.Lexicographic.{pointwise, same_text}
 use Rattle.std.specs.Int.RustNames.{bit_or}
 use Rattle.bitflags.specs.Sets.{Row, find_row, find_name}
 use Rattle.pac_lex.proofs.PartLemmas.{last-part, more-parts}
-use Rattle.pac_inputs.specs.Inputs.{places}
-use Rattle.pac_inputs.specs.Words.{is_comma, with_names}
+use Rattle.pac_inputs.specs.Inputs.{input_bits}
+use Rattle.pac_inputs.specs.Words.{is_comma_byte, with_names}
 
 ascii-at : (bytes : List ℕ) → list_all is_ascii bytes ≡ true → (i : ℕ) → get_or bytes i 0 < 128
 ascii-at [] all i = omega arith
@@ -31,16 +31,16 @@ unread (row ∷ table) name all bad =
       | inr e ↦ rw e (unread table name both.1 bad)
     ]
 
-pub no-text-no-input : (name : List ℕ) → (IsUtf8 name → ⊥) → find_name places name ≡ None
+pub no-text-no-input : (name : List ℕ) → (IsUtf8 name → ⊥) → find_name input_bits name ≡ None
 no-text-no-input name bad = elim (cases_Bool (eqb (length name) 0)) [
   | inl e ↦ rw e refl
-  | inr e ↦ rw e (unread places name refl bad)
+  | inr e ↦ rw e (unread input_bits name refl bad)
 ]
 
 -- these bits held, and the inputs of the names that are left
 abbrev pub with_rest : ℕ → Option (List ℕ) → Option ℕ
 with_rest held None = Some held
-with_rest held (Some names) = with_names held (slice_split is_comma names)
+with_rest held (Some names) = with_names held (slice_split is_comma_byte names)
 
 abbrev pub texts : Option (Bor (List ℕ)) → Option (List ℕ)
 texts names = option_map (λ b. b.now) names
@@ -50,23 +50,24 @@ abbrev pub left : Option (List ℕ) → ℕ
 left None = 0
 left (Some names) = length names + 1
 
-one-more : (held bit : ℕ) (name : List ℕ) (names : List (List ℕ)) → find_name places name ≡ Some bit
+one-more : (held bit : ℕ) (name : List ℕ) (names : List (List ℕ)) → find_name input_bits name ≡ Some bit
     → with_names (bit_or held bit) names ≡ with_names held (name ∷ names)
 one-more held bit name names e = rw e refl
 
 read-on : (held bit : ℕ) (names name : List ℕ) (after : Option (Bor (List ℕ)))
-    → IfNone after (slice_split is_comma names ≡ name ∷ [])
-    → IfSome after (λ b. slice_split is_comma names ≡ name ∷ slice_split is_comma b.now)
-    → find_name places name ≡ Some bit → with_rest (bit_or held bit) (texts after) ≡ with_names held (slice_split is_comma names)
+    → IfNone after (slice_split is_comma_byte names ≡ name ∷ [])
+    → IfSome after (λ b. slice_split is_comma_byte names ≡ name ∷ slice_split is_comma_byte b.now)
+    → find_name input_bits name ≡ Some bit → with_rest (bit_or held bit) (texts after) ≡ with_names held (slice_split is_comma_byte names)
 read-on held bit names name None last more e = one-more held bit name [] e ∙ ap (with_names held) (sym last)
-read-on held bit names name (Some b) last more e = one-more held bit name (slice_split is_comma b.now) e ∙ ap (with_names held) (sym more)
+read-on held bit names name (Some b) last more e = one-more held bit name (slice_split is_comma_byte b.now) e
+    ∙ ap (with_names held) (sym more)
 
 -- What the names come to stays the same, as the first of them is taken.
 pub name-read : (held bit now : ℕ) (old after : Option (Bor (List ℕ))) (names : Bor (List ℕ)) (name : List ℕ) (all : Option ℕ)
     → with_rest held (texts old) ≡ all → old ≡ Some names
-    → IfNone after (slice_split is_comma names.now ≡ name ∷ [])
-    → IfSome after (λ b. slice_split is_comma names.now ≡ name ∷ slice_split is_comma b.now)
-    → find_name places name ≡ Some bit → now ≡ bit_or held bit → with_rest now (texts after) ≡ all
+    → IfNone after (slice_split is_comma_byte names.now ≡ name ∷ [])
+    → IfSome after (λ b. slice_split is_comma_byte names.now ≡ name ∷ slice_split is_comma_byte b.now)
+    → find_name input_bits name ≡ Some bit → now ≡ bit_or held bit → with_rest now (texts after) ≡ all
 name-read held bit now old after names name all so_far is last more e joined =
     ap (λ bits. with_rest bits (texts after)) joined
     ∙ (read-on held bit names.now name after last more e ∙ (ap (λ rest. with_rest held (texts rest)) (sym is) ∙ so_far))

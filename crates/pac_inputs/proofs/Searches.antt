@@ -5,15 +5,15 @@ use Rattle.std.specs.List.{AllWithin, AllAdjacentBelow}
 use Rattle.std.specs.List.Sorted.{IsPartitionedBy}
 use Rattle.std.proofs.lemmas.List.Sorted.{IsNonDecreasingBy-from_all_adjacent, IsPartitionedBy-ltb}
 use Rattle.std.proofs.lemmas.Bool.Decides.{nat_tests}
-use Rattle.pac_inputs.specs.declared.script.Entry.{Entry}
+use Rattle.pac_inputs.specs.declared.script.HeldUntil.{HeldUntil}
 use Rattle.pac_inputs.specs.Inputs.{mask}
 use Rattle.pac_inputs.specs.Entries.{Rises, held_up_to}
 
 -- whether an entry ends before a frame
-abbrev pub is_over : ℕ → Entry → Bool
+abbrev pub is_over : ℕ → HeldUntil → Bool
 is_over frame entry = ltb entry.end frame
 
-next-rises : (before : ℕ) (entries : List Entry) → Rises before entries → (k : ℕ) (d : Entry) → suc k < length entries
+next-rises : (before : ℕ) (entries : List HeldUntil) → Rises before entries → (k : ℕ) (d : HeldUntil) → suc k < length entries
     → (get_or entries k d).end ≤ (get_or entries (suc k) d).end
 next-rises before [] h k d small = absurd (omega (arith, small))
 next-rises before (entry ∷ []) h k d small = absurd (omega (arith, small))
@@ -21,27 +21,27 @@ next-rises before (entry ∷ second ∷ entries) (first, more) zero d small = mo
 next-rises before (entry ∷ second ∷ entries) (first, more) (suc k) d small =
     next-rises entry.end (second ∷ entries) more k d (omega (arith, small))
 
-pub ends-parted : (entries : List Entry) (frame : ℕ) → Rises 0 entries → IsPartitionedBy (is_over frame) entries
+pub ends-parted : (entries : List HeldUntil) (frame : ℕ) → Rises 0 entries → IsPartitionedBy (is_over frame) entries
 ends-parted entries frame h =
-    let ends : Entry → ℕ = λ entry. entry.end in
+    let ends : HeldUntil → ℕ = λ entry. entry.end in
     let each : AllAdjacentBelow (λ x y. ends x ≤ ends y) entries (length entries) =
     λ k d small. rw add-one (next-rises 0 entries h k d (omega (arith, small))) in
     IsPartitionedBy-ltb ends entries frame (IsNonDecreasingBy-from_all_adjacent ends entries each)
 
-abbrev pub IsOver : ℕ → Entry → Type 0
+abbrev pub IsOver : ℕ → HeldUntil → Type 0
 IsOver frame entry = is_over frame entry ≡ true
 
-abbrev pub IsOpen : ℕ → Entry → Type 0
+abbrev pub IsOpen : ℕ → HeldUntil → Type 0
 IsOpen frame entry = is_over frame entry ≡ false
 
-pub none-open : (entries : List Entry) (frame : ℕ) → AllWithin (IsOver frame) entries 0 (length entries) → held_up_to entries frame ≡ 0
+pub none-open : (entries : List HeldUntil) (frame : ℕ) → AllWithin (IsOver frame) entries 0 (length entries) → held_up_to entries frame ≡ 0
 none-open [] frame h = refl
 none-open (entry ∷ entries) frame h =
     let over : ltb entry.end frame ≡ true = h 0 entry (omega arith) (omega arith) in
     let not_this : nat_le frame entry.end ≡ false = grind (arith, nat_tests) in
     rw not_this (none-open entries frame (λ k d low high. h (suc k) d (omega arith) (omega (arith, high))))
 
-pub first-open : (entries : List Entry) (frame i : ℕ) (d : Entry) → i < length entries → AllWithin (IsOver frame) entries 0 i
+pub first-open : (entries : List HeldUntil) (frame i : ℕ) (d : HeldUntil) → i < length entries → AllWithin (IsOver frame) entries 0 i
     → AllWithin (IsOpen frame) entries i (length entries) → held_up_to entries frame ≡ mask (get_or entries i d).inputs
 first-open [] frame i d small over open_ = absurd (omega (arith, small))
 first-open (entry ∷ entries) frame zero d small over open_ =

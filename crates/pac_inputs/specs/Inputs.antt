@@ -11,8 +11,8 @@ abbrev pub inputs_of : ℕ → Inputs
 inputs_of word = record { 0 = word }
 
 -- the names of the inputs and their bits, from bit 0 to bit 15
-abbrev pub places : List (List ℕ × ℕ)
-places =
+abbrev pub input_bits : List (List ℕ × ℕ)
+input_bits =
     (codes "P1_UP", 1) ∷ (codes "P1_LEFT", 2) ∷ (codes "P1_RIGHT", 4) ∷ (codes "P1_DOWN", 8)
     ∷ (codes "RACK_TEST", 16) ∷ (codes "COIN1", 32) ∷ (codes "COIN2", 64) ∷ (codes "CREDIT", 128)
     ∷ (codes "P2_UP", 256) ∷ (codes "P2_LEFT", 512) ∷ (codes "P2_RIGHT", 1024) ∷ (codes "P2_DOWN", 2048)

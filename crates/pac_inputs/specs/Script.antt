@@ -3,96 +3,97 @@
 use Rattle.std.specs.Prelude.{◌≡◌, ℕ, ◌+◌, Bool, false, ◌==◌, List, [], ◌∷◌, ◌++◌, ◌⊎◌, ◌<◌, ◌≤◌, length}
 use Rattle.std.specs.Prelude.{Option, Some, None, Result, Ok, Err, nat_lt, if◌then◌else◌}
 use Rattle.std.specs.Str.Lines.{lines}
-use Rattle.pac_lex.specs.Words.{words}
-use Rattle.pac_inputs.specs.declared.fault.Code.{Code}
-use Rattle.pac_inputs.specs.declared.fault.Code.TheVariants.{Names, Count, Length}
+use Rattle.pac_lex.specs.Words.{words_of_line}
+use Rattle.pac_inputs.specs.declared.fault.ScriptCode.{ScriptCode}
+use Rattle.pac_inputs.specs.declared.fault.ScriptCode.TheVariants.{Names, Count, Length}
 use Rattle.pac_inputs.specs.declared.fault.ScriptFault.{ScriptFault}
 use Rattle.pac_inputs.specs.declared.fault.ScriptError.{ScriptError}
 use Rattle.pac_inputs.specs.declared.fault.ScriptError.TheVariants as errors
 use Rattle.pac_inputs.specs.declared.line.Stretch.{Stretch}
 use Rattle.pac_inputs.specs.Inputs.{inputs_of}
-use Rattle.pac_inputs.specs.Stretches.{total, most_frames}
+use Rattle.pac_inputs.specs.Stretches.{total_frames, most_frames}
 use Rattle.pac_inputs.specs.Words.{frame_count, inputs_named}
 
 -- ---- one line
 
 -- a comment's first word begins with `#`
-abbrev pub is_comment : List ℕ → Bool
-is_comment [] = false
-is_comment (b ∷ word) = b == 35
+abbrev pub is_comment_word : List ℕ → Bool
+is_comment_word [] = false
+is_comment_word (b ∷ word) = b == 35
 
 abbrev pub Meaning : Type 0
-Meaning = Result (Option Stretch) Code
+Meaning = Result (Option Stretch) ScriptCode
 
-abbrev pub stretch : ℕ → Option ℕ → Meaning
-stretch count None = Err Names
-stretch count (Some held) = Ok (Some (record { frames = count; inputs = inputs_of held }))
+abbrev pub stretch_meaning : ℕ → Option ℕ → Meaning
+stretch_meaning count None = Err Names
+stretch_meaning count (Some held) = Ok (Some (record { frames = count; inputs = inputs_of held }))
 
 -- the inputs of the words after the count: of the one that there has to be
 abbrev pub only_inputs : List (List ℕ) → Option ℕ
 only_inputs (word ∷ []) = inputs_named word
 only_inputs after = None
 
-abbrev pub counted : Option ℕ → List (List ℕ) → Meaning
-counted None after = Err Count
-counted (Some count) after = stretch count (only_inputs after)
+abbrev pub meaning_after_count : Option ℕ → List (List ℕ) → Meaning
+meaning_after_count None after = Err Count
+meaning_after_count (Some count) after = stretch_meaning count (only_inputs after)
 
-abbrev pub of_words : List (List ℕ) → Meaning
-of_words [] = Ok None
-of_words (word ∷ after) = if is_comment word then Ok None else counted (frame_count word) after
+abbrev pub meaning_of_words : List (List ℕ) → Meaning
+meaning_of_words [] = Ok None
+meaning_of_words (word ∷ after) = if is_comment_word word then Ok None else meaning_after_count (frame_count word) after
 
 -- What a line says by itself: nothing, where it has no word or is a comment; so many frames with these
 -- inputs held; or a fault.
 unfoldable pub meaning : List ℕ → Meaning
-meaning line = of_words (words line)
+meaning line = meaning_of_words (words_of_line line)
 
 -- ---- all lines
 
-abbrev pub Said : Type 0
-Said = Result (List Stretch) Code
+abbrev pub StretchesOrCode : Type 0
+StretchesOrCode = Result (List Stretch) ScriptCode
 
-abbrev pub joined : List Stretch → Meaning → Said
-joined before (Err code) = Err code
-joined before (Ok None) = Ok before
-joined before (Ok (Some line)) =
-    if nat_lt most_frames (total before + line.frames) then Err Length else Ok (before ++ line ∷ [])
+abbrev pub with_meaning : List Stretch → Meaning → StretchesOrCode
+with_meaning before (Err code) = Err code
+with_meaning before (Ok None) = Ok before
+with_meaning before (Ok (Some line)) =
+    if nat_lt most_frames (total_frames before + line.frames) then Err Length else Ok (before ++ line ∷ [])
 
 -- what a line and those before it say together
-abbrev pub with_line : List Stretch → List ℕ → Said
-with_line before line = joined before (meaning line)
+abbrev pub with_line : List Stretch → List ℕ → StretchesOrCode
+with_line before line = with_meaning before (meaning line)
 
 -- a script, or its fault
-abbrev pub Read : Type 0
-Read = Result (List Stretch) ScriptFault
+abbrev pub ScriptOrFault : Type 0
+ScriptOrFault = Result (List Stretch) ScriptFault
 
-abbrev pub in_line : ℕ → Said → Read
-in_line number (Ok lines) = Ok lines
-in_line number (Err code) = Err (record { code = code; line = number })
+abbrev pub with_line_number : ℕ → StretchesOrCode → ScriptOrFault
+with_line_number number (Ok lines) = Ok lines
+with_line_number number (Err code) = Err (record { code = code; line = number })
 
 infixl 10 ◌>>=◌
-abbrev pub ◌>>=◌ : Read → (List Stretch → Read) → Read
+abbrev pub ◌>>=◌ : ScriptOrFault → (List Stretch → ScriptOrFault) → ScriptOrFault
 (Ok lines) >>= f = f lines
 (Err fault) >>= f = Err fault
 
 -- What the lines from this number on, and those before them, say together; or the first fault.
-unfoldable pub read : ℕ → List Stretch → List (List ℕ) → Read
-read number before [] = Ok before
-read number before (line ∷ lines) = in_line number (with_line before line) >>= λ after. read (number + 1) after lines
+unfoldable pub script_from_line : ℕ → List Stretch → List (List ℕ) → ScriptOrFault
+script_from_line number before [] = Ok before
+script_from_line number before (line ∷ lines) =
+    with_line_number number (with_line before line) >>= λ after. script_from_line (number + 1) after lines
 
 -- the script of a text, or the text's first fault
-abbrev pub script_of : List ℕ → Read
-script_of text = read 1 [] (lines text)
+abbrev pub script_of : List ℕ → ScriptOrFault
+script_of text = script_from_line 1 [] (lines text)
 
 -- What was returned is what reading gives, unless memory ran out.
-abbrev pub Fails : ScriptError → Read → Type 0
-Fails errors.Memory read = Unit {0}
-Fails (errors.Fault fault) read = read ≡ Err fault
+abbrev pub ScriptFails : ScriptError → ScriptOrFault → Type 0
+ScriptFails errors.Memory script_from_line = Unit {0}
+ScriptFails (errors.Fault fault) script_from_line = script_from_line ≡ Err fault
 
-abbrev pub Gives : Result (List Stretch) ScriptError → Read → Type 0
-Gives (Ok lines) read = read ≡ Ok lines
-Gives (Err e) read = Fails e read
+abbrev pub ScriptGives : Result (List Stretch) ScriptError → ScriptOrFault → Type 0
+ScriptGives (Ok lines) script_from_line = script_from_line ≡ Ok lines
+ScriptGives (Err e) script_from_line = ScriptFails e script_from_line
 
--- ---- the same, as what holds of the lines
+-- ---- scripts and faults, as what holds of the lines
 
 -- What lines say, each by itself: these stretches in their order, with the lines left out that say nothing.
 abbrev pub Says : List (List ℕ) → List Stretch → Type 0
@@ -104,16 +105,16 @@ Says (line ∷ lines) said =
 -- the text is this script
 pub record IsScript (text : List ℕ) (said : List Stretch) : Type 0 where
   pub says : Says (lines text) said
-  pub within : total said ≤ most_frames
+  pub within : total_frames said ≤ most_frames
 
 -- A line after so many frames has this fault: one of its own, or its frames are too many.
-abbrev pub IsFault : ℕ → List ℕ → Code → Type 0
-IsFault before line code =
+abbrev pub IsLineFault : ℕ → List ℕ → ScriptCode → Type 0
+IsLineFault before line code =
     (meaning line ≡ Err code)
     ⊎ ((added : Stretch) × (meaning line ≡ Ok (Some added)) × (most_frames < before + added.frames) × (code ≡ Length))
 
 -- the first line of the text that has a fault has this one; the lines before it are right
-pub record HasFault (text : List ℕ) (fault : ScriptFault) : Type 0 where
+pub record HasScriptFault (text : List ℕ) (fault : ScriptFault) : Type 0 where
   pub earlier : List (List ℕ)
   pub wrong : List ℕ
   pub later : List (List ℕ)
@@ -121,10 +122,10 @@ pub record HasFault (text : List ℕ) (fault : ScriptFault) : Type 0 where
   pub parts : lines text ≡ earlier ++ wrong ∷ later
   pub line : fault.line ≡ length earlier + 1
   pub says : Says earlier said
-  pub within : total said ≤ most_frames
-  pub faulty : IsFault (total said) wrong fault.code
+  pub within : total_frames said ≤ most_frames
+  pub faulty : IsLineFault (total_frames said) wrong fault.code
 
 -- a fact of the fault, where there is one
-abbrev pub OnFault : ScriptError → (ScriptFault → Type 0) → Type 0
-OnFault errors.Memory P = Unit {0}
-OnFault (errors.Fault fault) P = P fault
+abbrev pub OnScriptFault : ScriptError → (ScriptFault → Type 0) → Type 0
+OnScriptFault errors.Memory P = Unit {0}
+OnScriptFault (errors.Fault fault) P = P fault

@@ -8,9 +8,9 @@ abbrev pub most_frames : ℕ
 most_frames = 36000
 
 -- the frames of a script
-abbrev pub total : List Stretch → ℕ
-total [] = 0
-total (line ∷ lines) = line.frames + total lines
+abbrev pub total_frames : List Stretch → ℕ
+total_frames [] = 0
+total_frames (line ∷ lines) = line.frames + total_frames lines
 
 -- The inputs of the line that covers a frame, of lines with so many frames before them: the frame comes
 -- after those, and is one of the line's own. Where no line covers it, nothing is held.

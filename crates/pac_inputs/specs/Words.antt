@@ -5,12 +5,12 @@ use Rattle.std.specs.List.{list_all, slice_split}
 use Rattle.std.specs.Char.{is_ascii_digit}
 use Rattle.std.specs.Int.RustNames.{bit_or}
 use Rattle.bitflags.specs.Sets.{find_name}
-use Rattle.pac_inputs.specs.Inputs.{places}
+use Rattle.pac_inputs.specs.Inputs.{input_bits}
 use Rattle.pac_inputs.specs.Stretches.{most_frames}
 
 -- `,`, which parts names
-abbrev pub is_comma : ℕ → Bool
-is_comma b = b == 44
+abbrev pub is_comma_byte : ℕ → Bool
+is_comma_byte b = b == 44
 
 -- the word `-`, which names no input
 abbrev pub is_dash : List ℕ → Bool
@@ -18,20 +18,21 @@ is_dash (b ∷ []) = b == 45
 is_dash word = false
 
 -- the number of decimal digits, the first digit counting most
-abbrev pub number : List ℕ → ℕ
-number digits = fold (λ n c. n * 10 + (c - 48)) 0 digits
+abbrev pub value_of_decimal : List ℕ → ℕ
+value_of_decimal digits = fold (λ n c. n * 10 + (c - 48)) 0 digits
 
 -- the count that a word tells: a decimal number from 1 to the most frames, with leading zeros or without
 abbrev pub frame_count : List ℕ → Option ℕ
 frame_count word =
-    if list_all is_ascii_digit word && nat_le 1 (number word) && nat_le (number word) most_frames then Some (number word) else None
+    if list_all is_ascii_digit word && nat_le 1 (value_of_decimal word) && nat_le (value_of_decimal word) most_frames
+    then Some (value_of_decimal word) else None
 
 -- an input's bit by its name
 abbrev pub bit_of : List ℕ → ℕ
-bit_of name = unwrap_or (find_name places name) 0
+bit_of name = unwrap_or (find_name input_bits name) 0
 
 abbrev pub is_input : List ℕ → Bool
-is_input name = is_some (find_name places name)
+is_input name = is_some (find_name input_bits name)
 
 -- the inputs with these names held, and these bits before; a name that is none of an input has no answer
 abbrev pub with_names : ℕ → List (List ℕ) → Option ℕ
@@ -40,4 +41,4 @@ with_names held names =
 
 -- the inputs that a word tells: none for `-`, and else those of the names between its commas
 abbrev pub inputs_named : List ℕ → Option ℕ
-inputs_named word = if is_dash word then Some 0 else with_names 0 (slice_split is_comma word)
+inputs_named word = if is_dash word then Some 0 else with_names 0 (slice_split is_comma_byte word)

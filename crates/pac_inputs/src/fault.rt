@@ -10,7 +10,7 @@ use thiserror::Error;
 /// What is wrong with a line of a script. Where several faults are in one line, the first in the order
 /// I2, I1, I3 is told.
 #[derive(Clone, Copy, Debug, PartialEq, Eq)]
-pub enum Code {
+pub enum ScriptCode {
     /// I1: the names are missing, one of them is unknown, or more follows them.
     Names,
     /// I2: the count of frames isn't a decimal number from 1 to 36,000.
@@ -23,7 +23,7 @@ pub enum Code {
 #[derive(Clone, Copy, Debug, PartialEq, Eq, Error)]
 pub struct ScriptFault {
     /// What is wrong.
-    pub code: Code,
+    pub code: ScriptCode,
     /// The number of the line, from 1.
     pub line: u64,
 }
@@ -37,24 +37,24 @@ pub enum ScriptError {
     Fault(ScriptFault),
 }
 
-impl fmt::Display for Code {
-    ghost use Rattle.pac_inputs.specs.Codes.{printed};
+impl fmt::Display for ScriptCode {
+    ghost use Rattle.pac_inputs.specs.Codes.{script_code_text};
 
-    ghost output = { λ code. Some (printed code) };
+    ghost output = { λ code. Some (script_code_text code) };
 
     fn fmt<W: fmt::Write>(&self, f: &mut fmt::Formatter<W>) -> fmt::Result {
         match self {
-            Code::Names => write!(f, "I1"),
-            Code::Count => write!(f, "I2"),
-            Code::Length => write!(f, "I3"),
+            ScriptCode::Names => write!(f, "I1"),
+            ScriptCode::Count => write!(f, "I2"),
+            ScriptCode::Length => write!(f, "I3"),
         }
     }
 }
 
 impl fmt::Display for ScriptFault {
-    ghost use Rattle.pac_inputs.specs.Codes.{fault_text};
+    ghost use Rattle.pac_inputs.specs.Codes.{script_fault_text};
 
-    ghost output = { λ fault. Some (fault_text fault) };
+    ghost output = { λ fault. Some (script_fault_text fault) };
 
     fn fmt<W: fmt::Write>(&self, f: &mut fmt::Formatter<W>) -> fmt::Result {
         let code = self.code;
@@ -64,9 +64,9 @@ impl fmt::Display for ScriptFault {
 }
 
 impl fmt::Display for ScriptError {
-    ghost use Rattle.pac_inputs.specs.Codes.{error_text};
+    ghost use Rattle.pac_inputs.specs.Codes.{script_error_text};
 
-    ghost output = { λ error. Some (error_text error) };
+    ghost output = { λ error. Some (script_error_text error) };
 
     fn fmt<W: fmt::Write>(&self, f: &mut fmt::Formatter<W>) -> fmt::Result {
         match self {

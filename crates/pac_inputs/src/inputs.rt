@@ -1,7 +1,7 @@
 //! The inputs of the board.
 
 ghost use Rattle.std.specs.Prelude.{⊤, ◌≡◌, [], ◌∷◌, codes};
-ghost use Rattle.pac_inputs.specs.Inputs.{mask, places};
+ghost use Rattle.pac_inputs.specs.Inputs.{mask, input_bits};
 ghost use Rattle.pac_inputs.specs.Ports.{in0, in1};
 
 use crate::ports::{in0_of, in1_of};
@@ -38,7 +38,7 @@ impl Flags for Inputs {
 
     ghost exact = { ⊤ };
 
-    ghost table = { places };
+    ghost table = { input_bits };
 
     ghost set_of = { mask };
 

@@ -8,7 +8,7 @@ mod ports;
 mod reading;
 mod script;
 
-pub use fault::{Code, ScriptError, ScriptFault};
+pub use fault::{ScriptCode, ScriptError, ScriptFault};
 pub use inputs::Inputs;
 pub use line::{FRAME_LIMIT, Stretch};
 pub use ports::{in0_of, in1_of};

@@ -1,14 +1,14 @@
 //! What a line of a script says by itself.
 
 ghost use Rattle.std.specs.Prelude.{◌≡◌, ◌<◌, ◌≤◌, [], ◌∷◌, length, option_map, IfSome, IfNone, not};
-ghost use Rattle.pac_lex.specs.Words.{words};
+ghost use Rattle.pac_lex.specs.Words.{words_of_line};
 ghost use Rattle.std.specs.List.{prefix_len, slice_split};
-ghost use Rattle.pac_inputs.specs.Inputs.{mask, places};
-ghost use Rattle.pac_inputs.specs.Words.{is_comma, is_dash, frame_count, inputs_named};
-ghost use Rattle.pac_inputs.specs.Script.{is_comment, only_inputs, meaning};
+ghost use Rattle.pac_inputs.specs.Inputs.{mask, input_bits};
+ghost use Rattle.pac_inputs.specs.Words.{is_comma_byte, is_dash, frame_count, inputs_named};
+ghost use Rattle.pac_inputs.specs.Script.{is_comment_word, only_inputs, meaning};
 ghost use Rattle.bitflags.specs.Sets.{find_name};
 
-use crate::fault::Code;
+use crate::fault::ScriptCode;
 use crate::inputs::Inputs;
 use bitflags::Flags;
 use pac_lex::next_word;
@@ -28,7 +28,7 @@ pub struct Stretch {
 /// What a line, which stands here without its ending, says by itself: nothing, where it has no word or is
 /// a comment, or a stretch of frames; or else I2 or I1.
 #[tactic(auto, unfolding(crate::specs::Script::meaning))]
-pub(crate) fn meaning(line: &[u8]) -> Result<Option<Stretch>, Code>
+pub(crate) fn meaning(line: &[u8]) -> Result<Option<Stretch>, ScriptCode>
     ensures { result ≡ meaning line.now }
 {
     let Some((first, after)) = next_word(line) else {
@@ -37,14 +37,14 @@ pub(crate) fn meaning(line: &[u8]) -> Result<Option<Stretch>, Code>
     if is_comment(first) {
         return Ok(None);
     }
-    let frames = frame_count(first).ok_or(Code::Count)?;
-    let inputs = only_inputs(after).ok_or(Code::Names)?;
+    let frames = frame_count(first).ok_or(ScriptCode::Count)?;
+    let inputs = only_inputs(after).ok_or(ScriptCode::Names)?;
     Ok(Some(Stretch { frames, inputs }))
 }
 
 /// The inputs of what follows the count, which has to be one word.
 fn only_inputs(after: &[u8]) -> Option<Inputs>
-    ensures { option_map mask result ≡ only_inputs (words after.now) }
+    ensures { option_map mask result ≡ only_inputs (words_of_line after.now) }
 {
     let (word, rest) = next_word(after)?;
     if next_word(rest).is_some() {
@@ -55,7 +55,7 @@ fn only_inputs(after: &[u8]) -> Option<Inputs>
 
 /// Whether the word begins with `#`.
 fn is_comment(word: &[u8]) -> bool
-    ensures { result ≡ is_comment word.now }
+    ensures { result ≡ is_comment_word word.now }
 {
     matches!(word, [b'#', ..])
 }
@@ -107,8 +107,8 @@ fn is_dash(word: &[u8]) -> bool
 /// The first name, and what follows its comma, if it has one.
 #[tactic(auto, using(crate::proofs::NameLemmas::all_parts))]
 fn first_name(names: &[u8]) -> (&[u8], Option<&[u8]>)
-    ensures last { IfNone result.1 (slice_split is_comma names.now ≡ result.0.now ∷ []) }
-    ensures more { IfSome result.1 (λ after. slice_split is_comma names.now ≡ result.0.now ∷ slice_split is_comma after.now) }
+    ensures last { IfNone result.1 (slice_split is_comma_byte names.now ≡ result.0.now ∷ []) }
+    ensures more { IfSome result.1 (λ after. slice_split is_comma_byte names.now ≡ result.0.now ∷ slice_split is_comma_byte after.now) }
     ensures shorter { IfSome result.1 (λ after. length after.now < length names.now) }
 {
     let (name, rest) = names.split_at(name_len(names));
@@ -120,7 +120,7 @@ fn first_name(names: &[u8]) -> (&[u8], Option<&[u8]>)
 
 /// The count of bytes before the first comma.
 fn name_len(bytes: &[u8]) -> usize
-    ensures value { result ≡ prefix_len (λ b. not (is_comma b)) bytes.now }
+    ensures value { result ≡ prefix_len (λ b. not (is_comma_byte b)) bytes.now }
     ensures bound { result ≤ length bytes.now }
 {
     bytes.iter().take_while(|b| **b != b',').count()
@@ -129,7 +129,7 @@ fn name_len(bytes: &[u8]) -> usize
 /// The input of a name, if it is one.
 #[tactic(auto, using(crate::proofs::NameLemmas::unread_names))]
 fn input_named(name: &[u8]) -> Option<Inputs>
-    ensures { option_map mask result ≡ find_name places name.now }
+    ensures { option_map mask result ≡ find_name input_bits name.now }
 {
     let text = std::str::from_utf8(name).ok()?;
     Inputs::from_name(text)

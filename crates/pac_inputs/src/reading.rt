@@ -4,9 +4,9 @@ ghost use Rattle.std.specs.Prelude.{◌≡◌, ◌≤◌, [], ◌∷◌, ◌++�
 ghost use Rattle.pac_inputs.specs.declared.fault.ScriptError.TheVariants as errors;
 ghost use Rattle.pac_inputs.specs.declared.fault.ScriptFault.{ScriptFault};
 ghost use Rattle.pac_inputs.specs.declared.line.Stretch.{Stretch};
-ghost use Rattle.pac_inputs.specs.Script.{with_line, in_line, Fails, Gives, OnFault, IsScript, HasFault, script_of};
+ghost use Rattle.pac_inputs.specs.Script.{with_line, with_line_number, ScriptFails, ScriptGives, OnScriptFault, IsScript, HasScriptFault, script_of};
 
-use crate::fault::{Code, ScriptError, ScriptFault};
+use crate::fault::{ScriptCode, ScriptError, ScriptFault};
 use crate::line::{FRAME_LIMIT, meaning};
 use crate::script::Script;
 use pac_lex::first_line;
@@ -19,20 +19,20 @@ pub fn read_script(alloc: Global, text: &[u8]) -> Result<Script, ScriptError>
     // What is read is so: the text is this script.
     ensures read { IfOk result (λ script. IsScript text.now script) }
     // What is so is read, unless memory runs out.
-    ensures only { (said : List Stretch) → IsScript text.now said → Gives result (Ok said) }
+    ensures only { (said : List Stretch) → IsScript text.now said → ScriptGives result (Ok said) }
     // The fault told is the text's first, and the text's first is told.
-    ensures fault { IfErr result (λ e. OnFault e (HasFault text.now)) }
-    ensures refused { (fault : ScriptFault) → HasFault text.now fault → Gives result (Err fault) }
+    ensures fault { IfErr result (λ e. OnScriptFault e (HasScriptFault text.now)) }
+    ensures refused { (fault : ScriptFault) → HasScriptFault text.now fault → ScriptGives result (Err fault) }
     // Which script and which fault, as a function of the text.
-    ensures exact { Gives result (script_of text.now) }
+    ensures exact { ScriptGives result (script_of text.now) }
 {
     read(alloc, text)
 }
 
-/// The same, by its last clause alone.
-#[tactic(auto, unfolding(crate::specs::Script::read))]
+/// What `read_script` answers, by its exact clause alone, from which the others are proved.
+#[tactic(auto, unfolding(crate::specs::Script::script_from_line))]
 fn read(alloc: Global, text: &[u8]) -> Result<Script, ScriptError>
-    ensures { Gives result (script_of text.now) }
+    ensures { ScriptGives result (script_of text.now) }
 {
     let mut script = Script::new(alloc);
     let mut rest = text;
@@ -48,7 +48,7 @@ fn read(alloc: Global, text: &[u8]) -> Result<Script, ScriptError>
 /// Adds what the line of this number says to what those before it say.
 fn take_line(script: &mut Script, number: u64, line: &[u8]) -> Result<(), ScriptError>
     ensures ok { OnOk result (with_line script.old line.now ≡ Ok script.new) }
-    ensures err { IfErr result (λ e. Fails e (in_line number (with_line script.old line.now))) }
+    ensures err { IfErr result (λ e. ScriptFails e (with_line_number number (with_line script.old line.now))) }
 {
     let stretch = match meaning(line) {
         Err(code) => return Err(in_line(code, number)),
@@ -56,14 +56,14 @@ fn take_line(script: &mut Script, number: u64, line: &[u8]) -> Result<(), Script
         Ok(Some(stretch)) => stretch,
     };
     if stretch.frames > FRAME_LIMIT - script.frames() {
-        return Err(in_line(Code::Length, number));
+        return Err(in_line(ScriptCode::Length, number));
     }
     script.push(stretch)?;
     Ok(())
 }
 
 /// A fault in the line of this number.
-fn in_line(code: Code, number: u64) -> ScriptError
+fn in_line(code: ScriptCode, number: u64) -> ScriptError
     ensures { result ≡ errors.Fault (record { code = code; line = number }) }
 {
     ScriptError::Fault(ScriptFault { code, line: number })

@@ -2,7 +2,7 @@
 
 ghost use Rattle.std.specs.Prelude.{◌≡◌, ◌+◌, ◌≤◌, [], ◌∷◌, ◌++◌, OnOk};
 ghost use Rattle.pac_inputs.specs.Inputs.{mask};
-ghost use Rattle.pac_inputs.specs.Stretches.{total, held, most_frames};
+ghost use Rattle.pac_inputs.specs.Stretches.{total_frames, held, most_frames};
 ghost use Rattle.pac_inputs.specs.Entries.{held_up_to, Rises};
 
 use crate::inputs::Inputs;
@@ -13,7 +13,7 @@ use std::marker::Model;
 
 /// The inputs that are held up to a frame, which is the last of a line of the script.
 #[derive(Clone, Copy)]
-struct Entry {
+struct HeldUntil {
     end: u32,
     inputs: Inputs,
 }
@@ -22,22 +22,22 @@ struct Entry {
 /// order.
 #[derive(Drop)]
 pub struct Script {
-    entries: Vec<Entry>,
+    entries: Vec<HeldUntil>,
 }
 
 impl Model for Script {
     ghost use Rattle.std.specs.Prelude.{◌≡◌, ◌≤◌, List};
     ghost use Rattle.pac_inputs.specs.declared.line.Stretch.{Stretch};
-    ghost use Rattle.pac_inputs.specs.Stretches.{total, most_frames};
-    ghost use Rattle.pac_inputs.specs.Entries.{stretches, Rises};
+    ghost use Rattle.pac_inputs.specs.Stretches.{total_frames, most_frames};
+    ghost use Rattle.pac_inputs.specs.Entries.{entry_stretches, Rises};
 
     ghost Value = { List Stretch };
 
-    ghost view = { λ script. stretches 0 script.entries.items };
+    ghost view = { λ script. entry_stretches 0 script.entries.items };
 
     ghost invariant = { λ script. record {
       rises : Rises 0 script.entries.items;
-      within : total (stretches 0 script.entries.items) ≤ most_frames;
+      within : total_frames (entry_stretches 0 script.entries.items) ≤ most_frames;
     } };
 }
 
@@ -51,25 +51,25 @@ impl Script {
         }
     }
 
-    /// Adds frames after those that it has.
+    /// Adds frames after those that the script has.
     #[tactic(auto, using(crate::proofs::Frames::added_entries))]
     pub(crate) fn push(&mut self, stretch: Stretch) -> Result<(), AllocError>
-        requires { total self.old + stretch.frames ≤ most_frames }
+        requires { total_frames self.old + stretch.frames ≤ most_frames }
         ensures { OnOk result (self.new ≡ self.old ++ stretch ∷ []) }
     {
         let end = self.frames() + stretch.frames;
-        self.entries.push(Entry {
+        self.entries.push(HeldUntil {
             end,
             inputs: stretch.inputs,
         })?;
         Ok(())
     }
 
-    /// How many frames it has, 0 to 36,000.
+    /// How many frames the script has, 0 to 36,000.
     #[tactic(auto, using(crate::proofs::Frames::last_entries))]
     #[inline]
     pub fn frames(&self) -> u32
-        ensures count { result ≡ total self.now }
+        ensures count { result ≡ total_frames self.now }
         ensures within { result ≤ most_frames }
     {
         match self.entries.last() {
@@ -91,7 +91,7 @@ impl Script {
 }
 
 /// The inputs of the first entry that ends with the frame or after it.
-fn held_up_to(entries: &[Entry], frame: u32) -> Inputs
+fn held_up_to(entries: &[HeldUntil], frame: u32) -> Inputs
     requires { Rises 0 entries.now }
     ensures { mask result ≡ held_up_to entries.now frame }
 {

@@ -1,13 +1,13 @@
 //! Scripts and their faults by the format's page, and what is printed for each fault.
 
 use bitflags::Flags;
-use pac_inputs::{Code, Inputs, Script, ScriptError, ScriptFault, read_script};
+use pac_inputs::{Inputs, Script, ScriptCode, ScriptError, ScriptFault, read_script};
 use std::alloc::Global;
 use std::process::Abort;
 use std::test::Fail;
 
 /// Whether a script has this fault.
-fn has_fault(alloc: Global, text: &[u8], code: Code, line: u64) -> bool {
+fn has_fault(alloc: Global, text: &[u8], code: ScriptCode, line: u64) -> bool {
     match read_script(alloc, text) {
         Err(error) => error == ScriptError::Fault(ScriptFault { code, line }),
         Ok(_) => false,
@@ -95,27 +95,27 @@ fn what_scripts_may_have(rt: HostRuntime) {
 }
 
 /// Scripts with a fault, and its line.
-static FAULTS: [(&[u8], Code, u64); 20] = [
-    (b"36000 -\n1 -", Code::Length, 2),
-    (b"0 -", Code::Count, 1),
-    (b"+1 -", Code::Count, 1),
-    (b"-1 -", Code::Count, 1),
-    (b"1.0 -", Code::Count, 1),
-    (b"36001 -", Code::Count, 1),
-    (b"4294967297 -", Code::Count, 1),
-    (b"x", Code::Count, 1),
-    (b"1 p1_up", Code::Names, 1),
-    (b"1 -,-", Code::Names, 1),
-    (b"1 P1_UP,", Code::Names, 1),
-    (b"1 ,P1_UP", Code::Names, 1),
-    (b"1 P1_UP, START1", Code::Names, 1),
-    (b"1 P1_UP # up", Code::Names, 1),
-    (b"1 *", Code::Names, 1),
-    (b"1 \xFF", Code::Names, 1),
-    (b"1", Code::Names, 1),
-    (b"1 -\r", Code::Names, 1),
-    (b"# first\n\n36000 -\n1 x\n0 -", Code::Names, 4),
-    (b"36000 -\n1 -\n0 -", Code::Length, 2),
+static FAULTS: [(&[u8], ScriptCode, u64); 20] = [
+    (b"36000 -\n1 -", ScriptCode::Length, 2),
+    (b"0 -", ScriptCode::Count, 1),
+    (b"+1 -", ScriptCode::Count, 1),
+    (b"-1 -", ScriptCode::Count, 1),
+    (b"1.0 -", ScriptCode::Count, 1),
+    (b"36001 -", ScriptCode::Count, 1),
+    (b"4294967297 -", ScriptCode::Count, 1),
+    (b"x", ScriptCode::Count, 1),
+    (b"1 p1_up", ScriptCode::Names, 1),
+    (b"1 -,-", ScriptCode::Names, 1),
+    (b"1 P1_UP,", ScriptCode::Names, 1),
+    (b"1 ,P1_UP", ScriptCode::Names, 1),
+    (b"1 P1_UP, START1", ScriptCode::Names, 1),
+    (b"1 P1_UP # up", ScriptCode::Names, 1),
+    (b"1 *", ScriptCode::Names, 1),
+    (b"1 \xFF", ScriptCode::Names, 1),
+    (b"1", ScriptCode::Names, 1),
+    (b"1 -\r", ScriptCode::Names, 1),
+    (b"# first\n\n36000 -\n1 x\n0 -", ScriptCode::Names, 4),
+    (b"36000 -\n1 -\n0 -", ScriptCode::Length, 2),
 ];
 
 #[test]
@@ -126,14 +126,14 @@ fn the_first_fault(rt: HostRuntime) {
 }
 
 /// Codes as they are printed.
-static CODES: [(Code, &str); 3] = [
-    (Code::Names, "I1"),
-    (Code::Count, "I2"),
-    (Code::Length, "I3"),
+static CODES: [(ScriptCode, &str); 3] = [
+    (ScriptCode::Names, "I1"),
+    (ScriptCode::Count, "I2"),
+    (ScriptCode::Length, "I3"),
 ];
 
 /// Whether a code is printed so.
-fn is_code(alloc: Global, code: Code, text: &str) -> bool {
+fn is_code(alloc: Global, code: ScriptCode, text: &str) -> bool {
     match format!(in alloc; "{code}") {
         Ok(found) => found.as_str() == text,
         Err(_) => false,
@@ -162,7 +162,7 @@ fn printed_faults(rt: HostRuntime) {
         assert!(rt; is_code(rt.alloc(), *code, text), "{text}");
     }
     let fault = ScriptFault {
-        code: Code::Length,
+        code: ScriptCode::Length,
         line: 2,
     };
     assert!(rt; is_fault(rt.alloc(), fault, "I3 line 2"));

@@ -2,7 +2,7 @@
 
 use bitflags::Flags;
 use pac_inputs::{Inputs, Script, ScriptError, read_script};
-use pac_scarce::{Answer, refusals};
+use pac_tests_memory::{Answer, refusals};
 use std::alloc::Global;
 use std::test::Fail;
 

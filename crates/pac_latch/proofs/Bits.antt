@@ -6,38 +6,39 @@ use Rattle.std.proofs.Math.Nat.{zero-div, div-div-eq-div-mul}
 use Rattle.std.proofs.lemmas.List.{ext_get_or}
 use Rattle.std.proofs.lemmas.Grind.{common_steps}
 use Rattle.pac_num.specs.Numbers.{bit}
-use Rattle.pac_latch.specs.Latched.{Bits, Latched, listed, of_list, place_of, is_set, digit, number_of, byte_of, bits_of, after_bit}
+use Rattle.pac_latch.specs.Latched.{Bits, Latched, latch_bits, latch_of_bits, latch_place, is_latch_bit_set, binary_digit, binary_number, byte_of_latch, bits_of, latched_after_bit}
 
 -- eight bits, listed again, are those bits
-listed-at : (bits : List Bool) (place : ℕ) → place < 8 → get_or (listed (of_list bits)) place false ≡ get_or bits place false
+listed-at : (bits : List Bool) (place : ℕ) → place < 8 → get_or (latch_bits (latch_of_bits bits)) place false ≡ get_or bits place false
 listed-at bits place below = grind (arith, common_steps)
 
-pub listed-of_list : (bits : List Bool) → length bits ≡ 8 → listed (of_list bits) ≡ bits
+pub listed-of_list : (bits : List Bool) → length bits ≡ 8 → latch_bits (latch_of_bits bits) ≡ bits
 listed-of_list bits long = ext_get_or false _ _ (rw long refl) (λ place below. listed-at bits place below)
 
 -- what a written bit leaves in the bit of a place
 after_bit-at : (latched : Latched) (place : ℕ) (bit : Bool) (other : ℕ) →
-    is_set (after_bit latched place bit) other ≡ get_or (set (listed latched.bits) (place_of place) bit) (place_of other) false
+    is_latch_bit_set (latched_after_bit latched place bit) other
+    ≡ get_or (set (latch_bits latched.bits) (latch_place place) bit) (latch_place other) false
 after_bit-at latched place bit other =
-    ap (λ (bits : List Bool). get_or bits (place_of other) false)
-    (listed-of_list (set (listed latched.bits) (place_of place) bit) (rw length-set refl))
+    ap (λ (bits : List Bool). get_or bits (latch_place other) false)
+    (listed-of_list (set (latch_bits latched.bits) (latch_place place) bit) (rw length-set refl))
 
 -- it is the bit of its place, and the others stay
-pub is_set-written : (latched : Latched) (place : ℕ) (bit : Bool) → is_set (after_bit latched place bit) place ≡ bit
+pub is_set-written : (latched : Latched) (place : ℕ) (bit : Bool) → is_latch_bit_set (latched_after_bit latched place bit) place ≡ bit
 is_set-written latched place bit =
-    let inside : place_of place < length (listed latched.bits) = omega arith in
+    let inside : latch_place place < length (latch_bits latched.bits) = omega arith in
     after_bit-at latched place bit place ∙ rw get_or-set_same refl
 
-pub is_set-others : (latched : Latched) (place : ℕ) (bit : Bool) (other : ℕ) → place_of other ≢ place_of place →
-    is_set (after_bit latched place bit) other ≡ is_set latched other
+pub is_set-others : (latched : Latched) (place : ℕ) (bit : Bool) (other : ℕ) → latch_place other ≢ latch_place place →
+    is_latch_bit_set (latched_after_bit latched place bit) other ≡ is_latch_bit_set latched other
 is_set-others latched place bit other apart = after_bit-at latched place bit other ∙ rw get_or-set_other refl
 
 -- the bit of a place of the number that binary digits make is the digit there
-digit-lowest : (lowest : Bool) (more : ℕ) → ((digit lowest + 2 * more) / 1 % 2 == 1) ≡ lowest
+digit-lowest : (lowest : Bool) (more : ℕ) → ((binary_digit lowest + 2 * more) / 1 % 2 == 1) ≡ lowest
 digit-lowest true more = let one : (1 + 2 * more) / 1 % 2 ≡ 1 = omega arith in rw one refl
 digit-lowest false more = let none : (0 + 2 * more) / 1 % 2 ≡ 0 = omega arith in rw none refl
 
-without-lowest : (lowest : Bool) (more : ℕ) → (digit lowest + 2 * more) / 2 ≡ more
+without-lowest : (lowest : Bool) (more : ℕ) → (binary_digit lowest + 2 * more) / 2 ≡ more
 without-lowest true more = omega arith
 without-lowest false more = omega arith
 
@@ -46,15 +47,15 @@ bit-next n place =
     let power : 2 ^ suc place ≡ 2 * 2 ^ place = omega arith in
     rw power (ap (λ rest. rest % 2) (sym (div-div-eq-div-mul n 2 (2 ^ place))))
 
-number_of-bit : (digits : List Bool) (place : ℕ) → (bit (number_of digits) place == 1) ≡ get_or digits place false
+number_of-bit : (digits : List Bool) (place : ℕ) → (bit (binary_number digits) place == 1) ≡ get_or digits place false
 number_of-bit [] place = rw zero-div refl
-number_of-bit (lowest ∷ more) zero = digit-lowest lowest (number_of more)
+number_of-bit (lowest ∷ more) zero = digit-lowest lowest (binary_number more)
 number_of-bit (lowest ∷ more) (suc place) =
-    ap (λ at. at == 1) (bit-next (number_of (lowest ∷ more)) place ∙ ap (λ n. bit n place) (without-lowest lowest (number_of more)))
+    ap (λ at. at == 1) (bit-next (binary_number (lowest ∷ more)) place ∙ ap (λ n. bit n place) (without-lowest lowest (binary_number more)))
     ∙ number_of-bit more place
 
 -- so the latch of the latch's byte is the latch
-pub bits_of-byte_of : (bits : Bits) → bits_of (byte_of bits) ≡ bits
+pub bits_of-byte_of : (bits : Bits) → bits_of (byte_of_latch bits) ≡ bits
 bits_of-byte_of bits =
-    let at : (place : ℕ) → (bit (byte_of bits) place == 1) ≡ get_or (listed bits) place false = number_of-bit (listed bits) in
+    let at : (place : ℕ) → (bit (byte_of_latch bits) place == 1) ≡ get_or (latch_bits bits) place false = number_of-bit (latch_bits bits) in
     rw (at 0, at 1, at 2, at 3, at 4, at 5, at 6, at 7) refl

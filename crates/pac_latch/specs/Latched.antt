@@ -23,14 +23,14 @@ pub record Bits : Type 0 where
   pub coin_lockout : Bool
   pub coin_counter : Bool
 
--- its bits by their places, from 0 to 7, and the latch that has these bits
-abbrev pub listed : Bits → List Bool
-listed bits =
+-- the latch's bits by their places, from 0 to 7, and the latch that has these bits
+abbrev pub latch_bits : Bits → List Bool
+latch_bits bits =
     bits.interrupt_enable ∷ bits.sound_enable ∷ bits.auxiliary ∷ bits.flip
     ∷ bits.lamp_1 ∷ bits.lamp_2 ∷ bits.coin_lockout ∷ bits.coin_counter ∷ []
 
-abbrev pub of_list : List Bool → Bits
-of_list bits = record {
+abbrev pub latch_of_bits : List Bool → Bits
+latch_of_bits bits = record {
   interrupt_enable = slice_index_or bits 0 false;
   sound_enable = slice_index_or bits 1 false;
   auxiliary = slice_index_or bits 2 false;
@@ -50,28 +50,28 @@ pub record Latched : Type 0 where
   pub count : ℕ
 
 -- at power-on all is 0 (this profile)
-abbrev pub power_on : Latched
-power_on = record { bits = of_list []; vector = 0; request = false; count = 0 }
+abbrev pub power_on_latched : Latched
+power_on_latched = record { bits = latch_of_bits []; vector = 0; request = false; count = 0 }
 
 -- the place of a latch bit: an address says it by its lowest three lines alone
-abbrev pub place_of : ℕ → ℕ
-place_of place = place % 8
+abbrev pub latch_place : ℕ → ℕ
+latch_place place = place % 8
 
 -- whether a bit of the latch is 1
-abbrev pub is_set : Latched → ℕ → Bool
-is_set latched place = slice_index_or (listed latched.bits) (place_of place) false
+abbrev pub is_latch_bit_set : Latched → ℕ → Bool
+is_latch_bit_set latched place = slice_index_or (latch_bits latched.bits) (latch_place place) false
 
 -- the number that binary digits make, the lowest one first
-abbrev pub digit : Bool → ℕ
-digit bit = if bit then 1 else 0
+abbrev pub binary_digit : Bool → ℕ
+binary_digit bit = if bit then 1 else 0
 
-abbrev pub number_of : List Bool → ℕ
-number_of [] = 0
-number_of (bit ∷ more) = digit bit + 2 * number_of more
+abbrev pub binary_number : List Bool → ℕ
+binary_number [] = 0
+binary_number (bit ∷ more) = binary_digit bit + 2 * binary_number more
 
 -- the latch as one byte, and the latch of a byte
-abbrev pub byte_of : Bits → ℕ
-byte_of bits = number_of (listed bits)
+abbrev pub byte_of_latch : Bits → ℕ
+byte_of_latch bits = binary_number (latch_bits bits)
 
 abbrev pub bits_of : ℕ → Bits
 bits_of byte = record {
@@ -90,46 +90,46 @@ abbrev pub latched_of : (byte vector : ℕ) → Bool → (count : ℕ) → Latch
 latched_of byte vector request count = record { bits = bits_of byte; vector = vector; request = request; count = count }
 
 -- the vector, where a request stands
-abbrev pub request_of : Latched → Option ℕ
-request_of latched = if latched.request then Some latched.vector else None
+abbrev pub interrupt_request : Latched → Option ℕ
+interrupt_request latched = if latched.request then Some latched.vector else None
 
 -- whether a bit that is written takes the request back: a 0 in interrupt enable does
 abbrev pub withdraws : ℕ → Bool → Bool
-withdraws place bit = place_of place == 0 && not bit
+withdraws place bit = latch_place place == 0 && not bit
 
 -- after a bit of the latch is written
-abbrev pub after_bit : Latched → ℕ → Bool → Latched
-after_bit latched place bit =
+abbrev pub latched_after_bit : Latched → ℕ → Bool → Latched
+latched_after_bit latched place bit =
     record latched {
-      bits = of_list (slice_set (listed latched.bits) (place_of place) bit);
+      bits = latch_of_bits (slice_set (latch_bits latched.bits) (latch_place place) bit);
       request = latched.request && not (withdraws place bit);
     }
 
 -- after the vector is set
-abbrev pub after_vector : Latched → ℕ → Latched
-after_vector latched byte = record latched { vector = byte }
+abbrev pub latched_after_vector : Latched → ℕ → Latched
+latched_after_vector latched byte = record latched { vector = byte }
 
 -- after the watchdog is kicked
-abbrev pub after_kick : Latched → Latched
-after_kick latched = record latched { count = 0 }
+abbrev pub latched_after_kick : Latched → Latched
+latched_after_kick latched = record latched { count = 0 }
 
 -- after the processor has accepted the interrupt
-abbrev pub after_accept : Latched → Latched
-after_accept latched = record latched { request = false }
+abbrev pub latched_after_accept : Latched → Latched
+latched_after_accept latched = record latched { request = false }
 
 -- after a reset of the board: only the vector stays
-abbrev pub after_reset : Latched → Latched
-after_reset latched = record power_on { vector = latched.vector }
+abbrev pub latched_after_reset : Latched → Latched
+latched_after_reset latched = record power_on_latched { vector = latched.vector }
 
 -- after a vertical blank: it asks for an interrupt where interrupts are enabled, and the watchdog counts it, up to
 -- its limit
-abbrev pub after_blank : Latched → Latched
-after_blank latched =
+abbrev pub latched_after_blank : Latched → Latched
+latched_after_blank latched =
     record latched {
       request = latched.request || latched.bits.interrupt_enable;
       count = min watchdog_limit (latched.count + 1);
     }
 
 -- whether the watchdog resets the board now
-abbrev pub is_due : Latched → Bool
-is_due latched = latched.count == watchdog_limit
+abbrev pub is_watchdog_due : Latched → Bool
+is_watchdog_due latched = latched.count == watchdog_limit

@@ -2,7 +2,7 @@
 #![tactic(auto)]
 
 ghost use Rattle.std.specs.Prelude.{◌≡◌, ◌≢◌, ◌≤◌, ◌<◌, ◌/◌, ◌%◌, ◌==◌, ℕ};
-ghost use Rattle.pac_latch.specs.Latched.{power_on, latched_of, after_bit, after_vector, after_kick, after_accept, after_reset, after_blank};
+ghost use Rattle.pac_latch.specs.Latched.{power_on_latched, latched_of, latched_after_bit, latched_after_vector, latched_after_kick, latched_after_accept, latched_after_reset, latched_after_blank};
 ghost use Rattle.pac_latch.specs.Latched as spec;
 
 mod reading;
@@ -34,12 +34,12 @@ pub struct Latch {
 
 impl Model for Latch {
     ghost use Rattle.std.specs.Prelude.{◌≤◌};
-    ghost use Rattle.pac_latch.specs.Latched.{Latched, of_list, watchdog_limit};
+    ghost use Rattle.pac_latch.specs.Latched.{Latched, latch_of_bits, watchdog_limit};
 
     ghost Value = { Latched };
 
     ghost view = { λ latch. record {
-      bits = of_list latch.bits;
+      bits = latch_of_bits latch.bits;
       vector = latch.vector;
       request = latch.requested;
       count = latch.count;
@@ -68,7 +68,7 @@ fn is_one(byte: u8, weight: u8) -> bool
 impl Latch {
     /// All 0, as at power-on.
     pub fn new() -> Latch
-        ensures { result ≡ power_on }
+        ensures { result ≡ power_on_latched }
     {
         Latch {
             bits: [false; 8],
@@ -100,7 +100,7 @@ impl Latch {
         }
     }
 
-    /// Becomes what another one is.
+    /// Becomes a copy of another latch.
     #[inline]
     pub fn copy_from(&mut self, other: &Latch)
         ensures { self.new ≡ other.now }
@@ -114,10 +114,10 @@ impl Latch {
     /// Writes a bit of the latch, whose place is taken modulo 8. A 0 written to interrupt enable clears the request.
     #[inline]
     pub fn write_bit(&mut self, place: u8, bit: bool)
-        ensures latched { self.new ≡ after_bit self.old place bit }
-        ensures set { spec.is_set self.new place ≡ bit }
-        ensures others { (other : ℕ) → spec.place_of other ≢ spec.place_of place →
-            spec.is_set self.new other ≡ spec.is_set self.old other }
+        ensures latched { self.new ≡ latched_after_bit self.old place bit }
+        ensures set { spec.is_latch_bit_set self.new place ≡ bit }
+        ensures others { (other : ℕ) → spec.latch_place other ≢ spec.latch_place place →
+            spec.is_latch_bit_set self.new other ≡ spec.is_latch_bit_set self.old other }
     {
         self.bits[place as usize % 8] = bit;
         self.requested &= !withdraws(place, bit);
@@ -126,7 +126,7 @@ impl Latch {
     /// Sets the interrupt vector.
     #[inline]
     pub fn set_vector(&mut self, byte: u8)
-        ensures { self.new ≡ after_vector self.old byte }
+        ensures { self.new ≡ latched_after_vector self.old byte }
     {
         self.vector = byte;
     }
@@ -134,7 +134,7 @@ impl Latch {
     /// Starts the watchdog's count again from 0.
     #[inline]
     pub fn kick(&mut self)
-        ensures { self.new ≡ after_kick self.old }
+        ensures { self.new ≡ latched_after_kick self.old }
     {
         self.count = 0;
     }
@@ -142,14 +142,14 @@ impl Latch {
     /// Clears the request, as the processor's acceptance does.
     #[inline]
     pub fn accept(&mut self)
-        ensures { self.new ≡ after_accept self.old }
+        ensures { self.new ≡ latched_after_accept self.old }
     {
         self.requested = false;
     }
 
     /// Clears the latch, the request and the count, as a reset of the board does; the vector stays.
     pub fn reset(&mut self)
-        ensures { self.new ≡ after_reset self.old }
+        ensures { self.new ≡ latched_after_reset self.old }
     {
         *self = Latch {
             vector: self.vector,
@@ -161,8 +161,8 @@ impl Latch {
     /// watchdog's limit. Answers whether the watchdog resets the board now.
     #[inline]
     pub fn blank(&mut self) -> bool
-        ensures latched { self.new ≡ after_blank self.old }
-        ensures due { result ≡ spec.is_due self.new }
+        ensures latched { self.new ≡ latched_after_blank self.old }
+        ensures due { result ≡ spec.is_watchdog_due self.new }
     {
         self.requested = self.requested || self.is_set(INTERRUPT_ENABLE);
         self.count = WATCHDOG_LIMIT.min(self.count + 1);

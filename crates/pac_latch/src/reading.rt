@@ -8,7 +8,7 @@ use crate::{FLIP, Latch, SOUND_ENABLE};
 /// A bit of the latch as a binary digit.
 #[inline]
 fn digit(bit: bool) -> u8
-    ensures value { result ≡ spec.digit bit }
+    ensures value { result ≡ spec.binary_digit bit }
     ensures below { result < 2 }
 {
     u8::from(bit)
@@ -17,7 +17,7 @@ fn digit(bit: bool) -> u8
 impl Latch {
     /// The latch as one byte.
     pub fn bits(&self) -> u8
-        ensures byte { result ≡ spec.byte_of self.now.bits }
+        ensures byte { result ≡ spec.byte_of_latch self.now.bits }
         ensures bits { self.now.bits ≡ spec.bits_of result }
     {
         digit(self.bits[0])
@@ -33,7 +33,7 @@ impl Latch {
     /// Whether a bit of the latch is 1; its place is taken modulo 8.
     #[inline]
     pub fn is_set(&self, place: u8) -> bool
-        ensures { result ≡ spec.is_set self.now place }
+        ensures { result ≡ spec.is_latch_bit_set self.now place }
     {
         self.bits[place as usize % 8]
     }
@@ -73,7 +73,7 @@ impl Latch {
     /// The interrupt vector where a request stands.
     #[inline]
     pub fn request(&self) -> Option<u8>
-        ensures { result ≡ spec.request_of self.now }
+        ensures { result ≡ spec.interrupt_request self.now }
     {
         if self.requested {
             Some(self.vector)

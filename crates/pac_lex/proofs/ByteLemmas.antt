@@ -7,10 +7,10 @@ use Rattle.std.specs.Char.{is_ascii_digit}
 use Rattle.std.proofs.lemmas.Bool.{eqb-true, and_parts, or_parts, not-true}
 use Rattle.std.proofs.lemmas.Bool.Decides.{nat_tests}
 use Rattle.std.proofs.lemmas.Option.{same_Some, none-some}
-use Rattle.pac_lex.specs.declared.token.Kind.{Kind}
-use Rattle.pac_lex.specs.declared.token.Kind.TheVariants.{Name, Number, Text, AlternateAf}
-use Rattle.pac_lex.specs.Bytes.{is_blank, is_comment, is_quote, is_name_start}
-use Rattle.pac_lex.specs.Tokens.{symbol, symbols, begins}
+use Rattle.pac_lex.specs.declared.token.TokenKind.{TokenKind}
+use Rattle.pac_lex.specs.declared.token.TokenKind.TheVariants.{Name, Number, Text, AlternateAf}
+use Rattle.pac_lex.specs.Bytes.{is_blank, is_comment_start, is_quote, is_name_start}
+use Rattle.pac_lex.specs.Tokens.{one_byte_kind, one_byte_kinds, begins}
 use Rattle.pac_lex.specs.Scan.{is_end}
 
 pub chosen : {A : Type 0} (b : Bool) (x y z : A) → cond b x y ≡ z → ((b ≡ true) × (x ≡ z)) ⊎ ((b ≡ false) × (y ≡ z))
@@ -28,42 +28,42 @@ digit-no-start b e = grind (arith, nat_tests)
 pub digit-no-blank : (b : ℕ) → is_ascii_digit b ≡ true → is_blank b ≡ false
 digit-no-blank b e = grind (arith, nat_tests)
 
-pub digit-no-comment : (b : ℕ) → is_ascii_digit b ≡ true → is_comment b ≡ false
+pub digit-no-comment : (b : ℕ) → is_ascii_digit b ≡ true → is_comment_start b ≡ false
 digit-no-comment b e = grind (arith, nat_tests)
 
 pub start-no-blank : (b : ℕ) → is_name_start b ≡ true → is_blank b ≡ false
 start-no-blank b e = grind (arith, nat_tests)
 
-pub start-no-comment : (b : ℕ) → is_name_start b ≡ true → is_comment b ≡ false
+pub start-no-comment : (b : ℕ) → is_name_start b ≡ true → is_comment_start b ≡ false
 start-no-comment b e = grind (arith, nat_tests)
 
 -- ---- tokens of one byte
 
 -- what each row of a table passes, the row of a byte that is found there passes
-row-passes : (p : ℕ × Kind → Bool) (rows : List (ℕ × Kind)) (b : ℕ) (kind : Kind) → list_all p rows ≡ true
+row-passes : (p : ℕ × TokenKind → Bool) (rows : List (ℕ × TokenKind)) (b : ℕ) (kind : TokenKind) → list_all p rows ≡ true
     → lookup (λ c. eqb b c) rows ≡ Some kind → p (b, kind) ≡ true
 row-passes p [] b kind all e = absurd (none-some kind e)
 row-passes p ((c, k) ∷ rows) b kind all e =
     let both = and_parts (p (c, k)) (list_all p rows) all in
     elim (chosen (eqb b c) (Some k) (lookup (λ c. eqb b c) rows) (Some kind) e) [
-      | inl (t, is) ↦ rw (eqb-true b c t) (subst (λ (x : Kind). p (c, x) ≡ true) (same_Some k kind is) both.0)
+      | inl (t, is) ↦ rw (eqb-true b c t) (subst (λ (x : TokenKind). p (c, x) ≡ true) (same_Some k kind is) both.0)
       | inr (t, is) ↦ row-passes p rows b kind both.1 is
     ]
 
 -- the kinds of one byte
-abbrev pub is_mark : Kind → Bool
+abbrev pub is_mark : TokenKind → Bool
 is_mark Name = false
 is_mark (Number n) = false
 is_mark Text = false
 is_mark AlternateAf = false
 is_mark kind = true
 
-pub symbol-is-mark : (b : ℕ) (kind : Kind) → symbol b ≡ Some kind → is_mark kind ≡ true
-symbol-is-mark b kind e = row-passes (λ row. is_mark row.1) symbols b kind refl e
+pub symbol-is-mark : (b : ℕ) (kind : TokenKind) → one_byte_kind b ≡ Some kind → is_mark kind ≡ true
+symbol-is-mark b kind e = row-passes (λ row. is_mark row.1) one_byte_kinds b kind refl e
 
 -- no letter, digit, quote, blank or comment
 abbrev is_plain : ℕ → Bool
-is_plain b = not (is_name_start b || is_ascii_digit b || is_quote b || is_blank b || is_comment b)
+is_plain b = not (is_name_start b || is_ascii_digit b || is_quote b || is_blank b || is_comment_start b)
 
 -- what a plain byte isn't
 pub record PlainParts (b : ℕ) : Type 0 where
@@ -71,7 +71,7 @@ pub record PlainParts (b : ℕ) : Type 0 where
   pub no_digit : is_ascii_digit b ≡ false
   pub no_quote : is_quote b ≡ false
   pub no_blank : is_blank b ≡ false
-  pub no_comment : is_comment b ≡ false
+  pub no_comment : is_comment_start b ≡ false
 
 five-false : (a b c d e : Bool) → not (a || b || c || d || e) ≡ true → (a ≡ false) × (b ≡ false) × (c ≡ false) × (d ≡ false) × (e ≡ false)
 five-false a b c d e h =
@@ -81,8 +81,8 @@ five-false a b c d e h =
     let p4 = or_parts a b p3.0 in
     (p4.0, p4.1, p3.1, p2.1, p1.1)
 
-pub symbol-parts : (b : ℕ) (kind : Kind) → symbol b ≡ Some kind → PlainParts b
+pub symbol-parts : (b : ℕ) (kind : TokenKind) → one_byte_kind b ≡ Some kind → PlainParts b
 symbol-parts b kind e =
-    let plain : is_plain b ≡ true = row-passes (λ row. is_plain row.0) symbols b kind refl e in
-    let p = five-false (is_name_start b) (is_ascii_digit b) (is_quote b) (is_blank b) (is_comment b) plain in
+    let plain : is_plain b ≡ true = row-passes (λ row. is_plain row.0) one_byte_kinds b kind refl e in
+    let p = five-false (is_name_start b) (is_ascii_digit b) (is_quote b) (is_blank b) (is_comment_start b) plain in
     record { no_start = p.0; no_digit = p.1; no_quote = p.2; no_blank = p.3; no_comment = p.4 }

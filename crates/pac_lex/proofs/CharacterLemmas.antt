@@ -4,64 +4,68 @@ use Rattle.std.proofs.Common.{inl, inr, append_assoc, get_or, ◌≤◌, ◌<◌
 use Rattle.std.proofs.lemmas.Bool.{cases_Bool, eqb-true}
 use Rattle.std.proofs.lemmas.List.{take_at, take_all, length-append, append-nil}
 use Rattle.pac_lex.specs.Bytes.{is_quote}
-use Rattle.pac_lex.specs.Texts.{quoted, spelled, after_character, unquoted, characters_of}
+use Rattle.pac_lex.specs.Texts.{quoted_character, quoted_text, after_character, unquoted_characters, characters_of}
 
-pub unquoted-cons : (b : ℕ) (bytes : List ℕ) → unquoted (b ∷ bytes) ≡ b ∷ unquoted (after_character b bytes)
-unfolding unquoted
+pub unquoted-cons : (b : ℕ) (bytes : List ℕ) → unquoted_characters (b ∷ bytes) ≡ b ∷ unquoted_characters (after_character b bytes)
+unfolding unquoted_characters
 unquoted-cons b [] = refl
 unquoted-cons b (c ∷ bytes) = elim (cases_Bool (is_quote b && is_quote c)) [
   | inl e ↦ rw e refl
   | inr e ↦ rw e refl
 ]
 
-pub unquoted-nil : unquoted [] ≡ []
-unfolding unquoted
+pub unquoted-nil : unquoted_characters [] ≡ []
+unfolding unquoted_characters
 unquoted-nil = refl
 
 no-quote-after : (c : ℕ) (bytes : List ℕ) → is_quote c ≡ false → after_character c bytes ≡ bytes
 no-quote-after c [] e = refl
 no-quote-after c (d ∷ bytes) e = rw e refl
 
-unquoted-quoted : (characters : List ℕ) → unquoted (flat_map quoted characters) ≡ characters
+unquoted-quoted : (characters : List ℕ) → unquoted_characters (flat_map quoted_character characters) ≡ characters
 unquoted-quoted [] = unquoted-nil
 unquoted-quoted (c ∷ characters) = elim (cases_Bool (is_quote c)) [
-  | inl e ↦ rw e (unquoted-cons 39 (39 ∷ flat_map quoted characters) ∙ rw (unquoted-quoted characters, eqb-true c 39 e) refl)
+  | inl e ↦ rw e (unquoted-cons 39 (39 ∷ flat_map quoted_character characters) ∙ rw (unquoted-quoted characters, eqb-true c 39 e) refl)
   | inr e ↦
-      rw e (unquoted-cons c (flat_map quoted characters)
-      ∙ rw (no-quote-after c (flat_map quoted characters) e, unquoted-quoted characters) refl)
+      rw e (unquoted-cons c (flat_map quoted_character characters)
+      ∙ rw (no-quote-after c (flat_map quoted_character characters) e, unquoted-quoted characters) refl)
 ]
 
-pub characters-again : (text characters : List ℕ) → text ≡ spelled characters → characters_of text ≡ characters
+pub characters-again : (text characters : List ℕ) → text ≡ quoted_text characters → characters_of text ≡ characters
 characters-again text characters e =
-    let between = flat_map quoted characters in
-    let len : length (spelled characters) - 2 ≡ length between = omega (arith, length-append between (39 ∷ [])) in
+    let between = flat_map quoted_character characters in
+    let len : length (quoted_text characters) - 2 ≡ length between = omega (arith, length-append between (39 ∷ [])) in
     rw (e, len, take_at between (39 ∷ []) (length between) refl) (unquoted-quoted characters)
 
-one-more : (found : List ℕ) (b : ℕ) (bytes rest total : List ℕ) → bytes ≡ rest → found ++ unquoted (b ∷ rest) ≡ total
-    → (found ++ b ∷ []) ++ unquoted (after_character b bytes) ≡ total
+one-more : (found : List ℕ) (b : ℕ) (bytes rest total : List ℕ) → bytes ≡ rest → found ++ unquoted_characters (b ∷ rest) ≡ total
+    → (found ++ b ∷ []) ++ unquoted_characters (after_character b bytes) ≡ total
 one-more found b bytes rest total e so_far =
-    rw e (append_assoc found (b ∷ []) (unquoted (after_character b rest)) ∙ ap (λ (xs : List ℕ). found ++ xs) (sym (unquoted-cons b rest))
+    rw e (append_assoc found (b ∷ []) (unquoted_characters (after_character b rest))
+    ∙ ap (λ (xs : List ℕ). found ++ xs) (sym (unquoted-cons b rest))
     ∙ so_far)
 
-pub goes-on-unquoted : (found rest total : List ℕ) → 1 ≤ length rest → found ++ unquoted rest ≡ total
-    → (found ++ get_or rest 0 0 ∷ []) ++ unquoted (after_character (get_or rest 0 0) (take (length rest - 1) (drop 1 rest))) ≡ total
+pub goes-on-unquoted : (found rest total : List ℕ) → 1 ≤ length rest → found ++ unquoted_characters rest ≡ total
+    → (found ++ get_or rest 0 0 ∷ []) ++ unquoted_characters (after_character (get_or rest 0 0) (take (length rest - 1) (drop 1 rest)))
+    ≡ total
 goes-on-unquoted found [] total some so_far = absurd (omega arith)
 goes-on-unquoted found (b ∷ rest) total some so_far =
     one-more found b (take (length (b ∷ rest) - 1) rest) rest total (take_all _ rest (omega arith)) so_far
 
-pub ends-unquoted : (found rest total : List ℕ) → length rest < 1 → found ++ unquoted rest ≡ total → found ≡ total
+pub ends-unquoted : (found rest total : List ℕ) → length rest < 1 → found ++ unquoted_characters rest ≡ total → found ≡ total
 ends-unquoted found [] total none so_far = sym (append-nil found) ∙ ap (λ (xs : List ℕ). found ++ xs) (sym unquoted-nil) ∙ so_far
 ends-unquoted found (b ∷ rest) total none so_far = absurd (omega arith)
 
 -- the same steps for a count of the characters
-pub counts-on : (count total : ℕ) (rest : List ℕ) → 1 ≤ length rest → count + length (unquoted rest) ≡ total
-    → count + 1 + length (unquoted (after_character (get_or rest 0 0) (take (length rest - 1) (drop 1 rest)))) ≡ total
+pub counts-on : (count total : ℕ) (rest : List ℕ) → 1 ≤ length rest → count + length (unquoted_characters rest) ≡ total
+    → count + 1 + length (unquoted_characters (after_character (get_or rest 0 0) (take (length rest - 1) (drop 1 rest)))) ≡ total
 counts-on count total [] some so_far = absurd (omega arith)
 counts-on count total (b ∷ rest) some so_far =
     let same : take (length (b ∷ rest) - 1) rest ≡ rest = take_all _ rest (omega arith) in
-    let one : length (unquoted (b ∷ rest)) ≡ length (b ∷ unquoted (after_character b rest)) = ap length (unquoted-cons b rest) in
+    let one : length (unquoted_characters (b ∷ rest)) ≡ length (b ∷ unquoted_characters (after_character b rest)) =
+    ap length (unquoted-cons b rest) in
     rw same (omega (arith, one, so_far))
 
-pub ends-counted : (count total : ℕ) (rest : List ℕ) → length rest < 1 → count + length (unquoted rest) ≡ total → count ≡ total
-ends-counted count total [] none so_far = let nil : length (unquoted []) ≡ 0 = ap length unquoted-nil in omega (arith, nil, so_far)
+pub ends-counted : (count total : ℕ) (rest : List ℕ) → length rest < 1 → count + length (unquoted_characters rest) ≡ total → count ≡ total
+ends-counted count total [] none so_far = let nil : length (unquoted_characters []) ≡ 0 = ap length unquoted-nil in
+    omega (arith, nil, so_far)
 ends-counted count total (b ∷ rest) none so_far = absurd (omega arith)

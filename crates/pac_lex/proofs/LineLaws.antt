@@ -4,12 +4,12 @@ use Rattle.std.proofs.Common.{refl, sym, ap, ◌∙◌, subst, arith, inl, inr, 
 use Rattle.std.specs.List.{prefix_len, list_all}
 use Rattle.std.proofs.lemmas.Bool.{cases_Bool, lt-ltb, le-ltb, ltb-true, ltb-false, eqb-true, not-false, true≢false}
 use Rattle.std.proofs.lemmas.List.{take-append-drop, take_at, drop_at, length-drop, length-append}
-use Rattle.pac_lex.specs.declared.token.Kind.{Kind}
-use Rattle.pac_lex.specs.declared.fault.Fault.{Fault}
-use Rattle.pac_lex.specs.declared.fault.Fault.TheVariants.{NoToken, WrongNumber, OpenText, LongLine}
-use Rattle.pac_lex.specs.Bytes.{is_blank, is_comment}
-use Rattle.pac_lex.specs.Tokens.{Lexeme, begins, TokenFirst, NoTokenLeft, FaultFirst, Reads, Breaks, IsRead, HasFault}
-use Rattle.pac_lex.specs.Scan.{is_end, before, cut, token_at, scan, tokens_of}
+use Rattle.pac_lex.specs.declared.token.TokenKind.{TokenKind}
+use Rattle.pac_lex.specs.declared.fault.LexFault.{LexFault}
+use Rattle.pac_lex.specs.declared.fault.LexFault.TheVariants.{NoToken, WrongNumber, OpenText, LongLine}
+use Rattle.pac_lex.specs.Bytes.{is_blank, is_comment_start}
+use Rattle.pac_lex.specs.Tokens.{Lexeme, begins, TokenFirst, NoTokenLeft, FaultFirst, ReadsTokens, Breaks, IsRead, HasLexFault}
+use Rattle.pac_lex.specs.Scan.{is_end, token_before, cut_token, token_at, scan, tokens_of}
 use Rattle.pac_lex.proofs.ScanLemmas.{AfterGap, gap-skipped, next-none, next-fault, next-some}
 use Rattle.pac_lex.proofs.Prefixes.{all-of-prefix, prefix-of-all}
 use Rattle.pac_lex.proofs.TokenLaws.{token-is, token-again, fault-is, fault-again}
@@ -40,11 +40,11 @@ split line = let n = prefix_len is_blank line in record {
 
 -- ---- what is so is read
 
-comment-stops : (comment : List ℕ) → begins (λ b. not (is_comment b)) comment ≡ false
+comment-stops : (comment : List ℕ) → begins (λ b. not (is_comment_start b)) comment ≡ false
     → (begins is_blank comment ≡ false) × (is_end comment ≡ true)
 comment-stops [] e = (refl, refl)
 comment-stops (c ∷ comment) e =
-    let is : c ≡ 59 = eqb-true c 59 (not-false (is_comment c) e) in
+    let is : c ≡ 59 = eqb-true c 59 (not-false (is_comment_start c) e) in
     (rw is refl, rw is refl)
 
 nothing-again : (line : List ℕ) → NoTokenLeft line → scan 0 line ≡ Ok []
@@ -52,7 +52,7 @@ nothing-again line h =
     let stops = comment-stops h.comment h.ends in
     next-none line h.comment (after-blanks line h.gap h.comment h.parts h.blank stops.0) stops.1
 
-first-again : (line : List ℕ) (token : Lexeme) (rest : List ℕ) → TokenFirst line token rest → scan 0 line ≡ before token (scan 0 rest)
+first-again : (line : List ℕ) (token : Lexeme) (rest : List ℕ) → TokenFirst line token rest → scan 0 line ≡ token_before token (scan 0 rest)
 first-again line token rest h =
     let found = token-again token.kind token.text rest h.is_token in
     let text = token.text in
@@ -60,54 +60,55 @@ first-again line token rest h =
     (after-blanks line h.gap (text ++ rest) h.parts h.blank found.starts.no_blank) found.starts.no_end found.found found.some
     ∙ rw (take_at text rest (length text) refl, drop_at text rest (length text) refl) refl
 
-scan-again : (line : List ℕ) (tokens : List Lexeme) → Reads line tokens → scan 0 line ≡ Ok tokens
+scan-again : (line : List ℕ) (tokens : List Lexeme) → ReadsTokens line tokens → scan 0 line ≡ Ok tokens
 scan-again line [] h = nothing-again line h
-scan-again line (token ∷ tokens) (rest, first, more) = first-again line token rest first ∙ ap (before token) (scan-again rest tokens more)
+scan-again line (token ∷ tokens) (rest, first, more) = first-again line token rest first
+    ∙ ap (token_before token) (scan-again rest tokens more)
 
-break-again : (line : List ℕ) (tokens : List Lexeme) (fault : Fault) → Breaks line tokens fault → scan 0 line ≡ Err fault
+break-again : (line : List ℕ) (tokens : List Lexeme) (fault : LexFault) → Breaks line tokens fault → scan 0 line ≡ Err fault
 break-again line [] fault h =
     let told = fault-again h.rest fault h.is_fault in
     next-fault line h.rest fault (after-blanks line h.gap h.rest h.parts h.blank told.starts.no_blank) told.starts.no_end told.told
 break-again line (token ∷ tokens) fault (rest, first, more) = first-again line token rest first
-    ∙ ap (before token) (break-again rest tokens fault more)
+    ∙ ap (token_before token) (break-again rest tokens fault more)
 
 -- ---- what is read is so
 
-end-is-comment : (rest : List ℕ) → is_end rest ≡ true → begins (λ b. not (is_comment b)) rest ≡ false
+end-is-comment : (rest : List ℕ) → is_end rest ≡ true → begins (λ b. not (is_comment_start b)) rest ≡ false
 end-is-comment [] e = refl
 end-is-comment (b ∷ rest) e = rw e refl
 
 abbrev Read : Type 0
-Read = Result (List Lexeme) Fault
+Read = Result (List Lexeme) LexFault
 
-before-ok : (token t : Lexeme) (read : Read) (ts : List Lexeme) → before token read ≡ Ok (t ∷ ts) → (token ≡ t) × (read ≡ Ok ts)
+before-ok : (token t : Lexeme) (read : Read) (ts : List Lexeme) → token_before token read ≡ Ok (t ∷ ts) → (token ≡ t) × (read ≡ Ok ts)
 before-ok token t (Ok tokens) ts e = (cc, cc)
 before-ok token t (Err fault) ts e = absurd cc
 
-before-nil : (token : Lexeme) (read : Read) → before token read ≡ Ok [] → ⊥
+before-nil : (token : Lexeme) (read : Read) → token_before token read ≡ Ok [] → ⊥
 before-nil token (Ok tokens) e = cc
 before-nil token (Err fault) e = cc
 
-before-err : (token : Lexeme) (read : Read) (fault : Fault) → before token read ≡ Err fault → read ≡ Err fault
+before-err : (token : Lexeme) (read : Read) (fault : LexFault) → token_before token read ≡ Err fault → read ≡ Err fault
 before-err token (Ok tokens) fault e = absurd cc
 before-err token (Err f) fault e = cc
 
 -- what stands after the blanks
 data First (line : List ℕ) : Type 0 where
   none : NoTokenLeft line → scan 0 line ≡ Ok [] → First line
-  fault : (f : Fault) → FaultFirst line f → scan 0 line ≡ Err f → First line
-  token : (t : Lexeme) (rest : List ℕ) → TokenFirst line t rest → length rest < length line → scan 0 line ≡ before t (scan 0 rest)
+  fault : (f : LexFault) → FaultFirst line f → scan 0 line ≡ Err f → First line
+  token : (t : Lexeme) (rest : List ℕ) → TokenFirst line t rest → length rest < length line → scan 0 line ≡ token_before t (scan 0 rest)
       → First line
 
 some-left : (rest : List ℕ) → is_end rest ≡ false → 0 < length rest
 some-left [] e = absurd (true≢false e)
 some-left (b ∷ rest) e = omega arith
 
-found-or-not : (found : Result (Kind × ℕ) Fault) → ((x : Kind × ℕ) × (found ≡ Ok x)) ⊎ ((f : Fault) × (found ≡ Err f))
+found-or-not : (found : Result (TokenKind × ℕ) LexFault) → ((x : TokenKind × ℕ) × (found ≡ Ok x)) ⊎ ((f : LexFault) × (found ≡ Err f))
 found-or-not (Ok x) = inl (x, refl)
 found-or-not (Err f) = inr (f, refl)
 
-first-token : (line : List ℕ) (s : Split line) (kind : Kind) (len : ℕ) → is_end s.rest ≡ false → token_at s.rest ≡ Ok (kind, len)
+first-token : (line : List ℕ) (s : Split line) (kind : TokenKind) (len : ℕ) → is_end s.rest ≡ false → token_at s.rest ≡ Ok (kind, len)
     → First line
 first-token line s kind len more e =
     let found = token-is s.rest kind len e in
@@ -116,7 +117,7 @@ first-token line s kind len more e =
     let parts : line ≡ s.gap ++ (text ++ after) = s.parts ∙ ap (λ (xs : List ℕ). s.gap ++ xs) (sym (take-append-drop len s.rest)) in
     let shorter : length after < length line =
     omega (arith, some-left s.rest more, length-drop len s.rest, length-append s.gap s.rest, ap length s.parts, found.some) in
-    token (cut kind len s.rest) after (record { gap = s.gap; blank = s.blank; parts = parts; is_token = found.is_token }) shorter
+    token (cut_token kind len s.rest) after (record { gap = s.gap; blank = s.blank; parts = parts; is_token = found.is_token }) shorter
     (next-some line s.rest kind len s.reads more e found.some)
 
 first-of : (line : List ℕ) → First line
@@ -133,7 +134,7 @@ first-of line = let s = split line in elim (cases_Bool (is_end s.rest)) [
   ]
 ]
 
-scan-is : (line : List ℕ) (tokens : List Lexeme) → scan 0 line ≡ Ok tokens → Reads line tokens
+scan-is : (line : List ℕ) (tokens : List Lexeme) → scan 0 line ≡ Ok tokens → ReadsTokens line tokens
 scan-is line [] e = elim (first-of line) [
   | none h is ↦ h
   | fault f h is ↦ absurd cc
@@ -147,20 +148,20 @@ scan-is line (t ∷ tokens) e = elim (first-of line) [
       (rest, subst (λ (x : Lexeme). TokenFirst line x rest) p.0 h, scan-is rest tokens p.1)
 ]
 
-break-is : (n : ℕ) (line : List ℕ) (f : Fault) → length line < n → scan 0 line ≡ Err f → (tokens : List Lexeme) × Breaks line tokens f
+break-is : (n : ℕ) (line : List ℕ) (f : LexFault) → length line < n → scan 0 line ≡ Err f → (tokens : List Lexeme) × Breaks line tokens f
 break-is zero line f small e = absurd (omega arith)
 break-is (suc n) line f small e = elim (first-of line) [
   | none h is ↦ absurd cc
-  | fault f' h is ↦ ([], subst (λ (x : Fault). FaultFirst line x) (same_err f' f (sym is ∙ e)) h)
+  | fault f' h is ↦ ([], subst (λ (x : LexFault). FaultFirst line x) (same_err f' f (sym is ∙ e)) h)
   | token t rest h shorter is ↦
       let (tokens, more) = break-is n rest f (omega arith) (before-err t (scan 0 rest) f (sym is ∙ e)) in
       (t ∷ tokens, (rest, h, more))
 ]
   where
-    failed : Fault → Read
+    failed : LexFault → Read
     failed x = Err x
 
-    same_err : (x y : Fault) → failed x ≡ failed y → x ≡ y
+    same_err : (x y : LexFault) → failed x ≡ failed y → x ≡ y
     same_err x y q = cc
 
 -- ---- the whole line
@@ -176,7 +177,7 @@ pub read-again : (line : List ℕ) (tokens : List Lexeme) → IsRead line tokens
 unfolding tokens_of
 read-again line tokens h = rw (le-ltb 255 (length line) h.0) (scan-again line tokens h.1)
 
-has-fault : (line : List ℕ) (tokens : List Lexeme) (f : Fault) → length line ≤ 255 → Breaks line tokens f → HasFault line f
+has-fault : (line : List ℕ) (tokens : List Lexeme) (f : LexFault) → length line ≤ 255 → Breaks line tokens f → HasLexFault line f
 has-fault line tokens NoToken short h = (short, tokens, h)
 has-fault line tokens WrongNumber short h = (short, tokens, h)
 has-fault line tokens OpenText short h = (short, tokens, h)
@@ -186,26 +187,26 @@ has-fault line tokens LongLine short h = absurd (never line tokens h)
     never xs [] g = g.is_fault
     never xs (t ∷ ts) (rest, first, more) = never rest ts more
 
-pub fault-told : (line : List ℕ) (f : Fault) → tokens_of line ≡ Err f → HasFault line f
+pub fault-told : (line : List ℕ) (f : LexFault) → tokens_of line ≡ Err f → HasLexFault line f
 unfolding tokens_of
 fault-told line f e = elim (chosen (ltb 255 (length line)) _ _ _ e) [
-  | inl (t, p) ↦ subst (λ (x : Fault). HasFault line x) (same_err LongLine f p) (ltb-true 255 (length line) t)
+  | inl (t, p) ↦ subst (λ (x : LexFault). HasLexFault line x) (same_err LongLine f p) (ltb-true 255 (length line) t)
   | inr (t, p) ↦
       let (tokens, h) = break-is (suc (length line)) line f (omega arith) p in
       has-fault line tokens f (ltb-false 255 (length line) t) h
 ]
   where
-    failed : Fault → Read
+    failed : LexFault → Read
     failed x = Err x
 
-    same_err : (x y : Fault) → failed x ≡ failed y → x ≡ y
+    same_err : (x y : LexFault) → failed x ≡ failed y → x ≡ y
     same_err x y q = cc
 
-found-in : (line : List ℕ) (tokens : List Lexeme) (f : Fault) → length line ≤ 255 → Breaks line tokens f → tokens_of line ≡ Err f
+found-in : (line : List ℕ) (tokens : List Lexeme) (f : LexFault) → length line ≤ 255 → Breaks line tokens f → tokens_of line ≡ Err f
 unfolding tokens_of
 found-in line tokens f short h = rw (le-ltb 255 (length line) short) (break-again line tokens f h)
 
-pub fault-found : (line : List ℕ) (f : Fault) → HasFault line f → tokens_of line ≡ Err f
+pub fault-found : (line : List ℕ) (f : LexFault) → HasLexFault line f → tokens_of line ≡ Err f
 unfolding tokens_of
 fault-found line LongLine h = rw (lt-ltb 255 (length line) h) refl
 fault-found line f (short, tokens, h) = found-in line tokens f short h

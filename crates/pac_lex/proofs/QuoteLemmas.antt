@@ -4,7 +4,7 @@ use Rattle.std.proofs.Common.{option_map, refl, ap, ◌∙◌, arith}
 use Rattle.std.proofs.lemmas.Bool.{ne_eqb, eq-eqb, cases_lt}
 use Rattle.std.proofs.lemmas.List.{drop_more, at_drop_more, at_drop_all}
 use Rattle.pac_lex.specs.Bytes.{is_quote}
-use Rattle.pac_lex.specs.Texts.{closing}
+use Rattle.pac_lex.specs.Texts.{closing_length}
 use Rattle.pac_lex.specs.Tokens.{begins}
 
 abbrev pub more : ℕ → Option ℕ → Option ℕ
@@ -14,23 +14,26 @@ more-more : (m n : ℕ) (o : Option ℕ) → more m (more n o) ≡ more (m + n) 
 more-more m n None = refl
 more-more m n (Some k) = ap (λ (x : ℕ). Some x) (omega arith)
 
-pub closing-other : (b : ℕ) (bytes : List ℕ) → is_quote b ≡ false → closing (b ∷ bytes) ≡ more 1 (closing bytes)
+pub closing-other : (b : ℕ) (bytes : List ℕ) → is_quote b ≡ false → closing_length (b ∷ bytes) ≡ more 1 (closing_length bytes)
 closing-other b [] e = rw e refl
 closing-other b (c ∷ bytes) e = rw e refl
 
-pub closing-doubled : (b c : ℕ) (bytes : List ℕ) → is_quote b ≡ true → is_quote c ≡ true → closing (b ∷ c ∷ bytes) ≡ more 2 (closing bytes)
+pub closing-doubled : (b c : ℕ) (bytes : List ℕ) → is_quote b ≡ true → is_quote c ≡ true →
+    closing_length (b ∷ c ∷ bytes) ≡ more 2 (closing_length bytes)
 closing-doubled b c bytes e f = rw (e, f) refl
 
-pub closing-single : (b : ℕ) (bytes : List ℕ) → is_quote b ≡ true → begins is_quote bytes ≡ false → closing (b ∷ bytes) ≡ Some 1
+pub closing-single : (b : ℕ) (bytes : List ℕ) → is_quote b ≡ true → begins is_quote bytes ≡ false → closing_length (b ∷ bytes) ≡ Some 1
 closing-single b [] e f = rw e refl
 closing-single b (c ∷ bytes) e f = rw (e, f) refl
 
 -- the byte at a place, with what follows it
-here : (bytes : List ℕ) (at : ℕ) → at < length bytes → closing (drop at bytes) ≡ closing (get_or bytes at 0 ∷ drop (at + 1) bytes)
-here bytes at lt = at_drop_more closing bytes at 0 lt
+here : (bytes : List ℕ) (at : ℕ) → at < length bytes →
+    closing_length (drop at bytes) ≡ closing_length (get_or bytes at 0 ∷ drop (at + 1) bytes)
+here bytes at lt = at_drop_more closing_length bytes at 0 lt
 
-pub other-at : (bytes : List ℕ) (at : ℕ) → at < length bytes → get_or bytes at 0 ≢ 39 → closing bytes ≡ more at (closing (drop at bytes))
-    → closing bytes ≡ more (at + 1) (closing (drop (at + 1) bytes))
+pub other-at : (bytes : List ℕ) (at : ℕ) → at < length bytes → get_or bytes at 0 ≢ 39 →
+    closing_length bytes ≡ more at (closing_length (drop at bytes))
+    → closing_length bytes ≡ more (at + 1) (closing_length (drop (at + 1) bytes))
 other-at bytes at lt ne so_far =
     so_far ∙ ap (more at) (here bytes at lt ∙ closing-other _ (drop (at + 1) bytes) (ne_eqb _ 39 ne)) ∙ more-more at 1 _
 
@@ -38,13 +41,13 @@ plus-two : (n : ℕ) → n + 1 + 1 ≡ n + 2
 plus-two n = omega arith
 
 pub doubled-at : (bytes : List ℕ) (at : ℕ) → at + 1 < length bytes → get_or bytes at 0 ≡ 39 → get_or bytes (at + 1) 0 ≡ 39
-    → closing bytes ≡ more at (closing (drop at bytes))
-    → closing bytes ≡ more (at + 2) (closing (drop (at + 2) bytes))
+    → closing_length bytes ≡ more at (closing_length (drop at bytes))
+    → closing_length bytes ≡ more (at + 2) (closing_length (drop (at + 2) bytes))
 doubled-at bytes at lt e f so_far =
     let two : drop (at + 1) bytes ≡ get_or bytes (at + 1) 0 ∷ drop (at + 2) bytes = drop_more bytes (at + 1) 0 lt
     ∙ ap (λ (k : ℕ). get_or bytes (at + 1) 0 ∷ drop k bytes) (plus-two at) in
-    let both : closing (get_or bytes at 0 ∷ drop (at + 1) bytes) ≡ more 2 (closing (drop (at + 2) bytes)) =
-    ap (λ (xs : List ℕ). closing (get_or bytes at 0 ∷ xs)) two
+    let both : closing_length (get_or bytes at 0 ∷ drop (at + 1) bytes) ≡ more 2 (closing_length (drop (at + 2) bytes)) =
+    ap (λ (xs : List ℕ). closing_length (get_or bytes at 0 ∷ xs)) two
     ∙ closing-doubled _ _ (drop (at + 2) bytes) (eq-eqb _ 39 e) (eq-eqb _ 39 f) in
     so_far ∙ ap (more at) (here bytes at (omega arith) ∙ both) ∙ more-more at 2 _
 
@@ -56,8 +59,8 @@ begins-at bytes at ne =
     ]
 
 pub ends-at : (bytes : List ℕ) (at : ℕ) → at < length bytes → get_or bytes at 0 ≡ 39
-    → (at + 1 < length bytes → get_or bytes (at + 1) 0 ≡ 39 → ⊥) → closing bytes ≡ more at (closing (drop at bytes))
-    → closing bytes ≡ Some (at + 1)
+    → (at + 1 < length bytes → get_or bytes (at + 1) 0 ≡ 39 → ⊥) → closing_length bytes ≡ more at (closing_length (drop at bytes))
+    → closing_length bytes ≡ Some (at + 1)
 ends-at bytes at lt e ne so_far =
     so_far ∙ ap (more at) (here bytes at lt ∙ closing-single _ (drop (at + 1) bytes) (eq-eqb _ 39 e) (begins-at bytes (at + 1) ne))
     ∙ ap (λ (x : ℕ). Some x) (omega arith)

@@ -2,11 +2,11 @@
 use Rattle.std.proofs.Common.{◌≡◌, ℕ, zero, suc, ◌<◌, true, false, List, [], ◌∷◌, ◌++◌, drop, Result, Ok, Err, refl, sym, ap, ◌∙◌}
 use Rattle.std.proofs.Common.{arith, append_assoc, sub-one, one-add, append-nil, inl, inr}
 use Rattle.std.proofs.lemmas.Bool.{cases_Bool}
-use Rattle.pac_lex.specs.declared.token.Kind.{Kind}
-use Rattle.pac_lex.specs.declared.fault.Fault.{Fault}
-use Rattle.pac_lex.specs.Bytes.{is_blank, is_comment, after_gap}
+use Rattle.pac_lex.specs.declared.token.TokenKind.{TokenKind}
+use Rattle.pac_lex.specs.declared.fault.LexFault.{LexFault}
+use Rattle.pac_lex.specs.Bytes.{is_blank, is_comment_start, after_gap}
 use Rattle.pac_lex.specs.Tokens.{Lexeme, begins}
-use Rattle.pac_lex.specs.Scan.{is_end, before, cut, token_at, scan}
+use Rattle.pac_lex.specs.Scan.{is_end, token_before, cut_token, token_at, scan}
 use Rattle.pac_lex.proofs.Prefixes.{begins-after}
 
 pub scan-skip : (n : ℕ) (bytes : List ℕ) → scan n bytes ≡ scan 0 (drop n bytes)
@@ -23,21 +23,23 @@ pub scan-blank : (b : ℕ) (bytes : List ℕ) → is_blank b ≡ true → scan 0
 unfolding scan
 scan-blank b bytes e = rw e refl
 
-pub scan-comment : (b : ℕ) (bytes : List ℕ) → is_blank b ≡ false → is_comment b ≡ true → scan 0 (b ∷ bytes) ≡ Ok []
+pub scan-comment : (b : ℕ) (bytes : List ℕ) → is_blank b ≡ false → is_comment_start b ≡ true → scan 0 (b ∷ bytes) ≡ Ok []
 unfolding scan
 scan-comment b bytes e f = rw (e, f) refl
 
-pub scan-fault : (b : ℕ) (bytes : List ℕ) (fault : Fault) → is_blank b ≡ false → is_comment b ≡ false → token_at (b ∷ bytes) ≡ Err fault
+pub scan-fault : (b : ℕ) (bytes : List ℕ) (fault : LexFault) → is_blank b ≡ false → is_comment_start b ≡ false →
+    token_at (b ∷ bytes) ≡ Err fault
     → scan 0 (b ∷ bytes) ≡ Err fault
 unfolding scan
 scan-fault b bytes fault e f g = rw (e, f, g) refl
 
-scan-token : (b : ℕ) (bytes : List ℕ) (kind : Kind) (len : ℕ) → is_blank b ≡ false → is_comment b ≡ false
+scan-token : (b : ℕ) (bytes : List ℕ) (kind : TokenKind) (len : ℕ) → is_blank b ≡ false → is_comment_start b ≡ false
     → token_at (b ∷ bytes) ≡ Ok (kind, len) → 0 < len
-    → scan 0 (b ∷ bytes) ≡ before (cut kind len (b ∷ bytes)) (scan 0 (drop len (b ∷ bytes)))
+    → scan 0 (b ∷ bytes) ≡ token_before (cut_token kind len (b ∷ bytes)) (scan 0 (drop len (b ∷ bytes)))
 unfolding scan
 scan-token b bytes kind zero e f g h = absurd (omega arith)
-scan-token b bytes kind (suc len) e f g h = rw (e, f, g, sub-one) (ap (before (cut kind (suc len) (b ∷ bytes))) (scan-skip len bytes))
+scan-token b bytes kind (suc len) e f g h =
+    rw (e, f, g, sub-one) (ap (token_before (cut_token kind (suc len) (b ∷ bytes))) (scan-skip len bytes))
 
 scan-gap : (line : List ℕ) → scan 0 line ≡ scan 0 (after_gap line)
 scan-gap [] = refl
@@ -58,36 +60,37 @@ pub next-none : (line rest : List ℕ) → AfterGap line rest → is_end rest �
 next-none line [] g e = g.same ∙ scan-end
 next-none line (b ∷ rest) g e = g.same ∙ scan-comment b rest g.no_blank e
 
-pub next-fault : (line rest : List ℕ) (fault : Fault) → AfterGap line rest → is_end rest ≡ false → token_at rest ≡ Err fault
+pub next-fault : (line rest : List ℕ) (fault : LexFault) → AfterGap line rest → is_end rest ≡ false → token_at rest ≡ Err fault
     → scan 0 line ≡ Err fault
 next-fault line [] fault g e f = absurd cc
 next-fault line (b ∷ rest) fault g e f = g.same ∙ scan-fault b rest fault g.no_blank e f
 
-pub next-some : (line rest : List ℕ) (kind : Kind) (len : ℕ) → AfterGap line rest → is_end rest ≡ false → token_at rest ≡ Ok (kind, len)
+pub next-some : (line rest : List ℕ) (kind : TokenKind) (len : ℕ) → AfterGap line rest → is_end rest ≡ false →
+    token_at rest ≡ Ok (kind, len)
     → 0 < len
-    → scan 0 line ≡ before (cut kind len rest) (scan 0 (drop len rest))
+    → scan 0 line ≡ token_before (cut_token kind len rest) (scan 0 (drop len rest))
 next-some line [] kind len g e f h = absurd cc
 next-some line (b ∷ rest) kind len g e f h = g.same ∙ scan-token b rest kind len g.no_blank e f h
 
 -- what was read before, and what is still read
-abbrev pub with_earlier : List Lexeme → Result (List Lexeme) Fault → Result (List Lexeme) Fault
+abbrev pub with_earlier : List Lexeme → Result (List Lexeme) LexFault → Result (List Lexeme) LexFault
 with_earlier earlier (Ok tokens) = Ok (earlier ++ tokens)
 with_earlier earlier (Err fault) = Err fault
 
-regroup : (earlier : List Lexeme) (token : Lexeme) (read : Result (List Lexeme) Fault)
-    → with_earlier earlier (before token read) ≡ with_earlier (earlier ++ token ∷ []) read
+regroup : (earlier : List Lexeme) (token : Lexeme) (read : Result (List Lexeme) LexFault)
+    → with_earlier earlier (token_before token read) ≡ with_earlier (earlier ++ token ∷ []) read
 regroup earlier token (Ok tokens) = ap (λ (ts : List Lexeme). Ok ts) (simp append_assoc)
 regroup earlier token (Err fault) = refl
 
-pub goes-on : (earlier : List Lexeme) (token : Lexeme) (line after : List ℕ) (total : Result (List Lexeme) Fault)
-    → scan 0 line ≡ before token (scan 0 after) → with_earlier earlier (scan 0 line) ≡ total
+pub goes-on : (earlier : List Lexeme) (token : Lexeme) (line after : List ℕ) (total : Result (List Lexeme) LexFault)
+    → scan 0 line ≡ token_before token (scan 0 after) → with_earlier earlier (scan 0 line) ≡ total
     → with_earlier (earlier ++ token ∷ []) (scan 0 after) ≡ total
 goes-on earlier token line after total e so_far = sym (regroup earlier token (scan 0 after)) ∙ ap (with_earlier earlier) (sym e) ∙ so_far
 
-pub ends : (earlier : List Lexeme) (read total : Result (List Lexeme) Fault) → read ≡ Ok [] → with_earlier earlier read ≡ total
+pub ends : (earlier : List Lexeme) (read total : Result (List Lexeme) LexFault) → read ≡ Ok [] → with_earlier earlier read ≡ total
     → total ≡ Ok earlier
 ends earlier read total e so_far = sym so_far ∙ rw e (ap (λ (ts : List Lexeme). Ok ts) (append-nil earlier))
 
-pub breaks : (earlier : List Lexeme) (read total : Result (List Lexeme) Fault) (fault : Fault) → read ≡ Err fault
+pub breaks : (earlier : List Lexeme) (read total : Result (List Lexeme) LexFault) (fault : LexFault) → read ≡ Err fault
     → with_earlier earlier read ≡ total → total ≡ Err fault
 breaks earlier read total fault e so_far = sym so_far ∙ rw e refl

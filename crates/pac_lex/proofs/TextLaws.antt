@@ -5,7 +5,7 @@ use Rattle.std.specs.List.{list_all}
 use Rattle.std.proofs.lemmas.Bool.{cases_Bool, eqb-true}
 use Rattle.std.proofs.lemmas.Option.{same_Some, none-some}
 use Rattle.pac_lex.specs.Bytes.{is_quote, is_printable}
-use Rattle.pac_lex.specs.Texts.{quoted, closing}
+use Rattle.pac_lex.specs.Texts.{quoted_character, closing_length}
 use Rattle.pac_lex.specs.Tokens.{begins}
 use Rattle.pac_lex.proofs.ByteLemmas.{chosen}
 use Rattle.pac_lex.proofs.QuoteLemmas.{more, closing-other, closing-doubled, closing-single}
@@ -17,7 +17,7 @@ more-some k (Some m) n e = (m, refl, same_Some _ _ e)
 -- the characters of a text that ends after these bytes
 pub record Closes (bytes : List ℕ) (n : ℕ) : Type 0 where
   pub characters : List ℕ
-  pub text : take n bytes ≡ flat_map quoted characters ++ 39 ∷ []
+  pub text : take n bytes ≡ flat_map quoted_character characters ++ 39 ∷ []
   pub stops : begins is_quote (drop n bytes) ≡ false
 
 quote-is : (b : ℕ) → is_quote b ≡ true → b ≡ 39
@@ -40,7 +40,7 @@ closes-doubled b c bytes m e f h = record {
   stops = h.stops;
 }
 
-pub closing-is : (bytes : List ℕ) (n : ℕ) → closing bytes ≡ Some n → Closes bytes n
+pub closing-is : (bytes : List ℕ) (n : ℕ) → closing_length bytes ≡ Some n → Closes bytes n
 closing-is [] n e = absurd (none-some n e)
 closing-is (b ∷ []) n e =
     elim (chosen (is_quote b) (Some 1) None (Some n) e) [
@@ -48,17 +48,18 @@ closing-is (b ∷ []) n e =
       | inr (q, s) ↦ absurd (none-some n s)
     ]
 closing-is (b ∷ c ∷ bytes) n e =
-    elim (chosen (is_quote b) (cond (is_quote c) (more 2 (closing bytes)) (Some 1)) (more 1 (closing (c ∷ bytes))) (Some n) e) [
-      | inl (q, s) ↦ elim (chosen (is_quote c) (more 2 (closing bytes)) (Some 1) (Some n) s) [
+    elim (chosen (is_quote b) (cond (is_quote c) (more 2 (closing_length bytes)) (Some 1)) (more 1 (closing_length (c ∷ bytes))) (Some n)
+    e) [
+      | inl (q, s) ↦ elim (chosen (is_quote c) (more 2 (closing_length bytes)) (Some 1) (Some n) s) [
         | inl (r, t) ↦
-            let (m, is, sum) = more-some 2 (closing bytes) n t in
+            let (m, is, sum) = more-some 2 (closing_length bytes) n t in
             let two : suc (suc m) ≡ n = omega arith in
             subst (λ (k : ℕ). Closes (b ∷ c ∷ bytes) k) two
             (closes-doubled b c bytes m (quote-is b q) (quote-is c r) (closing-is bytes m is))
         | inr (r, t) ↦ subst (λ (k : ℕ). Closes (b ∷ c ∷ bytes) k) (same_Some 1 n t) (closes-here b (c ∷ bytes) (quote-is b q) r)
       ]
       | inr (q, s) ↦
-          let (m, is, sum) = more-some 1 (closing (c ∷ bytes)) n s in
+          let (m, is, sum) = more-some 1 (closing_length (c ∷ bytes)) n s in
           let one : suc m ≡ n = omega arith in
           subst (λ (k : ℕ). Closes (b ∷ c ∷ bytes) k) one (closes-other b (c ∷ bytes) m q (closing-is (c ∷ bytes) m is))
     ]
@@ -70,21 +71,21 @@ plus-one : (n : ℕ) → n + 1 + 1 ≡ suc n + 1
 plus-one n = omega arith
 
 pub closing-again : (characters rest : List ℕ) → begins is_quote rest ≡ false
-    → closing (flat_map quoted characters ++ (39 ∷ rest)) ≡ Some (length (flat_map quoted characters) + 1)
+    → closing_length (flat_map quoted_character characters ++ (39 ∷ rest)) ≡ Some (length (flat_map quoted_character characters) + 1)
 closing-again [] rest stop = closing-single 39 rest refl stop
 closing-again (c ∷ characters) rest stop =
     let h = closing-again characters rest stop in
     elim (cases_Bool (is_quote c)) [
       | inl q ↦
-          rw q (closing-doubled 39 39 (flat_map quoted characters ++ (39 ∷ rest)) refl refl ∙ ap (more 2) h
-          ∙ ap (λ (k : ℕ). Some k) (plus-two (length (flat_map quoted characters))))
+          rw q (closing-doubled 39 39 (flat_map quoted_character characters ++ (39 ∷ rest)) refl refl ∙ ap (more 2) h
+          ∙ ap (λ (k : ℕ). Some k) (plus-two (length (flat_map quoted_character characters))))
       | inr q ↦
-          rw q (closing-other c (flat_map quoted characters ++ (39 ∷ rest)) q ∙ ap (more 1) h
-          ∙ ap (λ (k : ℕ). Some k) (plus-one (length (flat_map quoted characters))))
+          rw q (closing-other c (flat_map quoted_character characters ++ (39 ∷ rest)) q ∙ ap (more 1) h
+          ∙ ap (λ (k : ℕ). Some k) (plus-one (length (flat_map quoted_character characters))))
     ]
 
 pub printable-quoted : (characters : List ℕ)
-    → list_all is_printable (flat_map quoted characters ++ 39 ∷ []) ≡ list_all is_printable characters
+    → list_all is_printable (flat_map quoted_character characters ++ 39 ∷ []) ≡ list_all is_printable characters
 printable-quoted [] = refl
 printable-quoted (c ∷ characters) = elim (cases_Bool (is_quote c)) [
   | inl q ↦ rw (q, printable-quoted characters, quote-is c q) refl

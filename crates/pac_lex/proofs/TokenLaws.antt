@@ -7,38 +7,38 @@ use Rattle.std.specs.Char.{is_ascii_digit, is_ascii_alphanumeric}
 use Rattle.std.proofs.lemmas.Bool.{cond-true, cond-false, eqb-true, and_parts, or_cases, or_parts, not-true, true≢false}
 use Rattle.std.proofs.lemmas.Option.{none-some}
 use Rattle.std.proofs.lemmas.List.{take_at, drop_at, take-append-drop, length-append}
-use Rattle.pac_lex.specs.declared.token.Kind.{Kind}
-use Rattle.pac_lex.specs.declared.token.Kind.TheVariants.{Name, Number, Text, AlternateAf}
-use Rattle.pac_lex.specs.declared.fault.Fault.{Fault}
-use Rattle.pac_lex.specs.declared.fault.Fault.TheVariants.{NoToken, WrongNumber, OpenText, LongLine}
-use Rattle.pac_lex.specs.Bytes.{is_blank, is_comment, is_quote, is_name_start, is_name_byte, is_printable}
+use Rattle.pac_lex.specs.declared.token.TokenKind.{TokenKind}
+use Rattle.pac_lex.specs.declared.token.TokenKind.TheVariants.{Name, Number, Text, AlternateAf}
+use Rattle.pac_lex.specs.declared.fault.LexFault.{LexFault}
+use Rattle.pac_lex.specs.declared.fault.LexFault.TheVariants.{NoToken, WrongNumber, OpenText, LongLine}
+use Rattle.pac_lex.specs.Bytes.{is_blank, is_comment_start, is_quote, is_name_start, is_name_byte, is_printable}
 use Rattle.pac_lex.specs.Numbers.{numeral}
-use Rattle.pac_lex.specs.Texts.{quoted, spelled, closing}
-use Rattle.pac_lex.specs.Tokens.{symbol, is_af, begins, begins_nothing, IsToken, IsFault}
-use Rattle.pac_lex.specs.Scan.{name_at, number_at, text_at, text_of, one_byte, numbered, token_at}
+use Rattle.pac_lex.specs.Texts.{quoted_character, quoted_text, closing_length}
+use Rattle.pac_lex.specs.Tokens.{one_byte_kind, is_af, begins, begins_nothing, IsToken, IsTokenFault}
+use Rattle.pac_lex.specs.Scan.{name_token_at, number_token_at, text_token_at, quoted_token, one_byte_token, numeral_token, token_at}
 use Rattle.pac_lex.proofs.Prefixes.{all-of-prefix, prefix-of-all, begins-after, begins-take}
 use Rattle.pac_lex.proofs.ByteLemmas.{chosen, Starts, digit-no-start, digit-no-blank, digit-no-comment, start-no-blank, start-no-comment}
 use Rattle.pac_lex.proofs.ByteLemmas.{is_mark, symbol-is-mark, symbol-parts}
 use Rattle.pac_lex.proofs.NameLemmas.{name-has-bytes, number-has-bytes}
 use Rattle.pac_lex.proofs.TextLaws.{closing-is, closing-again, printable-quoted}
 
-abbrev pair : Kind → ℕ → Kind × ℕ
+abbrev pair : TokenKind → ℕ → TokenKind × ℕ
 pair kind len = (kind, len)
 
-abbrev done : Kind × ℕ → Result (Kind × ℕ) Fault
+abbrev done : TokenKind × ℕ → Result (TokenKind × ℕ) LexFault
 done x = Ok x
 
-abbrev failed : Fault → Result (Kind × ℕ) Fault
+abbrev failed : LexFault → Result (TokenKind × ℕ) LexFault
 failed fault = Err fault
 
-ok-is : (x y : Kind × ℕ) → done x ≡ done y → x ≡ y
+ok-is : (x y : TokenKind × ℕ) → done x ≡ done y → x ≡ y
 ok-is x y e = cc
 
-err-is : (x y : Fault) → failed x ≡ failed y → x ≡ y
+err-is : (x y : LexFault) → failed x ≡ failed y → x ≡ y
 err-is x y e = cc
 
 -- a token found, as one that the bytes begin with
-pub record IsFound (bytes : List ℕ) (kind : Kind) (len : ℕ) : Type 0 where
+pub record IsFound (bytes : List ℕ) (kind : TokenKind) (len : ℕ) : Type 0 where
   pub some : 0 < len
   pub is_token : IsToken kind (take len bytes) (drop len bytes)
 
@@ -48,13 +48,13 @@ take-quote zero (b ∷ bytes) e = ap (λ (x : ℕ). x ∷ []) (eqb-true b 39 e)
 take-quote (suc n) [] e = absurd cc
 take-quote (suc n) (b ∷ bytes) e = ap (λ (xs : List ℕ). b ∷ xs) (take-quote n bytes e)
 
-found-at : (bytes : List ℕ) (kind kind' : Kind) (len len' : ℕ) → pair kind len ≡ pair kind' len' → IsFound bytes kind len
+found-at : (bytes : List ℕ) (kind kind' : TokenKind) (len len' : ℕ) → pair kind len ≡ pair kind' len' → IsFound bytes kind len
     → IsFound bytes kind' len'
-found-at bytes kind kind' len len' e h = subst (λ (p : Kind × ℕ). IsFound bytes p.0 p.1) e h
+found-at bytes kind kind' len len' e h = subst (λ (p : TokenKind × ℕ). IsFound bytes p.0 p.1) e h
 
-name-is : (bytes : List ℕ) (kind : Kind) (len : ℕ) → begins is_name_start bytes ≡ true → name_at bytes ≡ (kind, len)
+name-is : (bytes : List ℕ) (kind : TokenKind) (len : ℕ) → begins is_name_start bytes ≡ true → name_token_at bytes ≡ (kind, len)
     → IsFound bytes kind len
-unfolding name_at
+unfolding name_token_at
 name-is bytes kind len start e =
     let n = prefix_len is_name_byte bytes in
     let some : 0 < n = name-has-bytes bytes start in
@@ -69,18 +69,18 @@ name-is bytes kind len start e =
           (record { some = some; is_token = (begins_so, all-of-prefix is_name_byte bytes, begins-after is_name_byte bytes, t) })
     ]
 
-numbered-ok : (o : Option ℕ) (n : ℕ) (kind : Kind) (len : ℕ) → numbered o n ≡ Ok (kind, len)
+numbered-ok : (o : Option ℕ) (n : ℕ) (kind : TokenKind) (len : ℕ) → numeral_token o n ≡ Ok (kind, len)
     → (v : ℕ) × (o ≡ Some v) × (pair (Number v) n ≡ pair kind len)
 numbered-ok None n kind len e = absurd cc
 numbered-ok (Some v) n kind len e = (v, refl, ok-is _ _ e)
 
-numbered-err : (o : Option ℕ) (n : ℕ) (fault : Fault) → numbered o n ≡ Err fault → (o ≡ None) × (WrongNumber ≡ fault)
+numbered-err : (o : Option ℕ) (n : ℕ) (fault : LexFault) → numeral_token o n ≡ Err fault → (o ≡ None) × (WrongNumber ≡ fault)
 numbered-err None n fault e = (refl, err-is _ _ e)
 numbered-err (Some v) n fault e = absurd cc
 
-number-is : (bytes : List ℕ) (kind : Kind) (len : ℕ) → begins is_ascii_digit bytes ≡ true → number_at bytes ≡ Ok (kind, len)
+number-is : (bytes : List ℕ) (kind : TokenKind) (len : ℕ) → begins is_ascii_digit bytes ≡ true → number_token_at bytes ≡ Ok (kind, len)
     → IsFound bytes kind len
-unfolding number_at
+unfolding number_token_at
 number-is bytes kind len start e =
     let n = prefix_len is_ascii_alphanumeric bytes in
     let some : 0 < n = number-has-bytes bytes start in
@@ -90,7 +90,7 @@ number-is bytes kind len start e =
     found-at bytes (Number v) kind n len p
     (record { some = some; is_token = (begins_so, all-of-prefix is_ascii_alphanumeric bytes, run_ends, is) })
 
-text-ok : (o : Option ℕ) (bytes : List ℕ) (kind : Kind) (len : ℕ) → text_of o bytes ≡ Ok (kind, len)
+text-ok : (o : Option ℕ) (bytes : List ℕ) (kind : TokenKind) (len : ℕ) → quoted_token o bytes ≡ Ok (kind, len)
     → (n : ℕ) × (o ≡ Some n) × (list_all is_printable (take n bytes) ≡ true) × (pair Text (n + 1) ≡ pair kind len)
 text-ok None bytes kind len e = absurd cc
 text-ok (Some n) bytes kind len e =
@@ -99,7 +99,7 @@ text-ok (Some n) bytes kind len e =
       | inr (t, p) ↦ absurd cc
     ]
 
-text-err : (o : Option ℕ) (bytes : List ℕ) (fault : Fault) → text_of o bytes ≡ Err fault
+text-err : (o : Option ℕ) (bytes : List ℕ) (fault : LexFault) → quoted_token o bytes ≡ Err fault
     → ((o ≡ None) × (OpenText ≡ fault)) ⊎ ((n : ℕ) × (o ≡ Some n) × (list_all is_printable (take n bytes) ≡ false) × (NoToken ≡ fault))
 text-err None bytes fault e = inl (refl, err-is _ _ e)
 text-err (Some n) bytes fault e =
@@ -108,38 +108,39 @@ text-err (Some n) bytes fault e =
       | inr (t, p) ↦ inr (n, refl, t, err-is _ _ p)
     ]
 
-text-is : (b : ℕ) (bytes : List ℕ) (kind : Kind) (len : ℕ) → is_quote b ≡ true → text_at bytes ≡ Ok (kind, len)
+text-is : (b : ℕ) (bytes : List ℕ) (kind : TokenKind) (len : ℕ) → is_quote b ≡ true → text_token_at bytes ≡ Ok (kind, len)
     → IsFound (b ∷ bytes) kind len
-unfolding text_at
+unfolding text_token_at
 text-is b bytes kind len q e =
-    let (n, is, printable, p) = text-ok (closing bytes) bytes kind len e in
+    let (n, is, printable, p) = text-ok (closing_length bytes) bytes kind len e in
     let h = closing-is bytes n is in
     let all : list_all is_printable h.characters ≡ true = sym (printable-quoted h.characters) ∙ ap (list_all is_printable) (sym h.text)
     ∙ printable in
     found-at (b ∷ bytes) Text kind (n + 1) len p
     (rw add-one (record { some = omega arith; is_token = (h.characters, rw (eqb-true b 39 q, h.text) refl, all, h.stops) }))
 
-one-ok : (o : Option Kind) (kind : Kind) (len : ℕ) → one_byte o ≡ Ok (kind, len) → (k : Kind) × (o ≡ Some k) × (pair k 1 ≡ pair kind len)
+one-ok : (o : Option TokenKind) (kind : TokenKind) (len : ℕ) → one_byte_token o ≡ Ok (kind, len) → (k : TokenKind) × (o ≡ Some k)
+    × (pair k 1 ≡ pair kind len)
 one-ok None kind len e = absurd cc
 one-ok (Some k) kind len e = (k, refl, ok-is _ _ e)
 
-one-err : (o : Option Kind) (fault : Fault) → one_byte o ≡ Err fault → (o ≡ None) × (NoToken ≡ fault)
+one-err : (o : Option TokenKind) (fault : LexFault) → one_byte_token o ≡ Err fault → (o ≡ None) × (NoToken ≡ fault)
 one-err None fault e = (refl, err-is _ _ e)
 one-err (Some k) fault e = absurd cc
 
-symbol-is : (kind : Kind) (b : ℕ) (rest : List ℕ) → is_mark kind ≡ true → symbol b ≡ Some kind → IsToken kind (b ∷ []) rest
+symbol-is : (kind : TokenKind) (b : ℕ) (rest : List ℕ) → is_mark kind ≡ true → one_byte_kind b ≡ Some kind → IsToken kind (b ∷ []) rest
 symbol-is Name b rest m e = absurd cc
 symbol-is (Number n) b rest m e = absurd cc
 symbol-is Text b rest m e = absurd cc
 symbol-is AlternateAf b rest m e = absurd cc
 symbol-is kind b rest m e = (b, e, refl)
 
-pub token-is : (bytes : List ℕ) (kind : Kind) (len : ℕ) → token_at bytes ≡ Ok (kind, len) → IsFound bytes kind len
+pub token-is : (bytes : List ℕ) (kind : TokenKind) (len : ℕ) → token_at bytes ≡ Ok (kind, len) → IsFound bytes kind len
 unfolding token_at
 token-is [] kind len e = absurd cc
 token-is (b ∷ bytes) kind len e =
     elim (chosen (is_name_start b) _ _ _ e) [
-      | inl (t, p) ↦ name-is (b ∷ bytes) kind len t (ok-is (name_at (b ∷ bytes)) (kind, len) p)
+      | inl (t, p) ↦ name-is (b ∷ bytes) kind len t (ok-is (name_token_at (b ∷ bytes)) (kind, len) p)
       | inr (t, p) ↦
           elim (chosen (is_ascii_digit b) _ _ _ p) [
             | inl (u, q) ↦ number-is (b ∷ bytes) kind len u q
@@ -147,7 +148,7 @@ token-is (b ∷ bytes) kind len e =
                 elim (chosen (is_quote b) _ _ _ q) [
                   | inl (v, r) ↦ text-is b bytes kind len v r
                   | inr (v, r) ↦
-                      let (k, is, p) = one-ok (symbol b) kind len r in
+                      let (k, is, p) = one-ok (one_byte_kind b) kind len r in
                       found-at (b ∷ bytes) k kind 1 len p
                       (record { some = omega arith; is_token = symbol-is k b bytes (symbol-is-mark b k is) is })
                 ]
@@ -155,14 +156,14 @@ token-is (b ∷ bytes) kind len e =
     ]
 
 -- a token, as one that is found with whatever follows
-pub record IsFoundAgain (kind : Kind) (text rest : List ℕ) : Type 0 where
+pub record IsFoundAgain (kind : TokenKind) (text rest : List ℕ) : Type 0 where
   pub starts : Starts (text ++ rest)
   pub found : token_at (text ++ rest) ≡ Ok (kind, length text)
   pub some : 0 < length text
 
 name-at-name : (text rest : List ℕ) → list_all is_name_byte text ≡ true → begins is_name_byte rest ≡ false
-    → (is_af text && begins is_quote rest) ≡ false → name_at (text ++ rest) ≡ (Name, length text)
-unfolding name_at
+    → (is_af text && begins is_quote rest) ≡ false → name_token_at (text ++ rest) ≡ (Name, length text)
+unfolding name_token_at
 name-at-name text rest all stop af =
     rw (prefix-of-all is_name_byte text rest all stop, take_at text rest (length text) refl, drop_at text rest (length text) refl, af) refl
 
@@ -176,8 +177,8 @@ name-again (b ∷ text) rest (start, all, stop, af) = record {
 }
 
 number-at-number : (text rest : List ℕ) (n : ℕ) → list_all is_ascii_alphanumeric text ≡ true → begins is_ascii_alphanumeric rest ≡ false
-    → numeral text ≡ Some n → number_at (text ++ rest) ≡ Ok (Number n, length text)
-unfolding number_at
+    → numeral text ≡ Some n → number_token_at (text ++ rest) ≡ Ok (Number n, length text)
+unfolding number_token_at
 number-at-number text rest n all stop is =
     rw (prefix-of-all is_ascii_alphanumeric text rest all stop, take_at text rest (length text) refl, is) refl
 
@@ -191,14 +192,15 @@ number-again n (b ∷ text) rest (start, all, stop, is) = record {
 }
 
 text-at-closed : (characters rest : List ℕ) → begins is_quote rest ≡ false
-    → text_at ((flat_map quoted characters ++ 39 ∷ []) ++ rest)
-    ≡ cond (list_all is_printable characters) (Ok (Text, length (spelled characters))) (Err NoToken)
-unfolding text_at
+    → text_token_at ((flat_map quoted_character characters ++ 39 ∷ []) ++ rest)
+    ≡ cond (list_all is_printable characters) (Ok (Text, length (quoted_text characters))) (Err NoToken)
+unfolding text_token_at
 text-at-closed characters rest stop =
-    let inside = flat_map quoted characters ++ 39 ∷ [] in
-    let len : length inside ≡ length (flat_map quoted characters) + 1 = length-append (flat_map quoted characters) (39 ∷ []) in
-    let ends : closing (inside ++ rest) ≡ Some (length inside) =
-    rw (append_assoc (flat_map quoted characters) (39 ∷ []) rest, len) (closing-again characters rest stop) in
+    let inside = flat_map quoted_character characters ++ 39 ∷ [] in
+    let len : length inside ≡ length (flat_map quoted_character characters) + 1 =
+    length-append (flat_map quoted_character characters) (39 ∷ []) in
+    let ends : closing_length (inside ++ rest) ≡ Some (length inside) =
+    rw (append_assoc (flat_map quoted_character characters) (39 ∷ []) rest, len) (closing-again characters rest stop) in
     rw (ends, take_at inside rest (length inside) refl, printable-quoted characters, add-one) refl
 
 text-again : (text rest : List ℕ) → IsToken Text text rest → IsFoundAgain Text text rest
@@ -217,8 +219,8 @@ either-case b c d p e f g = elim (or_cases (eqb b c) (eqb b d) e) [
 ]
 
 name-at-af : (a f : ℕ) (rest : List ℕ) → is_name_byte a ≡ true → is_name_byte f ≡ true → is_af (a ∷ f ∷ []) ≡ true
-    → name_at (a ∷ f ∷ 39 ∷ rest) ≡ (AlternateAf, 3)
-unfolding name_at
+    → name_token_at (a ∷ f ∷ 39 ∷ rest) ≡ (AlternateAf, 3)
+unfolding name_token_at
 name-at-af a f rest e g h = rw (e, g, h) refl
 
 af-again : (name rest : List ℕ) → is_af name ≡ true → IsFoundAgain AlternateAf (name ++ 39 ∷ []) rest
@@ -237,7 +239,7 @@ af-again (a ∷ f ∷ []) rest e =
       some = omega arith;
     }
 
-mark-again : (kind : Kind) (b : ℕ) (rest : List ℕ) → symbol b ≡ Some kind → IsFoundAgain kind (b ∷ []) rest
+mark-again : (kind : TokenKind) (b : ℕ) (rest : List ℕ) → one_byte_kind b ≡ Some kind → IsFoundAgain kind (b ∷ []) rest
 unfolding token_at
 mark-again kind b rest e =
     let plain = symbol-parts b kind e in
@@ -247,50 +249,54 @@ mark-again kind b rest e =
       some = omega arith;
     }
 
-marks-again : (kind : Kind) (text rest : List ℕ) → (b : ℕ) × (symbol b ≡ Some kind) × (text ≡ b ∷ []) → IsFoundAgain kind text rest
+marks-again : (kind : TokenKind) (text rest : List ℕ) → (b : ℕ) × (one_byte_kind b ≡ Some kind) × (text ≡ b ∷ []) →
+    IsFoundAgain kind text rest
 marks-again kind text rest (b, e, is) = rw is (mark-again kind b rest e)
 
-pub token-again : (kind : Kind) (text rest : List ℕ) → IsToken kind text rest → IsFoundAgain kind text rest
+pub token-again : (kind : TokenKind) (text rest : List ℕ) → IsToken kind text rest → IsFoundAgain kind text rest
 token-again Name text rest h = name-again text rest h
 token-again (Number n) text rest h = number-again n text rest h
 token-again Text text rest h = text-again text rest h
 token-again AlternateAf text rest (name, e, is) = rw is (af-again name rest e)
 token-again kind text rest h = marks-again kind text rest h
 
-begins-no : (b : ℕ) → is_blank b ≡ false → is_comment b ≡ false → is_name_start b ≡ false → is_ascii_digit b ≡ false → is_quote b ≡ false
-    → symbol b ≡ None → begins_nothing b ≡ true
+begins-no : (b : ℕ) → is_blank b ≡ false → is_comment_start b ≡ false → is_name_start b ≡ false → is_ascii_digit b ≡ false →
+    is_quote b ≡ false
+    → one_byte_kind b ≡ None → begins_nothing b ≡ true
 begins-no b e1 e2 e3 e4 e5 e6 = six-true _ _ _ _ _ _ e1 e2 e3 e4 e5 (ap is_some e6)
   where
     six-true : (u v w x y z : Bool) → u ≡ false → v ≡ false → w ≡ false → x ≡ false → y ≡ false → z ≡ false
         → not (u || v || w || x || y || z) ≡ true
     six-true u v w x y z a b c d e f = rw (a, b, c, d, e, f) refl
 
-unclosed : (b : ℕ) (bytes : List ℕ) → closing bytes ≡ None → (characters rest : List ℕ) → b ∷ bytes ≡ spelled characters ++ rest
+unclosed : (b : ℕ) (bytes : List ℕ) → closing_length bytes ≡ None → (characters rest : List ℕ) → b ∷ bytes ≡ quoted_text characters ++ rest
     → begins is_quote rest ≡ false → ⊥
 unclosed b bytes e characters rest is stop =
-    let tail : bytes ≡ flat_map quoted characters ++ (39 ∷ rest) = ap (drop 1) is
-    ∙ append_assoc (flat_map quoted characters) (39 ∷ []) rest in
-    none-some _ (sym e ∙ ap closing tail ∙ closing-again characters rest stop)
+    let tail : bytes ≡ flat_map quoted_character characters ++ (39 ∷ rest) = ap (drop 1) is
+    ∙ append_assoc (flat_map quoted_character characters) (39 ∷ []) rest in
+    none-some _ (sym e ∙ ap closing_length tail ∙ closing-again characters rest stop)
 
-text-fault-is : (b : ℕ) (bytes : List ℕ) (fault : Fault) → is_quote b ≡ true → text_at bytes ≡ Err fault → IsFault fault (b ∷ bytes)
-unfolding text_at
-text-fault-is b bytes fault q e = elim (text-err (closing bytes) bytes fault e) [
-  | inl (is, f) ↦ subst (λ (x : Fault). IsFault x (b ∷ bytes)) f (q, unclosed b bytes is)
+text-fault-is : (b : ℕ) (bytes : List ℕ) (fault : LexFault) → is_quote b ≡ true → text_token_at bytes ≡ Err fault →
+    IsTokenFault fault (b ∷ bytes)
+unfolding text_token_at
+text-fault-is b bytes fault q e = elim (text-err (closing_length bytes) bytes fault e) [
+  | inl (is, f) ↦ subst (λ (x : LexFault). IsTokenFault x (b ∷ bytes)) f (q, unclosed b bytes is)
   | inr (n, is, printable, f) ↦
       let h = closing-is bytes n is in
       let all : list_all is_printable h.characters ≡ false = sym (printable-quoted h.characters) ∙ ap (list_all is_printable) (sym h.text)
       ∙ printable in
-      let parts : b ∷ bytes ≡ spelled h.characters ++ drop n bytes =
+      let parts : b ∷ bytes ≡ quoted_text h.characters ++ drop n bytes =
       rw (← h.text, eqb-true b 39 q) (ap (λ (xs : List ℕ). 39 ∷ xs) (sym (take-append-drop n bytes))) in
-      subst (λ (x : Fault). IsFault x (b ∷ bytes)) f (inr (h.characters, drop n bytes, parts, h.stops, all))
+      subst (λ (x : LexFault). IsTokenFault x (b ∷ bytes)) f (inr (h.characters, drop n bytes, parts, h.stops, all))
 ]
 
-number-fault-is : (bytes : List ℕ) (fault : Fault) → begins is_ascii_digit bytes ≡ true → number_at bytes ≡ Err fault → IsFault fault bytes
-unfolding number_at
+number-fault-is : (bytes : List ℕ) (fault : LexFault) → begins is_ascii_digit bytes ≡ true → number_token_at bytes ≡ Err fault →
+    IsTokenFault fault bytes
+unfolding number_token_at
 number-fault-is bytes fault start e =
     let n = prefix_len is_ascii_alphanumeric bytes in
     let (is, f) = numbered-err (numeral (take n bytes)) n fault e in
-    subst (λ (x : Fault). IsFault x bytes) f (
+    subst (λ (x : LexFault). IsTokenFault x bytes) f (
       take n bytes,
       drop n bytes,
       sym (take-append-drop n bytes),
@@ -301,7 +307,7 @@ number-fault-is bytes fault start e =
       is,
     )
 
-pub fault-is : (bytes : List ℕ) (fault : Fault) → Starts bytes → token_at bytes ≡ Err fault → IsFault fault bytes
+pub fault-is : (bytes : List ℕ) (fault : LexFault) → Starts bytes → token_at bytes ≡ Err fault → IsTokenFault fault bytes
 unfolding token_at
 fault-is [] fault s e = absurd (true≢false s.no_end)
 fault-is (b ∷ bytes) fault s e =
@@ -314,46 +320,46 @@ fault-is (b ∷ bytes) fault s e =
                 elim (chosen (is_quote b) _ _ _ q) [
                   | inl (v, r) ↦ text-fault-is b bytes fault v r
                   | inr (v, r) ↦
-                      let (is, f) = one-err (symbol b) fault r in
-                      subst (λ (x : Fault). IsFault x (b ∷ bytes)) f (inl (begins-no b s.no_blank s.no_end t u v is))
+                      let (is, f) = one-err (one_byte_kind b) fault r in
+                      subst (λ (x : LexFault). IsTokenFault x (b ∷ bytes)) f (inl (begins-no b s.no_blank s.no_end t u v is))
                 ]
           ]
     ]
 
 -- a fault, as one that is told
-pub record IsTold (fault : Fault) (bytes : List ℕ) : Type 0 where
+pub record IsTold (fault : LexFault) (bytes : List ℕ) : Type 0 where
   pub starts : Starts bytes
   pub told : token_at bytes ≡ Err fault
 
 nothing-told : (b : ℕ) (bytes : List ℕ) → begins_nothing b ≡ true → IsTold NoToken (b ∷ bytes)
 unfolding token_at
 nothing-told b bytes e =
-    let p1 = or_parts (is_blank b || is_comment b || is_name_start b || is_ascii_digit b || is_quote b) (is_some (symbol b))
+    let p1 = or_parts (is_blank b || is_comment_start b || is_name_start b || is_ascii_digit b || is_quote b) (is_some (one_byte_kind b))
     (not-true _ e) in
-    let p2 = or_parts (is_blank b || is_comment b || is_name_start b || is_ascii_digit b) (is_quote b) p1.0 in
-    let p3 = or_parts (is_blank b || is_comment b || is_name_start b) (is_ascii_digit b) p2.0 in
-    let p4 = or_parts (is_blank b || is_comment b) (is_name_start b) p3.0 in
-    let p5 = or_parts (is_blank b) (is_comment b) p4.0 in
+    let p2 = or_parts (is_blank b || is_comment_start b || is_name_start b || is_ascii_digit b) (is_quote b) p1.0 in
+    let p3 = or_parts (is_blank b || is_comment_start b || is_name_start b) (is_ascii_digit b) p2.0 in
+    let p4 = or_parts (is_blank b || is_comment_start b) (is_name_start b) p3.0 in
+    let p5 = or_parts (is_blank b) (is_comment_start b) p4.0 in
     record {
       starts = record { no_blank = p5.0; no_end = p5.1 };
-      told = rw (p4.1, p3.1, p2.1, no-kind (symbol b) p1.1) refl;
+      told = rw (p4.1, p3.1, p2.1, no-kind (one_byte_kind b) p1.1) refl;
     }
   where
-    no-kind : (o : Option Kind) → is_some o ≡ false → o ≡ None
+    no-kind : (o : Option TokenKind) → is_some o ≡ false → o ≡ None
     no-kind None f = refl
     no-kind (Some kind) f = absurd cc
 
 text-told : (characters rest : List ℕ) → list_all is_printable characters ≡ false → begins is_quote rest ≡ false
-    → IsTold NoToken (spelled characters ++ rest)
+    → IsTold NoToken (quoted_text characters ++ rest)
 unfolding token_at
 text-told characters rest all stop =
-    let told : text_at ((flat_map quoted characters ++ 39 ∷ []) ++ rest) ≡ Err NoToken =
+    let told : text_token_at ((flat_map quoted_character characters ++ 39 ∷ []) ++ rest) ≡ Err NoToken =
     text-at-closed characters rest stop ∙ cond-false (list_all is_printable characters) _ _ all in
     record { starts = record { no_blank = refl; no_end = refl }; told = told }
 
 number-at-bad : (run rest : List ℕ) → list_all is_ascii_alphanumeric run ≡ true → begins is_ascii_alphanumeric rest ≡ false
-    → numeral run ≡ None → number_at (run ++ rest) ≡ Err WrongNumber
-unfolding number_at
+    → numeral run ≡ None → number_token_at (run ++ rest) ≡ Err WrongNumber
+unfolding number_token_at
 number-at-bad run rest all stop is = rw (prefix-of-all is_ascii_alphanumeric run rest all stop, take_at run rest (length run) refl, is) refl
 
 number-told : (run rest : List ℕ) → begins is_ascii_digit run ≡ true → list_all is_ascii_alphanumeric run ≡ true
@@ -370,20 +376,21 @@ none-or-some None = inl refl
 none-or-some (Some n) = inr (n, refl)
 
 open-told : (b : ℕ) (bytes : List ℕ) → is_quote b ≡ true
-    → ((characters rest : List ℕ) → b ∷ bytes ≡ spelled characters ++ rest → begins is_quote rest ≡ false → ⊥) → IsTold OpenText (b ∷ bytes)
-unfolding token_at text_at
+    → ((characters rest : List ℕ) → b ∷ bytes ≡ quoted_text characters ++ rest → begins is_quote rest ≡ false → ⊥) →
+    IsTold OpenText (b ∷ bytes)
+unfolding token_at text_token_at
 open-told b bytes q never =
-    let none : closing bytes ≡ None = elim (none-or-some (closing bytes)) [
+    let none : closing_length bytes ≡ None = elim (none-or-some (closing_length bytes)) [
       | inl is ↦ is
       | inr (n, is) ↦
           let h = closing-is bytes n is in
-          let parts : b ∷ bytes ≡ spelled h.characters ++ drop n bytes =
+          let parts : b ∷ bytes ≡ quoted_text h.characters ++ drop n bytes =
           rw (← h.text, eqb-true b 39 q) (ap (λ (xs : List ℕ). 39 ∷ xs) (sym (take-append-drop n bytes))) in
           absurd (never h.characters (drop n bytes) parts h.stops)
     ] in
     rw (eqb-true b 39 q) record { starts = record { no_blank = refl; no_end = refl }; told = rw none refl }
 
-pub fault-again : (bytes : List ℕ) (fault : Fault) → IsFault fault bytes → IsTold fault bytes
+pub fault-again : (bytes : List ℕ) (fault : LexFault) → IsTokenFault fault bytes → IsTold fault bytes
 fault-again [] NoToken (inl e) = absurd cc
 fault-again (b ∷ bytes) NoToken (inl e) = nothing-told b bytes e
 fault-again bytes NoToken (inr (characters, rest, is, stop, all)) = rw is (text-told characters rest all stop)

@@ -4,7 +4,7 @@ use Rattle.std.proofs.Common.{inr, subst}
 use Rattle.std.specs.List.{prefix_len, filter}
 use Rattle.std.proofs.lemmas.Bool.{cases_Bool}
 use Rattle.pac_lex.specs.Bytes.{is_blank, after_gap}
-use Rattle.pac_lex.specs.Words.{words, is_filled}
+use Rattle.pac_lex.specs.Words.{words_of_line, is_nonempty_word}
 use Rattle.pac_lex.proofs.PartLemmas.{part_end, parts_after, first-part, part-more, part-stops}
 
 -- a list's prefix of blanks, one byte further on
@@ -14,11 +14,11 @@ gap-more b line e = rw (e, one-add) refl
 gap-stops : (b : ℕ) (line : List ℕ) → is_blank b ≡ false → prefix_len is_blank (b ∷ line) ≡ 0
 gap-stops b line e = rw e refl
 
-blank-first : (b : ℕ) (bytes : List ℕ) → is_blank b ≡ true → words (b ∷ bytes) ≡ words bytes
+blank-first : (b : ℕ) (bytes : List ℕ) → is_blank b ≡ true → words_of_line (b ∷ bytes) ≡ words_of_line bytes
 blank-first b bytes e = rw e refl
 
 abbrev AfterWord : ℕ → List ℕ → Type 0
-AfterWord n bytes = filter is_filled (parts_after is_blank (drop n bytes)) ≡ words (drop n bytes)
+AfterWord n bytes = filter is_nonempty_word (parts_after is_blank (drop n bytes)) ≡ words_of_line (drop n bytes)
 
 after-word : (bytes : List ℕ) → AfterWord (part_end is_blank bytes) bytes
 after-word [] = refl
@@ -27,24 +27,25 @@ after-word (b ∷ bytes) = elim (cases_Bool (is_blank b)) [
   | inr e ↦ subst (λ n. AfterWord n (b ∷ bytes)) (sym (part-more is_blank b bytes e)) (after-word bytes)
 ]
 
-filled-first : (word : List ℕ) (parts : List (List ℕ)) → 0 < length word → filter is_filled (word ∷ parts) ≡ word ∷ filter is_filled parts
+filled-first : (word : List ℕ) (parts : List (List ℕ)) → 0 < length word →
+    filter is_nonempty_word (word ∷ parts) ≡ word ∷ filter is_nonempty_word parts
 filled-first [] parts h = absurd (omega (arith, h))
 filled-first (b ∷ word) parts h = refl
 
 -- the first word of a line is where these bytes begin
 abbrev pub BeginsWord : List ℕ → List ℕ → Type 0
-BeginsWord line rest = words line ≡ take (part_end is_blank rest) rest ∷ words (drop (part_end is_blank rest) rest)
+BeginsWord line rest = words_of_line line ≡ take (part_end is_blank rest) rest ∷ words_of_line (drop (part_end is_blank rest) rest)
 
 word-here : (b : ℕ) (bytes : List ℕ) → is_blank b ≡ false → BeginsWord (b ∷ bytes) (b ∷ bytes)
 word-here b bytes e =
     let n = part_end is_blank (b ∷ bytes) in
     let some : 0 < length (take n (b ∷ bytes)) =
     subst (λ k. 0 < length (take k (b ∷ bytes))) (sym (part-more is_blank b bytes e)) (omega arith) in
-    ap (filter is_filled) (first-part is_blank (b ∷ bytes))
+    ap (filter is_nonempty_word) (first-part is_blank (b ∷ bytes))
     ∙ filled-first (take n (b ∷ bytes)) (parts_after is_blank (drop n (b ∷ bytes))) some
     ∙ ap (λ more. take n (b ∷ bytes) ∷ more) (after-word (b ∷ bytes))
 
-no-word-left : (line : List ℕ) → length (after_gap line) ≡ 0 → words line ≡ []
+no-word-left : (line : List ℕ) → length (after_gap line) ≡ 0 → words_of_line line ≡ []
 no-word-left [] h = refl
 no-word-left (b ∷ line) h = elim (cases_Bool (is_blank b)) [
   | inl e ↦ blank-first b line e ∙ no-word-left line (subst (λ n. length (drop n (b ∷ line)) ≡ 0) (gap-more b line e) h)
@@ -61,7 +62,7 @@ word-left (b ∷ line) h = elim (cases_Bool (is_blank b)) [
   | inr e ↦ subst (λ n. BeginsWord (b ∷ line) (drop n (b ∷ line))) (sym (gap-stops b line e)) (word-here b line e)
 ]
 
-pub no-word : (line rest : List ℕ) → rest ≡ after_gap line → length rest ≡ 0 → words line ≡ []
+pub no-word : (line rest : List ℕ) → rest ≡ after_gap line → length rest ≡ 0 → words_of_line line ≡ []
 no-word line rest e h = no-word-left line (ap length (sym e) ∙ h)
 
 pub next-word-is : (line rest : List ℕ) → rest ≡ after_gap line → 0 < length rest → BeginsWord line rest

@@ -8,8 +8,8 @@ abbrev pub is_blank : ℕ → Bool
 is_blank b = b == 9 || b == 32
 
 -- `;`, after which the line is comment
-abbrev pub is_comment : ℕ → Bool
-is_comment b = b == 59
+abbrev pub is_comment_start : ℕ → Bool
+is_comment_start b = b == 59
 
 -- the quote round a text
 abbrev pub is_quote : ℕ → Bool

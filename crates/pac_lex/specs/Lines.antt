@@ -7,6 +7,6 @@ abbrev pub cut_line : List ℕ → Option ℕ → List ℕ × List ℕ
 cut_line text None = (text, [])
 cut_line text (Some feed) = (strip_carriage_return (take feed text), drop 1 (drop feed text))
 
--- the same of a text, if it has a line
+-- the first line of a text without its ending, and what follows that ending, if the text has a line
 abbrev pub first_line : List ℕ → Option (List ℕ × List ℕ)
 first_line text = if length text == 0 then None else Some (cut_line text (position (λ b. b == 10) text))

@@ -4,19 +4,19 @@ use Rattle.std.specs.Prelude.{Option, Some, None, ◌⊎◌, map, is_some}
 use Rattle.std.specs.Map.{lookup}
 use Rattle.std.specs.List.{list_all}
 use Rattle.std.specs.Char.{is_ascii_digit, is_ascii_alphanumeric}
-use Rattle.pac_lex.specs.declared.token.Kind.{Kind}
-use Rattle.pac_lex.specs.declared.token.Kind.TheVariants.{Name, Number, Text, AlternateAf}
-use Rattle.pac_lex.specs.declared.token.Kind.TheVariants.{Dollar, Colon, Comma, Open, Close, Plus, Minus, Star, Slash}
+use Rattle.pac_lex.specs.declared.token.TokenKind.{TokenKind}
+use Rattle.pac_lex.specs.declared.token.TokenKind.TheVariants.{Name, Number, Text, AlternateAf}
+use Rattle.pac_lex.specs.declared.token.TokenKind.TheVariants.{Dollar, Colon, Comma, Open, Close, Plus, Minus, Star, Slash}
 use Rattle.pac_lex.specs.declared.token.Token.{Token}
-use Rattle.pac_lex.specs.declared.fault.Fault.{Fault}
-use Rattle.pac_lex.specs.declared.fault.Fault.TheVariants.{NoToken, WrongNumber, OpenText, LongLine}
-use Rattle.pac_lex.specs.Bytes.{is_blank, is_comment, is_quote, is_name_start, is_name_byte, is_printable}
+use Rattle.pac_lex.specs.declared.fault.LexFault.{LexFault}
+use Rattle.pac_lex.specs.declared.fault.LexFault.TheVariants.{NoToken, WrongNumber, OpenText, LongLine}
+use Rattle.pac_lex.specs.Bytes.{is_blank, is_comment_start, is_quote, is_name_start, is_name_byte, is_printable}
 use Rattle.pac_lex.specs.Numbers.{numeral}
-use Rattle.pac_lex.specs.Texts.{spelled}
+use Rattle.pac_lex.specs.Texts.{quoted_text}
 
 -- a token without where it lies in memory
 pub record Lexeme : Type 0 where
-  pub kind : Kind
+  pub kind : TokenKind
   pub text : List ℕ
 
 abbrev pub view : Token → Lexeme
@@ -26,14 +26,14 @@ abbrev pub views : List Token → List Lexeme
 views tokens = map view tokens
 
 -- the tokens of one byte: `$`, `:`, `,`, `(`, `)`, `+`, `-`, `*` and `/`
-abbrev pub symbols : List (ℕ × Kind)
-symbols =
+abbrev pub one_byte_kinds : List (ℕ × TokenKind)
+one_byte_kinds =
     (36, Dollar) ∷ (58, Colon) ∷ (44, Comma) ∷ (40, Open) ∷ (41, Close)
     ∷ (43, Plus) ∷ (45, Minus) ∷ (42, Star) ∷ (47, Slash) ∷ []
 
 -- the token that a byte is by itself, if it is one
-abbrev pub symbol : ℕ → Option Kind
-symbol b = lookup (λ c. b == c) symbols
+abbrev pub one_byte_kind : ℕ → Option TokenKind
+one_byte_kind b = lookup (λ c. b == c) one_byte_kinds
 
 -- AF in either case
 abbrev pub is_af : List ℕ → Bool
@@ -48,7 +48,7 @@ begins p (b ∷ bytes) = p b
 -- These bytes are a token of this kind, where the line goes on with rest. A name and a number are as
 -- long as they can be; so is a text, since a doubled quote doesn't close it. AF with a quote after it
 -- is AF'.
-abbrev pub IsToken : Kind → List ℕ → List ℕ → Type 0
+abbrev pub IsToken : TokenKind → List ℕ → List ℕ → Type 0
 IsToken Name text rest =
     IsTrue (begins is_name_start text) × IsTrue (list_all is_name_byte text) × IsFalse (begins is_name_byte rest)
     × IsFalse (is_af text && begins is_quote rest)
@@ -56,26 +56,27 @@ IsToken (Number n) text rest =
     IsTrue (begins is_ascii_digit text) × IsTrue (list_all is_ascii_alphanumeric text)
     × IsFalse (begins is_ascii_alphanumeric rest) × (numeral text ≡ Some n)
 IsToken Text text rest =
-    (characters : List ℕ) × (text ≡ spelled characters) × IsTrue (list_all is_printable characters) × IsFalse (begins is_quote rest)
+    (characters : List ℕ) × (text ≡ quoted_text characters) × IsTrue (list_all is_printable characters) × IsFalse (begins is_quote rest)
 IsToken AlternateAf text rest = (name : List ℕ) × IsTrue (is_af name) × (text ≡ name ++ 39 ∷ [])
-IsToken kind text rest = (b : ℕ) × (symbol b ≡ Some kind) × (text ≡ b ∷ [])
+IsToken kind text rest = (b : ℕ) × (one_byte_kind b ≡ Some kind) × (text ≡ b ∷ [])
 
 -- no blank, no comment and no token begins with the byte
 abbrev pub begins_nothing : ℕ → Bool
-begins_nothing b = not (is_blank b || is_comment b || is_name_start b || is_ascii_digit b || is_quote b || is_some (symbol b))
+begins_nothing b = not (is_blank b || is_comment_start b || is_name_start b || is_ascii_digit b || is_quote b || is_some (one_byte_kind b))
 
 -- the fault that these bytes begin with
-abbrev pub IsFault : Fault → List ℕ → Type 0
-IsFault NoToken bytes =
+abbrev pub IsTokenFault : LexFault → List ℕ → Type 0
+IsTokenFault NoToken bytes =
     IsTrue (begins begins_nothing bytes)
-    ⊎ ((characters : List ℕ) × (rest : List ℕ) × (bytes ≡ spelled characters ++ rest) × IsFalse (begins is_quote rest)
+    ⊎ ((characters : List ℕ) × (rest : List ℕ) × (bytes ≡ quoted_text characters ++ rest) × IsFalse (begins is_quote rest)
     × IsFalse (list_all is_printable characters))
-IsFault WrongNumber bytes =
+IsTokenFault WrongNumber bytes =
     (run : List ℕ) × (rest : List ℕ) × (bytes ≡ run ++ rest) × IsTrue (begins is_ascii_digit run)
     × IsTrue (list_all is_ascii_alphanumeric run) × IsFalse (begins is_ascii_alphanumeric rest) × (numeral run ≡ None)
-IsFault OpenText bytes =
-    IsTrue (begins is_quote bytes) × ((characters rest : List ℕ) → bytes ≡ spelled characters ++ rest → IsFalse (begins is_quote rest) → ⊥)
-IsFault LongLine bytes = ⊥
+IsTokenFault OpenText bytes =
+    IsTrue (begins is_quote bytes)
+    × ((characters rest : List ℕ) → bytes ≡ quoted_text characters ++ rest → IsFalse (begins is_quote rest) → ⊥)
+IsTokenFault LongLine bytes = ⊥
 
 -- the line is blanks, then this token, then rest
 pub record TokenFirst (line : List ℕ) (token : Lexeme) (rest : List ℕ) : Type 0 where
@@ -90,35 +91,35 @@ pub record NoTokenLeft (line : List ℕ) : Type 0 where
   pub comment : List ℕ
   pub blank : IsTrue (list_all is_blank gap)
   pub parts : line ≡ gap ++ comment
-  pub ends : IsFalse (begins (λ b. not (is_comment b)) comment)
+  pub ends : IsFalse (begins (λ b. not (is_comment_start b)) comment)
 
 -- blanks, and then a fault
-pub record FaultFirst (line : List ℕ) (fault : Fault) : Type 0 where
+pub record FaultFirst (line : List ℕ) (fault : LexFault) : Type 0 where
   pub gap : List ℕ
   pub rest : List ℕ
   pub blank : IsTrue (list_all is_blank gap)
   pub parts : line ≡ gap ++ rest
-  pub is_fault : IsFault fault rest
+  pub is_fault : IsTokenFault fault rest
 
 -- the line is read as these tokens, each in its own bytes, from left to right
-abbrev pub Reads : List ℕ → List Lexeme → Type 0
-Reads line [] = NoTokenLeft line
-Reads line (token ∷ tokens) = (rest : List ℕ) × TokenFirst line token rest × Reads rest tokens
+abbrev pub ReadsTokens : List ℕ → List Lexeme → Type 0
+ReadsTokens line [] = NoTokenLeft line
+ReadsTokens line (token ∷ tokens) = (rest : List ℕ) × TokenFirst line token rest × ReadsTokens rest tokens
 
 -- the line is read as these tokens up to this fault
-abbrev pub Breaks : List ℕ → List Lexeme → Fault → Type 0
+abbrev pub Breaks : List ℕ → List Lexeme → LexFault → Type 0
 Breaks line [] fault = FaultFirst line fault
 Breaks line (token ∷ tokens) fault = (rest : List ℕ) × TokenFirst line token rest × Breaks rest tokens fault
 
 -- the most bytes that a line may have (this profile)
-abbrev pub most_bytes : ℕ
-most_bytes = 255
+abbrev pub most_line_bytes : ℕ
+most_line_bytes = 255
 
 -- a line of tokens, which isn't too long
 abbrev pub IsRead : List ℕ → List Lexeme → Type 0
-IsRead line tokens = (length line ≤ most_bytes) × Reads line tokens
+IsRead line tokens = (length line ≤ most_line_bytes) × ReadsTokens line tokens
 
 -- the one fault of a line: its length, or else the leftmost
-abbrev pub HasFault : List ℕ → Fault → Type 0
-HasFault line LongLine = most_bytes < length line
-HasFault line fault = (length line ≤ most_bytes) × (tokens : List Lexeme) × Breaks line tokens fault
+abbrev pub HasLexFault : List ℕ → LexFault → Type 0
+HasLexFault line LongLine = most_line_bytes < length line
+HasLexFault line fault = (length line ≤ most_line_bytes) × (tokens : List Lexeme) × Breaks line tokens fault

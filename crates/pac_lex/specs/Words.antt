@@ -4,13 +4,13 @@ use Rattle.std.specs.Prelude.{ℕ, Bool, false, true, not, ◌==◌, List, [], �
 use Rattle.std.specs.List.{slice_split, filter, take_while, prefix_len}
 use Rattle.pac_lex.specs.Bytes.{is_blank, is_name_byte, after_gap}
 
-abbrev pub is_filled : List ℕ → Bool
-is_filled [] = false
-is_filled (b ∷ word) = true
+abbrev pub is_nonempty_word : List ℕ → Bool
+is_nonempty_word [] = false
+is_nonempty_word (b ∷ word) = true
 
 -- the words of a line: what stands between its blanks, where that isn't empty
-abbrev pub words : List ℕ → List (List ℕ)
-words line = filter is_filled (slice_split is_blank line)
+abbrev pub words_of_line : List ℕ → List (List ℕ)
+words_of_line line = filter is_nonempty_word (slice_split is_blank line)
 
 -- bytes cut before their first blank
 abbrev pub cut_word : List ℕ → List ℕ × List ℕ

@@ -8,7 +8,7 @@ use std::fmt;
 
 /// What is wrong with a line: its length, or else the leftmost place that is no token.
 #[derive(Clone, Copy, Debug, PartialEq, Eq)]
-pub enum Fault {
+pub enum LexFault {
     /// L1: a byte that begins no token, or a byte in a text other than a tab or 20H to 7EH.
     NoToken,
     /// L2: a number with a wrong digit, or above 65,535.
@@ -25,28 +25,28 @@ pub enum LexError {
     /// No room for the list of tokens.
     Memory,
     /// The line isn't one of tokens.
-    Fault(Fault),
+    Fault(LexFault),
 }
 
-impl fmt::Display for Fault {
-    ghost use Rattle.pac_lex.specs.Codes.{code};
+impl fmt::Display for LexFault {
+    ghost use Rattle.pac_lex.specs.Codes.{lex_fault_code};
 
-    ghost output = { λ fault. Some (code fault) };
+    ghost output = { λ fault. Some (lex_fault_code fault) };
 
     fn fmt<W: fmt::Write>(&self, f: &mut fmt::Formatter<W>) -> fmt::Result {
         match self {
-            Fault::NoToken => write!(f, "L1"),
-            Fault::WrongNumber => write!(f, "L2"),
-            Fault::OpenText => write!(f, "L3"),
-            Fault::LongLine => write!(f, "L4"),
+            LexFault::NoToken => write!(f, "L1"),
+            LexFault::WrongNumber => write!(f, "L2"),
+            LexFault::OpenText => write!(f, "L3"),
+            LexFault::LongLine => write!(f, "L4"),
         }
     }
 }
 
-impl From<Fault> for LexError {
+impl From<LexFault> for LexError {
     ghost from_gives = { λ fault e. e ≡ errors.Fault fault };
 
-    fn from(fault: Fault) -> LexError {
+    fn from(fault: LexFault) -> LexError {
         LexError::Fault(fault)
     }
 }

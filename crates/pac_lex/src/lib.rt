@@ -10,9 +10,9 @@ mod reading;
 mod token;
 mod words;
 
-pub use fault::{Fault, LexError};
+pub use fault::{LexError, LexFault};
 pub use line::first_line;
 pub use quote::{character_count, characters, one_character};
 pub use reading::{LINE_LIMIT, tokens};
-pub use token::{Kind, Token};
+pub use token::{Token, TokenKind};
 pub use words::{first_byte, first_word, next_word};

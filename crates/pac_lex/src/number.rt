@@ -1,7 +1,7 @@
 //! Numbers of the source.
 
 ghost use Rattle.std.specs.Prelude.{◌≡◌, ◌<◌, ◌≤◌};
-ghost use Rattle.pac_lex.specs.Numbers.{digit, in_base, numeral};
+ghost use Rattle.pac_lex.specs.Numbers.{value_of_digit, number_in_base, numeral};
 
 /// The greatest number.
 const GREATEST: u32 = 65_535;
@@ -24,7 +24,7 @@ pub(crate) fn numeral(run: &[u8]) -> Option<u16>
 fn in_base(base: u8, digits: &[u8]) -> Option<u16>
     requires low { 0 < base }
     requires high { base ≤ 16 }
-    ensures { result ≡ in_base base digits.now }
+    ensures { result ≡ number_in_base base digits.now }
 {
     let mut value: u32 = 0;
     for byte in digits {
@@ -42,7 +42,7 @@ fn in_base(base: u8, digits: &[u8]) -> Option<u16>
 
 /// What a digit counts: 0 to 9, and 10 to 35 for the letters in either case.
 fn digit(byte: u8) -> u8
-    ensures { result ≡ digit byte }
+    ensures { result ≡ value_of_digit byte }
 {
     if byte.is_ascii_digit() {
         byte - 48

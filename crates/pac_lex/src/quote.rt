@@ -1,15 +1,15 @@
 //! Texts of the source, in single quotes.
 
 ghost use Rattle.std.specs.Prelude.{◌≡◌, ◌≤◌, ℕ, List, [], ◌∷◌, length, IfSome, IfOk, Some};
-ghost use Rattle.pac_lex.specs.Texts.{spelled, closing, unquoted, after_character, inside, characters_of, one_character};
+ghost use Rattle.pac_lex.specs.Texts.{quoted_text, closing_length, unquoted_characters, after_character, inside_quotes, characters_of, one_character};
 
 use std::alloc::{AllocError, Global};
 
 /// The characters of a text, whose bytes stand here with their quotes: those between the quotes, each
 /// doubled quote as one.
 pub fn characters(alloc: Global, text: &[u8]) -> Result<Vec<u8>, AllocError>
-    ensures each { (characters : List ℕ) → text.now ≡ spelled characters → IfOk result (λ v. v.items ≡ characters) }
-    // The same as a function of the bytes.
+    ensures each { (characters : List ℕ) → text.now ≡ quoted_text characters → IfOk result (λ v. v.items ≡ characters) }
+    // The characters, as a function of the bytes.
     ensures exact { IfOk result (λ v. v.items ≡ characters_of text.now) }
 {
     unquoted(alloc, inside(text))
@@ -17,8 +17,8 @@ pub fn characters(alloc: Global, text: &[u8]) -> Result<Vec<u8>, AllocError>
 
 /// How many characters a text has, whose bytes stand here with their quotes.
 pub fn character_count(text: &[u8]) -> usize
-    ensures each { (characters : List ℕ) → text.now ≡ spelled characters → result ≡ length characters }
-    // The same as a function of the bytes.
+    ensures each { (characters : List ℕ) → text.now ≡ quoted_text characters → result ≡ length characters }
+    // The count, as a function of the bytes.
     ensures exact { result ≡ length (characters_of text.now) }
 {
     let mut count = 0;
@@ -32,9 +32,9 @@ pub fn character_count(text: &[u8]) -> usize
 
 /// The character of a text of one, whose bytes stand here with their quotes.
 pub fn one_character(text: &[u8]) -> Option<u8>
-    ensures some { IfSome result (λ c. text.now ≡ spelled (c ∷ [])) }
-    ensures each { (c : ℕ) → text.now ≡ spelled (c ∷ []) → result ≡ Some c }
-    // The same as a function of the bytes.
+    ensures some { IfSome result (λ c. text.now ≡ quoted_text (c ∷ [])) }
+    ensures each { (c : ℕ) → text.now ≡ quoted_text (c ∷ []) → result ≡ Some c }
+    // The character, as a function of the bytes.
     ensures exact { result ≡ one_character text.now }
 {
     match text {
@@ -46,7 +46,7 @@ pub fn one_character(text: &[u8]) -> Option<u8>
 
 /// What stands between the quotes.
 fn inside(text: &[u8]) -> &[u8]
-    ensures { result.now ≡ inside text.now }
+    ensures { result.now ≡ inside_quotes text.now }
 {
     match text {
         [_, inside @ .., _] => inside,
@@ -56,7 +56,7 @@ fn inside(text: &[u8]) -> &[u8]
 
 /// Characters with each doubled quote as one.
 fn unquoted(alloc: Global, inside: &[u8]) -> Result<Vec<u8>, AllocError>
-    ensures { IfOk result (λ v. v.items ≡ unquoted inside.now) }
+    ensures { IfOk result (λ v. v.items ≡ unquoted_characters inside.now) }
 {
     let mut found = Vec::new(alloc);
     let mut rest = inside;
@@ -80,7 +80,7 @@ fn after_character(character: u8, after: &[u8]) -> &[u8]
 
 /// After an opening quote: how many bytes there are up to and with the closing one.
 pub(crate) fn closing(bytes: &[u8]) -> Option<usize>
-    ensures value { result ≡ closing bytes.now }
+    ensures value { result ≡ closing_length bytes.now }
     ensures bound { IfSome result (λ len. len ≤ length bytes.now) }
 {
     let mut at = 0;

@@ -5,14 +5,14 @@ ghost use Rattle.std.specs.Prelude.{MatchResult, MatchOption, List, IfErr};
 ghost use Rattle.std.specs.List.{prefix_len, list_all};
 ghost use Rattle.std.specs.Char.{is_ascii_digit, is_ascii_alphanumeric};
 ghost use Rattle.pac_lex.specs.Bytes.{is_quote, is_name_start, is_printable};
-ghost use Rattle.pac_lex.specs.Tokens.{Lexeme, view, views, IsRead, HasFault, symbol, is_af, begins};
-ghost use Rattle.pac_lex.specs.Scan.{Gives, OnFault, is_end, before, name_at, number_at, text_at, token_at, scan, tokens_of};
+ghost use Rattle.pac_lex.specs.Tokens.{Lexeme, view, views, IsRead, HasLexFault, one_byte_kind, is_af, begins};
+ghost use Rattle.pac_lex.specs.Scan.{LexingGives, OnLexFault, is_end, token_before, name_token_at, number_token_at, text_token_at, token_at, scan, tokens_of};
 
 use crate::bytes::{after_gap, is_name_start, is_printable, name_len};
-use crate::fault::{Fault, LexError};
+use crate::fault::{LexError, LexFault};
 use crate::number::numeral;
 use crate::quote::closing;
-use crate::token::{Kind, Token};
+use crate::token::{Token, TokenKind};
 use std::alloc::Global;
 
 /// The most bytes that a source line may have, its ending not counted (this profile).
@@ -27,30 +27,30 @@ pub fn tokens(alloc: Global, line: &[u8]) -> Result<Vec<Token<'_>>, LexError>
     // What is read is so: the line is these tokens, each in its own bytes, with blanks between them.
     ensures read { IfOk result (λ v. IsRead line.now (views v.items)) }
     // What is so is read, unless memory runs out.
-    ensures only { (tokens : List Lexeme) → IsRead line.now tokens → Gives (λ v. views v.items) result (Ok tokens) }
+    ensures only { (tokens : List Lexeme) → IsRead line.now tokens → LexingGives (λ v. views v.items) result (Ok tokens) }
     // The fault told is the line's, and the line's is told.
-    ensures fault { IfErr result (λ e. OnFault e (HasFault line.now)) }
-    ensures refused { (fault : Fault) → HasFault line.now fault → Gives (λ v. views v.items) result (Err fault) }
+    ensures fault { IfErr result (λ e. OnLexFault e (HasLexFault line.now)) }
+    ensures refused { (fault : LexFault) → HasLexFault line.now fault → LexingGives (λ v. views v.items) result (Err fault) }
     // Which tokens and which fault, as a function of the line.
-    ensures exact { Gives (λ v. views v.items) result (tokens_of line.now) }
+    ensures exact { LexingGives (λ v. views v.items) result (tokens_of line.now) }
 {
     checked(alloc, line)
 }
 
-/// The same, by its last clause alone.
+/// What `tokens` answers, by its exact clause alone, from which the others are proved.
 #[tactic(auto, unfolding(crate::specs::Scan::tokens_of))]
 fn checked(alloc: Global, line: &[u8]) -> Result<Vec<Token<'_>>, LexError>
-    ensures { Gives (λ v. views v.items) result (tokens_of line.now) }
+    ensures { LexingGives (λ v. views v.items) result (tokens_of line.now) }
 {
     if line.len() > LINE_LIMIT {
-        return Err(LexError::Fault(Fault::LongLine));
+        return Err(LexError::Fault(LexFault::LongLine));
     }
     read(alloc, line)
 }
 
 /// The tokens of a line of any length.
 fn read(alloc: Global, line: &[u8]) -> Result<Vec<Token<'_>>, LexError>
-    ensures { Gives (λ v. views v.items) result (scan 0 line.now) }
+    ensures { LexingGives (λ v. views v.items) result (scan 0 line.now) }
 {
     let mut found = Vec::with_capacity(alloc, USUAL_TOKENS)?;
     let mut rest = line;
@@ -62,10 +62,10 @@ fn read(alloc: Global, line: &[u8]) -> Result<Vec<Token<'_>>, LexError>
 }
 
 /// The next token and what follows it; `None` where no more than blanks and a comment are left.
-fn next_token(line: &[u8]) -> Result<Option<(Token<'_>, &[u8])>, Fault>
+fn next_token(line: &[u8]) -> Result<Option<(Token<'_>, &[u8])>, LexFault>
     ensures next { MatchResult result
         (λ found. MatchOption found (scan 0 line.now ≡ Ok [])
-        (λ x. scan 0 line.now ≡ before (view x.0) (scan 0 x.1.now)))
+        (λ x. scan 0 line.now ≡ token_before (view x.0) (scan 0 x.1.now)))
         (λ fault. scan 0 line.now ≡ Err fault) }
     ensures shorter { IfOk result (λ found. IfSome found (λ x. length x.1.now < length line.now)) }
 {
@@ -91,12 +91,12 @@ fn is_end(rest: &[u8]) -> bool
 
 /// The kind and the length of the token that the bytes begin with.
 #[tactic(auto, unfolding(crate::specs::Scan::token_at))]
-fn token_at(bytes: &[u8]) -> Result<(Kind, usize), Fault>
+fn token_at(bytes: &[u8]) -> Result<(TokenKind, usize), LexFault>
     ensures value { result ≡ token_at bytes.now }
     ensures bound { IfOk result (λ found. (0 < found.1) × (found.1 ≤ length bytes.now)) }
 {
     match bytes {
-        [] => Err(Fault::NoToken),
+        [] => Err(LexFault::NoToken),
         [first, after @ ..] => {
             if is_name_start(*first) {
                 Ok(name_at(bytes))
@@ -106,7 +106,7 @@ fn token_at(bytes: &[u8]) -> Result<(Kind, usize), Fault>
                 text_at(after)
             } else {
                 match symbol(*first) {
-                    None => Err(Fault::NoToken),
+                    None => Err(LexFault::NoToken),
                     Some(kind) => Ok((kind, 1)),
                 }
             }
@@ -115,18 +115,18 @@ fn token_at(bytes: &[u8]) -> Result<(Kind, usize), Fault>
 }
 
 /// A name, or AF' where the name is AF and a quote follows at once.
-#[tactic(auto, using(crate::proofs::NameLemmas::tokens_have_bytes), unfolding(crate::specs::Scan::name_at))]
-fn name_at(bytes: &[u8]) -> (Kind, usize)
-    ensures value { result ≡ name_at bytes.now }
+#[tactic(auto, using(crate::proofs::NameLemmas::tokens_have_bytes), unfolding(crate::specs::Scan::name_token_at))]
+fn name_at(bytes: &[u8]) -> (TokenKind, usize)
+    ensures value { result ≡ name_token_at bytes.now }
     ensures bound { result.1 ≤ length bytes.now }
     ensures some { IsTrue (begins is_name_start bytes.now) → 0 < result.1 }
 {
     let len = name_len(bytes);
     let (name, after) = bytes.split_at(len);
     if is_af(name) && begins_with_quote(after) {
-        (Kind::AlternateAf, len + 1)
+        (TokenKind::AlternateAf, len + 1)
     } else {
-        (Kind::Name, len)
+        (TokenKind::Name, len)
     }
 }
 
@@ -145,17 +145,17 @@ fn begins_with_quote(bytes: &[u8]) -> bool
 }
 
 /// A number: its value and its length.
-#[tactic(auto, using(crate::proofs::NameLemmas::tokens_have_bytes), unfolding(crate::specs::Scan::number_at))]
-fn number_at(bytes: &[u8]) -> Result<(Kind, usize), Fault>
-    ensures value { result ≡ number_at bytes.now }
+#[tactic(auto, using(crate::proofs::NameLemmas::tokens_have_bytes), unfolding(crate::specs::Scan::number_token_at))]
+fn number_at(bytes: &[u8]) -> Result<(TokenKind, usize), LexFault>
+    ensures value { result ≡ number_token_at bytes.now }
     ensures bound { IfOk result (λ found. found.1 ≤ length bytes.now) }
     ensures some { IsTrue (begins is_ascii_digit bytes.now) → IfOk result (λ found. 0 < found.1) }
 {
     let len = run_len(bytes);
     let (run, _) = bytes.split_at(len);
     match numeral(run) {
-        None => Err(Fault::WrongNumber),
-        Some(value) => Ok((Kind::Number(value), len)),
+        None => Err(LexFault::WrongNumber),
+        Some(value) => Ok((TokenKind::Number(value), len)),
     }
 }
 
@@ -171,19 +171,19 @@ fn run_len(bytes: &[u8]) -> usize
 }
 
 /// A text, from the byte after its opening quote on.
-#[tactic(auto, unfolding(crate::specs::Scan::text_at))]
-fn text_at(after: &[u8]) -> Result<(Kind, usize), Fault>
-    ensures value { result ≡ text_at after.now }
+#[tactic(auto, unfolding(crate::specs::Scan::text_token_at))]
+fn text_at(after: &[u8]) -> Result<(TokenKind, usize), LexFault>
+    ensures value { result ≡ text_token_at after.now }
     ensures bound { IfOk result (λ found. (0 < found.1) × (found.1 ≤ length after.now + 1)) }
 {
     let Some(len) = closing(after) else {
-        return Err(Fault::OpenText);
+        return Err(LexFault::OpenText);
     };
     let (text, _) = after.split_at(len);
     if are_printable(text) {
-        Ok((Kind::Text, len + 1))
+        Ok((TokenKind::Text, len + 1))
     } else {
-        Err(Fault::NoToken)
+        Err(LexFault::NoToken)
     }
 }
 
@@ -195,19 +195,19 @@ fn are_printable(text: &[u8]) -> bool
 }
 
 /// The token that a byte is by itself, if it is one.
-fn symbol(byte: u8) -> Option<Kind>
-    ensures { result ≡ symbol byte }
+fn symbol(byte: u8) -> Option<TokenKind>
+    ensures { result ≡ one_byte_kind byte }
 {
     match byte {
-        b'$' => Some(Kind::Dollar),
-        b':' => Some(Kind::Colon),
-        b',' => Some(Kind::Comma),
-        b'(' => Some(Kind::Open),
-        b')' => Some(Kind::Close),
-        b'+' => Some(Kind::Plus),
-        b'-' => Some(Kind::Minus),
-        b'*' => Some(Kind::Star),
-        b'/' => Some(Kind::Slash),
+        b'$' => Some(TokenKind::Dollar),
+        b':' => Some(TokenKind::Colon),
+        b',' => Some(TokenKind::Comma),
+        b'(' => Some(TokenKind::Open),
+        b')' => Some(TokenKind::Close),
+        b'+' => Some(TokenKind::Plus),
+        b'-' => Some(TokenKind::Minus),
+        b'*' => Some(TokenKind::Star),
+        b'/' => Some(TokenKind::Slash),
         _ => None,
     }
 }

@@ -1,7 +1,7 @@
 //! Memory that is refused.
 
 use pac_lex::{LexError, characters, tokens};
-use pac_scarce::{Answer, refusals};
+use pac_tests_memory::{Answer, refusals};
 use std::alloc::Global;
 
 /// A line of a token a byte.

@@ -1,13 +1,13 @@
 //! Lines, numbers, texts and words from the format's pages, and what is printed for each fault.
 
 use pac_lex::{
-    Fault, Kind, LexError, Token, character_count, characters, first_line, first_word, next_word,
-    one_character, tokens,
+    LexError, LexFault, Token, TokenKind, character_count, characters, first_line, first_word,
+    next_word, one_character, tokens,
 };
 use std::alloc::Global;
 
 /// Whether a line has this fault.
-fn has_fault(alloc: Global, line: &[u8], fault: Fault) -> bool {
+fn has_fault(alloc: Global, line: &[u8], fault: LexFault) -> bool {
     match tokens(alloc, line) {
         Err(error) => error == LexError::Fault(fault),
         Ok(_) => false,
@@ -15,7 +15,7 @@ fn has_fault(alloc: Global, line: &[u8], fault: Fault) -> bool {
 }
 
 /// Whether a line has these tokens.
-fn has_tokens(alloc: Global, line: &[u8], wanted: &[(Kind, &[u8])]) -> bool {
+fn has_tokens(alloc: Global, line: &[u8], wanted: &[(TokenKind, &[u8])]) -> bool {
     match tokens(alloc, line) {
         Ok(found) => are_tokens(found.as_slice(), wanted),
         Err(_) => false,
@@ -23,7 +23,7 @@ fn has_tokens(alloc: Global, line: &[u8], wanted: &[(Kind, &[u8])]) -> bool {
 }
 
 /// Whether tokens are of these kinds, with these texts.
-fn are_tokens(found: &[Token<'_>], wanted: &[(Kind, &[u8])]) -> bool {
+fn are_tokens(found: &[Token<'_>], wanted: &[(TokenKind, &[u8])]) -> bool {
     if found.len() != wanted.len() {
         return false;
     }
@@ -54,29 +54,29 @@ static NUMBERS: [(&[u8], u16); 11] = [
 #[test]
 fn numbers_by_their_last_letter(rt: HostRuntime) {
     for (line, value) in &NUMBERS {
-        let wanted = [(Kind::Number(*value), *line)];
+        let wanted = [(TokenKind::Number(*value), *line)];
         assert!(rt; has_tokens(rt.alloc(), line, &wanted), "at {line:?}");
     }
 }
 
 /// Lines with a fault.
-static FAULTS: [(&[u8], Fault); 16] = [
-    (b"2B", Fault::WrongNumber),
-    (b"8O", Fault::WrongNumber),
-    (b"0F", Fault::WrongNumber),
-    (b"0X10", Fault::WrongNumber),
-    (b"65536", Fault::WrongNumber),
-    (b"10000H ' \"", Fault::WrongNumber),
-    (b"'''", Fault::OpenText),
-    (b"'x\x01", Fault::OpenText),
-    (b"'x ; y", Fault::OpenText),
-    (b"AF '", Fault::OpenText),
-    (b"DEFB AF'A'", Fault::OpenText),
-    (b"'\x01'", Fault::NoToken),
-    (b"\x01 '", Fault::NoToken),
-    (b"A # B", Fault::NoToken),
-    (b"NOP\r", Fault::NoToken),
-    (&[b'"'; 256], Fault::LongLine),
+static FAULTS: [(&[u8], LexFault); 16] = [
+    (b"2B", LexFault::WrongNumber),
+    (b"8O", LexFault::WrongNumber),
+    (b"0F", LexFault::WrongNumber),
+    (b"0X10", LexFault::WrongNumber),
+    (b"65536", LexFault::WrongNumber),
+    (b"10000H ' \"", LexFault::WrongNumber),
+    (b"'''", LexFault::OpenText),
+    (b"'x\x01", LexFault::OpenText),
+    (b"'x ; y", LexFault::OpenText),
+    (b"AF '", LexFault::OpenText),
+    (b"DEFB AF'A'", LexFault::OpenText),
+    (b"'\x01'", LexFault::NoToken),
+    (b"\x01 '", LexFault::NoToken),
+    (b"A # B", LexFault::NoToken),
+    (b"NOP\r", LexFault::NoToken),
+    (&[b'"'; 256], LexFault::LongLine),
 ];
 
 #[test]
@@ -87,33 +87,42 @@ fn the_leftmost_fault(rt: HostRuntime) {
 }
 
 /// The tokens of a line of every kind.
-static KINDS: [(Kind, &[u8]); 16] = [
-    (Kind::Name, b"_a1"),
-    (Kind::Colon, b":"),
-    (Kind::AlternateAf, b"AF'"),
-    (Kind::Number(1), b"1"),
-    (Kind::Name, b"_2"),
-    (Kind::Comma, b","),
-    (Kind::Dollar, b"$"),
-    (Kind::Plus, b"+"),
-    (Kind::Open, b"("),
-    (Kind::Text, b"''"),
-    (Kind::Minus, b"-"),
-    (Kind::Text, b"'a''\t;'"),
-    (Kind::Close, b")"),
-    (Kind::Star, b"*"),
-    (Kind::Slash, b"/"),
-    (Kind::Name, b"af"),
+static KINDS: [(TokenKind, &[u8]); 16] = [
+    (TokenKind::Name, b"_a1"),
+    (TokenKind::Colon, b":"),
+    (TokenKind::AlternateAf, b"AF'"),
+    (TokenKind::Number(1), b"1"),
+    (TokenKind::Name, b"_2"),
+    (TokenKind::Comma, b","),
+    (TokenKind::Dollar, b"$"),
+    (TokenKind::Plus, b"+"),
+    (TokenKind::Open, b"("),
+    (TokenKind::Text, b"''"),
+    (TokenKind::Minus, b"-"),
+    (TokenKind::Text, b"'a''\t;'"),
+    (TokenKind::Close, b")"),
+    (TokenKind::Star, b"*"),
+    (TokenKind::Slash, b"/"),
+    (TokenKind::Name, b"af"),
 ];
 
 /// A blank line, as long as a line may be.
 static BLANKS: [u8; 255] = [b' '; 255];
 
 /// Lines where AF and a quote make no token of their own, with their tokens.
-static QUOTES: [(&[u8], &[(Kind, &[u8])]); 3] = [
-    (b"AF 'x'", &[(Kind::Name, b"AF"), (Kind::Text, b"'x'")]),
-    (b"XAF'A'", &[(Kind::Name, b"XAF"), (Kind::Text, b"'A'")]),
-    (b"afx'A'", &[(Kind::Name, b"afx"), (Kind::Text, b"'A'")]),
+static QUOTES: [(&[u8], &[(TokenKind, &[u8])]); 3] = [
+    (
+        b"AF 'x'",
+        &[(TokenKind::Name, b"AF"), (TokenKind::Text, b"'x'")],
+    ),
+    (
+        b"XAF'A'",
+        &[(TokenKind::Name, b"XAF"), (TokenKind::Text, b"'A'")],
+    ),
+    (
+        b"afx'A'",
+        &[(TokenKind::Name, b"afx"), (TokenKind::Text, b"'A'")],
+    ),
 ];
 
 #[test]
@@ -162,15 +171,15 @@ fn characters_of_texts(rt: HostRuntime) {
 }
 
 /// Faults, with their codes.
-static CODES: [(Fault, &str); 4] = [
-    (Fault::NoToken, "L1"),
-    (Fault::WrongNumber, "L2"),
-    (Fault::OpenText, "L3"),
-    (Fault::LongLine, "L4"),
+static CODES: [(LexFault, &str); 4] = [
+    (LexFault::NoToken, "L1"),
+    (LexFault::WrongNumber, "L2"),
+    (LexFault::OpenText, "L3"),
+    (LexFault::LongLine, "L4"),
 ];
 
 /// Whether a fault is printed so.
-fn is_printed(alloc: Global, fault: Fault, code: &str) -> bool {
+fn is_printed(alloc: Global, fault: LexFault, code: &str) -> bool {
     match format!(in alloc; "{fault}") {
         Ok(found) => found.as_str() == code,
         Err(_) => false,

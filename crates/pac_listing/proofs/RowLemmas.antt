@@ -4,19 +4,19 @@ use Rattle.std.proofs.Common.{ap, sym, ◌∙◌, ℤ, Some, slice_get, arith, l
 use Rattle.std.proofs.lemmas.List.{drop_more}
 use Rattle.std.proofs.lemmas.Option.{get_or_from_slice_get, slice_get_within}
 use Rattle.std.specs.List.{flat_map}
-use Rattle.pac_program.specs.Names.{Named}
-use Rattle.pac_program.specs.declared.line.Line.{Line}
+use Rattle.pac_asm_program.specs.Names.{Symbol}
+use Rattle.pac_asm_program.specs.declared.line.Line.{Line}
 use Rattle.pac_listing.specs.Texts.{row_bytes, byte_columns}
 use Rattle.pac_num.specs.Hexadecimal.{hex_word}
-use Rattle.pac_listing.specs.Listing.{first_row, item_rows, further_row, further_rows, next_row, rows_of, all_rows}
+use Rattle.pac_listing.specs.Listing.{first_row, item_rows, further_row, further_rows, next_row_address, number_of_rows, all_rows}
 use Rattle.pac_listing.specs.Listing.{line_rows, lines_from, symbol_row}
 
 -- bytes that are left fill one row, and the bytes after it further ones
 pub rows-more : (at : ℕ) (bytes : List ℕ) → 0 < length bytes
-    → all_rows at bytes ≡ further_row at bytes ++ all_rows (next_row at) (drop row_bytes bytes)
+    → all_rows at bytes ≡ further_row at bytes ++ all_rows (next_row_address at) (drop row_bytes bytes)
 unfolding further_rows
 rows-more at bytes some =
-    let one : rows_of (length bytes) ≡ suc (rows_of (length (drop row_bytes bytes))) = rw length-drop (omega arith) in
+    let one : number_of_rows (length bytes) ≡ suc (number_of_rows (length (drop row_bytes bytes))) = rw length-drop (omega arith) in
     ap (λ rows. further_rows rows at bytes) one
 
 pub rows-none : (at : ℕ) (bytes : List ℕ) → length bytes ≡ 0 → all_rows at bytes ≡ []
@@ -46,13 +46,13 @@ texts-none number (line ∷ lines) = refl
 -- an item of some bytes has one row, and further ones
 pub item-more : (number at : ℕ) (bytes text address columns rest : List ℕ) → 0 < length bytes → address ≡ hex_word at
     → columns ≡ byte_columns bytes → rest ≡ drop row_bytes bytes
-    → first_row number address columns text ++ all_rows (next_row at) rest ≡ item_rows number at bytes text
+    → first_row number address columns text ++ all_rows (next_row_address at) rest ≡ item_rows number at bytes text
 item-more number at [] text address columns rest some here shown left = absurd (omega (arith, some))
 item-more number at (byte ∷ bytes) text address columns rest some here shown left =
-    λ i. first_row number (here i) (shown i) text ++ all_rows (next_row at) (left i)
+    λ i. first_row number (here i) (shown i) text ++ all_rows (next_row_address at) (left i)
 
 -- a symbol's row, and those after it
-pub symbols-more : (symbols : List Named) (place : ℕ) (name : List ℕ) (passed : ℤ) {number : ℤ}
+pub symbols-more : (symbols : List Symbol) (place : ℕ) (name : List ℕ) (passed : ℤ) {number : ℤ}
     → Some (name, number) ≡ slice_get symbols place
     → passed ≡ number
     → flat_map symbol_row (drop place symbols) ≡ symbol_row (name, passed) ++ flat_map symbol_row (drop (place + 1) symbols)

@@ -15,9 +15,9 @@ abbrev pub row_bytes : ℕ
 row_bytes = 4
 
 -- a text left in so many places, with blanks after it
-abbrev pub left_in : ℕ → List ℕ → List ℕ
-left_in places text = text ++ replicate (places - length text) 32
+abbrev pub left_aligned : ℕ → List ℕ → List ℕ
+left_aligned places text = text ++ replicate (places - length text) 32
 
 -- the first four of these bytes, left in eight places
 unfoldable pub byte_columns : List ℕ → List ℕ
-byte_columns bytes = left_in 8 (flat_map hex_byte (take row_bytes bytes))
+byte_columns bytes = left_aligned 8 (flat_map hex_byte (take row_bytes bytes))

@@ -8,11 +8,11 @@ ghost use Rattle.pac_listing.specs.Listing.{lines_from, symbol_row, symbol_rows,
 
 use crate::rows::put_line;
 use itoa::Buffer;
+use pac_asm_program::{Line, Program, Symbols};
 use pac_lex::first_line;
 use pac_out::counted::Counted;
 use pac_out::pending::Pending;
 use pac_out::{Out, WriteFault};
-use pac_program::{Line, Program, Symbols};
 
 /// The rows of the lines.
 fn put_lines<W: Out>(

@@ -3,14 +3,14 @@
 ghost use Rattle.std.specs.Prelude.{◌≡◌, ◌-◌, [], ◌∷◌, length, drop, codes};
 ghost use Rattle.pac_out.specs.Pending.{Gathers};
 ghost use Rattle.pac_listing.specs.Texts.{row_bytes};
-ghost use Rattle.pac_listing.specs.Listing.{joined, first_row, further_row, all_rows, item_rows, line_rows};
+ghost use Rattle.pac_listing.specs.Listing.{joined_pieces, first_row, further_row, all_rows, item_rows, line_rows};
 
 use crate::digits::{byte_columns, five_digits};
+use pac_asm_program::Line;
 use pac_num::hex_word;
 use pac_out::counted::Counted;
 use pac_out::pending::Pending;
 use pac_out::{Out, WriteFault};
-use pac_program::Line;
 
 /// The first row of a line: its number, its address and its bytes as they are shown, and its text.
 fn put_first_row<W: Out>(
@@ -34,7 +34,7 @@ fn put_first_row<W: Out>(
 /// What stands before the text in a first row, with a blank after each piece.
 #[inline]
 fn row_head(digits: [u8; 5], address: [u8; 4], columns: [u8; 8]) -> [u8; 20]
-    ensures { result ≡ joined (digits ∷ codes " " ∷ address ∷ codes " " ∷ columns ∷ codes " " ∷ []) }
+    ensures { result ≡ joined_pieces (digits ∷ codes " " ∷ address ∷ codes " " ∷ columns ∷ codes " " ∷ []) }
 {
     let [n0, n1, n2, n3, n4] = digits;
     let [a0, a1, a2, a3] = address;

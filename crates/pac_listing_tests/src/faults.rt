@@ -1,12 +1,12 @@
 //! A writer that refuses each of its writes in turn.
 
 use crate::programs::{Entry, program};
+use pac_asm_program::Program;
 use pac_listing::write_listing;
 use pac_out::WriteFault;
 use pac_out::counted::Counted;
 use pac_out::faulty::Faulty;
-use pac_out::memory::Memory;
-use pac_program::Program;
+use pac_out::memory::MemoryWriter;
 use std::alloc::{AllocError, Global};
 use std::process::Abort;
 use std::test::Fail;
@@ -48,8 +48,8 @@ fn takes_prefix(
 }
 
 /// The whole listing.
-fn listing(rt: &impl Abort, alloc: Global, made: &Program) -> Result<Memory, AllocError> {
-    let mut whole = Counted::new(Memory::new(alloc, 40_000)?);
+fn listing(rt: &impl Abort, alloc: Global, made: &Program) -> Result<MemoryWriter, AllocError> {
+    let mut whole = Counted::new(MemoryWriter::new(alloc, 40_000)?);
     assert!(rt; write_listing(&mut whole, made, &SOURCE).is_ok());
     // rows of 21 and 20 bytes, and the word
     assert!(rt; whole.count == 500 * 41 + 8);

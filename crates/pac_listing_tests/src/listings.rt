@@ -1,10 +1,10 @@
 //! Listings, byte for byte.
 
 use crate::programs::{Entry, program};
+use pac_asm_program::Program;
 use pac_listing::write_listing;
 use pac_out::counted::Counted;
-use pac_out::memory::Memory;
-use pac_program::Program;
+use pac_out::memory::MemoryWriter;
 use std::alloc::{AllocError, Global};
 use std::process::Abort;
 use std::test::Fail;
@@ -90,7 +90,7 @@ fn is_listed(
     source: &[u8],
     listing: &[u8],
 ) -> Result<(), AllocError> {
-    let mut file = Counted::new(Memory::new(alloc, 1000)?);
+    let mut file = Counted::new(MemoryWriter::new(alloc, 1000)?);
     assert!(rt; write_listing(&mut file, made, source).is_ok());
     assert!(rt; file.writer.bytes() == listing, "{}", listing.len());
     assert!(rt; file.count as usize == listing.len());

@@ -1,7 +1,7 @@
 //! Programs for the tests, put together by hand.
 
+use pac_asm_program::{Content, Item, Line, Program, Symbols};
 use pac_code::decode;
-use pac_program::{Content, Item, Line, Program, Symbols};
 use std::alloc::Global;
 use std::process::Abort;
 use std::test::Fail;

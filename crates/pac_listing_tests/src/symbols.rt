@@ -1,13 +1,14 @@
 //! Symbols: in order, distinct, and with memory that is refused.
 
-use pac_program::Symbols;
-use pac_scarce::Hoard;
+use pac_asm_program::Symbols;
+use pac_expr::SymbolLookup as Lookup;
+use pac_tests_memory::Hoard;
 use std::alloc::{AllocError, Global};
 use std::process::Abort;
 use std::test::Fail;
 
 /// The number of a name, through the trait that expressions ask.
-fn number<S: pac_expr::Symbols>(symbols: &S, name: &[u8]) -> Option<i32> {
+fn number<S: Lookup>(symbols: &S, name: &[u8]) -> Option<i32> {
     symbols.symbol(name)
 }
 

@@ -5,41 +5,41 @@ use Rattle.std.proofs.Math.Nat.{min-le_left}
 use Rattle.std.proofs.lemmas.Bool.Decides.{nat_tests}
 use Rattle.std.proofs.lemmas.Grind.{get_or-set_at}
 use Rattle.std.proofs.lemmas.List.{get_or-set_other, get_or_past, length-set, length-replicate}
-use Rattle.pac_latch.specs.Latched.{Latched, watchdog_limit, after_bit, after_vector, after_kick, after_accept, after_reset, after_blank}
+use Rattle.pac_latch.specs.Latched.{Latched, watchdog_limit, latched_after_bit, latched_after_vector, latched_after_kick, latched_after_accept, latched_after_reset, latched_after_blank}
 use Rattle.pac_map.specs.declared.bus_table.BusPlace.{BusPlace}
 use Rattle.pac_map.specs.declared.bus_table.BusPlace.TheVariants.{Tile, Colour, Work, Kick, Latch, Wave, Coordinate}
 use Rattle.pac_map.specs.Place.{ram_size, coordinates_size, registers_size}
-use Rattle.pac_map.specs.Cleared.{cleared}
-use Rattle.pac_map.specs.View.{View, IsWellFormed, power_on, is_kept, kept}
-use Rattle.pac_map.specs.Entry.{Entry, Write, Vector, Blank, Accept, Reset, Hold, written, view_after}
+use Rattle.pac_map.specs.Cleared.{zero_ram}
+use Rattle.pac_map.specs.View.{View, IsWellFormed, power_on_view, is_kept, kept_nibble}
+use Rattle.pac_map.specs.Entry.{Entry, Write, Vector, Blank, Accept, Reset, Hold, view_after_write, view_after}
 
-pub length-cleared : (count : ℕ) → length (cleared count) ≡ count
-unfolding cleared
+pub length-cleared : (count : ℕ) → length (zero_ram count) ≡ count
+unfolding zero_ram
 length-cleared count = length-replicate count 0
 
 -- each cell of cleared RAM is 0
-pub cleared-at : (count place : ℕ) → slice_index (cleared count) place ≡ 0
-unfolding cleared
+pub cleared-at : (count place : ℕ) → slice_index (zero_ram count) place ≡ 0
+unfolding zero_ram
 cleared-at zero place = refl
 cleared-at (suc count) zero = refl
 cleared-at (suc count) (suc place) = cleared-at count place
 
 -- a register that holds 0, or what it holds already, keeps it
-kept-zero : (register : ℕ) → kept register 0 ≡ 0
+kept-zero : (register : ℕ) → kept_nibble register 0 ≡ 0
 kept-zero register = choose (is_kept register)
   where
     choose : (b : Bool) → cond b (0 % 16) 0 ≡ 0
     choose true = refl
     choose false = refl
 
-pub kept-again : (register byte : ℕ) → kept register (kept register byte) ≡ kept register byte
+pub kept-again : (register byte : ℕ) → kept_nibble register (kept_nibble register byte) ≡ kept_nibble register byte
 kept-again register byte = choose (is_kept register)
   where
     choose : (b : Bool) → cond b (cond b (byte % 16) 0 % 16) 0 ≡ cond b (byte % 16) 0
     choose true = omega arith
     choose false = refl
 
-pub power-on-well-formed : (switches : ℕ) → IsWellFormed (power_on switches)
+pub power-on-well-formed : (switches : ℕ) → IsWellFormed (power_on_view switches)
 power-on-well-formed switches = record {
   tile = length-cleared ram_size;
   colour = length-cleared ram_size;
@@ -47,37 +47,38 @@ power-on-well-formed switches = record {
   coordinates = length-cleared coordinates_size;
   registers = length-cleared registers_size;
   nibbles = λ register.
-      ap (kept register) (cleared-at registers_size register) ∙ kept-zero register ∙ sym (cleared-at registers_size register);
+      ap (kept_nibble register) (cleared-at registers_size register) ∙ kept-zero register ∙ sym (cleared-at registers_size register);
   count = omega arith;
 }
 
 -- registers that hold what they can go on so when one is written
 set-keeps : (registers : List ℕ) (register byte place : ℕ)
-    → ((other : ℕ) → kept other (slice_index registers other) ≡ slice_index registers other)
-    → let later = slice_set registers register (kept register byte) in kept place (slice_index later place) ≡ slice_index later place
+    → ((other : ℕ) → kept_nibble other (slice_index registers other) ≡ slice_index registers other)
+    → let later = slice_set registers register (kept_nibble register byte) in
+    kept_nibble place (slice_index later place) ≡ slice_index later place
 set-keeps registers register byte place holds = choose (place == register) refl (nat_lt place (length registers)) refl
   where
     later : List ℕ
-    later = slice_set registers register (kept register byte)
+    later = slice_set registers register (kept_nibble register byte)
 
-    by-value : (value : ℕ) → slice_index later place ≡ value → kept place value ≡ value
-        → kept place (slice_index later place) ≡ slice_index later place
-    by-value value is stays = ap (kept place) is ∙ stays ∙ sym is
+    by-value : (value : ℕ) → slice_index later place ≡ value → kept_nibble place value ≡ value
+        → kept_nibble place (slice_index later place) ≡ slice_index later place
+    by-value value is stays = ap (kept_nibble place) is ∙ stays ∙ sym is
 
     choose : (a : Bool) → (place == register) ≡ a → (b : Bool) → nat_lt place (length registers) ≡ b
-        → kept place (slice_index later place) ≡ slice_index later place
+        → kept_nibble place (slice_index later place) ≡ slice_index later place
     choose true p true q =
         let same : place ≡ register = grind (arith, nat_tests) in
         let inside : register < length registers = grind (arith, nat_tests) in
-        by-value (kept register byte) (get_or-set_at registers register place (kept register byte) 0 same inside)
-        (ap (λ other. kept other (kept register byte)) same ∙ kept-again register byte)
+        by-value (kept_nibble register byte) (get_or-set_at registers register place (kept_nibble register byte) 0 same inside)
+        (ap (λ other. kept_nibble other (kept_nibble register byte)) same ∙ kept-again register byte)
     choose true p false q =
         let past : length registers ≤ place = grind (arith, nat_tests) in
-        let past_too : length later ≤ place = rw (length-set registers register (kept register byte)) past in
+        let past_too : length later ≤ place = rw (length-set registers register (kept_nibble register byte)) past in
         by-value 0 (get_or_past later place 0 past_too) (kept-zero place)
     choose false p b q =
         let apart : place ≢ register = grind (arith, nat_tests) in
-        by-value (slice_index registers place) (get_or-set_other registers register place (kept register byte) 0 apart) (holds place)
+        by-value (slice_index registers place) (get_or-set_other registers register place (kept_nibble register byte) 0 apart) (holds place)
 
 -- a view whose latch alone changes, as to a count in its range
 latched-well-formed : (view : View) (latched : Latched) → latched.count ≤ watchdog_limit → IsWellFormed view
@@ -92,7 +93,7 @@ latched-well-formed view latched low well = record {
   count = low;
 }
 
-written-well-formed : (view : View) (place : BusPlace) (byte : ℕ) → IsWellFormed view → IsWellFormed (written view place byte)
+written-well-formed : (view : View) (place : BusPlace) (byte : ℕ) → IsWellFormed view → IsWellFormed (view_after_write view place byte)
 written-well-formed view (Tile cell) byte well = record {
   tile = length-set view.tile cell byte ∙ well.tile;
   colour = well.colour;
@@ -134,22 +135,22 @@ written-well-formed view (Wave register) byte well = record {
   colour = well.colour;
   work = well.work;
   coordinates = well.coordinates;
-  registers = length-set view.registers register (kept register byte) ∙ well.registers;
+  registers = length-set view.registers register (kept_nibble register byte) ∙ well.registers;
   nibbles = λ place. set-keeps view.registers register byte place well.nibbles;
   count = well.count;
 }
 written-well-formed view (Latch place) byte well =
-    latched-well-formed view (after_bit view.latched place (byte % 2 == 1)) well.count well
-written-well-formed view Kick byte well = latched-well-formed view (after_kick view.latched) (omega arith) well
+    latched-well-formed view (latched_after_bit view.latched place (byte % 2 == 1)) well.count well
+written-well-formed view Kick byte well = latched-well-formed view (latched_after_kick view.latched) (omega arith) well
 written-well-formed view _ byte well = well
 
 pub view-after-well-formed : (view : View) (entry : Entry) → IsWellFormed view → IsWellFormed (view_after view entry)
 view-after-well-formed view (Write place byte) well = written-well-formed view place byte well
-view-after-well-formed view (Vector byte) well = latched-well-formed view (after_vector view.latched byte) well.count well
+view-after-well-formed view (Vector byte) well = latched-well-formed view (latched_after_vector view.latched byte) well.count well
 view-after-well-formed view (Blank frame) well =
-    latched-well-formed view (after_blank view.latched) (min-le_left watchdog_limit (view.latched.count + 1)) well
-view-after-well-formed view Accept well = latched-well-formed view (after_accept view.latched) well.count well
-view-after-well-formed view Reset well = latched-well-formed view (after_reset view.latched) (omega arith) well
+    latched-well-formed view (latched_after_blank view.latched) (min-le_left watchdog_limit (view.latched.count + 1)) well
+view-after-well-formed view Accept well = latched-well-formed view (latched_after_accept view.latched) well.count well
+view-after-well-formed view Reset well = latched-well-formed view (latched_after_reset view.latched) (omega arith) well
 view-after-well-formed view (Hold mask) well = record {
   tile = well.tile;
   colour = well.colour;

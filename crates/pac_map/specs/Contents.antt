@@ -21,13 +21,13 @@ lookups_of program view = record {
 abbrev pub read_of : List ℕ → View → ℕ → ℕ
 read_of program view address = answer_at (lookups_of program view) address
 
--- the same of the bus, and the byte that an input from a port gives
-abbrev pub byte_at : Map → ℕ → ℕ
-byte_at map address = read_of map.set.program map.memory address
+-- the byte that a read from an address of the bus gives, and the one that an input from a port gives
+abbrev pub map_byte_at : Map → ℕ → ℕ
+map_byte_at map address = read_of map.set.program map.memory address
 
-abbrev pub input_at : Map → ℕ → ℕ
-input_at map port = port_byte port
+abbrev pub map_input_at : Map → ℕ → ℕ
+map_input_at map port = port_byte port
 
 -- the bus after an action of the processor
-abbrev pub after : Map → Action → Map
-after map action = record map { memory = fold view_after map.memory (entries_of action) }
+abbrev pub map_after_action : Map → Action → Map
+map_after_action map action = record map { memory = fold view_after map.memory (entries_of action) }

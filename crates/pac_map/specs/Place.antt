@@ -62,12 +62,12 @@ abbrev pub write_place : ℕ → BusPlace
 write_place address = place write_port address
 
 -- the cell, bit, register or byte lies in its place
-abbrev pub IsInRange : BusPlace → Type 0
-IsInRange (Program cell) = cell < program_size
-IsInRange (Tile cell) = cell < ram_size
-IsInRange (Colour cell) = cell < ram_size
-IsInRange (Work cell) = cell < ram_size
-IsInRange (Latch bit) = bit < latch_size
-IsInRange (Wave register) = register < registers_size
-IsInRange (Coordinate byte) = byte < coordinates_size
-IsInRange _ = Unit {0}
+abbrev pub IsPlaceInRange : BusPlace → Type 0
+IsPlaceInRange (Program cell) = cell < program_size
+IsPlaceInRange (Tile cell) = cell < ram_size
+IsPlaceInRange (Colour cell) = cell < ram_size
+IsPlaceInRange (Work cell) = cell < ram_size
+IsPlaceInRange (Latch bit) = bit < latch_size
+IsPlaceInRange (Wave register) = register < registers_size
+IsPlaceInRange (Coordinate byte) = byte < coordinates_size
+IsPlaceInRange _ = Unit {0}

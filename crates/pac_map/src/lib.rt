@@ -7,4 +7,4 @@ mod memory;
 
 pub use board_bus::Map;
 pub use bus_table::{BusPlace, read_place, write_place};
-pub use memory::{Fields, Memory};
+pub use memory::{Memory, MemoryFields};

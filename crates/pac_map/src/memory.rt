@@ -3,13 +3,13 @@
 
 ghost use Rattle.std.specs.Prelude.{◌≡◌, ◌%◌, ◌==◌, ℕ, IfOk, length};
 ghost use Rattle.pac_inputs.specs.Inputs.{mask};
-ghost use Rattle.pac_latch.specs.Latched.{is_due, after_bit};
+ghost use Rattle.pac_latch.specs.Latched.{is_watchdog_due, latched_after_bit};
 ghost use Rattle.pac_roms.specs.Parts.{program_size};
-ghost use Rattle.pac_map.specs.Cleared.{cleared};
+ghost use Rattle.pac_map.specs.Cleared.{zero_ram};
 ghost use Rattle.pac_map.specs.Contents.{lookups_of};
-ghost use Rattle.pac_map.specs.Entry.{Vector, Blank, Accept, Reset, Hold, written, view_after};
+ghost use Rattle.pac_map.specs.Entry.{Vector, Blank, Accept, Reset, Hold, view_after_write, view_after};
 ghost use Rattle.pac_map.specs.Lookups.{answer};
-ghost use Rattle.pac_map.specs.Place.{IsInRange};
+ghost use Rattle.pac_map.specs.Place.{IsPlaceInRange};
 ghost use Rattle.pac_map.specs.View as spec;
 
 mod fields;
@@ -17,7 +17,7 @@ mod reading;
 
 use crate::BusPlace;
 use bitflags::Flags;
-pub use fields::Fields;
+pub use fields::MemoryFields;
 use pac_inputs::Inputs;
 use pac_latch::Latch;
 use std::alloc::{AllocError, Global};
@@ -67,17 +67,17 @@ impl Model for Memory {
 }
 
 /// N bytes, all 0.
-#[tactic(auto, unfolding(crate::specs::Cleared::cleared))]
+#[tactic(auto, unfolding(crate::specs::Cleared::zero_ram))]
 fn zeros<const N: usize>() -> [u8; N]
-    ensures { result ≡ cleared N }
+    ensures { result ≡ zero_ram N }
 {
     [0; N]
 }
 
 /// RAM of N bytes, all 0.
-#[tactic(auto, unfolding(crate::specs::Cleared::cleared))]
+#[tactic(auto, unfolding(crate::specs::Cleared::zero_ram))]
 fn cleared_ram<const N: usize>(alloc: Global) -> Result<Box<[u8; N]>, AllocError>
-    ensures { IfOk result (λ ram. ram.value ≡ cleared N) }
+    ensures { IfOk result (λ ram. ram.value ≡ zero_ram N) }
 {
     Ok(Box::new(alloc, [0; N])?)
 }
@@ -93,7 +93,7 @@ fn is_kept(register: u8) -> bool
 /// What a register of the wave generator holds of a byte.
 #[inline]
 fn kept(register: u8, byte: u8) -> u8
-    ensures { result ≡ spec.kept register byte }
+    ensures { result ≡ spec.kept_nibble register byte }
 {
     if is_kept(register) { byte % 16 } else { 0 }
 }
@@ -101,7 +101,7 @@ fn kept(register: u8, byte: u8) -> u8
 /// Writes the lowest bit of a byte to a bit of the latch.
 #[inline]
 fn write_latch(latch: &mut Latch, place: u8, byte: u8)
-    ensures { latch.new ≡ after_bit latch.old place (byte % 2 == 1) }
+    ensures { latch.new ≡ latched_after_bit latch.old place (byte % 2 == 1) }
 {
     latch.write_bit(place, byte % 2 == 1);
 }
@@ -109,7 +109,7 @@ fn write_latch(latch: &mut Latch, place: u8, byte: u8)
 impl Memory {
     /// All 0 as at power-on, no input held, and the byte that the DIP switches give. Refused for want of memory alone.
     pub fn new(alloc: Global, switches: u8) -> Result<Memory, AllocError>
-        ensures { IfOk result (λ memory. memory ≡ spec.power_on switches) }
+        ensures { IfOk result (λ memory. memory ≡ spec.power_on_view switches) }
     {
         let tile = cleared_ram::<1024>(alloc)?;
         let colour = cleared_ram::<1024>(alloc)?;
@@ -130,7 +130,7 @@ impl Memory {
     #[inline(always)]
     pub(crate) fn byte_of(&self, program: &[u8], place: BusPlace) -> u8
         requires program { length program.now ≡ program_size }
-        requires place { IsInRange place }
+        requires place { IsPlaceInRange place }
         ensures { result ≡ answer (lookups_of program.now self.now) place }
     {
         match place {
@@ -149,8 +149,8 @@ impl Memory {
     /// Writes a byte to a place.
     #[inline(always)]
     pub(crate) fn write(&mut self, place: BusPlace, byte: u8)
-        requires { IsInRange place }
-        ensures { self.new ≡ written self.old place byte }
+        requires { IsPlaceInRange place }
+        ensures { self.new ≡ view_after_write self.old place byte }
     {
         match place {
             BusPlace::Tile(cell) => self.tile[cell as usize] = byte,
@@ -185,7 +185,7 @@ impl Memory {
     #[inline]
     pub fn blank(&mut self) -> bool
         ensures view { (frame : ℕ) → self.new ≡ view_after self.old (Blank frame) }
-        ensures due { result ≡ is_due self.new.latched }
+        ensures due { result ≡ is_watchdog_due self.new.latched }
     {
         self.latch.blank()
     }

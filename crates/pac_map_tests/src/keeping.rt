@@ -3,7 +3,7 @@
 use crate::halting;
 use pac_bus::Bus;
 use pac_inputs::Inputs;
-use pac_map::{Fields, Memory};
+use pac_map::{Memory, MemoryFields};
 use std::test::Fail;
 
 #[test]
@@ -77,7 +77,7 @@ fn sixteen_blanks_with_a_kick_after_the_eighth(rt: HostRuntime) -> Result<(), Fa
 
 #[test]
 fn fields_and_copies(rt: HostRuntime) -> Result<(), Fail> {
-    let fields = Fields {
+    let fields = MemoryFields {
         tile: &[1; 1024],
         colour: &[2; 1024],
         work: &[3; 1024],
@@ -117,7 +117,7 @@ fn fields_and_copies(rt: HostRuntime) -> Result<(), Fail> {
         let mut registers = [0; 32];
         registers[register] = byte;
         assert_eq!(rt;
-            Fields {
+            MemoryFields {
                 registers,
                 ..fields
             }
@@ -127,7 +127,7 @@ fn fields_and_copies(rt: HostRuntime) -> Result<(), Fail> {
         );
     }
     assert!(rt;
-        !Fields {
+        !MemoryFields {
             count: 17,
             ..fields
         }

@@ -9,7 +9,7 @@ use Rattle.pac_out.specs.Counted.{HasTaken, HasStopped, Refuses}
 use Rattle.pac_out.specs.Pending.{Holds}
 use Rattle.pac_out.proofs.Files.{stops-within}
 use Rattle.pac_media.specs.Samples.{sample_text, samples_text}
-use Rattle.pac_media.specs.Sound.{Sound, Gains, Fails, Finishes}
+use Rattle.pac_media.specs.Sound.{Sound, Gains, SoundFails, FinishesSound}
 
 module _ {W : Type 0} {took : W → List ℕ → W → Type 0} where
   -- bytes that are in the file or wait
@@ -35,10 +35,10 @@ module _ {W : Type 0} {took : W → List ℕ → W → Type 0} where
     pub fails-held : {old new : Counted W} {waiting later given bytes : List ℕ} {owed left : ℕ} {before : Sound W}
         → record { file = old; waiting = waiting; owed = owed } ≡ before → given ≡ bytes
         → Refuses took refused old (waiting ++ given) fault new
-        → Fails took refused before bytes fault (record { file = new; waiting = later; owed = left })
+        → SoundFails took refused before bytes fault (record { file = new; waiting = later; owed = left })
     fails-held {new = new} {waiting = waiting} {later = later} {given = given} {left = left} {before = before} is same refuses =
-        subst (λ (bytes : List ℕ). Fails took refused before bytes fault (record { file = new; waiting = later; owed = left })) same
-        (subst (λ (sound : Sound W). Fails took refused sound given fault (record { file = new; waiting = later; owed = left })) is
+        subst (λ (bytes : List ℕ). SoundFails took refused before bytes fault (record { file = new; waiting = later; owed = left })) same
+        (subst (λ (sound : Sound W). SoundFails took refused sound given fault (record { file = new; waiting = later; owed = left })) is
         (record {
           told = refuses.told;
           at_least = refuses.at_least;
@@ -50,9 +50,9 @@ module _ {W : Type 0} {took : W → List ℕ → W → Type 0} where
     -- a file that has refused before
     pub fails-shut : {file : Counted W} {waiting bytes : List ℕ} {owed : ℕ} {before : Sound W}
         → record { file = file; waiting = waiting; owed = owed } ≡ before → file.failed ≡ true → fault.count ≡ file.count
-        → Fails took refused before bytes fault before
+        → SoundFails took refused before bytes fault before
     fails-shut {bytes = bytes} is shut told =
-        subst (λ (sound : Sound W). Fails took refused sound bytes fault sound) is
+        subst (λ (sound : Sound W). SoundFails took refused sound bytes fault sound) is
         (record {
           told = told;
           at_least = omega (arith, told);
@@ -61,8 +61,8 @@ module _ {W : Type 0} {took : W → List ℕ → W → Type 0} where
 
   -- a refusal after some bytes, and within more
   pub fails-within : {refused : W → W → Type 0} {old mid new : Sound W} {one other : List ℕ} {fault : WriteFault} → Gains took old one mid
-      → Fails took refused mid other fault new → (more : List ℕ)
-      → Fails took refused old ((one ++ other) ++ more) fault new
+      → SoundFails took refused mid other fault new → (more : List ℕ)
+      → SoundFails took refused old ((one ++ other) ++ more) fault new
   fails-within {refused = refused} {new = new} {one = one} {other = other} first second more =
       record {
         told = second.told;
@@ -82,8 +82,8 @@ module _ {W : Type 0} {took : W → List ℕ → W → Type 0} where
 
   -- what was given is written
   pub finishes-after : {A : Type 0} (refused : W → W → Type 0) (result : Result A WriteFault) (new : Sound W) {old mid : Sound W}
-      {bytes : List ℕ} → Gains took old bytes mid → Finishes took refused mid [] result new
-      → Finishes took refused old bytes result new
+      {bytes : List ℕ} → Gains took old bytes mid → FinishesSound took refused mid [] result new
+      → FinishesSound took refused old bytes result new
   finishes-after refused (Ok done) new {bytes = bytes} first second =
       record {
         at_least = let e = first.at_least in let f = second.at_least in omega (arith, e, f);
@@ -92,7 +92,7 @@ module _ {W : Type 0} {took : W → List ℕ → W → Type 0} where
         none_waits = second.none_waits;
       }
   finishes-after refused (Err fault) new {old} {bytes = bytes} first second =
-      subst (λ (all : List ℕ). Fails took refused old all fault new) (append-nil (bytes ++ []) ∙ append-nil bytes)
+      subst (λ (all : List ℕ). SoundFails took refused old all fault new) (append-nil (bytes ++ []) ∙ append-nil bytes)
       (fails-within first second [])
 
 -- one sample of silence more

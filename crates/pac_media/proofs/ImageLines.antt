@@ -8,7 +8,7 @@ use Rattle.std.proofs.lemmas.Slice.{take-put_mid}
 use borrow.Rule.Slice.PartMut.{put_mid}
 use Rattle.std.specs.List.{flat_map}
 use Rattle.pac_tiles.specs.Tabulate.{tabulate}
-use Rattle.pac_media.specs.Images.{colour_in, header, number_at, pair_in}
+use Rattle.pac_media.specs.Images.{palette_colour, header, pair_number, pair_in}
 
 -- what is made of a palette: the pair of each number, and perhaps bytes after it
 abbrev pub ArePairs : List (List ℕ) → List (List ℕ) → Type 0
@@ -45,7 +45,7 @@ pixels-step out piece k part pair is long size inside so_far =
 
 -- the bytes of a pair
 pair-bytes : (palette pairs : List (List ℕ)) (left right : ℕ) → ArePairs palette pairs → left < 16 → right < 16 →
-    take 6 (get_or pairs (16 * left + right) []) ≡ colour_in palette left ++ colour_in palette right
+    take 6 (get_or pairs (16 * left + right) []) ≡ palette_colour palette left ++ palette_colour palette right
 pair-bytes palette pairs left right made is_left is_right =
     let place : 16 * left + right < 256 = omega (arith, is_left, is_right) in
     let quotient : (16 * left + right) / 16 ≡ left = omega (arith, is_right) in
@@ -54,14 +54,14 @@ pair-bytes palette pairs left right made is_left is_right =
 
 -- two pixels more
 two-more : (palette : List (List ℕ)) (line : List ℕ) (count : ℕ) → 2 * suc count ≤ length line →
-    flat_map (colour_in palette) (take (2 * suc count) line)
-    ≡ flat_map (colour_in palette) (take (2 * count) line)
-    ++ (colour_in palette (slice_index line (2 * count)) ++ colour_in palette (slice_index line (2 * count + 1)))
+    flat_map (palette_colour palette) (take (2 * suc count) line)
+    ≡ flat_map (palette_colour palette) (take (2 * count) line)
+    ++ (palette_colour palette (slice_index line (2 * count)) ++ palette_colour palette (slice_index line (2 * count + 1)))
 two-more palette line count inside =
     let first : 2 * count < length line = omega (arith, inside) in
     let second : 2 * count + 1 < length line = omega (arith, inside) in
     let both : 2 * suc count ≡ 2 * count + 1 + 1 = omega arith in
-    let f : ℕ → List ℕ = colour_in palette in
+    let f : ℕ → List ℕ = palette_colour palette in
     let before = take (2 * count) line in
     let left = slice_index line (2 * count) in
     let right = slice_index line (2 * count + 1) in
@@ -72,30 +72,31 @@ two-more palette line count inside =
 -- the pixels of a line, two at a time
 pairs-text : (palette pairs : List (List ℕ)) (line : List ℕ) (count : ℕ) → ArePairs palette pairs →
     EachIndex line (λ x. slice_index line x < 16) → 2 * count ≤ length line →
-    flat_map (take 6) (tabulate count (λ k. get_or pairs (number_at line k) [])) ≡ flat_map (colour_in palette) (take (2 * count) line)
+    flat_map (take 6) (tabulate count (λ k. get_or pairs (pair_number line k) []))
+    ≡ flat_map (palette_colour palette) (take (2 * count) line)
 unfolding tabulate
 pairs-text palette pairs line zero made below inside = refl
 pairs-text palette pairs line (suc count) made below inside =
     let left : slice_index line (2 * count) < 16 = below (2 * count) (omega (arith, inside)) in
     let right : slice_index line (2 * count + 1) < 16 = below (2 * count + 1) (omega (arith, inside)) in
     let so_far = pairs-text palette pairs line count made below (omega (arith, inside)) in
-    let pair : ℕ → List ℕ = λ k. get_or pairs (number_at line k) [] in
+    let pair : ℕ → List ℕ = λ k. get_or pairs (pair_number line k) [] in
     sym (flat_map_more (take 6) [] (tabulate count pair) (pair count))
     ∙ rw (so_far, pair-bytes palette pairs _ _ made left right) (sym (two-more palette line count inside))
 
 -- and one line more
 pub line-more : (palette lines pairs : List (List ℕ)) (line text : List ℕ) (y : ℕ) → y < length lines →
     ArePairs palette pairs → line ≡ get_or lines y [] → length line ≡ 288 → EachIndex line (λ x. slice_index line x < 16) →
-    text ≡ flat_map (take 6) (tabulate 144 (λ k. get_or pairs (number_at line k) [])) →
-    (header ++ flat_map (flat_map (colour_in palette)) (take y lines)) ++ text
-    ≡ header ++ flat_map (flat_map (colour_in palette)) (take (y + 1) lines)
+    text ≡ flat_map (take 6) (tabulate 144 (λ k. get_or pairs (pair_number line k) [])) →
+    (header ++ flat_map (flat_map (palette_colour palette)) (take y lines)) ++ text
+    ≡ header ++ flat_map (flat_map (palette_colour palette)) (take (y + 1) lines)
 line-more palette lines pairs line text y inside made read long below coloured =
     let within : 2 * 144 ≤ length line = omega (arith, long) in
     let whole : length line ≤ 2 * 144 = omega (arith, long) in
-    let one : text ≡ flat_map (colour_in palette) (get_or lines y []) =
+    let one : text ≡ flat_map (palette_colour palette) (get_or lines y []) =
     coloured ∙ (pairs-text palette pairs line 144 made below within
-    ∙ ap (flat_map (colour_in palette)) (take_all (2 * 144) line whole ∙ read)) in
+    ∙ ap (flat_map (palette_colour palette)) (take_all (2 * 144) line whole ∙ read)) in
     let more = take_more lines y [] inside in
-    ap (λ last. (header ++ flat_map (flat_map (colour_in palette)) (take y lines)) ++ last) one
-    ∙ (flat_map_more (flat_map (colour_in palette)) header (take y lines) (get_or lines y [])
-    ∙ ap (λ all. header ++ flat_map (flat_map (colour_in palette)) all) (sym more))
+    ap (λ last. (header ++ flat_map (flat_map (palette_colour palette)) (take y lines)) ++ last) one
+    ∙ (flat_map_more (flat_map (palette_colour palette)) header (take y lines) (get_or lines y [])
+    ∙ ap (λ all. header ++ flat_map (flat_map (palette_colour palette)) all) (sym more))

@@ -8,21 +8,21 @@ abbrev pub header : List ℕ
 header = codes "P6\n288 224\n255\n"
 
 -- red, green and blue of a colour number
-abbrev pub colour_in : List (List ℕ) → ℕ → List ℕ
-colour_in palette number = slice_index_or palette number []
+abbrev pub palette_colour : List (List ℕ) → ℕ → List ℕ
+palette_colour palette number = slice_index_or palette number []
 
 -- two pixels side by side, by one number of both colour numbers: the left one sixteen times, and the right one
 abbrev pub pair_in : List (List ℕ) → ℕ → List ℕ
-pair_in palette number = colour_in palette (number / 16) ++ colour_in palette (number % 16)
+pair_in palette number = palette_colour palette (number / 16) ++ palette_colour palette (number % 16)
 
 -- the number of the pair of a place on a line, of which each has two pixels
-abbrev pub number_at : List ℕ → ℕ → ℕ
-number_at line place = 16 * slice_index line (2 * place) + slice_index line (2 * place + 1)
+abbrev pub pair_number : List ℕ → ℕ → ℕ
+pair_number line place = 16 * slice_index line (2 * place) + slice_index line (2 * place + 1)
 
 -- the image of 224 lines of 288 colour numbers each, from the left of the top line on
 unfoldable pub ppm_of : List (List ℕ) → List (List ℕ) → List ℕ
-ppm_of lines palette = header ++ flat_map (flat_map (colour_in palette)) lines
+ppm_of lines palette = header ++ flat_map (flat_map (palette_colour palette)) lines
 
--- its bytes: the header, and three of each pixel
+-- the bytes of an image: the header, and three of each pixel
 abbrev pub image_size : ℕ
 image_size = 15 + 3 * (width * height)

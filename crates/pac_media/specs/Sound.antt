@@ -10,39 +10,40 @@ pub record Sound (W : Type 0) : Type 0 where
   pub waiting : List ℕ
   pub owed : ℕ
 
--- It was given this text: the file, whose writer was `start` before its first byte, has taken a prefix of it, and the
--- rest waits.
+-- The wave file was given this text: the file, whose writer was `start` before its first byte, has taken a prefix of it,
+-- and the rest waits.
 pub record HasText {W : Type 0} (took : W → List ℕ → W → Type 0) (start : W) (text : List ℕ) (sound : Sound W) : Type 0 where
   pub prefix : List ℕ
   pub parts : text ≡ prefix ++ sound.waiting
   pub taken : HasTaken took start prefix sound.file
 
--- Whatever text it was given, these bytes were given after it. The file's count never goes back.
+-- Whatever text the wave file was given, these bytes were given after it. The file's count never goes back.
 pub record Gains {W : Type 0} (took : W → List ℕ → W → Type 0) (old : Sound W) (bytes : List ℕ) (new : Sound W) : Type 0 where
   pub at_least : old.file.count ≤ new.file.count
   pub after : (start : W) (text : List ℕ) → HasText took start text old → HasText took start (text ++ bytes) new
 
--- Whatever text it was given, the file has now taken all of it and then these bytes, and nothing waits.
+-- Whatever text the wave file was given, the file has now taken all of it and then these bytes, and nothing waits.
 pub record Delivers {W : Type 0} (took : W → List ℕ → W → Type 0) (old : Sound W) (bytes : List ℕ) (new : Sound W) : Type 0 where
   pub at_least : old.file.count ≤ new.file.count
   pub after : (start : W) (text : List ℕ) → HasText took start text old → HasTaken took start (text ++ bytes) new.file
   pub none_waits : new.waiting ≡ []
 
--- Whatever text it was given, its writer has now refused within that text and these bytes, and the fault tells the
--- count of the bytes that the file took, which is at least what it had counted before.
-pub record Fails {W : Type 0} (took : W → List ℕ → W → Type 0) (refused : W → W → Type 0) (old : Sound W) (bytes : List ℕ)
+-- Whatever text the wave file was given, its writer has now refused within that text and these bytes, and the fault tells
+-- the count of the bytes that the file took, which is at least what it had counted before.
+pub record SoundFails {W : Type 0} (took : W → List ℕ → W → Type 0) (refused : W → W → Type 0) (old : Sound W) (bytes : List ℕ)
     (fault : WriteFault) (new : Sound W) : Type 0 where
   pub told : fault.count ≡ new.file.count
   pub at_least : old.file.count ≤ fault.count
   pub after : (start : W) (text : List ℕ) → HasText took start text old → HasStopped took refused start (text ++ bytes) new.file
 
--- What giving it bytes leaves of it, by the answer; some of them may wait.
-abbrev pub Gives : {W A : Type 0} → (W → List ℕ → W → Type 0) → (W → W → Type 0) → Sound W → List ℕ → Result A WriteFault → Sound W → Type 0
-Gives took refused old bytes (Ok done) new = Gains took old bytes new
-Gives took refused old bytes (Err fault) new = Fails took refused old bytes fault new
+-- What giving bytes to a wave file leaves of it, by the answer; some of them may wait.
+abbrev pub GivesSound : {W A : Type 0} → (W → List ℕ → W → Type 0) → (W → W → Type 0) → Sound W → List ℕ → Result A WriteFault → Sound W →
+    Type 0
+GivesSound took refused old bytes (Ok done) new = Gains took old bytes new
+GivesSound took refused old bytes (Err fault) new = SoundFails took refused old bytes fault new
 
--- What giving it bytes and writing all that waits leaves of it, by the answer.
-abbrev pub Finishes : {W A : Type 0} → (W → List ℕ → W → Type 0) → (W → W → Type 0) → Sound W → List ℕ → Result A WriteFault → Sound W
+-- What giving bytes to a wave file and writing all that waits leaves of it, by the answer.
+abbrev pub FinishesSound : {W A : Type 0} → (W → List ℕ → W → Type 0) → (W → W → Type 0) → Sound W → List ℕ → Result A WriteFault → Sound W
     → Type 0
-Finishes took refused old bytes (Ok done) new = Delivers took old bytes new
-Finishes took refused old bytes (Err fault) new = Fails took refused old bytes fault new
+FinishesSound took refused old bytes (Ok done) new = Delivers took old bytes new
+FinishesSound took refused old bytes (Err fault) new = SoundFails took refused old bytes fault new

@@ -6,7 +6,7 @@ ghost use Rattle.std.specs.List.{flat_map};
 ghost use Rattle.pac_tiles.specs.Tabulate.{tabulate};
 ghost use Rattle.pac_tiles.specs.Tiles as tile;
 ghost use Rattle.pac_colour.specs.Colours.{numbers as colours};
-ghost use Rattle.pac_media.specs.Images.{image_size, number_at, pair_in, ppm_of};
+ghost use Rattle.pac_media.specs.Images.{image_size, pair_number, pair_in, ppm_of};
 
 use pac_picture::{Picture, WIDTH};
 use std::alloc::{AllocError, Global};
@@ -19,11 +19,11 @@ const SIZE: usize = 193_551;
 const LINE: usize = 3 * WIDTH;
 
 /// The bytes of two pixels side by side, and two bytes more, so that a pair is copied in one move.
-type Pair = [u8; 8];
+type TwoPixels = [u8; 8];
 
 /// Two pixels side by side.
 #[inline]
-fn side_by_side(left: [u8; 3], right: [u8; 3]) -> Pair
+fn side_by_side(left: [u8; 3], right: [u8; 3]) -> TwoPixels
     ensures { take 6 result ≡ left ++ right }
 {
     let [red, green, blue] = left;
@@ -32,7 +32,7 @@ fn side_by_side(left: [u8; 3], right: [u8; 3]) -> Pair
 }
 
 /// The pixels of any two colour numbers side by side, sixteen pairs for each left one.
-fn pairs_of(palette: &[[u8; 3]]) -> [Pair; 256]
+fn pairs_of(palette: &[[u8; 3]]) -> [TwoPixels; 256]
     requires { length palette.now ≡ colours }
     ensures { (number : ℕ) → number < 256 → take 6 (slice_index_or result number []) ≡ pair_in palette.now number }
 {
@@ -43,10 +43,9 @@ fn pairs_of(palette: &[[u8; 3]]) -> [Pair; 256]
     pairs
 }
 
-/// The pair of two colour numbers, by value: a copy of its own can't overlap the line, so writing it needs no test of
-/// places.
+/// The pair of two colour numbers, by value: a copy can't overlap the line, which is written without a test for that.
 #[inline(always)]
-fn pair(pairs: &[Pair; 256], left: u8, right: u8) -> Pair
+fn pair(pairs: &[TwoPixels; 256], left: u8, right: u8) -> TwoPixels
     requires left { left < colours }
     requires right { right < colours }
     ensures { result ≡ slice_index_or pairs.now (16 * left + right) [] }
@@ -54,13 +53,13 @@ fn pair(pairs: &[Pair; 256], left: u8, right: u8) -> Pair
     pairs[16 * left as usize + right as usize]
 }
 
-/// Puts the pixels of a line, two at a time: the two bytes more of a pair are written over by the next one. It stands
-/// by itself, so that the table's place is kept in a register.
+/// Puts the pixels of a line, two at a time: the two bytes more of a pair are written over by the next one. A call of its
+/// own, so that the table's place is kept in a register.
 #[inline(never)]
-fn colour_line(pairs: &[Pair; 256], line: &[u8], out: &mut [u8; LINE + 2])
+fn colour_line(pairs: &[TwoPixels; 256], line: &[u8], out: &mut [u8; LINE + 2])
     requires size { length line.now ≡ tile.width }
     requires below { EachIndex line.now (λ x. slice_index line.now x < colours) }
-    ensures { take 864 out.new ≡ flat_map (take 6) (tabulate 144 (λ k. slice_index_or pairs.now (number_at line.now k) [])) }
+    ensures { take 864 out.new ≡ flat_map (take 6) (tabulate 144 (λ k. slice_index_or pairs.now (pair_number line.now k) [])) }
 {
     for k in 0..WIDTH / 2 {
         let pair = pair(pairs, line[2 * k], line[2 * k + 1]);
@@ -79,8 +78,8 @@ fn append_line(image: &mut Vec<u8>, pixels: &[u8; LINE + 2])
     image.extend_from_slice(&pixels[..LINE]).unwrap();
 }
 
-/// Puts the image of a picture in place of what a buffer holds that has room for it. It stands by itself, so that who
-/// offers a sample pays nothing for its tables.
+/// Puts the image of a picture in place of what a buffer holds that has room for it. A call of its own, so that a sample,
+/// which is offered far more often, doesn't pay for its tables.
 #[inline(never)]
 fn draw(image: &mut Vec<u8>, picture: &Picture)
     requires { image_size ≤ vec_capacity image.old }

@@ -3,7 +3,7 @@
 ghost use Rattle.std.specs.Prelude.{◌≡◌, ◌<◌, ◌-◌, ◌^◌, [], true, false, pos, replicate, IfErr, IsErr, OnOk, OnErr};
 ghost use Rattle.std.specs.List.{flat_map};
 ghost use Rattle.pac_media.specs.Samples.{riff_size, wav_header, sample_text, samples_text};
-ghost use Rattle.pac_media.specs.Sound.{HasText, Gives, Finishes};
+ghost use Rattle.pac_media.specs.Sound.{HasText, GivesSound, FinishesSound};
 
 use pac_out::counted::Counted;
 use pac_out::pending::Pending;
@@ -93,7 +93,7 @@ impl<W: Out> WaveFile<W> {
     /// nothing.
     #[inline]
     pub fn put(&mut self, sample: i16) -> Result<(), WriteFault>
-        ensures put { Gives W.took W.refused self.old (sample_text sample) result self.new }
+        ensures put { GivesSound W.took W.refused self.old (sample_text sample) result self.new }
         ensures owed { OnOk result (self.new.owed ≡ self.old.owed - 1) }
         ensures later_err { self.old.file.failed ≡ true → IsErr result }
         ensures later_unchanged { self.old.file.failed ≡ true → self.new ≡ self.old }
@@ -106,7 +106,7 @@ impl<W: Out> WaveFile<W> {
 
     /// Writes what waits.
     pub fn flush(&mut self) -> Result<(), WriteFault>
-        ensures written { Finishes W.took W.refused self.old [] result self.new }
+        ensures written { FinishesSound W.took W.refused self.old [] result self.new }
         ensures owed { self.new.owed ≡ self.old.owed }
         ensures later_err { self.old.file.failed ≡ true → IsErr result }
         ensures later_unchanged { self.old.file.failed ≡ true → self.new ≡ self.old }
@@ -117,7 +117,7 @@ impl<W: Out> WaveFile<W> {
 
     /// Gathers zeros for the samples that are still to come, and writes what waits.
     pub fn finish(&mut self) -> Result<(), WriteFault>
-        ensures written { Finishes W.took W.refused self.old (samples_text (replicate self.old.owed (pos 0))) result self.new }
+        ensures written { FinishesSound W.took W.refused self.old (samples_text (replicate self.old.owed (pos 0))) result self.new }
         ensures owed { OnOk result (self.new.owed ≡ 0) }
         ensures later_err { self.old.file.failed ≡ true → IsErr result }
         ensures later_unchanged { self.old.file.failed ≡ true → self.new ≡ self.old }

@@ -4,7 +4,7 @@ use crate::set::colourful;
 use pac_media::{Frames, Image, WaveFile};
 use pac_out::faulty::Faulty;
 use pac_picture::Picture;
-use pac_scarce::Hoard;
+use pac_tests_memory::Hoard;
 use std::alloc::Global;
 use std::test::Fail;
 

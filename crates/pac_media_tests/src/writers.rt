@@ -4,7 +4,7 @@ use crate::answers::{is_refused, is_taken};
 use pac_out::Out;
 use pac_out::counted::Counted;
 use pac_out::faulty::Faulty;
-use pac_out::memory::Memory;
+use pac_out::memory::MemoryWriter;
 use pac_out::through::Through;
 use std::alloc::AllocError;
 use std::io;
@@ -39,7 +39,7 @@ fn taking_no_byte_is_a_refusal(rt: HostRuntime) -> Result<(), AllocError> {
     let mut output = Faulty::new(rt.alloc(), 100, 0, 0)?;
     is_refused(&rt, output.put_all(TEXT), 0);
     is_taken(&rt, output.put_all(&[]));
-    let mut output = Memory::new(rt.alloc(), 10)?;
+    let mut output = MemoryWriter::new(rt.alloc(), 10)?;
     is_refused(&rt, output.put_all(TEXT), 10);
     assert!(rt; output.bytes() == b"The quick ".as_slice());
     Ok(())

@@ -17,23 +17,23 @@ abbrev pub word : ℕ → ℕ → ℕ
 word low high = low + 256 * high
 
 -- a sum of addresses, as sixteen bits hold it
-abbrev pub address : ℕ → ℕ
-address n = n % 65536
+abbrev pub wrapped_address : ℕ → ℕ
+wrapped_address n = n % 65536
 
 -- the address a signed byte away from another, as IX+d and the target of JR e are; the sum wraps at 65,536 (UM0080,
 -- "Z80 Addressing Modes": relative and indexed addressing)
-abbrev pub displaced : ℕ → ℤ → ℕ
-displaced base (pos d) = address (base + d)
-displaced base (negsuc d) = address (base + 65535 - d)
+abbrev pub displaced_address : ℕ → ℤ → ℕ
+displaced_address base (pos d) = wrapped_address (base + d)
+displaced_address base (negsuc d) = wrapped_address (base + 65535 - d)
 
 -- a byte as a signed number, from -128 to 127, and the byte of such a number
-abbrev pub signed : ℕ → ℤ
-signed byte = if nat_lt byte 128 then pos byte else negsuc (255 - byte)
+abbrev pub signed_of_byte : ℕ → ℤ
+signed_of_byte byte = if nat_lt byte 128 then pos byte else negsuc (255 - byte)
 
-abbrev pub unsigned : ℤ → ℕ
-unsigned (pos n) = n
-unsigned (negsuc n) = 255 - n
+abbrev pub byte_of_signed : ℤ → ℕ
+byte_of_signed (pos n) = n
+byte_of_signed (negsuc n) = 255 - n
 
 -- an even count of ones, as the parity flag tells it
-abbrev pub is_even : ℕ → Bool
-is_even byte = count_ones byte % 2 == 0
+abbrev pub has_even_parity : ℕ → Bool
+has_even_parity byte = count_ones byte % 2 == 0

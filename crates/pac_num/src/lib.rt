@@ -46,7 +46,7 @@ pub fn word(low: u8, high: u8) -> u16
 /// The address so far from another, modulo 65,536.
 #[inline]
 pub fn offset(address: u16, by: u16) -> u16
-    ensures { result ≡ number.address (address + by) }
+    ensures { result ≡ number.wrapped_address (address + by) }
 {
     address.wrapping_add(by)
 }
@@ -54,7 +54,7 @@ pub fn offset(address: u16, by: u16) -> u16
 /// The address a signed byte away from another, -128 to 127, modulo 65,536.
 #[inline]
 pub fn displaced(base: u16, d: i8) -> u16
-    ensures { result ≡ number.displaced base d }
+    ensures { result ≡ number.displaced_address base d }
 {
     if d >= 0 {
         offset(base, d as u16)
@@ -66,7 +66,7 @@ pub fn displaced(base: u16, d: i8) -> u16
 /// A byte read in two's complement, -128 to 127.
 #[inline]
 pub fn signed(byte: u8) -> i8
-    ensures { result ≡ number.signed byte }
+    ensures { result ≡ number.signed_of_byte byte }
 {
     if byte < 128 {
         byte as i8
@@ -78,7 +78,7 @@ pub fn signed(byte: u8) -> i8
 /// The byte that stands for a number from -128 to 127 in two's complement.
 #[inline]
 pub fn unsigned(value: i8) -> u8
-    ensures { result ≡ number.unsigned value }
+    ensures { result ≡ number.byte_of_signed value }
 {
     if value >= 0 {
         value as u8
@@ -90,7 +90,7 @@ pub fn unsigned(value: i8) -> u8
 /// Whether a byte has an even count of ones, as the parity flag tells it.
 #[inline]
 pub fn is_even(byte: u8) -> bool
-    ensures { result ≡ number.is_even byte }
+    ensures { result ≡ number.has_even_parity byte }
 {
     byte.count_ones() % 2 == 0
 }

@@ -9,13 +9,13 @@ abbrev pub most_counted : ℕ
 most_counted = 2 ^ 64 - 1
 
 -- what a file tells of so many bytes: their number, exact below 2^64
-abbrev pub counted : ℕ → ℕ
-counted bytes = min bytes most_counted
+abbrev pub file_count : ℕ → ℕ
+file_count bytes = min bytes most_counted
 
 -- The file, whose writer was `start` before its first byte, has taken this text.
 pub record HasTaken {W : Type 0} (took : W → List ℕ → W → Type 0) (start : W) (text : List ℕ) (file : Counted W) : Type 0 where
   pub written : took start text file.writer
-  pub count_is : file.count ≡ counted (length text)
+  pub count_is : file.count ≡ file_count (length text)
   pub open_yet : file.failed ≡ false
 
 -- The file, whose writer was `start` before its first byte, was offered this text, and its writer refused
@@ -25,7 +25,7 @@ pub record HasStopped {W : Type 0} (took : W → List ℕ → W → Type 0) (ref
     : Type 0 where
   pub taken : ℕ
   pub stopped : StopsAfter took refused start text taken file.writer
-  pub count_is : file.count ≡ counted taken
+  pub count_is : file.count ≡ file_count taken
   pub closed : file.failed ≡ true
 
 -- Whatever text the file had taken, it has taken these bytes after it, in one call, in several or in none. Its count never goes back.
@@ -36,7 +36,7 @@ pub record Takes {W : Type 0} (took : W → List ℕ → W → Type 0) (old : Co
   pub failed_is : new.failed ≡ old.failed
   pub later : old.failed ≡ true → (bytes ≡ []) × (new ≡ old)
 
--- The same of a file that hadn't failed.
+-- A file that hadn't failed has taken these bytes.
 pub record HasPut {W : Type 0} (took : W → List ℕ → W → Type 0) (old : Counted W) (bytes : List ℕ) (new : Counted W) : Type 0 where
   pub was_open : old.failed ≡ false
   pub takes : Takes took old bytes new
@@ -58,7 +58,7 @@ pub record Stops {W : Type 0} (took : W → List ℕ → W → Type 0) (refused 
     (new : Counted W) : Type 0 where
   pub taken : ℕ
   pub stopped : StopsAfter took refused old.writer bytes taken new.writer
-  pub count_is : new.count ≡ counted (old.count + taken)
+  pub count_is : new.count ≡ file_count (old.count + taken)
 
 -- What putting bytes into a file leaves of it, by the answer. Of a file that has failed it is the same fault each time, be there bytes
 -- to put or none.

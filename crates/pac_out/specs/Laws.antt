@@ -3,7 +3,7 @@
 use Rattle.std.proofs.Common.{List, [], ◌++◌, ℕ, Option, None, Some, refl, sym, length-append, append-nil, append_assoc, ◌∙◌, ap, arith}
 use Rattle.std.specs.Io.KnownBytes.{Appends}
 use Rattle.pac_out.specs.Memory.{Space, Adds}
-use Rattle.pac_out.specs.Faulty.{Weak, Passes}
+use Rattle.pac_out.specs.Faulty.{WeakWriter, Passes}
 
 -- memory
 pub adds-nothing : (writer : Space) → Adds writer [] writer
@@ -18,10 +18,10 @@ adds-joined first second third prefix suffix one other =
     }
 
 -- the weak writer over it
-pub passes-nothing : (writer : Weak) → Passes writer [] writer
+pub passes-nothing : (writer : WeakWriter) → Passes writer [] writer
 passes-nothing writer = record { added = adds-nothing writer.space; same_most = refl; fewer = omega arith; still_comes = λ comes. comes }
 
-pub passes-joined : (first second third : Weak) (prefix suffix : List ℕ) → Passes first prefix second → Passes second suffix third
+pub passes-joined : (first second third : WeakWriter) (prefix suffix : List ℕ) → Passes first prefix second → Passes second suffix third
     → Passes first (prefix ++ suffix) third
 passes-joined first second third prefix suffix one other =
     record {

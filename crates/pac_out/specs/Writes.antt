@@ -22,8 +22,8 @@ pub record StopsAfter {W : Type 0} (took : W → List ℕ → W → Type 0) (ref
   pub before : took old (take count bytes) asked
   pub refusal : refused asked new
 
--- The same of a writer that is lent. The reference stays the same one, so what the last write leaves is what the
--- writer's owner has when the loan ends.
+-- What a writer that is lent took, or its refusal. The reference stays the same one, so what the last write leaves is what
+-- the writer's owner has when the loan ends.
 abbrev pub lent_took : {W : Type 0} → (W → List ℕ → W → Type 0) → MutBor W → List ℕ → MutBor W → Type 0
 lent_took took old bytes new = (new.ghost_name ≡ old.ghost_name) × took old.now bytes new.now
 

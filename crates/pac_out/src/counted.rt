@@ -17,7 +17,7 @@ pub struct Counted<W> {
 }
 
 impl<W: Out> Counted<W> {
-    ghost use Rattle.pac_out.specs.Counted.{HasTaken, Puts, Stops, counted};
+    ghost use Rattle.pac_out.specs.Counted.{HasTaken, Puts, Stops, file_count};
 
     /// A file of no bytes yet.
     pub fn new(writer: W) -> Counted<W>
@@ -34,7 +34,7 @@ impl<W: Out> Counted<W> {
     /// took. After it each call answers the same fault and writes nothing.
     pub fn put(&mut self, bytes: &[u8]) -> Result<(), WriteFault>
         ensures put { Puts W.took W.refused self.old bytes.now result self.new }
-        ensures taken { OnOk result (self.new.count ≡ counted (self.old.count + length bytes.now)) }
+        ensures taken { OnOk result (self.new.count ≡ file_count (self.old.count + length bytes.now)) }
         ensures at_most { self.new.count ≤ self.old.count + length bytes.now }
         ensures stops { self.old.failed ≡ false → OnErr result (Stops W.took W.refused self.old bytes.now self.new) }
     {

@@ -1,10 +1,10 @@
 //! A writer for tests, that takes few bytes a call and refuses a call.
 ghost use Rattle.std.specs.Prelude.{◌≡◌, ◌-◌, [], length, min, IfOk, IsErr};
-ghost use Rattle.pac_out.specs.Faulty.{Weak, Passes, IsRefused};
+ghost use Rattle.pac_out.specs.Faulty.{WeakWriter, Passes, IsRefused};
 ghost use Rattle.pac_out.specs.Writes.{IsWrite};
 ghost use Rattle.pac_out.specs.Laws.{passes-nothing, passes-joined};
 
-use crate::memory::Memory;
+use crate::memory::MemoryWriter;
 use crate::{Failed, Out};
 use std::alloc::{AllocError, Global};
 use std::marker::Model;
@@ -12,24 +12,24 @@ use std::marker::Model;
 /// A writer over memory for tests. It takes at most so many bytes a call, and refuses one call.
 #[derive(Drop)]
 pub struct Faulty {
-    memory: Memory,
+    memory: MemoryWriter,
     most: usize,
     refusal: u64,
 }
 
 impl Model for Faulty {
-    ghost Value = { Weak };
+    ghost Value = { WeakWriter };
 
     ghost view = { λ faulty. record { space = faulty.memory; most = faulty.most; refusal = faulty.refusal } };
 }
 
 impl Faulty {
-    /// One with room for so many bytes, that takes at most `most` bytes a call and refuses the call of the
-    /// number `refusal`, once: 1 is its first call, 0 is none.
+    /// A writer with room for so many bytes, that takes at most `most` bytes a call and refuses the call of the number
+    /// `refusal`, once: 1 is its first call, 0 is none.
     pub fn new(alloc: Global, room: usize, most: usize, refusal: u64) -> Result<Faulty, AllocError>
         ensures { IfOk result (λ faulty. faulty ≡ record { space = record { bytes = []; room = room }; most = most; refusal = refusal }) }
     {
-        let memory = Memory::new(alloc, room)?;
+        let memory = MemoryWriter::new(alloc, room)?;
         Ok(Faulty {
             memory,
             most,
@@ -37,7 +37,7 @@ impl Faulty {
         })
     }
 
-    /// The bytes that it took.
+    /// The bytes that the writer took.
     pub fn bytes(&self) -> &[u8]
         ensures { result.now ≡ self.now.space.bytes }
     {
@@ -54,7 +54,7 @@ impl Out for Faulty {
 
     ghost joined = { passes-joined };
 
-    /// Takes a prefix of the bytes, or refuses where the call has come that it refuses.
+    /// Takes a prefix of the bytes, or refuses where this is the call that it refuses.
     fn write(&mut self, bytes: &[u8]) -> Result<usize, Failed>
         ensures write { IsWrite Passes IsRefused self.old bytes.now result self.new }
         ensures call { self.new.refusal ≡ self.old.refusal - 1 }

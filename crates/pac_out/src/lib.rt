@@ -1,5 +1,5 @@
-//! Writers of bytes. An output is handed to a writer by `put_all`: it takes all bytes, or the exact count of
-//! those that it took before it refused is told.
+//! Writers of bytes: `put_all` hands one an output, and it takes all bytes, or the exact count of those that it took before it refused
+//! is told.
 #![tactic(auto)]
 
 ghost use Rattle.std.specs.Prelude.{◌≡◌, ℕ, List, [], ◌++◌, IfErr, OnOk};
@@ -28,7 +28,7 @@ pub struct WriteFault {
 
 /// A writer of bytes.
 ///
-/// It says by two relations between its value before and after what taking bytes leaves of it and what a
+/// A writer says by two relations between its value before and after what taking bytes leaves of it and what a
 /// refusal leaves of it. It needn't keep what it took.
 pub trait Out {
     /// What is left of a writer that took these bytes, one after another, in one write or in several.
@@ -46,7 +46,8 @@ pub trait Out {
     ghost nothing: { (writer : Self) → took writer [] writer };
 
     /// Taking some bytes and then others is taking all of them.
-    ghost joined: { (first second third : Self) (prefix suffix : List ℕ) → took first prefix second → took second suffix third → took first (prefix ++ suffix) third };
+    ghost joined: { (first second third : Self) (prefix suffix : List ℕ) → took first prefix second → took second suffix third →
+        took first (prefix ++ suffix) third };
 
     /// Writes all bytes, in as many writes as it takes.
     final fn put_all(&mut self, bytes: &[u8]) -> Result<(), WriteFault>

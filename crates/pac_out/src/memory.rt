@@ -11,12 +11,12 @@ use std::marker::Model;
 /// A writer over memory of a fixed size, made at the start. It keeps the bytes that it took, and refuses
 /// where no room is left.
 #[derive(Drop)]
-pub struct Memory {
+pub struct MemoryWriter {
     held: Vec<u8>,
     room: usize,
 }
 
-impl Model for Memory {
+impl Model for MemoryWriter {
     ghost Value = { Space };
 
     ghost view = { λ memory. record { bytes = memory.held.items; room = memory.room } };
@@ -24,16 +24,16 @@ impl Model for Memory {
     ghost invariant = { λ memory. vec_len memory.held + memory.room ≤ vec_capacity memory.held };
 }
 
-impl Memory {
-    /// An empty one with room for so many bytes.
-    pub fn new(alloc: Global, room: usize) -> Result<Memory, AllocError>
+impl MemoryWriter {
+    /// A writer that took nothing yet, with room for so many bytes.
+    pub fn new(alloc: Global, room: usize) -> Result<MemoryWriter, AllocError>
         ensures { IfOk result (λ memory. memory ≡ record { bytes = []; room = room }) }
     {
         let held = Vec::with_capacity(alloc, room)?;
-        Ok(Memory { held, room })
+        Ok(MemoryWriter { held, room })
     }
 
-    /// The bytes that it took.
+    /// The bytes that the writer took.
     pub fn bytes(&self) -> &[u8]
         ensures { result.now ≡ self.now.bytes }
     {
@@ -41,7 +41,7 @@ impl Memory {
     }
 }
 
-impl Out for Memory {
+impl Out for MemoryWriter {
     ghost took = { Adds };
 
     ghost refused = { IsFull };

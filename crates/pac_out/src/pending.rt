@@ -26,7 +26,7 @@ impl Model for Pending {
 }
 
 impl Pending {
-    /// No bytes.
+    /// No bytes wait.
     pub fn new() -> Pending
         ensures { result ≡ [] }
     {
@@ -35,7 +35,7 @@ impl Pending {
         }
     }
 
-    /// These bytes, at most 8,192 of them.
+    /// These bytes wait, at most 8,192 of them.
     pub fn of(bytes: &[u8]) -> Pending
         requires { length bytes.now ≤ 8192 }
         ensures { result ≡ bytes.now }
@@ -65,7 +65,7 @@ impl Pending {
         self.put_full(file, bytes)
     }
 
-    /// The same where there is no room, apart from the usual way, so that that one is short.
+    /// Gathers bytes for which there is no room: a call of its own, so that `put`, which is inlined, stays short.
     #[inline(never)]
     fn put_full<W: Out>(&mut self, file: &mut Counted<W>, bytes: &[u8]) -> Result<(), WriteFault>
         ensures { Gathers W.took W.refused self.old file.old bytes.now result self.new file.new }

@@ -12,9 +12,9 @@ use Rattle.pac_tiles.proofs.Tabulated.{length-tabulate, get_or-tabulate}
 use Rattle.pac_sprites.specs.declared.Sprite.{Sprite}
 use Rattle.pac_sprites.specs.Sprites.{covers_of}
 use Rattle.pac_picture.specs.Picture.{VideoRoms, VideoMemory, is_opaque, tile_number, sprite_number}
-use Rattle.pac_picture.specs.Picture.{tile_dot, sprite_at, sprite_dot, dot, line_of, picture_of}
+use Rattle.pac_picture.specs.Picture.{tile_dot, sprite_at, sprite_dot, dot, picture_line, picture_of}
 use Rattle.pac_picture.specs.Layer.{drawn_from, kept_dot}
-use Rattle.pac_picture.specs.Painting.{over}
+use Rattle.pac_picture.specs.Painting.{painted_number}
 use Rattle.pac_picture.specs.State.{IsPicture, black, source_of}
 use Rattle.pac_picture.proofs.Places.{set-step, tabulate-is}
 use Rattle.pac_picture.proofs.Painted.{painted, painted-first}
@@ -27,11 +27,11 @@ dots-are : (roms : VideoRoms) (memory : VideoMemory) (source : ℕ) (laid painte
     ≡ unwrap_or (find is_opaque (tabulate 8 (λ k. sprite_dot roms (sprite_at memory k) x source))) (slice_index laid x)) →
     (x : ℕ) → x < 288 → get_or painted x 0 ≡ dot roms memory x source
 unfolding dot
-dots-are roms memory source laid painted is over x across =
+dots-are roms memory source laid painted is painted_number x across =
     let below : slice_index laid x ≡ tile_dot roms memory x source =
     rw is (get_or-tabulate 288 (λ (x : ℕ). kept_dot roms (drawn_from memory (source / 8)) x source) x 0 across ∙
     dot-drawn roms memory x source across) in
-    rw below at (over x across)
+    rw below at (painted_number x across)
 
 -- a line turned, or left
 turned : (roms : VideoRoms) (memory : VideoMemory) (y : ℕ) (flip : Bool) (painted shown : List ℕ) → length painted ≡ 288 →
@@ -53,10 +53,10 @@ pub line-is : (roms : VideoRoms) (memory : VideoMemory) (y : ℕ) (laid painted 
     laid ≡ tabulate 288 (λ x. kept_dot roms (drawn_from memory (source_of memory y / 8)) x (source_of memory y)) →
     ((x : ℕ) → x < 288 → slice_index painted x
     ≡ unwrap_or (find is_opaque (tabulate 8 (λ k. sprite_dot roms (sprite_at memory k) x (source_of memory y)))) (slice_index laid x)) →
-    length painted ≡ 288 → shown ≡ (if memory.flip then reverse painted else painted) → shown ≡ line_of roms memory y
-unfolding line_of
-line-is roms memory y laid painted shown is over long turn =
-    turned roms memory y memory.flip painted shown long (dots-are roms memory (source_of memory y) laid painted is over) turn
+    length painted ≡ 288 → shown ≡ (if memory.flip then reverse painted else painted) → shown ≡ picture_line roms memory y
+unfolding picture_line
+line-is roms memory y laid painted shown is painted_number long turn =
+    turned roms memory y memory.flip painted shown long (dots-are roms memory (source_of memory y) laid painted is painted_number) turn
 
 -- colour numbers are below 16
 tile-below : (roms : VideoRoms) (memory : VideoMemory) (x y : ℕ) → tile_dot roms memory x y < 16
@@ -71,7 +71,7 @@ sprite-below roms sprite x y =
       | inr hides ↦ rw hides (omega arith)
     ]
 
-over-below : (number below : ℕ) → number < 16 → below < 16 → over number below < 16
+over-below : (number below : ℕ) → number < 16 → below < 16 → painted_number number below < 16
 over-below number below one other =
     elim (cases_Bool (is_opaque number)) [
       | inl shows ↦ rw shows one
@@ -96,8 +96,8 @@ either-below : (roms : VideoRoms) (memory : VideoMemory) (flip : Bool) (x y : �
 either-below roms memory true x y = dot-below roms memory (287 - x) (223 - y)
 either-below roms memory false x y = dot-below roms memory x y
 
-pub line-below : (roms : VideoRoms) (memory : VideoMemory) (y x : ℕ) → get_or (line_of roms memory y) x 0 < 16
-unfolding line_of
+pub line-below : (roms : VideoRoms) (memory : VideoMemory) (y x : ℕ) → get_or (picture_line roms memory y) x 0 < 16
+unfolding picture_line
 line-below roms memory y x =
     let line : List ℕ = tabulate 288 (λ x. if memory.flip then dot roms memory (287 - x) (223 - y) else dot roms memory x y) in
     elim (cases_lt x 288) [
@@ -109,8 +109,8 @@ line-below roms memory y x =
           rw (get_or-eq_default line 0 end) (omega arith)
     ]
 
-pub length-line_of : (roms : VideoRoms) (memory : VideoMemory) (y : ℕ) → length (line_of roms memory y) ≡ 288
-unfolding line_of
+pub length-line_of : (roms : VideoRoms) (memory : VideoMemory) (y : ℕ) → length (picture_line roms memory y) ≡ 288
+unfolding picture_line
 length-line_of roms memory y = length-tabulate 288 _
 
 -- a picture of lines that have its width and its numbers
@@ -149,12 +149,12 @@ set-picture lines y line picture down long numbers =
 
 -- all lines composed
 pub all-composed : (roms : VideoRoms) (memory : VideoMemory) (lines : List (List ℕ)) → length lines ≡ 224 →
-    ((k : ℕ) → k < 224 → get_or lines k [] ≡ line_of roms memory k) → lines ≡ picture_of roms memory
+    ((k : ℕ) → k < 224 → get_or lines k [] ≡ picture_line roms memory k) → lines ≡ picture_of roms memory
 unfolding picture_of
-all-composed roms memory lines high done = tabulate-is lines 224 (line_of roms memory) [] high done
+all-composed roms memory lines high done = tabulate-is lines 224 (picture_line roms memory) [] high done
 
 pub composed-picture : (roms : VideoRoms) (memory : VideoMemory) (lines : List (List ℕ)) → length lines ≡ 224 →
-    ((k : ℕ) → k < 224 → get_or lines k [] ≡ line_of roms memory k) → IsPicture lines
+    ((k : ℕ) → k < 224 → get_or lines k [] ≡ picture_line roms memory k) → IsPicture lines
 composed-picture roms memory lines high done =
     picture-is lines high (λ y down. rw (done y down) (length-line_of roms memory y)) (λ x y down. rw (done y down)
     (line-below roms memory y x))
@@ -184,10 +184,10 @@ black-picture lines is =
 
 -- one line more of a picture that is composed from the top
 pub lines-step : (roms : VideoRoms) (memory : VideoMemory) (lines : List (List ℕ)) (y : ℕ) (line : List ℕ) → y < length lines →
-    line ≡ line_of roms memory y →
-    ((k : ℕ) → k < y → get_or lines k [] ≡ line_of roms memory k) →
-    (k : ℕ) → k < y + 1 → get_or (set lines y line) k [] ≡ line_of roms memory k
-lines-step roms memory lines y line inside is done = set-step lines (line_of roms memory) y line [] inside is done
+    line ≡ picture_line roms memory y →
+    ((k : ℕ) → k < y → get_or lines k [] ≡ picture_line roms memory k) →
+    (k : ℕ) → k < y + 1 → get_or (set lines y line) k [] ≡ picture_line roms memory k
+lines-step roms memory lines y line inside is done = set-step lines (picture_line roms memory) y line [] inside is done
 
 pub source-row : (memory : VideoMemory) (y : ℕ) → y < 224 → source_of memory y / 8 < 28
 source-row memory y below =

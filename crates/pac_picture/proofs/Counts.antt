@@ -8,7 +8,7 @@ use Rattle.std.proofs.lemmas.Bool.{eq-eqb}
 use mathlib.Core.Bool.{cond}
 use Rattle.pac_tiles.specs.Tabulate.{tabulate}
 use Rattle.pac_picture.specs.declared.shadow.Shadow.{Shadow}
-use Rattle.pac_picture.specs.Layer.{differs, differing, shadow_from}
+use Rattle.pac_picture.specs.Layer.{cell_differs, differing_cells, shadow_from}
 
 pub count-more : (test : ℕ → Bool) (count : ℕ) →
     count_by test (tabulate (suc count) (λ k. k)) ≡ count_by test (tabulate count (λ k. k)) + cond (test count) 1 0
@@ -79,8 +79,8 @@ count-never test (suc count) never =
     rw (count-more test count, before, last) refl
 
 -- no cell differs from the bytes that it was drawn from
-pub none-differ : (shadow : Shadow) (tiles colours : List ℕ) → shadow ≡ shadow_from tiles colours → 0 ≡ differing shadow tiles colours
-unfolding differing
+pub none-differ : (shadow : Shadow) (tiles colours : List ℕ) → shadow ≡ shadow_from tiles colours → 0 ≡ differing_cells shadow tiles colours
+unfolding differing_cells
 none-differ shadow tiles colours is =
-    rw is (sym (count-never (differs (shadow_from tiles colours) tiles colours) 36 (λ k below.
+    rw is (sym (count-never (cell_differs (shadow_from tiles colours) tiles colours) 36 (λ k below.
     rw (eq-eqb (get_or tiles k 0) (get_or tiles k 0) refl, eq-eqb (get_or colours k 0) (get_or colours k 0) refl) refl)))

@@ -11,10 +11,10 @@ use borrow.Rule.Slice.PartMut.{put_mid}
 use Rattle.pac_tiles.specs.Tabulate.{tabulate}
 use Rattle.pac_tiles.proofs.Tabulated.{get_or-tabulate, tabulate-add}
 use Rattle.pac_sprites.specs.declared.Sprite.{Sprite}
-use Rattle.pac_sprites.specs.Sprites.{is_column_of, is_within, box_place, flipped}
+use Rattle.pac_sprites.specs.Sprites.{is_column_of, is_in_box, box_place, flipped_place}
 use Rattle.pac_picture.specs.Picture.{VideoRoms, sprite_dot, sprite_number}
-use Rattle.pac_picture.specs.Layer.{image_of}
-use Rattle.pac_picture.specs.Painting.{over, over_line, cell_dot}
+use Rattle.pac_picture.specs.Layer.{sprite_image}
+use Rattle.pac_picture.specs.Painting.{painted_number, over_line, cell_dot}
 use Rattle.pac_picture.proofs.Places.{tabulate-is}
 
 -- the eight dots of a cell
@@ -54,7 +54,7 @@ cells-end dot out column last long so_far =
 
 -- what a line of a sprite does in a column at which it shows, and in another
 line-on : (line : List ℕ) (sprite : Sprite) (x below : ℕ) → is_column_of sprite x ≡ true →
-    over_line line sprite x below ≡ over (slice_index line (flipped sprite.flip_x (box_place sprite.left x))) below
+    over_line line sprite x below ≡ painted_number (slice_index line (flipped_place sprite.flip_x (box_place sprite.left x))) below
 unfolding over_line
 line-on line sprite x below shows = rw shows refl
 
@@ -74,8 +74,8 @@ line-begin line old sprite start off k inside =
 
 -- one column more
 pub line-step : (line old out : List ℕ) (sprite : Sprite) (x number next : ℕ) →
-    is_column_of sprite x ≡ true → number ≡ slice_index line (flipped sprite.flip_x (box_place sprite.left x)) →
-    next ≡ over number (get_or out x 0) → length out ≡ 288 → x < 288 →
+    is_column_of sprite x ≡ true → number ≡ slice_index line (flipped_place sprite.flip_x (box_place sprite.left x)) →
+    next ≡ painted_number number (get_or out x 0) → length out ≡ 288 → x < 288 →
     ((k : ℕ) → k < 288 → get_or out k 0 ≡ (if nat_lt k x then over_line line sprite k (get_or old k 0) else get_or old k 0)) →
     (k : ℕ) → k < 288 →
     get_or (set out x next) k 0 ≡ (if nat_lt k (x + 1) then over_line line sprite k (get_or old k 0) else get_or old k 0)
@@ -106,8 +106,8 @@ line-end line old out sprite end off so_far x inside =
     ]
 
 -- a sprite that doesn't cover a line leaves it
-pub dot-off : (roms : VideoRoms) (sprite : Sprite) (x y below : ℕ) → is_within sprite.top y ≡ false →
-    below ≡ over (sprite_dot roms sprite x y) below
+pub dot-off : (roms : VideoRoms) (sprite : Sprite) (x y below : ℕ) → is_in_box sprite.top y ≡ false →
+    below ≡ painted_number (sprite_dot roms sprite x y) below
 unfolding sprite_dot
 dot-off roms sprite x y below off =
     elim (cases_Bool (is_column_of sprite x)) [
@@ -124,28 +124,28 @@ pub answer-some : (within : Bool) (value line : ℕ) → Some line ≡ (if withi
 answer-some true value line is = (refl, cc)
 answer-some false value line is = cc
 
-flipped-below : (flip : Bool) (place : ℕ) → place < 16 → flipped flip place < 16
+flipped-below : (flip : Bool) (place : ℕ) → place < 16 → flipped_place flip place < 16
 flipped-below true place below = omega (arith, below)
 flipped-below false place below = below
 
 -- a sprite that covers a line shows its own there
 image-line : (roms : VideoRoms) (colour code x y : ℕ) → x < 16 → y < 16 →
-    slice_index (slice_index_or (image_of roms colour code) y []) x ≡ sprite_number roms colour code x y
-unfolding image_of
+    slice_index (slice_index_or (sprite_image roms colour code) y []) x ≡ sprite_number roms colour code x y
+unfolding sprite_image
 image-line roms colour code x y across down =
     rw (get_or-tabulate 16 (λ y. tabulate 16 (λ x. sprite_number roms colour code x y)) y [] down)
     (get_or-tabulate 16 (λ x. sprite_number roms colour code x y) x 0 across)
 
-column-below : (sprite : Sprite) (x : ℕ) → is_column_of sprite x ≡ true → flipped sprite.flip_x (box_place sprite.left x) < 16
+column-below : (sprite : Sprite) (x : ℕ) → is_column_of sprite x ≡ true → flipped_place sprite.flip_x (box_place sprite.left x) < 16
 column-below sprite x shows =
     let inner = and_parts _ _ shows in
     let within = and_parts _ _ inner.1 in
     flipped-below sprite.flip_x (box_place sprite.left x) (ltb-true (box_place sprite.left x) 16 within.1)
 
 pub dot-on : (roms : VideoRoms) (sprite : Sprite) (image : List (List ℕ)) (line x y below : ℕ) →
-    image ≡ image_of roms sprite.colour sprite.code → is_within sprite.top y ≡ true →
-    line ≡ flipped sprite.flip_y (box_place sprite.top y) → line < 16 →
-    over_line (slice_index_or image line []) sprite x below ≡ over (sprite_dot roms sprite x y) below
+    image ≡ sprite_image roms sprite.colour sprite.code → is_in_box sprite.top y ≡ true →
+    line ≡ flipped_place sprite.flip_y (box_place sprite.top y) → line < 16 →
+    over_line (slice_index_or image line []) sprite x below ≡ painted_number (sprite_dot roms sprite x y) below
 unfolding sprite_dot
 dot-on roms sprite image line x y below is within place down =
     elim (cases_Bool (is_column_of sprite x)) [
@@ -153,7 +153,7 @@ dot-on roms sprite image line x y below is within place down =
           rw (
             line-on (slice_index_or image line []) sprite x below shows,
             is,
-            image-line roms sprite.colour sprite.code (flipped sprite.flip_x (box_place sprite.left x)) line
+            image-line roms sprite.colour sprite.code (flipped_place sprite.flip_x (box_place sprite.left x)) line
                 (column-below sprite x shows) down,
             shows,
             within,

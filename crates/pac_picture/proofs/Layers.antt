@@ -10,8 +10,8 @@ use Rattle.pac_tiles.specs.Tiles.{offset_of}
 use Rattle.pac_tiles.proofs.Tabulated.{length-tabulate, get_or-tabulate, tabulate-same}
 use Rattle.pac_picture.specs.declared.shadow.Shadow.{Shadow}
 use Rattle.pac_picture.specs.Picture.{VideoRoms, VideoMemory, tile_number, tile_dot}
-use Rattle.pac_picture.specs.Layer.{shadow_from, shadow_at, drawn_from, cells_of, differing_in, pattern_of}
-use Rattle.pac_picture.specs.Layer.{kept_dot, made_stale, stale, stale_row, IsDrawn, IsLayer, LayerState}
+use Rattle.pac_picture.specs.Layer.{shadow_from, shadow_at, drawn_from, cells_of, differing_in, tile_pattern}
+use Rattle.pac_picture.specs.Layer.{kept_dot, made_stale, stale_rows, stale_row, IsDrawn, IsLayer, LayerState}
 use Rattle.pac_picture.specs.Painting.{cell_dot}
 use Rattle.pac_picture.proofs.Places.{set-step, tabulate-is}
 
@@ -41,15 +41,16 @@ made-end old now long made =
     get_or_default now k d (shadow_from [] []) inside ∙ (made k inside ∙ sym (get_or-map made_stale old k (shadow_from [] []) d within)))
 
 -- shadows of rows that were never drawn
-pub stale-at : (row : ℕ) → row < 28 → shadow_at stale row ≡ stale_row
-unfolding stale
+pub stale-at : (row : ℕ) → row < 28 → shadow_at stale_rows row ≡ stale_row
+unfolding stale_rows
 stale-at row below = get_or-tabulate 28 (λ _. stale_row) row (shadow_from [] []) below
 
-pub length-stale : length stale ≡ 28
-unfolding stale
+pub length-stale : length stale_rows ≡ 28
+unfolding stale_rows
 length-stale = length-tabulate 28 (λ _. stale_row)
 
-pub new-layer : (roms : VideoRoms) (shadows : List Shadow) (cells : List (List (List (List ℕ)))) → shadows ≡ stale → length cells ≡ 28 →
+pub new-layer : (roms : VideoRoms) (shadows : List Shadow) (cells : List (List (List (List ℕ)))) → shadows ≡ stale_rows →
+    length cells ≡ 28 →
     IsLayer roms shadows cells
 new-layer roms shadows cells is high = record {
   shadows_high = rw is length-stale;
@@ -73,7 +74,7 @@ drawn-read roms shadows cells row shadow strip layer below is_shadow is_strip =
 -- a line of the layer
 dot-kept : (roms : VideoRoms) (shadow : Shadow) (strip : List (List (List ℕ))) (x y : ℕ) → IsDrawn roms shadow strip →
     shadow.stale ≡ false → x < 288 → cell_dot strip x (y % 8) ≡ kept_dot roms shadow x y
-unfolding cell_dot kept_dot pattern_of
+unfolding cell_dot kept_dot tile_pattern
 dot-kept roms shadow strip x y drawn fresh across =
     let column : x / 8 < 36 = omega (arith, across) in
     let down : y % 8 < 8 = omega arith in

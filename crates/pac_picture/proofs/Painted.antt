@@ -3,26 +3,26 @@ use Rattle.std.proofs.Common.{◌≡◌, ℕ, zero, suc, ◌+◌, ◌-◌, Bool,
 use Rattle.std.specs.Prelude.{Some, find, unwrap_or}
 use Rattle.pac_tiles.specs.Tabulate.{tabulate}
 use Rattle.pac_picture.specs.Picture.{is_opaque}
-use Rattle.pac_picture.specs.Painting.{over}
+use Rattle.pac_picture.specs.Painting.{painted_number}
 
 -- the last of eight numbers painted first, this many of them
 unfoldable pub painted : ℕ → (ℕ → ℕ) → ℕ → ℕ
 painted zero numbers below = below
-painted (suc count) numbers below = over (numbers (7 - count)) (painted count numbers below)
+painted (suc count) numbers below = painted_number (numbers (7 - count)) (painted count numbers below)
 
 pub painted-none : (numbers : ℕ → ℕ) (below : ℕ) → below ≡ painted 0 numbers below
 unfolding painted
 painted-none numbers below = refl
 
 pub painted-more : (count : ℕ) (numbers : ℕ → ℕ) (below now next : ℕ) → now ≡ painted count numbers below →
-    next ≡ over (numbers (7 - count)) now → next ≡ painted (count + 1) numbers below
+    next ≡ painted_number (numbers (7 - count)) now → next ≡ painted (count + 1) numbers below
 unfolding painted
 painted-more count numbers below now next so_far is = rw (add-one, is, so_far) refl
 
 -- a list of numbers painted over another, the last of them first
 over_all : List ℕ → ℕ → ℕ
 over_all [] below = below
-over_all (number ∷ rest) below = over number (over_all rest below)
+over_all (number ∷ rest) below = painted_number number (over_all rest below)
 
 first : (opaque : Bool) (number : ℕ) (rest : List ℕ) (below : ℕ) →
     unwrap_or (if opaque then Some number else find is_opaque rest) below

@@ -6,9 +6,9 @@ use Rattle.std.proofs.lemmas.List.{get_or-map, length-map}
 use Rattle.pac_tiles.specs.Tabulate.{tabulate}
 use Rattle.pac_picture.specs.declared.shadow.Shadow.{Shadow}
 use Rattle.pac_picture.specs.Picture.{VideoMemory}
-use Rattle.pac_picture.specs.Layer.{AreStale, cells_of, differs, differing, differing_in, all_differing, drawn_from, made_stale, shadow_at}
-use Rattle.pac_picture.specs.Layer.{shadow_from, stale}
-use Rattle.pac_picture.specs.Laws.{StaleCellsAreDrawn, row_of}
+use Rattle.pac_picture.specs.Layer.{AreStale, cells_of, cell_differs, differing_cells, differing_in, all_differing, drawn_from, made_stale, shadow_at}
+use Rattle.pac_picture.specs.Layer.{shadow_from, stale_rows}
+use Rattle.pac_picture.specs.Laws.{StaleCellsAreDrawn, cell_row_of}
 use Rattle.pac_picture.proofs.Counts.{count-more, count-none}
 use Rattle.pac_picture.proofs.Layers.{sum-more, sum-none, stale-at, length-stale}
 
@@ -21,9 +21,9 @@ count-always test (suc count) always =
     rw (count-more test count, before, last) (sym next)
 
 -- the 36 cells of a row
-row-counts : (shadow : Shadow) (tiles colours : List ℕ) → shadow.stale ≡ true → differing shadow tiles colours ≡ 36
-unfolding differing
-row-counts shadow tiles colours is = count-always (differs shadow tiles colours) 36 (λ k. rw is refl)
+row-counts : (shadow : Shadow) (tiles colours : List ℕ) → shadow.stale ≡ true → differing_cells shadow tiles colours ≡ 36
+unfolding differing_cells
+row-counts shadow tiles colours is = count-always (cell_differs shadow tiles colours) 36 (λ k. rw is refl)
 
 sum-always : (value : ℕ → ℕ) (each count : ℕ) → ((k : ℕ) → k < count → value k ≡ each) → sum (tabulate count value) ≡ each * count
 sum-always value each zero always = sym (sum-none value) ∙ omega arith
@@ -44,15 +44,15 @@ pub stale-cells-are-drawn : StaleCellsAreDrawn
 stale-cells-are-drawn memory state = record {
   whole = λ are. all-count state.shadows memory are;
   line = λ y is.
-      let row = row_of memory y in
+      let row = cell_row_of memory y in
       row-counts (shadow_at state.shadows row) (cells_of memory.tile_ram row) (cells_of memory.colour_ram row) is;
   others = λ y row apart.
-      get_or-set_other state.shadows (row_of memory y) row (drawn_from memory (row_of memory y)) (shadow_from [] []) apart;
+      get_or-set_other state.shadows (cell_row_of memory y) row (drawn_from memory (cell_row_of memory y)) (shadow_from [] []) apart;
 }
 
 -- ---- where they do
 
-pub new-stale : (shadows : List Shadow) → shadows ≡ stale → AreStale shadows
+pub new-stale : (shadows : List Shadow) → shadows ≡ stale_rows → AreStale shadows
 new-stale shadows is = record {
   high = ap length is ∙ length-stale;
   each = λ row below. ap (λ shadows. (shadow_at shadows row).stale) is ∙ ap (λ (shadow : Shadow). shadow.stale) (stale-at row below);

@@ -3,8 +3,8 @@
 use Rattle.std.specs.Prelude.{◌≡◌, ℕ, ◌/◌, ◌%◌, ◌<◌, ◌==◌, Bool, true, false}
 use Rattle.std.specs.Prelude.{not, ◌||◌, List, [], slice_index, slice_index_or, length, replicate, count_by, sum}
 use Rattle.pac_tiles.specs.Tabulate.{tabulate}
-use Rattle.pac_tiles.specs.Tiles.{columns, rows, offset_of, rom_size as tile_rom_size}
-use Rattle.pac_sprites.specs.Sprites.{rom_size as sprite_rom_size}
+use Rattle.pac_tiles.specs.Tiles.{columns, rows, offset_of, tile_rom_size}
+use Rattle.pac_sprites.specs.Sprites.{sprite_rom_size}
 use Rattle.pac_colour.specs.Colours.{lookup_size}
 use Rattle.pac_picture.specs.declared.shadow.Shadow.{Shadow}
 use Rattle.pac_picture.specs.Picture.{VideoRoms, VideoMemory, tile_number, sprite_number}
@@ -25,29 +25,29 @@ abbrev pub shadow_at : List Shadow → ℕ → Shadow
 shadow_at shadows row = slice_index_or shadows row (shadow_from [] [])
 
 -- whether the cell of a column differs from these bytes of tile RAM and of colour RAM
-abbrev pub differs : Shadow → List ℕ → List ℕ → ℕ → Bool
-differs shadow tiles colours column =
+abbrev pub cell_differs : Shadow → List ℕ → List ℕ → ℕ → Bool
+cell_differs shadow tiles colours column =
     shadow.stale || not (slice_index shadow.tiles column == slice_index tiles column)
     || not (slice_index shadow.colours column == slice_index colours column)
 
 -- how many cells of a row differ
-unfoldable pub differing : Shadow → List ℕ → List ℕ → ℕ
-differing shadow tiles colours = count_by (differs shadow tiles colours) (tabulate columns (λ column. column))
+unfoldable pub differing_cells : Shadow → List ℕ → List ℕ → ℕ
+differing_cells shadow tiles colours = count_by (cell_differs shadow tiles colours) (tabulate columns (λ column. column))
 
 -- how many cells of a row, and of the picture, differ from memory
 abbrev pub differing_in : List Shadow → VideoMemory → ℕ → ℕ
-differing_in shadows memory row = differing (shadow_at shadows row) (cells_of memory.tile_ram row) (cells_of memory.colour_ram row)
+differing_in shadows memory row = differing_cells (shadow_at shadows row) (cells_of memory.tile_ram row) (cells_of memory.colour_ram row)
 
 unfoldable pub all_differing : List Shadow → VideoMemory → ℕ
 all_differing shadows memory = sum (tabulate rows (differing_in shadows memory))
 
 -- the eight lines of a tile's colour numbers in a colour
-unfoldable pub pattern_of : VideoRoms → ℕ → ℕ → List (List ℕ)
-pattern_of roms colour tile = tabulate 8 (λ y. tabulate 8 (λ x. tile_number roms colour tile x y))
+unfoldable pub tile_pattern : VideoRoms → ℕ → ℕ → List (List ℕ)
+tile_pattern roms colour tile = tabulate 8 (λ y. tabulate 8 (λ x. tile_number roms colour tile x y))
 
 -- the sixteen lines of a sprite's colour numbers in a colour
-unfoldable pub image_of : VideoRoms → ℕ → ℕ → List (List ℕ)
-image_of roms colour code = tabulate 16 (λ y. tabulate 16 (λ x. sprite_number roms colour code x y))
+unfoldable pub sprite_image : VideoRoms → ℕ → ℕ → List (List ℕ)
+sprite_image roms colour code = tabulate 16 (λ y. tabulate 16 (λ x. sprite_number roms colour code x y))
 
 -- the ROMs have their sizes
 pub record AreSized (roms : VideoRoms) : Type 0 where
@@ -59,14 +59,14 @@ pub record AreSized (roms : VideoRoms) : Type 0 where
 abbrev pub IsDrawn : VideoRoms → Shadow → List (List (List ℕ)) → Type 0
 IsDrawn roms shadow cells =
     shadow.stale ≡ false → (column : ℕ) → column < columns →
-    slice_index_or cells column [] ≡ pattern_of roms (slice_index shadow.colours column) (slice_index shadow.tiles column)
+    slice_index_or cells column [] ≡ tile_pattern roms (slice_index shadow.colours column) (slice_index shadow.tiles column)
 
 -- the shadow of a row that was never drawn, and of all rows
 abbrev pub stale_row : Shadow
 stale_row = record { tiles = replicate columns 0; colours = replicate columns 0; stale = true }
 
-unfoldable pub stale : List Shadow
-stale = tabulate rows (λ _. stale_row)
+unfoldable pub stale_rows : List Shadow
+stale_rows = tabulate rows (λ _. stale_row)
 
 -- every cell of a row counts as differing from now on
 abbrev pub made_stale : Shadow → Shadow
@@ -82,7 +82,7 @@ pub record LayerState : Type 0 where
   pub roms : VideoRoms
   pub shadows : List Shadow
 
--- its rows are whole, and drawn
+-- the layer's rows are whole, and drawn
 pub record IsLayer (roms : VideoRoms) (shadows : List Shadow) (cells : List (List (List (List ℕ)))) : Type 0 where
   pub shadows_high : length shadows ≡ rows
   pub cells_high : length cells ≡ rows

@@ -1,18 +1,18 @@
 -- For proofs: a line of the picture as it is painted: colour number 0 of a sprite is transparent.
 use Rattle.std.specs.Prelude.{ℕ, ◌/◌, ◌%◌, if◌then◌else◌, List, [], slice_index, slice_index_or}
 use Rattle.pac_sprites.specs.declared.Sprite.{Sprite}
-use Rattle.pac_sprites.specs.Sprites.{is_column_of, box_place, flipped}
+use Rattle.pac_sprites.specs.Sprites.{is_column_of, box_place, flipped_place}
 use Rattle.pac_picture.specs.Picture.{is_opaque}
 
 -- a number painted over another
-abbrev pub over : ℕ → ℕ → ℕ
-over number below = if is_opaque number then number else below
+abbrev pub painted_number : ℕ → ℕ → ℕ
+painted_number number below = if is_opaque number then number else below
 
 -- what a line of a sprite's numbers makes of the number in column x
 unfoldable pub over_line : List ℕ → Sprite → ℕ → ℕ → ℕ
 over_line line sprite x below =
     if is_column_of sprite x
-    then over (slice_index line (flipped sprite.flip_x (box_place sprite.left x))) below
+    then painted_number (slice_index line (flipped_place sprite.flip_x (box_place sprite.left x))) below
     else below
 
 -- the number in column x on line y of a row of cells

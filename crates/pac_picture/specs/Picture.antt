@@ -3,10 +3,10 @@
 -- the top line on, is a colour number from 0 to 15.
 use Rattle.std.specs.Prelude.{ℕ, ◌+◌, ◌-◌, ◌*◌, ◌/◌, ◌%◌, ◌==◌, Bool, not, if◌then◌else◌, List, slice_index, find, unwrap_or}
 use Rattle.pac_tiles.specs.Tabulate.{tabulate}
-use Rattle.pac_tiles.specs.Tiles.{width, height, side, offset_of}
+use Rattle.pac_tiles.specs.Tiles.{width, height, tile_side, offset_of}
 use Rattle.pac_tiles.specs.Tiles as tiles
 use Rattle.pac_sprites.specs.declared.Sprite.{Sprite}
-use Rattle.pac_sprites.specs.Sprites.{sprite_of, covers_of, box_place, flipped}
+use Rattle.pac_sprites.specs.Sprites.{sprite_of, covers_of, box_place, flipped_place}
 use Rattle.pac_sprites.specs.Sprites as sprites
 use Rattle.pac_colour.specs.Colours.{index_of}
 
@@ -28,16 +28,16 @@ pub record VideoMemory : Type 0 where
 
 -- the colour number of pixel (x, y) of a tile, and of a sprite, in a colour
 unfoldable pub tile_number : VideoRoms → ℕ → ℕ → ℕ → ℕ → ℕ
-tile_number roms colour tile x y = index_of roms.lookup colour (tiles.pixel_of roms.tiles tile x y)
+tile_number roms colour tile x y = index_of roms.lookup colour (tiles.tile_pixel roms.tiles tile x y)
 
 unfoldable pub sprite_number : VideoRoms → ℕ → ℕ → ℕ → ℕ → ℕ
-sprite_number roms colour code x y = index_of roms.lookup colour (sprites.pixel_of roms.sprites code x y)
+sprite_number roms colour code x y = index_of roms.lookup colour (sprites.sprite_pixel roms.sprites code x y)
 
 -- the number that the cell at (x, y) of the picture has there
 unfoldable pub tile_dot : VideoRoms → VideoMemory → ℕ → ℕ → ℕ
 tile_dot roms memory x y =
-    let offset = offset_of (x / side) (y / side) in
-    tile_number roms (slice_index memory.colour_ram offset) (slice_index memory.tile_ram offset) (x % side) (y % side)
+    let offset = offset_of (x / tile_side) (y / tile_side) in
+    tile_number roms (slice_index memory.colour_ram offset) (slice_index memory.tile_ram offset) (x % tile_side) (y % tile_side)
 
 -- the sprites, and the bytes of attributes, and of coordinates, that all of them have
 abbrev pub sprites_count : ℕ
@@ -57,7 +57,7 @@ unfoldable pub sprite_dot : VideoRoms → Sprite → ℕ → ℕ → ℕ
 sprite_dot roms sprite x y =
     if covers_of sprite x y
     then sprite_number roms sprite.colour sprite.code
-    (flipped sprite.flip_x (box_place sprite.left x)) (flipped sprite.flip_y (box_place sprite.top y))
+    (flipped_place sprite.flip_x (box_place sprite.left x)) (flipped_place sprite.flip_y (box_place sprite.top y))
     else 0
 
 abbrev pub is_opaque : ℕ → Bool
@@ -70,10 +70,10 @@ dot roms memory x y =
     unwrap_or (find is_opaque (tabulate sprites_count (λ k. sprite_dot roms (sprite_at memory k) x y))) (tile_dot roms memory x y)
 
 -- line y of the picture as it is shown: flipped, it is rotated by half a turn, sprites and all
-unfoldable pub line_of : VideoRoms → VideoMemory → ℕ → List ℕ
-line_of roms memory y =
+unfoldable pub picture_line : VideoRoms → VideoMemory → ℕ → List ℕ
+picture_line roms memory y =
     tabulate width (λ x. if memory.flip then dot roms memory (width - 1 - x) (height - 1 - y) else dot roms memory x y)
 
 -- the picture as it is shown, line by line from the top
 unfoldable pub picture_of : VideoRoms → VideoMemory → List (List ℕ)
-picture_of roms memory = tabulate height (line_of roms memory)
+picture_of roms memory = tabulate height (picture_line roms memory)

@@ -1,15 +1,15 @@
 -- To be believed: what clauses see of a picture, and what composing it does.
 use Rattle.std.specs.Prelude.{◌≡◌, ℕ, ◌-◌, ◌/◌, ◌<◌, if◌then◌else◌, List, [], length, replicate, slice_index, slice_index_or, slice_set}
 use Rattle.pac_tiles.specs.Tabulate.{tabulate}
-use Rattle.pac_tiles.specs.Tiles.{width, height, rows, side}
+use Rattle.pac_tiles.specs.Tiles.{width, height, rows, tile_side}
 use Rattle.pac_colour.specs.Colours.{rgb_of, numbers}
-use Rattle.pac_picture.specs.Picture.{VideoRoms, VideoMemory, line_of, picture_of}
+use Rattle.pac_picture.specs.Picture.{VideoRoms, VideoMemory, picture_line, picture_of}
 use Rattle.pac_picture.specs.declared.shadow.Shadow.{Shadow}
 use Rattle.pac_picture.specs.Layer.{drawn_from, differing_in, all_differing}
 
 -- the ROMs that the picture is drawn from; red, green and blue of the 16 colour numbers; the lines as they were last
 -- composed; the shadows of the rows of cells, and how many cells the last composing drew
-pub record State : Type 0 where
+pub record PictureState : Type 0 where
   pub roms : VideoRoms
   pub palette : List (List ℕ)
   pub lines : List (List ℕ)
@@ -35,17 +35,17 @@ abbrev pub source_of : VideoMemory → ℕ → ℕ
 source_of memory y = if memory.flip then height - 1 - y else y
 
 -- the whole picture composed from one memory: all its cells are drawn from it then
-abbrev pub composed : VideoMemory → State → State
-composed memory state = record state {
+abbrev pub composed_picture : VideoMemory → PictureState → PictureState
+composed_picture memory state = record state {
   lines = picture_of state.roms memory;
   shadows = tabulate rows (drawn_from memory);
   drawn = all_differing state.shadows memory;
 }
 
--- one line of it: the cells of the row that this line shows are drawn from it then
-abbrev pub line_composed : ℕ → VideoMemory → State → State
-line_composed y memory state = record state {
-  lines = slice_set state.lines y (line_of state.roms memory y);
-  shadows = slice_set state.shadows (source_of memory y / side) (drawn_from memory (source_of memory y / side));
-  drawn = differing_in state.shadows memory (source_of memory y / side);
+-- one line of the picture composed: the cells of the row that this line shows are drawn from memory then
+abbrev pub picture_with_line : ℕ → VideoMemory → PictureState → PictureState
+picture_with_line y memory state = record state {
+  lines = slice_set state.lines y (picture_line state.roms memory y);
+  shadows = slice_set state.shadows (source_of memory y / tile_side) (drawn_from memory (source_of memory y / tile_side));
+  drawn = differing_in state.shadows memory (source_of memory y / tile_side);
 }

@@ -7,7 +7,7 @@ ghost use Rattle.pac_tiles.specs.Tiles as tile;
 ghost use Rattle.pac_sprites.specs.Sprites as sprite;
 ghost use Rattle.pac_colour.specs.Colours as colour_of;
 ghost use Rattle.pac_picture.specs.Picture.{tile_number, sprite_number};
-ghost use Rattle.pac_picture.specs.Layer.{pattern_of, image_of};
+ghost use Rattle.pac_picture.specs.Layer.{tile_pattern, sprite_image};
 
 use pac_colour::index;
 use std::alloc::{AllocError, Global};
@@ -65,7 +65,7 @@ impl Roms {
 
     /// The colour numbers of a tile in a colour, line by line.
     fn pattern(&self, colour: u8, tile: u8) -> [[u8; 8]; 8]
-        ensures { result ≡ pattern_of self.now colour tile }
+        ensures { result ≡ tile_pattern self.now colour tile }
     {
         let mut lines = [[0; 8]; 8];
         for y in 0..8u8 {
@@ -76,7 +76,7 @@ impl Roms {
 
     /// All tiles in all colours.
     fn patterns(&self, alloc: Global) -> Result<Vec<[[u8; 8]; 8]>, AllocError>
-        ensures { IfOk result (λ patterns. patterns.items ≡ tabulate 8192 (λ n. pattern_of self.now (n / 256) (n % 256))) }
+        ensures { IfOk result (λ patterns. patterns.items ≡ tabulate 8192 (λ n. tile_pattern self.now (n / 256) (n % 256))) }
     {
         let mut patterns = Vec::with_capacity(alloc, 8192)?;
         for n in 0..256 * COLOURS {
@@ -89,7 +89,7 @@ impl Roms {
     #[inline]
     #[tactic(auto, unfolding(crate::specs::Picture::sprite_number))]
     fn sprite_number(&self, colour: u8, code: u8, x: u8, y: u8) -> u8
-        requires code { code < sprite.codes }
+        requires code { code < sprite.sprite_codes }
         requires x { x < 16 }
         requires y { y < 16 }
         ensures { result ≡ sprite_number self.now colour code x y }
@@ -103,7 +103,7 @@ impl Roms {
 
     /// The colour numbers on line y of a sprite in a colour.
     fn sprite_line(&self, colour: u8, code: u8, y: u8) -> [u8; 16]
-        requires code { code < sprite.codes }
+        requires code { code < sprite.sprite_codes }
         requires y { y < 16 }
         ensures { result ≡ tabulate 16 (λ x. sprite_number self.now colour code x y) }
     {
@@ -116,8 +116,8 @@ impl Roms {
 
     /// The colour numbers of a sprite in a colour, line by line.
     fn image(&self, colour: u8, code: u8) -> [[u8; 16]; 16]
-        requires code { code < sprite.codes }
-        ensures { result ≡ image_of self.now colour code }
+        requires code { code < sprite.sprite_codes }
+        ensures { result ≡ sprite_image self.now colour code }
     {
         let mut lines = [[0; 16]; 16];
         for y in 0..16u8 {
@@ -128,7 +128,7 @@ impl Roms {
 
     /// All sprites in all colours.
     fn images(&self, alloc: Global) -> Result<Vec<[[u8; 16]; 16]>, AllocError>
-        ensures { IfOk result (λ images. images.items ≡ tabulate 2048 (λ n. image_of self.now (n / 64) (n % 64))) }
+        ensures { IfOk result (λ images. images.items ≡ tabulate 2048 (λ n. sprite_image self.now (n / 64) (n % 64))) }
     {
         let mut images = Vec::with_capacity(alloc, 2048)?;
         for n in 0..64 * COLOURS {
@@ -150,15 +150,15 @@ impl Model for Graphics {
     ghost use Rattle.std.specs.Prelude.{◌≡◌, ◌/◌, ◌%◌};
     ghost use Rattle.pac_tiles.specs.Tabulate.{tabulate};
     ghost use Rattle.pac_picture.specs.Picture.{VideoRoms};
-    ghost use Rattle.pac_picture.specs.Layer.{pattern_of, image_of};
+    ghost use Rattle.pac_picture.specs.Layer.{tile_pattern, sprite_image};
 
     ghost Value = { VideoRoms };
 
     ghost view = { λ graphics. graphics.roms };
 
     ghost invariant = { λ graphics. record {
-      patterns : graphics.patterns.items ≡ tabulate 8192 (λ n. pattern_of graphics.roms (n / 256) (n % 256));
-      images : graphics.images.items ≡ tabulate 2048 (λ n. image_of graphics.roms (n / 64) (n % 64));
+      patterns : graphics.patterns.items ≡ tabulate 8192 (λ n. tile_pattern graphics.roms (n / 256) (n % 256));
+      images : graphics.images.items ≡ tabulate 2048 (λ n. sprite_image graphics.roms (n / 64) (n % 64));
     } };
 }
 
@@ -171,8 +171,8 @@ impl Graphics {
         sprites: &[u8],
         lookup: &[u8],
     ) -> Result<Graphics, AllocError>
-        requires tiles { length tiles.now ≡ tile.rom_size }
-        requires sprites { length sprites.now ≡ sprite.rom_size }
+        requires tiles { length tiles.now ≡ tile.tile_rom_size }
+        requires sprites { length sprites.now ≡ sprite.sprite_rom_size }
         requires lookup { length lookup.now ≡ colour_of.lookup_size }
         ensures { IfOk result (λ graphics. graphics ≡ record { tiles = tiles.now; sprites = sprites.now; lookup = lookup.now }) }
     {
@@ -193,7 +193,7 @@ impl Graphics {
     /// The colour numbers of a tile in a colour, line by line.
     #[inline]
     pub(crate) fn pattern(&self, colour: u8, tile: u8) -> &[[u8; 8]; 8]
-        ensures { result.now ≡ pattern_of self.now colour tile }
+        ensures { result.now ≡ tile_pattern self.now colour tile }
     {
         &self.patterns[256 * (colour % 32) as usize + tile as usize]
     }
@@ -201,8 +201,8 @@ impl Graphics {
     /// The colour numbers of a sprite, 0 to 63, in a colour, line by line.
     #[inline]
     pub(crate) fn image(&self, colour: u8, code: u8) -> &[[u8; 16]; 16]
-        requires { code < sprite.codes }
-        ensures { result.now ≡ image_of self.now colour code }
+        requires { code < sprite.sprite_codes }
+        ensures { result.now ≡ sprite_image self.now colour code }
     {
         &self.images[64 * (colour % 32) as usize + code as usize]
     }

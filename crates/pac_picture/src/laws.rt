@@ -57,7 +57,7 @@ pub fn changed(now: &[u8], shadow: &[u8], mask: &mut [bool])
     }
 }
 
-/// The same for so many vectors of sixteen places.
+/// Says at each place of so many vectors, sixteen places each, whether two lists of bytes differ there.
 #[inline]
 fn changed_lanes(now: &[u8], shadow: &[u8], mask: &mut [bool], vectors: usize)
     requires now { 16 * vectors ≤ length now.now }

@@ -4,8 +4,8 @@ ghost use Rattle.std.specs.Prelude.{◌≡◌, ◌<◌, ◌≤◌, ◌/◌, ◌%
 ghost use Rattle.std.specs.Prelude.{false, if◌then◌else◌, [], length, map, count_by, slice_index, slice_index_or, slice_set};
 ghost use Rattle.pac_tiles.specs.Tabulate.{tabulate};
 ghost use Rattle.pac_tiles.specs.Tiles as tile;
-ghost use Rattle.pac_picture.specs.Layer.{cells_of, differs, differing, differing_in, drawn_from, shadow_at, shadow_from, pattern_of};
-ghost use Rattle.pac_picture.specs.Layer.{IsDrawn, all_differing, kept_dot, made_stale, stale};
+ghost use Rattle.pac_picture.specs.Layer.{cells_of, cell_differs, differing_cells, differing_in, drawn_from, shadow_at, shadow_from, tile_pattern};
+ghost use Rattle.pac_picture.specs.Layer.{IsDrawn, all_differing, kept_dot, made_stale, stale_rows};
 
 use crate::graphics::Graphics;
 use crate::laws::{changed, is_same};
@@ -15,7 +15,7 @@ use crate::shadow::Shadow;
 use std::alloc::{AllocError, Global};
 use std::marker::Model;
 
-/// Whether all places count, or one of two lists has the place.
+/// For each of 36 places whether all count, or one of two lists has the place.
 #[inline]
 fn either(all: bool, one: &[bool; 36], other: &[bool; 36]) -> [bool; 36]
     ensures { (k : ℕ) → k < 36 → slice_index_or result k false
@@ -32,7 +32,7 @@ fn either(all: bool, one: &[bool; 36], other: &[bool; 36]) -> [bool; 36]
 #[inline]
 fn differing(shadow: &Shadow, tiles: &[u8; 36], colours: &[u8; 36]) -> [bool; 36]
     ensures { (column : ℕ) → column < 36 → slice_index_or result column false
-        ≡ differs shadow.now tiles.now colours.now column }
+        ≡ cell_differs shadow.now tiles.now colours.now column }
 {
     let mut by_tile = [false; 36];
     let mut by_colour = [false; 36];
@@ -67,7 +67,7 @@ fn redraw(
 ) -> u32
     ensures cells { (k : ℕ) → k < 36 → slice_index_or cells.new k []
         ≡ (if slice_index_or mask.now k false
-        then pattern_of graphics.now (slice_index colours.now k) (slice_index tiles.now k)
+        then tile_pattern graphics.now (slice_index colours.now k) (slice_index tiles.now k)
         else slice_index_or cells.old k []) }
     ensures count { result ≡ count_by (λ k. slice_index_or mask.now k false) (tabulate 36 (λ k. k)) }
     ensures bound { result ≤ 36 }
@@ -80,7 +80,7 @@ fn redraw(
     count
 }
 
-/// The same, cell by cell.
+/// Draws those cells of a row again that differ from these bytes, looking at each of them; says how many they are.
 #[inline]
 fn refresh_cells(
     cells: &mut Cells,
@@ -92,7 +92,7 @@ fn refresh_cells(
     requires drawn { IsDrawn graphics.now shadow.old cells.old }
     ensures drawn { IsDrawn graphics.now shadow.new cells.new }
     ensures shadow { shadow.new ≡ shadow_from tiles.now colours.now }
-    ensures count { result ≡ differing shadow.old tiles.now colours.now }
+    ensures count { result ≡ differing_cells shadow.old tiles.now colours.now }
     ensures bound { result ≤ 36 }
 {
     let mask = differing(shadow, tiles, colours);
@@ -103,7 +103,7 @@ fn refresh_cells(
     drawn
 }
 
-/// Whether a row was drawn from these bytes, as most rows are when a line is composed: it is told at once then.
+/// Whether a row was drawn from these bytes, as most rows are when a line is composed: told without looking at single cells.
 #[inline]
 fn is_current(shadow: &Shadow, tiles: &[u8; 36], colours: &[u8; 36]) -> bool
     ensures { result ≡ true → shadow.now ≡ shadow_from tiles.now colours.now }
@@ -123,7 +123,7 @@ fn refresh(
     requires drawn { IsDrawn graphics.now shadow.old cells.old }
     ensures drawn { IsDrawn graphics.now shadow.new cells.new }
     ensures shadow { shadow.new ≡ shadow_from tiles.now colours.now }
-    ensures count { result ≡ differing shadow.old tiles.now colours.now }
+    ensures count { result ≡ differing_cells shadow.old tiles.now colours.now }
     ensures bound { result ≤ 36 }
 {
     if is_current(shadow, tiles, colours) {
@@ -155,7 +155,7 @@ fn undrawn(alloc: Global) -> Result<Vec<Cells>, AllocError>
 
 /// The shadows of rows that were never drawn.
 fn stale_shadows(alloc: Global) -> Result<Vec<Shadow>, AllocError>
-    ensures { IfOk result (λ shadows. shadows.items ≡ stale) }
+    ensures { IfOk result (λ shadows. shadows.items ≡ stale_rows) }
 {
     let mut shadows = Vec::with_capacity(alloc, 28)?;
     for _ in 0..28u8 {
@@ -185,7 +185,7 @@ impl Model for Layer {
 impl Layer {
     /// A layer of which nothing is drawn. Refused for want of memory alone.
     pub(crate) fn new(alloc: Global, graphics: Graphics) -> Result<Layer, AllocError>
-        ensures { IfOk result (λ layer. layer ≡ record { roms = graphics; shadows = stale }) }
+        ensures { IfOk result (λ layer. layer ≡ record { roms = graphics; shadows = stale_rows }) }
     {
         let rows = undrawn(alloc)?;
         let shadows = stale_shadows(alloc)?;

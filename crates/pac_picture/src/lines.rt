@@ -5,7 +5,7 @@ ghost use Rattle.std.specs.Prelude.{length, reverse, if◌then◌else◌, slice_
 ghost use Rattle.pac_tiles.specs.Tabulate.{tabulate};
 ghost use Rattle.pac_tiles.specs.Tiles as tile;
 ghost use Rattle.pac_colour.specs.Colours as colour;
-ghost use Rattle.pac_picture.specs.Picture.{line_of, picture_of};
+ghost use Rattle.pac_picture.specs.Picture.{picture_line, picture_of};
 ghost use Rattle.pac_picture.specs.Layer.{shadow_at, drawn_from};
 ghost use Rattle.pac_picture.specs.State.{IsPicture, black, source_of};
 
@@ -30,7 +30,7 @@ fn turn(out: &mut [u8; WIDTH], flip: bool)
 fn compose_line(layer: &Layer, screen: &Screen<'_>, y: u8, out: &mut [u8; WIDTH])
     requires y { y < tile.height }
     requires drawn { shadow_at layer.now.shadows (source_of screen.now y / 8) ≡ drawn_from screen.now (source_of screen.now y / 8) }
-    ensures { out.new ≡ line_of layer.now.roms screen.now y }
+    ensures { out.new ≡ picture_line layer.now.roms screen.now y }
 {
     let source = screen.source(y);
     layer.line(source, out);
@@ -98,7 +98,7 @@ impl Lines {
     pub(crate) fn compose_line(&mut self, y: u8, layer: &Layer, screen: &Screen<'_>)
         requires y { y < tile.height }
         requires drawn { shadow_at layer.now.shadows (source_of screen.now y / 8) ≡ drawn_from screen.now (source_of screen.now y / 8) }
-        ensures { self.new ≡ slice_set self.old y (line_of layer.now.roms screen.now y) }
+        ensures { self.new ≡ slice_set self.old y (picture_line layer.now.roms screen.now y) }
     {
         compose_line(layer, screen, y, &mut self.lines[y as usize]);
     }

@@ -4,7 +4,7 @@ ghost use Rattle.std.specs.Prelude.{◌≡◌, ◌<◌, ℕ, ◌/◌, ◌%◌, [
 ghost use Rattle.pac_tiles.specs.Tabulate.{tabulate};
 ghost use Rattle.pac_sprites.specs.Sprites as sprites;
 ghost use Rattle.pac_picture.specs.Picture.{is_opaque, sprite_at, sprite_dot};
-ghost use Rattle.pac_picture.specs.Painting.{over, over_line, cell_dot};
+ghost use Rattle.pac_picture.specs.Painting.{painted_number, over_line, cell_dot};
 
 use crate::graphics::Graphics;
 use crate::screen::Screen;
@@ -16,7 +16,7 @@ pub const WIDTH: usize = 288;
 /// The colour numbers of a row of 36 cells, each line by line.
 pub(crate) type Cells = [[[u8; 8]; 8]; 36];
 
-/// A cell's line by value: a copy of its own can't overlap the picture's line, so writing that needs no test of places.
+/// A cell's line by value: a copy can't overlap the picture's line, which is written without a test for that.
 #[inline(always)]
 fn copied(line: &[u8; 8]) -> [u8; 8]
     ensures { result ≡ line.now }
@@ -40,7 +40,7 @@ pub(crate) fn lay_cells(cells: &Cells, y: u8, out: &mut [u8; WIDTH])
 /// A sprite's colour number painted over another: 0 is transparent.
 #[inline]
 fn over(number: u8, below: u8) -> u8
-    ensures { result ≡ over number below }
+    ensures { result ≡ painted_number number below }
 {
     if number != 0 { number } else { below }
 }
@@ -60,8 +60,9 @@ fn paint_line(line: &[u8; 16], sprite: &Sprite, out: &mut [u8; WIDTH])
 /// Paints a sprite over line y of the picture.
 #[inline]
 fn paint(graphics: &Graphics, sprite: &Sprite, y: u8, out: &mut [u8; WIDTH])
-    requires { sprite.now.code < sprites.codes }
-    ensures dots { (x : ℕ) → x < 288 → slice_index out.new x ≡ over (sprite_dot graphics.now sprite.now x y) (slice_index out.old x) }
+    requires { sprite.now.code < sprites.sprite_codes }
+    ensures dots { (x : ℕ) → x < 288 →
+        slice_index out.new x ≡ painted_number (sprite_dot graphics.now sprite.now x y) (slice_index out.old x) }
 {
     let Some(line) = sprite.line_at(y) else {
         return;

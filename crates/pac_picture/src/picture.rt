@@ -3,8 +3,8 @@
 ghost use Rattle.std.specs.Prelude.{◌≡◌, ◌<◌, ◌/◌, ℕ, [], false, IfOk, length, map, slice_index, slice_index_or, slice_set, EachIndex};
 ghost use Rattle.pac_tiles.specs.Tiles as tile;
 ghost use Rattle.pac_colour.specs.Colours as colour;
-ghost use Rattle.pac_picture.specs.Layer.{AreStale, made_stale, stale, differs, shadow_at, cells_of};
-ghost use Rattle.pac_picture.specs.State.{IsPicture, black, palette_of, composed, line_composed};
+ghost use Rattle.pac_picture.specs.Layer.{AreStale, made_stale, stale_rows, cell_differs, shadow_at, cells_of};
+ghost use Rattle.pac_picture.specs.State.{IsPicture, black, palette_of, composed_picture, picture_with_line};
 
 use crate::graphics::Graphics;
 use crate::layer::Layer;
@@ -27,9 +27,9 @@ pub struct Picture {
 impl Model for Picture {
     ghost use Rattle.std.specs.Prelude.{◌≡◌, length};
     ghost use Rattle.pac_colour.specs.Colours.{numbers};
-    ghost use Rattle.pac_picture.specs.State.{State};
+    ghost use Rattle.pac_picture.specs.State.{PictureState};
 
-    ghost Value = { State };
+    ghost Value = { PictureState };
 
     ghost view = { λ picture. record {
       roms = picture.layer.roms;
@@ -63,7 +63,7 @@ impl Picture {
           roms = graphics;
           palette = palette_of colours.now;
           lines = black;
-          shadows = stale;
+          shadows = stale_rows;
           drawn = 0;
         }) }
         ensures stale { IfOk result (λ picture. AreStale picture.shadows) }
@@ -145,7 +145,7 @@ impl Picture {
     /// Composes the whole picture that the screen shows. Of its 1,008 cells only those are drawn again that differ
     /// from what they were last drawn from, and `drawn` says then how many these were.
     pub fn compose(&mut self, screen: &Screen<'_>)
-        ensures { self.new ≡ composed screen.now self.old }
+        ensures { self.new ≡ composed_picture screen.now self.old }
     {
         self.drawn = self.layer.refresh_all(screen);
         self.lines.compose(&self.layer, screen);
@@ -155,7 +155,7 @@ impl Picture {
     /// row that it shows only those are drawn again that differ, and `drawn` says then how many these were.
     pub fn compose_line(&mut self, y: u8, screen: &Screen<'_>)
         requires { y < tile.height }
-        ensures { self.new ≡ line_composed y screen.now self.old }
+        ensures { self.new ≡ picture_with_line y screen.now self.old }
     {
         self.drawn = self.layer.refresh(screen.source(y) / 8, screen);
         self.lines.compose_line(y, &self.layer, screen);

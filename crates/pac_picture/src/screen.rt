@@ -23,7 +23,7 @@ pub struct Screen<'a> {
 
 impl<'a> Model for Screen<'a> {
     ghost use Rattle.std.specs.Prelude.{◌≡◌, length};
-    ghost use Rattle.pac_tiles.specs.Tiles.{ram_size};
+    ghost use Rattle.pac_tiles.specs.Tiles.{tile_ram_size};
     ghost use Rattle.pac_picture.specs.Picture.{VideoMemory, sprite_bytes};
 
     ghost Value = { VideoMemory };
@@ -37,8 +37,8 @@ impl<'a> Model for Screen<'a> {
     } };
 
     ghost invariant = { λ screen. record {
-      tile_ram : length screen.tile_ram.now ≡ ram_size;
-      colour_ram : length screen.colour_ram.now ≡ ram_size;
+      tile_ram : length screen.tile_ram.now ≡ tile_ram_size;
+      colour_ram : length screen.colour_ram.now ≡ tile_ram_size;
       attributes : length screen.attributes.now ≡ sprite_bytes;
       coordinates : length screen.coordinates.now ≡ sprite_bytes;
     } };
@@ -55,8 +55,8 @@ impl<'a> Screen<'a> {
         coordinates: &'a [u8],
         flip: bool,
     ) -> Screen<'a>
-        requires tile_ram { length tile_ram.now ≡ tile.ram_size }
-        requires colour_ram { length colour_ram.now ≡ tile.ram_size }
+        requires tile_ram { length tile_ram.now ≡ tile.tile_ram_size }
+        requires colour_ram { length colour_ram.now ≡ tile.tile_ram_size }
         requires attributes { length attributes.now ≡ sprite_bytes }
         requires coordinates { length coordinates.now ≡ sprite_bytes }
         ensures { result ≡ record {
@@ -99,7 +99,7 @@ impl<'a> Screen<'a> {
     pub(crate) fn sprite(&self, k: u8) -> Sprite
         requires { k < 8 }
         ensures sprite { result ≡ sprite_at self.now k }
-        ensures code { result.code < sprite.codes }
+        ensures code { result.code < sprite.sprite_codes }
     {
         let first = 2 * k as usize;
         Sprite::of(
@@ -130,7 +130,7 @@ impl<'a> Screen<'a> {
 /// The bytes of 1,024 that a row of 36 cells has: the 32 in the middle follow one another.
 #[inline]
 fn cells(ram: &[u8], row: u8) -> [u8; 36]
-    requires ram { length ram.now ≡ tile.ram_size }
+    requires ram { length ram.now ≡ tile.tile_ram_size }
     requires row { row < tile.rows }
     ensures { result ≡ cells_of ram.now row }
 {

@@ -1,7 +1,7 @@
 //! Pictures in scarce memory.
 
 use crate::set::picture;
-use pac_scarce::Hoard;
+use pac_tests_memory::Hoard;
 use std::test::Fail;
 
 // With no memory, and then with a little more each time, there is no answer but want of it or a black picture.

@@ -12,14 +12,14 @@ tiles_size = 4096
 abbrev pub sprites_size : ℕ
 sprites_size = 4096
 
-abbrev pub colours_size : ℕ
-colours_size = 32
+abbrev pub colour_prom_size : ℕ
+colour_prom_size = 32
 
-abbrev pub lookup_size : ℕ
-lookup_size = 256
+abbrev pub lookup_prom_size : ℕ
+lookup_prom_size = 256
 
-abbrev pub wave_size : ℕ
-wave_size = 256
+abbrev pub wave_prom_size : ℕ
+wave_prom_size = 256
 
 -- the bytes of each part
 pub record Parts : Type 0 where
@@ -40,6 +40,6 @@ pub record IsWhole (parts : Parts) : Type 0 where
   pub program : length parts.program ≡ program_size
   pub tiles : length parts.tiles ≡ tiles_size
   pub sprites : length parts.sprites ≡ sprites_size
-  pub colours : length parts.colours ≡ colours_size
-  pub lookup : length parts.lookup ≡ lookup_size
-  pub wave : length parts.wave ≡ wave_size
+  pub colours : length parts.colours ≡ colour_prom_size
+  pub lookup : length parts.lookup ≡ lookup_prom_size
+  pub wave : length parts.wave ≡ wave_prom_size

@@ -64,9 +64,9 @@ impl RomSet {
         requires program { length program.now ≡ spec.program_size }
         requires tiles { length raw.now.tiles.now ≡ spec.tiles_size }
         requires sprites { length raw.now.sprites.now ≡ spec.sprites_size }
-        requires colours { length raw.now.colours.now ≡ spec.colours_size }
-        requires lookup { length raw.now.lookup.now ≡ spec.lookup_size }
-        requires wave { length raw.now.wave.now ≡ spec.wave_size }
+        requires colours { length raw.now.colours.now ≡ spec.colour_prom_size }
+        requires lookup { length raw.now.lookup.now ≡ spec.lookup_prom_size }
+        requires wave { length raw.now.wave.now ≡ spec.wave_prom_size }
         ensures { IfOk result (λ set. set ≡ record {
           program = program.now;
           tiles = raw.now.tiles.now;
@@ -117,7 +117,7 @@ impl RomSet {
     #[inline(always)]
     pub fn colours(&self) -> &[u8]
         ensures bytes { result.now ≡ self.now.colours }
-        ensures size { length self.now.colours ≡ spec.colours_size }
+        ensures size { length self.now.colours ≡ spec.colour_prom_size }
     {
         &self.colours
     }
@@ -126,7 +126,7 @@ impl RomSet {
     #[inline(always)]
     pub fn lookup(&self) -> &[u8]
         ensures bytes { result.now ≡ self.now.lookup }
-        ensures size { length self.now.lookup ≡ spec.lookup_size }
+        ensures size { length self.now.lookup ≡ spec.lookup_prom_size }
     {
         &self.lookup
     }
@@ -135,7 +135,7 @@ impl RomSet {
     #[inline(always)]
     pub fn wave(&self) -> &[u8]
         ensures bytes { result.now ≡ self.now.wave }
-        ensures size { length self.now.wave ≡ spec.wave_size }
+        ensures size { length self.now.wave ≡ spec.wave_prom_size }
     {
         &self.wave
     }

@@ -4,14 +4,14 @@ use Rattle.pac_asm.specs.declared.fault.AsmFault.{AsmFault}
 use Rattle.pac_asm.specs.Programs.{program_of}
 use Rattle.pac_cpu.specs.declared.once.Stop.{Stop}
 use Rattle.pac_inputs.specs.Script.{script_of}
-use Rattle.pac_inputs.specs.Stretches.{total}
+use Rattle.pac_inputs.specs.Stretches.{total_frames}
 use Rattle.pac_inputs.specs.declared.line.Stretch.{Stretch}
 use Rattle.pac_inputs.specs.declared.fault.ScriptFault.{ScriptFault}
-use Rattle.pac_manifest.specs.Manifests.{manifest_of}
-use Rattle.pac_manifest.specs.Sets.{set_of}
-use Rattle.pac_manifest.specs.declared.fault.SetFault.{SetFault}
-use Rattle.pac_program.specs.Programs.{Assembled}
-use Rattle.pac_step.specs.Output.{Output}
+use Rattle.pac_roms_manifest.specs.Manifests.{manifest_of}
+use Rattle.pac_roms_manifest.specs.Sets.{set_of}
+use Rattle.pac_roms_manifest.specs.declared.fault.SetFault.{SetFault}
+use Rattle.pac_asm_program.specs.Programs.{Assembled}
+use Rattle.pac_board_model.specs.Output.{Output}
 use Rattle.pac_board.specs.State.{BoardValue}
 use Rattle.pac_run.specs.declared.fault.Output.{Output as Which}
 use Rattle.pac_run.specs.declared.fault.Output.TheVariants as which
@@ -20,11 +20,11 @@ use Rattle.pac_run.specs.declared.fault.RunFault.TheVariants as fault
 use Rattle.pac_run.specs.declared.inputs.RunInputs.{RunInputs}
 use Rattle.pac_run.specs.declared.outcome.Outcome.{Outcome}
 use Rattle.pac_run.specs.declared.plan.Prepared.{Prepared}
-use Rattle.pac_run.specs.Plan.{Plan, ◌>>=◌, plan_of, planned, program_in, source_in, assembled}
+use Rattle.pac_run.specs.Plan.{Plan, ◌>>=◌, plan_of, plan_with, program_in, source_in, program_told}
 use Rattle.pac_run.specs.Plan.{set_in, set_told, script_told, IsPrepared, Prepares}
 use Rattle.pac_run.specs.Plays.{run_of}
 use Rattle.pac_run.specs.Recorded.{FilmStops, HasPlayed, outcome_at}
-use Rattle.pac_run.specs.Run.{Writers, Untouched, Took, Stopped, NothingWritten, FramesStop, WaveStops, Runs, IsWhole, IsCutAt}
+use Rattle.pac_run.specs.Run.{Writers, IsUnwritten, TakesText, StopsInText, NothingWritten, FramesStop, WaveStops, Runs, IsRunWhole, IsCutAt}
 use Rattle.pac_run.specs.Run.{trace_of, outcome_of}
 use Rattle.pac_run.specs.Texts as text
 use Rattle.pac_run.proofs.Traced.{same-outputs, same-outcome}
@@ -44,7 +44,7 @@ one-then (Err (fault.Script refused)) next one other = tt
 one-then (Err (fault.Write output count)) next one other = one
 one-then (Err fault.NoMemory) next one other = tt
 
-assembled-writes : (result : Result Assembled AsmFault) → NoWrite (assembled result)
+assembled-writes : (result : Result Assembled AsmFault) → NoWrite (program_told result)
 assembled-writes (Ok program) = tt
 assembled-writes (Err refused) = tt
 
@@ -72,20 +72,20 @@ plan-writes inputs =
 -- ---- a plan is played
 
 module _ {F W L R : Type 0} (to : Writers F W L R) (plan : Plan) (dip : ℕ) (outputs : List Output)
-    (same : outputs ≡ (trace_of plan dip).outputs) (listing : Took to.listing plan.listing) where
+    (same : outputs ≡ (trace_of plan dip).outputs) (listing : TakesText to.listing plan.listing) where
   -- film or wave file broke
-  pub cut-at : (output : Which) (count : ℕ) → FilmStops to.frames to.wave (total plan.script) outputs output count
-      → Untouched to.report → IsCutAt plan dip to output count
+  pub cut-at : (output : Which) (count : ℕ) → FilmStops to.frames to.wave (total_frames plan.script) outputs output count
+      → IsUnwritten to.report → IsCutAt plan dip to output count
   cut-at which.Frames count broken report =
       record {
         listing = listing;
-        film = subst (λ outputs. FramesStop to.frames to.wave (total plan.script) outputs count) same broken;
+        film = subst (λ outputs. FramesStop to.frames to.wave (total_frames plan.script) outputs count) same broken;
         report = report;
       }
   cut-at which.Wave count broken report =
       record {
         listing = listing;
-        film = subst (λ outputs. WaveStops to.frames to.wave (total plan.script) outputs count) same broken;
+        film = subst (λ outputs. WaveStops to.frames to.wave (total_frames plan.script) outputs count) same broken;
         report = report;
       }
   cut-at which.Listing count broken report = absurd broken
@@ -93,29 +93,31 @@ module _ {F W L R : Type 0} (to : Writers F W L R) (plan : Plan) (dip : ℕ) (ou
   cut-at which.Text count broken report = absurd broken
 
   -- both have all
-  module _ (frames : Took to.frames (text.frames_text outputs)) (wave : Took to.wave (text.wave_text (total plan.script) outputs))
-      (frame_count : ℕ) (count_is : frame_count ≡ total plan.script) (outcome : Outcome)
+  module _ (frames : TakesText to.frames (text.images_text outputs))
+      (wave : TakesText to.wave (text.wave_file_text (total_frames plan.script) outputs))
+      (frame_count : ℕ) (count_is : frame_count ≡ total_frames plan.script) (outcome : Outcome)
       (outcome_is : outcome ≡ outcome_of (trace_of plan dip))
     where
-      pub is-whole : Took to.report (text.report outcome frame_count) → IsWhole plan dip to outcome
+      pub is-whole : TakesText to.report (text.report outcome frame_count) → IsRunWhole plan dip to outcome
       is-whole report =
           record {
             outcome_is = outcome_is;
-            frames = subst (λ outputs. Took to.frames (text.frames_text outputs)) same frames;
-            wave = subst (λ outputs. Took to.wave (text.wave_text (total plan.script) outputs)) same wave;
+            frames = subst (λ outputs. TakesText to.frames (text.images_text outputs)) same frames;
+            wave = subst (λ outputs. TakesText to.wave (text.wave_file_text (total_frames plan.script) outputs)) same wave;
             listing = listing;
-            report = subst (λ outcome. Took to.report (text.report outcome (total plan.script))) outcome_is
-                (subst (λ frames. Took to.report (text.report outcome frames)) count_is report);
+            report = subst (λ outcome. TakesText to.report (text.report outcome (total_frames plan.script))) outcome_is
+                (subst (λ frames. TakesText to.report (text.report outcome frames)) count_is report);
           }
 
-      pub cut-at-report : (count : ℕ) → Stopped to.report (text.report outcome frame_count) count → IsCutAt plan dip to which.Report count
+      pub cut-at-report : (count : ℕ) → StopsInText to.report (text.report outcome frame_count) count →
+          IsCutAt plan dip to which.Report count
       cut-at-report count report =
           record {
             listing = listing;
-            frames = subst (λ outputs. Took to.frames (text.frames_text outputs)) same frames;
-            wave = subst (λ outputs. Took to.wave (text.wave_text (total plan.script) outputs)) same wave;
-            report = subst (λ outcome. Stopped to.report (text.report outcome (total plan.script)) count) outcome_is
-                (subst (λ frames. Stopped to.report (text.report outcome frames) count) count_is report);
+            frames = subst (λ outputs. TakesText to.frames (text.images_text outputs)) same frames;
+            wave = subst (λ outputs. TakesText to.wave (text.wave_file_text (total_frames plan.script) outputs)) same wave;
+            report = subst (λ outcome. StopsInText to.report (text.report outcome (total_frames plan.script)) count) outcome_is
+                (subst (λ frames. StopsInText to.report (text.report outcome frames) count) count_is report);
           }
 
 -- ---- the answers of a run
@@ -130,9 +132,10 @@ module _ {F W L R : Type 0} (to : Writers F W L R) (inputs : RunInputs) where
 
   module _ (prepared : Prepared) (ready : IsPrepared inputs prepared) where
     abbrev plan : Plan
-    plan = planned inputs prepared.program prepared.board.set prepared.script
+    plan = plan_with inputs prepared.program prepared.board.set prepared.script
 
-    pub listing-broke : (count : ℕ) → Stopped to.listing plan.listing count → Untouched to.frames → Untouched to.wave → Untouched to.report
+    pub listing-broke : (count : ℕ) → StopsInText to.listing plan.listing count → IsUnwritten to.frames → IsUnwritten to.wave →
+        IsUnwritten to.report
         → Runs inputs to (Err (fault.Write which.Listing count))
     listing-broke count stopped frames wave report =
         record {
@@ -147,8 +150,8 @@ module _ {F W L R : Type 0} (to : Writers F W L R) (inputs : RunInputs) where
     same : outputs ≡ (trace_of plan inputs.dip).outputs
     same = same-outputs inputs prepared ready
 
-    pub media-broke : (output : Which) (count : ℕ) → FilmStops to.frames to.wave (total prepared.script) outputs output count
-        → Took to.listing plan.listing → Untouched to.report
+    pub media-broke : (output : Which) (count : ℕ) → FilmStops to.frames to.wave (total_frames prepared.script) outputs output count
+        → TakesText to.listing plan.listing → IsUnwritten to.report
         → Runs inputs to (Err (fault.Write output count))
     media-broke output count broken listing report =
         record {
@@ -158,14 +161,15 @@ module _ {F W L R : Type 0} (to : Writers F W L R) (inputs : RunInputs) where
         }
 
     module _ (new : BoardValue) (stop : Option Stop) (played : HasPlayed prepared.board prepared.script stop new)
-        (frames : Took to.frames (text.frames_text outputs)) (wave : Took to.wave (text.wave_text (total prepared.script) outputs))
-        (listing : Took to.listing plan.listing)
-        (frame_count : ℕ) (count_is : frame_count ≡ total prepared.script) (outcome : Outcome)
+        (frames : TakesText to.frames (text.images_text outputs))
+        (wave : TakesText to.wave (text.wave_file_text (total_frames prepared.script) outputs))
+        (listing : TakesText to.listing plan.listing)
+        (frame_count : ℕ) (count_is : frame_count ≡ total_frames prepared.script) (outcome : Outcome)
         (outcome_is : outcome ≡ outcome_at new.state.now stop) where
       outcome-same : outcome ≡ outcome_of (trace_of plan inputs.dip)
       outcome-same = outcome_is ∙ same-outcome inputs prepared ready new stop played
 
-      pub all-written : Took to.report (text.report outcome frame_count) → Runs inputs to (Ok outcome)
+      pub all-written : TakesText to.report (text.report outcome frame_count) → Runs inputs to (Ok outcome)
       all-written report =
           record {
             plan = plan;
@@ -173,7 +177,7 @@ module _ {F W L R : Type 0} (to : Writers F W L R) (inputs : RunInputs) where
             holds = is-whole to plan inputs.dip outputs same listing frames wave frame_count count_is outcome outcome-same report;
           }
 
-      pub report-broke : (count : ℕ) → Stopped to.report (text.report outcome frame_count) count
+      pub report-broke : (count : ℕ) → StopsInText to.report (text.report outcome frame_count) count
           → Runs inputs to (Err (fault.Write which.Report count))
       report-broke count report =
           record {

@@ -1,24 +1,24 @@
 -- The answers of a run under a debugger, one by one.
 use Rattle.std.proofs.Common.{◌≡◌, ℕ, List, Option, Ok, Err, refl, sym, ap, subst, ◌∙◌}
 use Rattle.std.specs.Str.Lines.{lines}
-use Rattle.pac_inputs.specs.Stretches.{total}
-use Rattle.pac_program.specs.Programs.{Assembled}
-use Rattle.pac_step.specs.Output.{Output}
+use Rattle.pac_inputs.specs.Stretches.{total_frames}
+use Rattle.pac_asm_program.specs.Programs.{Assembled}
+use Rattle.pac_board_model.specs.Output.{Output}
 use Rattle.pac_board.specs.State.{BoardValue}
-use Rattle.pac_session.specs.Motions.{IsOutcome}
-use Rattle.pac_session.specs.Running.{whole_run}
-use Rattle.pac_session.specs.Session.{SessionValue, begun}
-use Rattle.pac_session.specs.declared.motion.Outcome as told
+use Rattle.pac_debug_session.specs.Motions.{IsOutcome}
+use Rattle.pac_debug_session.specs.Running.{whole_run}
+use Rattle.pac_debug_session.specs.Session.{SessionValue, session_at_start}
+use Rattle.pac_debug_session.specs.declared.motion.RunTotals as told
 use Rattle.pac_run.specs.declared.fault.Output.{Output as Which}
 use Rattle.pac_run.specs.declared.fault.Output.TheVariants as which
 use Rattle.pac_run.specs.declared.fault.RunFault.{RunFault}
 use Rattle.pac_run.specs.declared.fault.RunFault.TheVariants as fault
 use Rattle.pac_run.specs.declared.inputs.RunInputs.{RunInputs}
 use Rattle.pac_run.specs.declared.outcome.Outcome.{Outcome}
-use Rattle.pac_run.specs.Debugs.{IsReady, setting_of, IsBrokenAt, Debugs}
+use Rattle.pac_run.specs.Debugs.{IsReady, setting_of_plan, IsBrokenAt, Debugs}
 use Rattle.pac_run.specs.declared.plan.Prepared.{Prepared}
-use Rattle.pac_run.specs.Plan.{Plan, planned, IsPrepared, Prepares}
-use Rattle.pac_run.specs.Run.{Writing, Writers, Took, Stopped, Untouched, NothingWritten, outcome_of, trace_of}
+use Rattle.pac_run.specs.Plan.{Plan, plan_with, IsPrepared, Prepares}
+use Rattle.pac_run.specs.Run.{Writing, Writers, TakesText, StopsInText, IsUnwritten, NothingWritten, outcome_of, trace_of}
 use Rattle.pac_run.specs.Texts as text
 use Rattle.pac_run.specs.Watched.{AllTold, WatchedTill}
 use Rattle.pac_run.proofs.Answered.{NoWrite, plan-writes, cut-at-report, is-whole}
@@ -26,15 +26,15 @@ use Rattle.pac_run.proofs.Traced.{session-outputs, session-outcome, seen-through
 
 -- a session that was made of what was prepared
 pub ready-session : (inputs : RunInputs) (prepared : Prepared) (session : SessionValue) (frames : ℕ) → IsPrepared inputs prepared
-    → session ≡ begun (record {
+    → session ≡ session_at_start (record {
       set = prepared.board.set;
       switches = prepared.board.state.now.board.memory.switches;
       script = prepared.script;
     }) prepared.board.made
-    → frames ≡ total prepared.script → IsReady inputs prepared.program session frames
+    → frames ≡ total_frames prepared.script → IsReady inputs prepared.program session frames
 ready-session inputs prepared session frames ready is count =
-    let same : session ≡ begun (record { set = prepared.board.set; switches = inputs.dip; script = prepared.script }) 0 =
-    is ∙ ap (λ (board : BoardValue). begun (record {
+    let same : session ≡ session_at_start (record { set = prepared.board.set; switches = inputs.dip; script = prepared.script }) 0 =
+    is ∙ ap (λ (board : BoardValue). session_at_start (record {
       set = prepared.board.set;
       switches = board.state.now.board.memory.switches;
       script = prepared.script;
@@ -51,7 +51,7 @@ ready-session inputs prepared session frames ready is count =
 
 module _ {F W L R T : Type 0} (inputs : RunInputs) (commands : List ℕ) (to : Writers F W L R) (words : Writing T) where
   -- nothing was written
-  pub refused-all : (why : RunFault) → Prepares inputs (Err why) → NothingWritten to → Untouched words
+  pub refused-all : (why : RunFault) → Prepares inputs (Err why) → NothingWritten to → IsUnwritten words
       → Debugs inputs commands to words (Err why)
   refused-all (fault.Source refusal) is none silent = (is, none, silent)
   refused-all (fault.Set refusal) is none silent = (is, none, silent)
@@ -61,10 +61,11 @@ module _ {F W L R T : Type 0} (inputs : RunInputs) (commands : List ℕ) (to : W
 
   module _ (program : Option Assembled) (session : SessionValue) (frames : ℕ) (ready : IsReady inputs program session frames) where
     abbrev plan : Plan
-    plan = planned inputs program session.setting.set session.setting.script
+    plan = plan_with inputs program session.setting.set session.setting.script
 
-    pub unlisted : (count : ℕ) → Stopped to.listing plan.listing count → Untouched to.frames → Untouched to.wave → Untouched to.report
-        → Untouched words → Debugs inputs commands to words (Err (fault.Write which.Listing count))
+    pub unlisted : (count : ℕ) → StopsInText to.listing plan.listing count → IsUnwritten to.frames → IsUnwritten to.wave →
+        IsUnwritten to.report
+        → IsUnwritten words → Debugs inputs commands to words (Err (fault.Write which.Listing count))
     unlisted count stopped still_frames wave report silent =
         record {
           plan = plan;
@@ -81,24 +82,27 @@ module _ {F W L R T : Type 0} (inputs : RunInputs) (commands : List ℕ) (to : W
     same : outputs ≡ (trace_of plan inputs.dip).outputs
     same = session-outputs inputs program session frames ready
 
-    setting : session.setting ≡ setting_of plan inputs.dip
+    setting : session.setting ≡ setting_of_plan plan inputs.dip
     setting = sym (same-setting inputs program session frames ready)
 
     -- what a session's run leaves, by its answer: its run is the plan's trace
     broken-at : (output : Which) (count : ℕ)
-        → WatchedTill to.frames to.wave words (total session.setting.script) outputs session.setting (lines commands) output count
-        → Took to.listing plan.listing → Untouched to.report → IsBrokenAt plan inputs.dip commands to words output count
+        → WatchedTill to.frames to.wave words (total_frames session.setting.script) outputs session.setting (lines commands) output count
+        → TakesText to.listing plan.listing → IsUnwritten to.report → IsBrokenAt plan inputs.dip commands to words output count
     broken-at output count till listing report =
         broken-so output count
-        (subst (λ it. WatchedTill to.frames to.wave words (total plan.script) (trace_of plan inputs.dip).outputs it (lines commands) output
+        (subst (λ it. WatchedTill to.frames to.wave words (total_frames plan.script) (trace_of plan inputs.dip).outputs it
+        (lines commands) output
         count) setting
-        (subst (λ all. WatchedTill to.frames to.wave words (total plan.script) all session.setting (lines commands) output count) same
+        (subst (λ all. WatchedTill to.frames to.wave words (total_frames plan.script) all session.setting (lines commands) output count)
+        same
         till)) listing report
       where
         broken-so : (output : Which) (count : ℕ)
-            → WatchedTill to.frames to.wave words (total plan.script) (trace_of plan inputs.dip).outputs (setting_of plan inputs.dip)
+            → WatchedTill to.frames to.wave words (total_frames plan.script) (trace_of plan inputs.dip).outputs
+            (setting_of_plan plan inputs.dip)
             (lines commands) output count
-            → Took to.listing plan.listing → Untouched to.report → IsBrokenAt plan inputs.dip commands to words output count
+            → TakesText to.listing plan.listing → IsUnwritten to.report → IsBrokenAt plan inputs.dip commands to words output count
         broken-so which.Frames count till listing report = (record { listing = listing; film = till.0; report = report }, till.1)
         broken-so which.Wave count till listing report = (record { listing = listing; film = till.0; report = report }, till.1, till.2)
         broken-so which.Listing count till listing report = absurd till
@@ -106,8 +110,8 @@ module _ {F W L R T : Type 0} (inputs : RunInputs) (commands : List ℕ) (to : W
         broken-so which.Text count till listing report = record { listing = listing; report = report; untold = till }
 
     pub broke : (output : Which) (count : ℕ)
-        → WatchedTill to.frames to.wave words (total session.setting.script) outputs session.setting (lines commands) output count
-        → Took to.listing plan.listing → Untouched to.report → Debugs inputs commands to words (Err (fault.Write output count))
+        → WatchedTill to.frames to.wave words (total_frames session.setting.script) outputs session.setting (lines commands) output count
+        → TakesText to.listing plan.listing → IsUnwritten to.report → Debugs inputs commands to words (Err (fault.Write output count))
     broke output count till listing report =
         record {
           plan = plan;
@@ -115,18 +119,19 @@ module _ {F W L R T : Type 0} (inputs : RunInputs) (commands : List ℕ) (to : W
           holds = (seen-through inputs program session frames ready, broken-at output count till listing report);
         }
 
-    module _ (outcome : told.Outcome) (outcome_is : IsOutcome session outcome)
-        (shown : Took to.frames (text.frames_text outputs) × Took to.wave (text.wave_text (total session.setting.script) outputs)
-        × AllTold (Took words) session.setting (lines commands)) (listing : Took to.listing plan.listing)
+    module _ (outcome : told.RunTotals) (outcome_is : IsOutcome session outcome)
+        (shown : TakesText to.frames (text.images_text outputs)
+        × TakesText to.wave (text.wave_file_text (total_frames session.setting.script) outputs)
+        × AllTold (TakesText words) session.setting (lines commands)) (listing : TakesText to.listing plan.listing)
         (result : Outcome)
         (result_is : result ≡ record { frames = outcome.frames; steps = outcome.steps; ticks = outcome.ticks; stop = outcome.stop }) where
       ends-so : result ≡ outcome_of (trace_of plan inputs.dip)
       ends-so = result_is ∙ session-outcome inputs program session frames ready outcome outcome_is
 
-      all-told : AllTold (Took words) (setting_of plan inputs.dip) (lines commands)
-      all-told = subst (λ it. AllTold (Took words) it (lines commands)) setting shown.2
+      all-told : AllTold (TakesText words) (setting_of_plan plan inputs.dip) (lines commands)
+      all-told = subst (λ it. AllTold (TakesText words) it (lines commands)) setting shown.2
 
-      pub all-watched : Took to.report (text.report result frames) → Debugs inputs commands to words (Ok result)
+      pub all-watched : TakesText to.report (text.report result frames) → Debugs inputs commands to words (Ok result)
       all-watched report =
           record {
             plan = plan;
@@ -138,7 +143,7 @@ module _ {F W L R T : Type 0} (inputs : RunInputs) (commands : List ℕ) (to : W
             };
           }
 
-      pub unreported : (count : ℕ) → Stopped to.report (text.report result frames) count
+      pub unreported : (count : ℕ) → StopsInText to.report (text.report result frames) count
           → Debugs inputs commands to words (Err (fault.Write which.Report count))
       unreported count report =
           record {

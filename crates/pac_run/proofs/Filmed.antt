@@ -10,17 +10,17 @@ use Rattle.pac_out.specs.declared.WriteFault.{WriteFault}
 use Rattle.pac_out.proofs.Files.{takes-nothing, takes-joined, refuses-after, refuses-within}
 use Rattle.pac_media.specs.Images.{ppm_of}
 use Rattle.pac_media.specs.Samples.{sample_text, samples_text}
-use Rattle.pac_media.specs.Sound.{HasText, Gains, Delivers, Fails, Finishes}
+use Rattle.pac_media.specs.Sound.{HasText, Gains, Delivers, SoundFails, FinishesSound}
 use Rattle.pac_media.specs.Sound as media
 use Rattle.pac_media.proofs.Gathered.{fails-within, finishes-after}
-use Rattle.pac_step.specs.Output.{Output, Image, Sound, Show}
+use Rattle.pac_board_model.specs.Output.{Output, Image, Sound, Show}
 use Rattle.pac_board.specs.Sinks.{TookAll, RefusesAt}
 use Rattle.pac_run.specs.declared.fault.Output.{Output as Which}
 use Rattle.pac_run.specs.declared.fault.Output.TheVariants as which
 use Rattle.pac_run.specs.declared.film.Film.{Film}
 use Rattle.pac_run.specs.Films.{film_took, film_refused, RefusedSample, RefusedImage}
 use Rattle.pac_run.specs.Recorded.{sound_text, IsRecorded, IsFlushed, StopsInImage, StopsInSound, StopsFilm, StopsAmong, GivesUp}
-use Rattle.pac_run.specs.Texts.{pictures_in, samples_in, frames_text}
+use Rattle.pac_run.specs.Texts.{pictures_in, samples_in, images_text}
 
 -- ---- texts of lists that are put together
 
@@ -37,7 +37,7 @@ samples-append (Show image ∷ one) other = samples-append one other
 abbrev image_text : Image → List ℕ
 image_text image = ppm_of image.lines image.palette
 
-pub frames-append : (one other : List Output) → frames_text (one ++ other) ≡ frames_text one ++ frames_text other
+pub frames-append : (one other : List Output) → images_text (one ++ other) ≡ images_text one ++ images_text other
 frames-append one other =
     ap (λ images. flat_map image_text images) (pictures-append one other)
     ∙ flat_map-append image_text (pictures_in one) (pictures_in other)
@@ -74,7 +74,7 @@ module _ {F W : Type 0} (took_f : F → List ℕ → F → Type 0) (refused_f : 
       }
 
   pub record Filmed (outputs : List Output) (old new : Film F W) : Type 0 where
-    pub frames : Takes took_f old.frames (frames_text outputs) new.frames
+    pub frames : Takes took_f old.frames (images_text outputs) new.frames
     pub wave : Gains took_w old.wave (samples_text (samples_in outputs)) new.wave
     pub owed : new.wave.owed ≡ old.wave.owed - length (samples_in outputs)
 
@@ -87,7 +87,7 @@ module _ {F W : Type 0} (took_f : F → List ℕ → F → Type 0) (refused_f : 
       let one = took.before in
       let rest = filmed more took.between new took.after in
       record {
-        frames = subst (λ file. Takes took_f file (frames_text more) new.frames) one.frames rest.frames;
+        frames = subst (λ file. Takes took_f file (images_text more) new.frames) one.frames rest.frames;
         wave = gains-joined old.wave took.between.wave new.wave (sample_text sample) (samples_text (samples_in more)) one.wave rest.wave;
         owed = let e = rest.owed in let f = one.owed in omega (arith, e, f);
       }
@@ -109,12 +109,12 @@ module _ {F W : Type 0} (took_f : F → List ℕ → F → Type 0) (refused_f : 
 
   pub recorded : {A : Type 0} (outputs : List Output) (old mid new : Film F W) (done : A)
       → TookAll (film_took took_f took_w) old outputs mid
-      → Finishes {A = A} took_w refused_w mid.wave (samples_text (replicate mid.wave.owed (pos 0))) (Ok done) new.wave
+      → FinishesSound {A = A} took_w refused_w mid.wave (samples_text (replicate mid.wave.owed (pos 0))) (Ok done) new.wave
       → new.frames ≡ mid.frames → IsRecorded took_f took_w outputs old new
   recorded outputs old mid new done took finished same =
       let film = filmed outputs old mid took in
       record {
-        frames = subst (λ file. Takes took_f old.frames (frames_text outputs) file) (sym same) film.frames;
+        frames = subst (λ file. Takes took_f old.frames (images_text outputs) file) (sym same) film.frames;
         wave = subst (λ bytes. Delivers took_w old.wave bytes new.wave) (zeros-last outputs old mid film)
             (record {
               at_least = let e = film.wave.at_least in let f = finished.at_least in omega (arith, e, f);
@@ -150,9 +150,9 @@ module _ {F W : Type 0} (took_f : F → List ℕ → F → Type 0) (refused_f : 
       ∙ ap samples_text (sym (samples-append taken (Sound sample ∷ [])))
 
   one-image : (taken : List Output) (image : Image)
-      → (frames_text taken ++ image_text image) ++ [] ≡ frames_text (taken ++ Show image ∷ [])
+      → (images_text taken ++ image_text image) ++ [] ≡ images_text (taken ++ Show image ∷ [])
   one-image taken image =
-      append_assoc (frames_text taken) (image_text image) [] ∙ sym (frames-append taken (Show image ∷ []))
+      append_assoc (images_text taken) (image_text image) [] ∙ sym (frames-append taken (Show image ∷ []))
 
   stops-in-sound : (taken : List Output) (sample : ℤ) (old asked mid new : Film F W) → Filmed taken old asked
       → (refused : RefusedSample took_w refused_w asked sample mid) → new ≡ mid
@@ -163,19 +163,20 @@ module _ {F W : Type 0} (took_f : F → List ℕ → F → Type 0) (refused_f : 
       (record {
         fault = refused.told;
         count_is = refl;
-        frames = subst (λ file. Takes took_f old.frames (frames_text taken) file) (sym refused.frames) film.frames;
-        wave = subst (λ bytes. Fails took_w refused_w old.wave bytes refused.told mid.wave) (one-sample taken sample)
+        frames = subst (λ file. Takes took_f old.frames (images_text taken) file) (sym refused.frames) film.frames;
+        wave = subst (λ bytes. SoundFails took_w refused_w old.wave bytes refused.told mid.wave) (one-sample taken sample)
             (fails-within film.wave refused.wave []);
       })
 
   stops-in-image : (taken : List Output) (image : Image) (old asked mid new : Film F W) → Filmed taken old asked
-      → (refused : RefusedImage took_f refused_f asked image mid) → new.frames ≡ mid.frames → IsFlushed took_w refused_w mid.wave [] new.wave
+      → (refused : RefusedImage took_f refused_f asked image mid) → new.frames ≡ mid.frames →
+      IsFlushed took_w refused_w mid.wave [] new.wave
       → StopsInImage took_f refused_f took_w refused_w taken image old refused.told.count new
   stops-in-image taken image old asked mid new film refused frames flushed =
       record {
         fault = refused.told;
         count_is = refl;
-        frames = subst (λ file. Refuses took_f refused_f old.frames (frames_text (taken ++ Show image ∷ [])) refused.told file) (sym frames)
+        frames = subst (λ file. Refuses took_f refused_f old.frames (images_text (taken ++ Show image ∷ [])) refused.told file) (sym frames)
             (subst (λ bytes. Refuses took_f refused_f old.frames bytes refused.told mid.frames) (one-image taken image)
             (refuses-within (refuses-after film.frames refused.frames) []));
         images = λ start fresh.
@@ -190,7 +191,8 @@ module _ {F W : Type 0} (took_f : F → List ℕ → F → Type 0) (refused_f : 
         };
       }
 
-  pub stops-at-next : (output : Output) (taken rest : List Output) (old asked mid new : Film F W) (fault : Which × ℕ) → Filmed taken old asked
+  pub stops-at-next : (output : Output) (taken rest : List Output) (old asked mid new : Film F W) (fault : Which × ℕ) →
+      Filmed taken old asked
       → film_refused took_f refused_f took_w refused_w asked output mid → Some fault ≡ mid.fault → GivesUp took_w refused_w mid fault.0 new
       → StopsFilm took_f refused_f took_w refused_w taken (output ∷ rest) old fault.0 fault.1 new
   stops-at-next (Sound sample) taken rest old asked mid new fault film refused told gives =
@@ -205,7 +207,8 @@ module _ {F W : Type 0} (took_f : F → List ℕ → F → Type 0) (refused_f : 
       (stops-in-image taken image old asked mid new film refused ends.0 ends.1)
 
   -- among all outputs of a run
-  abbrev pub stops-among : (outputs taken left : List Output) (old mid new : Film F W) (fault : Which × ℕ) → IsPrefix (taken ++ left) outputs
+  abbrev pub stops-among : (outputs taken left : List Output) (old mid new : Film F W) (fault : Which × ℕ) →
+      IsPrefix (taken ++ left) outputs
       → RefusesAt (film_took took_f took_w) (film_refused took_f refused_f took_w refused_w) old taken left mid
       → Some fault ≡ mid.fault → GivesUp took_w refused_w mid fault.0 new
       → StopsAmong took_f refused_f took_w refused_w outputs old fault.0 fault.1 new
@@ -225,7 +228,7 @@ module _ {F W : Type 0} (took_f : F → List ℕ → F → Type 0) (refused_f : 
   -- all were taken, and the zeros refused
   abbrev pub stops-at-zeros : (outputs : List Output) (old mid new : Film F W) (told : WriteFault)
       → TookAll (film_took took_f took_w) old outputs mid
-      → Fails took_w refused_w mid.wave (samples_text (replicate mid.wave.owed (pos 0))) told new.wave
+      → SoundFails took_w refused_w mid.wave (samples_text (replicate mid.wave.owed (pos 0))) told new.wave
       → new.frames ≡ mid.frames → StopsAmong took_f refused_f took_w refused_w outputs old which.Wave told.count new
   stops-at-zeros outputs old mid new told took fails same =
       let film = filmed outputs old mid took in
@@ -237,8 +240,8 @@ module _ {F W : Type 0} (took_f : F → List ℕ → F → Type 0) (refused_f : 
         film = record {
           fault = told;
           count_is = refl;
-          frames = subst (λ file. Takes took_f old.frames (frames_text outputs) file) (sym same) film.frames;
-          wave = subst (λ bytes. Fails took_w refused_w old.wave bytes told new.wave)
+          frames = subst (λ file. Takes took_f old.frames (images_text outputs) file) (sym same) film.frames;
+          wave = subst (λ bytes. SoundFails took_w refused_w old.wave bytes told new.wave)
               (append-nil (samples_text (samples_in outputs) ++ zeros) ∙ zeros-last outputs old mid film)
               (fails-within film.wave fails []);
         };

@@ -7,20 +7,20 @@ use Rattle.pac_out.specs.declared.WriteFault.{WriteFault}
 use Rattle.pac_out.specs.Counted.{HasTaken, HasStopped, Takes, Puts}
 use Rattle.pac_out.specs.Writes.{lent_took, lent_refused}
 use Rattle.pac_out.proofs.Files.{stops-within}
-use Rattle.pac_session.specs.Running.{Setting, whole_run}
+use Rattle.pac_debug_session.specs.Running.{Setting, whole_run}
 use Rattle.pac_debug.specs.Watched.{given_by}
 use Rattle.pac_media.specs.Samples.{wav_header, samples_text, header_size}
-use Rattle.pac_media.specs.Sound.{HasText, Delivers, Fails, Finishes}
+use Rattle.pac_media.specs.Sound.{HasText, Delivers, SoundFails, FinishesSound}
 use Rattle.pac_media.specs.Sound as media
-use Rattle.pac_step.specs.Laws.{frame_samples}
-use Rattle.pac_step.specs.Output.{Output, Sound, Show}
+use Rattle.pac_board_model.specs.Laws.{frame_samples}
+use Rattle.pac_board_model.specs.Output.{Output, Sound, Show}
 use Rattle.pac_run.specs.declared.fault.Output.{Output as Which}
 use Rattle.pac_run.specs.declared.fault.Output.TheVariants as which
 use Rattle.pac_run.specs.declared.film.Film.{Film}
-use Rattle.pac_run.specs.Recorded.{sound_text, IsRecorded, StopsFilm, StopsAmong, Performs, Records, FilmStops, Written}
-use Rattle.pac_run.specs.Run.{Writing, Took, Stopped, TookOrRefused, StopsAt, HeldUp, FramesStop, WaveStops}
-use Rattle.pac_run.specs.Texts.{samples_in, frames_text, wave_text, wave_so_far}
-use Rattle.pac_run.specs.Watched.{AllTold, ToldTill, BreaksOff, Stumbled, IsCutShort, TookOutputs, FilmsTill, Films, WatchedTill, Watched}
+use Rattle.pac_run.specs.Recorded.{sound_text, IsRecorded, StopsFilm, StopsAmong, PerformsFilm, RecordsOutputs, FilmStops, WritesWholeText}
+use Rattle.pac_run.specs.Run.{Writing, TakesText, StopsInText, TookOrRefused, StopsAt, IsFilmHeldUp, FramesStop, WaveStops}
+use Rattle.pac_run.specs.Texts.{samples_in, images_text, wave_file_text, wave_so_far}
+use Rattle.pac_run.specs.Watched.{AllTold, ToldTill, BreaksOff, IsTextStopped, IsCutShort, TookOutputs, FilmsTill, Films, WatchedTill, WatchesOutputs}
 use Rattle.pac_run.proofs.Filmed.{frames-append, sound-append}
 
 -- a writer before a run and after it
@@ -38,7 +38,7 @@ module _ {W : Type 0} (took : W → List ℕ → W → Type 0) (refused : W → 
       let written = has.written in subst (λ new. took owner.now text new) (sym (ends (sym written.0))) written.1
 
   has-stopped : (file : Counted (MutBor W)) (text : List ℕ) (count : ℕ) → HasStopped (lent_took took) (lent_refused refused) owner text file
-      → count ≡ file.count → Ends owner file.writer left → Stopped (writing took refused owner.now left) text count
+      → count ≡ file.count → Ends owner file.writer left → StopsInText (writing took refused owner.now left) text count
   has-stopped file text count has same ends =
       let stop = has.stopped in
       record {
@@ -55,7 +55,7 @@ module _ {W : Type 0} (took : W → List ℕ → W → Type 0) (refused : W → 
   -- a text that was put into a new file
   pub written : {A : Type 0} (result : Result A WriteFault) (text : List ℕ) (file new : Counted (MutBor W))
       → HasTaken (lent_took took) owner [] file → Puts (lent_took took) (lent_refused refused) file text result new
-      → Ends owner new.writer left → Written (writing took refused owner.now left) text result
+      → Ends owner new.writer left → WritesWholeText (writing took refused owner.now left) text result
   written (Ok done) text file new fresh puts ends = has-taken new text (puts.takes.after owner [] fresh) ends
   written (Err fault) text file new fresh puts ends = has-stopped new text fault.count (puts.after owner [] fresh) puts.told ends
 
@@ -64,7 +64,7 @@ module _ {W : Type 0} (took : W → List ℕ → W → Type 0) (refused : W → 
       (ends : Ends owner new.writer left) where
     -- it refused within a line's text
     pub broke-off : (told more : List ℕ) (count : ℕ) → BreaksOff (lent_took took) (lent_refused refused) file told more count new
-        → Stumbled (writing took refused owner.now left) count told more
+        → IsTextStopped (writing took refused owner.now left) count told more
     broke-off told more count broke =
         let before = broke.takes.after owner [] fresh in
         record {
@@ -73,14 +73,14 @@ module _ {W : Type 0} (took : W → List ℕ → W → Type 0) (refused : W → 
         }
 
     pub all-told : AllTold (λ told. Takes (lent_took took) file told new) setting lines
-        → AllTold (Took (writing took refused owner.now left)) setting lines
+        → AllTold (TakesText (writing took refused owner.now left)) setting lines
     all-told all = record { told = all.told; tells = all.tells; taken = has-taken new all.told (all.taken.after owner [] fresh) ends }
 
   -- a writer that refused within the beginning of a text
   pub stopped-early : (head bytes more all : List ℕ) (old new : media.Sound (MutBor W)) (fault : WriteFault)
-      → HasText (lent_took took) owner head old → Fails (lent_took took) (lent_refused refused) old bytes fault new
+      → HasText (lent_took took) owner head old → SoundFails (lent_took took) (lent_refused refused) old bytes fault new
       → (head ++ bytes) ++ more ≡ all → Ends owner new.file.writer left
-      → Stopped (writing took refused owner.now left) all fault.count
+      → StopsInText (writing took refused owner.now left) all fault.count
   stopped-early head bytes more all old new fault has fails whole ends =
       let stop = fails.after owner head has in
       has-stopped new.file all fault.count
@@ -95,7 +95,7 @@ module _ {W : Type 0} (took : W → List ℕ → W → Type 0) (refused : W → 
 
   -- the sound so far after the header, written where its writer doesn't refuse
   flushed-all : {A : Type 0} (answer : Result A WriteFault) (head bytes : List ℕ) (old new : media.Sound (MutBor W))
-      → HasText (lent_took took) owner head old → Finishes (lent_took took) (lent_refused refused) old bytes answer new
+      → HasText (lent_took took) owner head old → FinishesSound (lent_took took) (lent_refused refused) old bytes answer new
       → Ends owner new.file.writer left → TookOrRefused (writing took refused owner.now left) (head ++ bytes)
   flushed-all (Ok done) head bytes old new has finishes ends =
       inl (has-taken new.file (head ++ bytes) (finishes.after owner head has) ends)
@@ -133,7 +133,7 @@ header-counted {start = start} samples has done =
 -- and it took less than the header
 pub header-short : {W : Type 0} (took : W → List ℕ → W → Type 0) (refused : W → W → Type 0) (owner : MutBor W) (samples : ℕ)
     (old new : media.Sound (MutBor W)) (fault : WriteFault) → HasText (lent_took took) owner (wav_header samples) old
-    → Fails (lent_took took) (lent_refused refused) old [] fault new → fault.count < header_size
+    → SoundFails (lent_took took) (lent_refused refused) old [] fault new → fault.count < header_size
 header-short took refused owner samples old new fault text fails =
     let stop = fails.after owner (wav_header samples) text in
     let less = stop.stopped.some_left in
@@ -146,13 +146,13 @@ pub header-broke : {F W : Type 0} (took_f : F → List ℕ → F → Type 0) (re
     (refused_w : W → W → Type 0) (frames : F) (wave : MutBor W) (left_w : W) (count total : ℕ) (outputs : List Output)
     (old new : media.Sound (MutBor W)) (fault : WriteFault) (writer : MutBor W)
     → HasText (lent_took took_w) wave (wav_header (frame_samples * count)) old → count ≡ total
-    → Fails (lent_took took_w) (lent_refused refused_w) old [] fault new → writer ≡ new.file.writer → Ends wave writer left_w
+    → SoundFails (lent_took took_w) (lent_refused refused_w) old [] fault new → writer ≡ new.file.writer → Ends wave writer left_w
     → WaveStops (writing took_f refused_f frames frames) (writing took_w refused_w wave.now left_w) total outputs fault.count
 header-broke {W = W} took_f refused_f took_w refused_w frames wave left_w count total outputs old new fault writer text same fails is ends =
     record {
       wave_stops =
           stopped-early took_w refused_w wave left_w (wav_header (frame_samples * count)) [] (sound_text (frame_samples * total) outputs)
-          (wave_text total outputs) old new fault text fails
+          (wave_file_text total outputs) old new fault text fails
           (ap (λ head. head ++ sound_text (frame_samples * total) outputs) (append-nil (wav_header (frame_samples * count)))
           ∙ ap (λ (n : ℕ). wav_header (frame_samples * n) ++ sound_text (frame_samples * total) outputs) same)
           (subst (λ (it : MutBor W). Ends wave it left_w) is ends);
@@ -163,22 +163,22 @@ header-broke {W = W} took_f refused_f took_w refused_w frames wave left_w count 
 
 -- so much of all images, and of the whole wave file
 module _ {F W : Type 0} (frames : Writing F) (wave : Writing W) (total : ℕ) where
-  longer : {T : Type 0} (writer : Writing T) (text more all : List ℕ) (count : ℕ) → Stopped writer text count → text ++ more ≡ all
-      → Stopped writer all count
+  longer : {T : Type 0} (writer : Writing T) (text more all : List ℕ) (count : ℕ) → StopsInText writer text count → text ++ more ≡ all
+      → StopsInText writer all count
   longer writer text more all count stopped whole =
-      subst (λ all. Stopped writer all count) whole
+      subst (λ all. StopsInText writer all count) whole
       (record { taken = stopped.taken; stopped = stops-within stopped.stopped more; count_is = stopped.count_is })
 
   whole-frames : (taken left : List Output) (count : ℕ) → StopsAt frames wave total taken left which.Frames count
-      → Stopped frames (frames_text (taken ++ left)) count
+      → StopsInText frames (images_text (taken ++ left)) count
   whole-frames taken (Show image ∷ more) count stops =
-      longer frames (frames_text (taken ++ Show image ∷ [])) (frames_text more) _ count stops.film
-      (sym (frames-append (taken ++ Show image ∷ []) more) ∙ ap frames_text (append_assoc taken (Show image ∷ []) more))
+      longer frames (images_text (taken ++ Show image ∷ [])) (images_text more) _ count stops.film
+      (sym (frames-append (taken ++ Show image ∷ []) more) ∙ ap images_text (append_assoc taken (Show image ∷ []) more))
   whole-frames taken (Sound sample ∷ more) count stops = absurd stops
   whole-frames taken [] count stops = absurd stops
 
   whole-wave : (taken left : List Output) (count : ℕ) → StopsAt frames wave total taken left which.Wave count
-      → Stopped wave (wave_text total (taken ++ left)) count
+      → StopsInText wave (wave_file_text total (taken ++ left)) count
   whole-wave taken (Show image ∷ more) count stops = absurd stops
   whole-wave taken (Sound sample ∷ more) count stops =
       let header = wav_header (frame_samples * total) in
@@ -188,9 +188,9 @@ module _ {F W : Type 0} (frames : Writing F) (wave : Writing W) (total : ℕ) wh
       longer wave (wave_so_far total till) rest _ count stops.1
       (append_assoc header (samples_text (samples_in till)) rest
       ∙ ap (λ sound. header ++ sound) (sound-append (frame_samples * total) till more)
-      ∙ ap (λ outputs. wave_text total outputs) (append_assoc taken (Sound sample ∷ []) more))
+      ∙ ap (λ outputs. wave_file_text total outputs) (append_assoc taken (Sound sample ∷ []) more))
   whole-wave taken [] count stops =
-      subst (λ outputs. Stopped wave (wave_text total outputs) count) (sym (append-nil taken)) stops.1
+      subst (λ outputs. StopsInText wave (wave_file_text total outputs) count) (sym (append-nil taken)) stops.1
 
 -- film and wave file together
 module _ {F W : Type 0} (took_f : F → List ℕ → F → Type 0) (refused_f : F → F → Type 0) (took_w : W → List ℕ → W → Type 0)
@@ -219,11 +219,11 @@ module _ {F W : Type 0} (took_f : F → List ℕ → F → Type 0) (refused_f : 
   owed = owes ∙ ap (λ (n : ℕ). frame_samples * n) count_is
 
   whole : (outputs : List Output) → IsRecorded (lent_took took_f) (lent_took took_w) outputs old new
-      → Took (writing took_f refused_f frames.now left_f) (frames_text outputs)
-      × Took (writing took_w refused_w wave.now left_w) (wave_text total outputs)
+      → TakesText (writing took_f refused_f frames.now left_f) (images_text outputs)
+      × TakesText (writing took_w refused_w wave.now left_w) (wave_file_text total outputs)
   whole outputs performs = (
-    has-taken took_f refused_f frames left_f new.frames (frames_text outputs) (performs.frames.after frames [] fresh) ends_f,
-    has-taken took_w refused_w wave left_w new.wave.file (wave_text total outputs)
+    has-taken took_f refused_f frames left_f new.frames (images_text outputs) (performs.frames.after frames [] fresh) ends_f,
+    has-taken took_w refused_w wave left_w new.wave.file (wave_file_text total outputs)
         (subst (λ n. HasTaken (lent_took took_w) wave (header ++ sound_text n outputs) new.wave.file) owed
         (performs.wave.after wave header begun)) ends_w,
   )
@@ -235,20 +235,20 @@ module _ {F W : Type 0} (took_f : F → List ℕ → F → Type 0) (refused_f : 
       → StopsAt (writing took_f refused_f frames.now left_f) (writing took_w refused_w wave.now left_w) total taken left output count
   stops-at taken (Show image ∷ more) which.Frames count stops =
       record {
-        film = has-stopped took_f refused_f frames left_f new.frames (frames_text (taken ++ Show image ∷ [])) count
+        film = has-stopped took_f refused_f frames left_f new.frames (images_text (taken ++ Show image ∷ [])) count
             (stops.frames.after frames [] fresh) (stops.count_is ∙ stops.frames.told) ends_f;
         images = stops.images frames fresh;
         sound = flushed-all took_w refused_w wave left_w stops.wave.answer header (samples_text (samples_in taken)) old.wave new.wave begun
             stops.wave.written ends_w;
       }
   stops-at taken (Sound sample ∷ more) which.Wave count stops = (
-    has-taken took_f refused_f frames left_f new.frames (frames_text taken) (stops.frames.after frames [] fresh) ends_f,
+    has-taken took_f refused_f frames left_f new.frames (images_text taken) (stops.frames.after frames [] fresh) ends_f,
     has-stopped took_w refused_w wave left_w new.wave.file (wave_so_far total (taken ++ Sound sample ∷ [])) count
         (stops.wave.after wave header begun) (stops.count_is ∙ stops.wave.told) ends_w,
   )
   stops-at taken [] which.Wave count stops = (
-    has-taken took_f refused_f frames left_f new.frames (frames_text taken) (stops.frames.after frames [] fresh) ends_f,
-    has-stopped took_w refused_w wave left_w new.wave.file (wave_text total taken) count
+    has-taken took_f refused_f frames left_f new.frames (images_text taken) (stops.frames.after frames [] fresh) ends_f,
+    has-stopped took_w refused_w wave left_w new.wave.file (wave_file_text total taken) count
         (subst (λ n. HasStopped (lent_took took_w) (lent_refused refused_w) wave (header ++ sound_text n taken) new.wave.file) owed
         (stops.wave.after wave header begun))
         (stops.count_is ∙ stops.wave.told) ends_w,
@@ -257,7 +257,8 @@ module _ {F W : Type 0} (took_f : F → List ℕ → F → Type 0) (refused_f : 
 
   -- the wave's header was written before
   past-header : (taken left : List Output) (count : ℕ)
-      → StopsFilm (lent_took took_f) (lent_refused refused_f) (lent_took took_w) (lent_refused refused_w) taken left old which.Wave count new
+      → StopsFilm (lent_took took_f) (lent_refused refused_f) (lent_took took_w) (lent_refused refused_w) taken left old which.Wave count
+      new
       → header_size ≤ count
   past-header taken (Show image ∷ more) count stops = absurd stops
   past-header taken (Sound sample ∷ more) count stops = let after = stops.wave.at_least in omega (arith, headed, after, stops.count_is)
@@ -265,7 +266,7 @@ module _ {F W : Type 0} (took_f : F → List ℕ → F → Type 0) (refused_f : 
 
   abbrev held-up : (outputs : List Output) (output : Which) (count : ℕ)
       → StopsAmong (lent_took took_f) (lent_refused refused_f) (lent_took took_w) (lent_refused refused_w) outputs old output count new
-      → HeldUp (writing took_f refused_f frames.now left_f) (writing took_w refused_w wave.now left_w) total outputs output count
+      → IsFilmHeldUp (writing took_f refused_f frames.now left_f) (writing took_w refused_w wave.now left_w) total outputs output count
   held-up outputs output count stops =
       record {
         taken = stops.taken;
@@ -275,12 +276,13 @@ module _ {F W : Type 0} (took_f : F → List ℕ → F → Type 0) (refused_f : 
       }
 
   abbrev frames-stop : (outputs : List Output) (count : ℕ)
-      → StopsAmong (lent_took took_f) (lent_refused refused_f) (lent_took took_w) (lent_refused refused_w) outputs old which.Frames count new
+      → StopsAmong (lent_took took_f) (lent_refused refused_f) (lent_took took_w) (lent_refused refused_w) outputs old which.Frames count
+      new
       → FramesStop (writing took_f refused_f frames.now left_f) (writing took_w refused_w wave.now left_w) total outputs count
   frames-stop outputs count stops =
       let held = held-up outputs which.Frames count stops in
       record {
-        frames_stop = subst (λ all. Stopped (writing took_f refused_f frames.now left_f) (frames_text all) count) (sym stops.parts)
+        frames_stop = subst (λ all. StopsInText (writing took_f refused_f frames.now left_f) (images_text all) count) (sym stops.parts)
             (whole-frames (writing took_f refused_f frames.now left_f) (writing took_w refused_w wave.now left_w) total stops.taken
             stops.left count held.stops);
         held_up = held;
@@ -293,7 +295,8 @@ module _ {F W : Type 0} (took_f : F → List ℕ → F → Type 0) (refused_f : 
       let held = held-up outputs which.Wave count stops in
       let enough = past-header stops.taken stops.left count stops.film in
       record {
-        wave_stops = subst (λ all. Stopped (writing took_w refused_w wave.now left_w) (wave_text total all) count) (sym stops.parts)
+        wave_stops = subst (λ all. StopsInText (writing took_w refused_w wave.now left_w) (wave_file_text total all) count)
+            (sym stops.parts)
             (whole-wave (writing took_f refused_f frames.now left_f) (writing took_w refused_w wave.now left_w) total stops.taken
             stops.left count held.stops);
         header_first = λ few. absurd (omega (arith, few, enough));
@@ -331,15 +334,15 @@ module _ {F W : Type 0} (took_f : F → List ℕ → F → Type 0) (refused_f : 
       no-words taken (Sound sample ∷ more) count stops = stops
 
   pub records : {A : Type 0} (outputs : List Output) (result : Result A (Which × ℕ))
-      → Performs (lent_took took_f) (lent_refused refused_f) (lent_took took_w) (lent_refused refused_w) outputs old result new
-      → Records (writing took_f refused_f frames.now left_f) (writing took_w refused_w wave.now left_w) total outputs result
+      → PerformsFilm (lent_took took_f) (lent_refused refused_f) (lent_took took_w) (lent_refused refused_w) outputs old result new
+      → RecordsOutputs (writing took_f refused_f frames.now left_f) (writing took_w refused_w wave.now left_w) total outputs result
   records outputs (Ok done) performs = whole outputs performs
   records outputs (Err fault) performs = film-stops outputs fault.0 fault.1 performs
 
   cut-short : (taken : List Output) → IsCutShort (lent_took took_f) (lent_took took_w) (lent_refused refused_w) taken old new
       → TookOutputs (writing took_f refused_f frames.now left_f) (writing took_w refused_w wave.now left_w) total taken
   cut-short taken cut = (
-    has-taken took_f refused_f frames left_f new.frames (frames_text taken) (cut.frames.after frames [] fresh) ends_f,
+    has-taken took_f refused_f frames left_f new.frames (images_text taken) (cut.frames.after frames [] fresh) ends_f,
     flushed-all took_w refused_w wave left_w cut.wave.answer header (samples_text (samples_in taken)) old.wave new.wave begun
         cut.wave.written ends_w,
   )
@@ -352,7 +355,7 @@ module _ {F W : Type 0} (took_f : F → List ℕ → F → Type 0) (refused_f : 
     shown = (whole_run setting).outputs
 
     told-till : (taken : List Output) → ToldTill (λ told. Takes (lent_took took) words told later) setting lines taken
-        → ToldTill (Took (writing took refused owner.now left)) setting lines taken
+        → ToldTill (TakesText (writing took refused owner.now left)) setting lines taken
     told-till taken till =
         record {
           told = till.told;
@@ -394,7 +397,7 @@ module _ {F W : Type 0} (took_f : F → List ℕ → F → Type 0) (refused_f : 
     pub films : {A : Type 0} (result : Result A (Which × ℕ))
         → Films (lent_took took_f) (lent_refused refused_f) (lent_took took_w) (lent_refused refused_w) (lent_took took)
         (lent_refused refused) setting lines old words result new later
-        → Watched (writing took_f refused_f frames.now left_f) (writing took_w refused_w wave.now left_w)
+        → WatchesOutputs (writing took_f refused_f frames.now left_f) (writing took_w refused_w wave.now left_w)
         (writing took refused owner.now left) total shown setting lines result
     films (Ok done) watched =
         let film = whole shown watched.0 in

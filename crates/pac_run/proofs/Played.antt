@@ -3,29 +3,29 @@ use Rattle.std.proofs.Common.{◌≡◌, ℕ, zero, suc, ◌+◌, ◌-◌, ◌*�
 use Rattle.std.proofs.Common.{true, false, is_some, refl, sym, ap, subst, ◌∙◌, append_assoc, arith}
 use Rattle.std.proofs.lemmas.List.{append-nil}
 use Rattle.pac_cpu.specs.declared.once.Stop.{Stop}
-use Rattle.pac_inputs.specs.Stretches.{total, held}
+use Rattle.pac_inputs.specs.Stretches.{total_frames, held}
 use Rattle.pac_inputs.specs.declared.line.Stretch.{Stretch}
 use Rattle.pac_map.specs.Entry.{Hold}
-use Rattle.pac_step.specs.BoardView.{BoardView, board_after}
-use Rattle.pac_step.specs.Laws.{by_frames, next_frame, with_frame}
-use Rattle.pac_step.specs.Output.{Output}
-use Rattle.pac_step.specs.Step.{Questions, step, frame_ticks}
-use Rattle.pac_step.specs.Trace.{by_view}
-use Rattle.pac_step.specs.Walk.{Walk, walk_to}
-use Rattle.pac_step.proofs.Runs.{runs-go-by-frames, walk-near}
-use Rattle.pac_step.proofs.Walks.{goes-on, open-is-late, step-timely, walk-to-ends}
+use Rattle.pac_board_model.specs.BoardView.{BoardView, board_after}
+use Rattle.pac_board_model.specs.Laws.{by_frames, next_frame, with_frame}
+use Rattle.pac_board_model.specs.Output.{Output}
+use Rattle.pac_board_model.specs.Step.{Questions, step, frame_ticks}
+use Rattle.pac_board_model.specs.Trace.{by_view}
+use Rattle.pac_board_model.specs.Walk.{Walk, walk_to}
+use Rattle.pac_board_model.proofs.Runs.{runs-go-by-frames, walk-near}
+use Rattle.pac_board_model.proofs.Walks.{goes-on, open-is-late, step-timely, walk-to-ends}
 use Rattle.pac_board.specs.declared.fault.Fault.{Fault}
 use Rattle.pac_board.specs.declared.fault.Fault.TheVariants.{TooFar, Refused}
-use Rattle.pac_board.specs.Calls.{course_at, course, given, IsRunRefused, Runs}
+use Rattle.pac_board.specs.Calls.{course_at, course, outputs_given, IsRunRefused, Executes}
 use Rattle.pac_board.specs.Sinks.{TookAll}
-use Rattle.pac_board.specs.State.{BoardValue, State, nothing_due, due_outputs, counted, time_of, most_asked, held as holding}
+use Rattle.pac_board.specs.State.{BoardValue, BoardState, nothing_due, due_outputs, steps_counted, time_of, most_asked, board_with_inputs}
 use Rattle.pac_board.proofs.Sinks.{took-both, refuses-after}
 use Rattle.pac_run.specs.Plays.{IsUntouched, run_of, frame_microseconds, IsFrame, IsPlayed, IsRefusedAmong}
 
 -- ---- a call that the sink refused
 
 pub frame-refused : {S : Type 0} (took refused : S → Output → S → Type 0) (old new : BoardValue) (microseconds : ℕ) (sink later : S)
-    → IsRunRefused took refused old microseconds sink new later → IsRefusedAmong took refused (given old microseconds) sink later
+    → IsRunRefused took refused old microseconds sink new later → IsRefusedAmong took refused (outputs_given old microseconds) sink later
 frame-refused took refused old new microseconds sink later told =
     let next = step (by_view old.set) in
     let limit = time_of (old.state.asked + microseconds) in
@@ -45,8 +45,8 @@ frame-refused took refused old new microseconds sink later told =
 
 -- within the limits nothing else fails
 pub frame-failed : {S : Type 0} (took refused : S → Output → S → Type 0) (old new : BoardValue) (microseconds : ℕ) (sink later : S)
-    (fault : Fault) → old.state.asked + microseconds ≤ most_asked → Runs took refused old microseconds sink (Err fault) new later
-    → IsRefusedAmong took refused (given old microseconds) sink later
+    (fault : Fault) → old.state.asked + microseconds ≤ most_asked → Executes took refused old microseconds sink (Err fault) new later
+    → IsRefusedAmong took refused (outputs_given old microseconds) sink later
 frame-failed took refused old new microseconds sink later Refused within told =
     frame-refused took refused old new microseconds sink later told
 frame-failed took refused old new microseconds sink later TooFar within told = let far = told.0 in absurd (omega arith)
@@ -160,12 +160,12 @@ module _ {S : Type 0} (took : S → Output → S → Type 0) (old : BoardValue) 
     pub near : (run frames).now.time < frame_ticks * frames + longest_step
     pub sink_is : TookAll took sink (run frames).outputs taker
 
-  pub underway-begins : (board : BoardValue) → IsUntouched old → board ≡ holding old (held script 1) → IsUnderway 0 board sink
+  pub underway-begins : (board : BoardValue) → IsUntouched old → board ≡ board_with_inputs old (held script 1) → IsUnderway 0 board sink
   underway-begins board untouched same = record {
     made = old.made;
     board_is =
         same
-        ∙ ap (λ (s : State). record {
+        ∙ ap (λ (s : BoardState). record {
           set = old.set;
           state = record {
             now = record s.now { board = board_after old.set s.now.board (Hold (held script 1)) };
@@ -209,7 +209,7 @@ module _ {S : Type 0} (took : S → Output → S → Type 0) (old : BoardValue) 
       let number = at-end ask (held script) view frames under.near open_yet in
       let asked : frame_microseconds * frames + frame_microseconds ≡ frame_microseconds * suc frames = omega arith in
       let soon = near ask (held script) view frames under.near in
-      let made = counted under.made ((course (reached frames under.made) frame_microseconds).now.steps - (run frames).now.steps) in
+      let made = steps_counted under.made ((course (reached frames under.made) frame_microseconds).now.steps - (run frames).now.steps) in
       record {
         made = made;
         board_is =
@@ -232,11 +232,11 @@ module _ {S : Type 0} (took : S → Output → S → Type 0) (old : BoardValue) 
       }
 
   -- the run of all frames
-  whole-run : (frames : ℕ) → frames ≡ total script → run frames ≡ run_of old script
-  whole-run frames all = ap run all ∙ runs-go-by-frames (by_view old.set) (held script) old.state.now.board (total script)
+  whole-run : (frames : ℕ) → frames ≡ total_frames script → run frames ≡ run_of old script
+  whole-run frames all = ap run all ∙ runs-go-by-frames (by_view old.set) (held script) old.state.now.board (total_frames script)
 
   -- after the last frame
-  pub underway-ends : (frames : ℕ) (board : BoardValue) (taker : S) → frames ≡ total script → IsUnderway frames board taker
+  pub underway-ends : (frames : ℕ) (board : BoardValue) (taker : S) → frames ≡ total_frames script → IsUnderway frames board taker
       → IsPlayed took old script sink None board taker
   underway-ends frames board taker all under =
       let whole = whole-run frames all in
@@ -249,7 +249,8 @@ module _ {S : Type 0} (took : S → Output → S → Type 0) (old : BoardValue) 
 
   -- a frame that met a stop
   pub underway-stopped : (frames mask : ℕ) (stop : Stop) (board new : BoardValue) (taker later : S) → IsUnderway frames board taker
-      → frames < total script → IsFrame took board mask taker (Some stop) new later → IsPlayed took old script sink (Some stop) new later
+      → frames < total_frames script → IsFrame took board mask taker (Some stop) new later →
+      IsPlayed took old script sink (Some stop) new later
   underway-stopped frames mask stop board new taker later under more played =
       let ask = by_view old.set in
       let view = old.state.now.board in
@@ -258,8 +259,8 @@ module _ {S : Type 0} (took : S → Output → S → Type 0) (old : BoardValue) 
       let w = walked frames in
       let met : w.stop ≡ Some stop = sym (ap (λ (c : Walk BoardView). c.stop) same) ∙ sym told.stop_is in
       let next = one-more ask (held script) view frames (Some stop) under.open_yet met in
-      let left : ℕ = total script - suc frames in
-      let sum : left + suc frames ≡ total script = omega arith in
+      let left : ℕ = total_frames script - suc frames in
+      let sum : left + suc frames ≡ total_frames script = omega arith in
       let stayed = stays ask (held script) view (suc frames) left stop (ap (λ (c : Walk BoardView). c.stop) next) in
       let whole = sym next ∙ sym stayed ∙ whole-run (left + suc frames) sum in
       record {
@@ -276,19 +277,19 @@ module _ {S : Type 0} (took : S → Output → S → Type 0) (old : BoardValue) 
 
   -- a frame of which the sink refused an output
   pub underway-refused : (refused : S → Output → S → Type 0) (frames : ℕ) (board : BoardValue) (taker later : S)
-      → IsUnderway frames board taker → frames < total script
-      → IsRefusedAmong took refused (given board frame_microseconds) taker later
+      → IsUnderway frames board taker → frames < total_frames script
+      → IsRefusedAmong took refused (outputs_given board frame_microseconds) taker later
       → IsRefusedAmong took refused (run_of old script).outputs sink later
   underway-refused refused frames board taker later under more refusal =
       let ask = by_view old.set in
       let view = old.state.now.board in
       let before = (run frames).outputs in
       let w = walked frames in
-      let given_is : given board frame_microseconds ≡ w.outputs
-      = ap (λ (b : BoardValue). given b frame_microseconds) under.board_is
+      let given_is : outputs_given board frame_microseconds ≡ w.outputs
+      = ap (λ (b : BoardValue). outputs_given b frame_microseconds) under.board_is
       ∙ ap (λ (c : Walk BoardView). c.outputs) (course-is frames under.made) in
-      let left : ℕ = total script - suc frames in
-      let sum : left + suc frames ≡ total script = omega arith in
+      let left : ℕ = total_frames script - suc frames in
+      let sum : left + suc frames ≡ total_frames script = omega arith in
       let grown = outputs-grow ask (held script) view (suc frames) left in
       let most = refusal.among in
       let kept = refusal.taken ++ refusal.left in
@@ -311,7 +312,7 @@ module _ {S : Type 0} (took : S → Output → S → Type 0) (old : BoardValue) 
 
   -- the frame, by its answer
   pub underway-closed : (frames mask : ℕ) (stop : Option Stop) (board new : BoardValue) (taker later : S) → IsUnderway frames board taker
-      → is_some stop ≡ true → frames < total script → IsFrame took board mask taker stop new later
+      → is_some stop ≡ true → frames < total_frames script → IsFrame took board mask taker stop new later
       → IsPlayed took old script sink stop new later
   underway-closed frames mask None board new taker later under met more played = cc
   underway-closed frames mask (Some stop) board new taker later under met more played =

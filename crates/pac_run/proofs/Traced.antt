@@ -1,65 +1,65 @@
 -- A board that plays a plan, and the plan's trace.
 use Rattle.std.proofs.Common.{◌≡◌, ℕ, ◌*◌, ◌/◌, ◌^◌, ◌<◌, ◌≤◌, List, [], Option, refl, sym, ap, subst, ◌∙◌, arith}
 use Rattle.pac_cpu.specs.declared.once.Stop.{Stop}
-use Rattle.pac_inputs.specs.Stretches.{total, held, most_frames}
+use Rattle.pac_inputs.specs.Stretches.{total_frames, held, most_frames}
 use Rattle.pac_inputs.specs.declared.line.Stretch.{Stretch}
 use Rattle.pac_map.specs.Entry.{Hold}
-use Rattle.pac_program.specs.Programs.{Assembled}
+use Rattle.pac_asm_program.specs.Programs.{Assembled}
 use Rattle.pac_roms.specs.Parts.{Parts, IsWhole}
-use Rattle.pac_step.specs.BoardView.{BoardView, power_on}
-use Rattle.pac_step.specs.Carried.{walk_view}
-use Rattle.pac_step.specs.History.{board_of}
-use Rattle.pac_step.specs.Step.{Moment, frame_ticks}
-use Rattle.pac_step.specs.Trace.{by_history, by_view, play_step, start, run_at, trace, frame_steps}
-use Rattle.pac_step.specs.Walk.{Walk}
-use Rattle.pac_step.proofs.Agreed.{runs-agree, power-on-board}
-use Rattle.pac_step.proofs.HostCarried.{steps-agree}
-use Rattle.pac_step.proofs.Outputs.{outputs-timed}
-use Rattle.pac_step.proofs.Runs.{walk-near}
-use Rattle.pac_step.proofs.Walks.{play-timely}
+use Rattle.pac_board_model.specs.BoardView.{BoardView, power_on_board_view}
+use Rattle.pac_board_model.specs.Carried.{walk_view}
+use Rattle.pac_board_model.specs.History.{board_after_entries}
+use Rattle.pac_board_model.specs.Step.{Moment, frame_ticks}
+use Rattle.pac_board_model.specs.Trace.{by_history, by_view, play_step, power_on_moment, run_at, trace, frame_steps}
+use Rattle.pac_board_model.specs.Walk.{Walk}
+use Rattle.pac_board_model.proofs.Agreed.{runs-agree, power-on-board}
+use Rattle.pac_board_model.proofs.HostCarried.{steps-agree}
+use Rattle.pac_board_model.proofs.Outputs.{outputs-timed}
+use Rattle.pac_board_model.proofs.Runs.{walk-near}
+use Rattle.pac_board_model.proofs.Walks.{play-timely}
 use Rattle.pac_board.specs.State.{BoardValue}
-use Rattle.pac_session.specs.Motions.{IsOutcome}
-use Rattle.pac_session.specs.Running.{play_of, whole_run}
-use Rattle.pac_session.specs.Session.{SessionValue}
-use Rattle.pac_session.specs.declared.motion.Outcome as told
+use Rattle.pac_debug_session.specs.Motions.{IsOutcome}
+use Rattle.pac_debug_session.specs.Running.{play_of, whole_run}
+use Rattle.pac_debug_session.specs.Session.{SessionValue}
+use Rattle.pac_debug_session.specs.declared.motion.RunTotals as told
 use Rattle.pac_run.specs.declared.inputs.RunInputs.{RunInputs}
 use Rattle.pac_run.specs.declared.plan.Prepared.{Prepared}
-use Rattle.pac_run.specs.Debugs.{IsReady, IsSeenThrough, setting_of}
-use Rattle.pac_run.specs.Plan.{Plan, Plays, planned, items_in, IsPrepared}
+use Rattle.pac_run.specs.Debugs.{IsReady, IsSeenThrough, setting_of_plan}
+use Rattle.pac_run.specs.Plan.{Plan, PlaysProgram, plan_with, program_items, IsPrepared}
 use Rattle.pac_run.specs.Plays.{IsUntouched, run_of}
 use Rattle.pac_run.specs.Recorded.{HasPlayed, outcome_at}
 use Rattle.pac_run.specs.Run.{trace_of, outcome_of}
 
 -- a run ends less than a step past its last frame
 pub is-near : (board new : BoardValue) (script : _) (stop : Option Stop) → IsUntouched board → HasPlayed board script stop new
-    → total script ≤ most_frames → new.state.now.time / frame_ticks < 2 ^ 32
+    → total_frames script ≤ most_frames → new.state.now.time / frame_ticks < 2 ^ 32
 is-near board new script stop fresh played few =
     let ask = by_view board.set in
-    let near = walk-near (play_step ask (held script)) (frame_ticks * total script) (play-timely ask (held script))
-    (start (ask.put board.state.now.board (Hold (held script 1)))) (frame_steps * total script) (omega arith) in
+    let near = walk-near (play_step ask (held script)) (frame_ticks * total_frames script) (play-timely ask (held script))
+    (power_on_moment (ask.put board.state.now.board (Hold (held script 1)))) (frame_steps * total_frames script) (omega arith) in
     let time = ap (λ (now : Moment BoardView). now.time) played.now in
     omega (arith, near, time, few)
 
 -- what a plan's set, program and script come to on a board from power-on, told by the view, is its trace
 module _ (inputs : RunInputs) (program : Option Assembled) (set : Parts) (script : List Stretch) (whole : IsWhole set)
-    (lie : Plays set program)
+    (lie : PlaysProgram set program)
   where
     abbrev plan : Plan
-    plan = planned inputs program set script
+    plan = plan_with inputs program set script
 
     abbrev shown : Walk BoardView
-    shown = trace (by_view set) (play_of script) (power_on inputs.dip)
+    shown = trace (by_view set) (play_of script) (power_on_board_view inputs.dip)
 
-    pub same-trace : shown ≡ walk_view (board_of set (power_on inputs.dip)) (trace_of plan inputs.dip)
+    pub same-trace : shown ≡ walk_view (board_after_entries set (power_on_board_view inputs.dip)) (trace_of plan inputs.dip)
     same-trace =
-        sym (runs-agree set (items_in program) inputs.dip (frame_steps * total script) (play_of script) whole lie)
+        sym (runs-agree set (program_items program) inputs.dip (frame_steps * total_frames script) (play_of script) whole lie)
 
     pub same-end : (run : Walk BoardView) → run ≡ shown → outcome_at run.now run.stop ≡ outcome_of (trace_of plan inputs.dip)
     same-end run is =
         let same = is ∙ same-trace in
         let now = ap (λ (run : Walk BoardView). run.now) same in
         let met = ap (λ (run : Walk BoardView). run.stop) same in
-        let blanks = (outputs-timed set (items_in program) inputs.dip (frame_steps * total script) (play_of script)).blanks in
+        let blanks = (outputs-timed set (program_items program) inputs.dip (frame_steps * total_frames script) (play_of script)).blanks in
         let frames = ap (λ (now : Moment BoardView). now.time / frame_ticks) now ∙ sym blanks in
         λ i. record { frames = frames i; steps = (now i).steps; ticks = (now i).time; stop = met i }
 
@@ -72,14 +72,14 @@ module _ (inputs : RunInputs) (prepared : Prepared) (ready : IsPrepared inputs p
   shown-run = ap (λ (board : BoardValue). trace (by_view prepared.board.set) (play_of prepared.script) board.state.now.board) ready.board
 
   pub same-outputs : (run_of prepared.board prepared.script).outputs
-      ≡ (trace_of (planned inputs prepared.program prepared.board.set prepared.script) inputs.dip).outputs
+      ≡ (trace_of (plan_with inputs prepared.program prepared.board.set prepared.script) inputs.dip).outputs
   same-outputs =
       ap (λ (run : Walk BoardView). run.outputs)
       (shown-run ∙ same-trace inputs prepared.program prepared.board.set prepared.script ready.whole ready.lie)
 
   pub same-outcome : (new : BoardValue) (stop : Option Stop) → HasPlayed prepared.board prepared.script stop new
       → outcome_at new.state.now stop
-      ≡ outcome_of (trace_of (planned inputs prepared.program prepared.board.set prepared.script) inputs.dip)
+      ≡ outcome_of (trace_of (plan_with inputs prepared.program prepared.board.set prepared.script) inputs.dip)
   same-outcome new stop played =
       (λ i. outcome_at (played.now i) (played.stop_is i))
       ∙ same-end inputs prepared.program prepared.board.set prepared.script ready.whole ready.lie (run_of prepared.board prepared.script)
@@ -90,18 +90,19 @@ module _ (inputs : RunInputs) (program : Option Assembled) (session : SessionVal
     (ready : IsReady inputs program session frames)
   where
     abbrev session_plan : Plan
-    session_plan = planned inputs program session.setting.set session.setting.script
+    session_plan = plan_with inputs program session.setting.set session.setting.script
 
     shown-whole : whole_run session.setting
         ≡ shown inputs program session.setting.set session.setting.script ready.whole ready.lie
-    shown-whole = ap (λ switches. trace (by_view session.setting.set) (play_of session.setting.script) (power_on switches)) ready.switches
+    shown-whole = ap (λ switches. trace (by_view session.setting.set) (play_of session.setting.script) (power_on_board_view switches))
+        ready.switches
 
     pub session-outputs : (whole_run session.setting).outputs ≡ (trace_of session_plan inputs.dip).outputs
     session-outputs =
         ap (λ (run : Walk BoardView). run.outputs)
         (shown-whole ∙ same-trace inputs program session.setting.set session.setting.script ready.whole ready.lie)
 
-    pub session-outcome : (outcome : told.Outcome) → IsOutcome session outcome
+    pub session-outcome : (outcome : told.RunTotals) → IsOutcome session outcome
         → record { frames = outcome.frames; steps = outcome.steps; ticks = outcome.ticks; stop = outcome.stop }
         ≡ outcome_of (trace_of session_plan inputs.dip)
     session-outcome outcome is =
@@ -112,8 +113,8 @@ module _ (inputs : RunInputs) (program : Option Assembled) (session : SessionVal
     seen-through index =
         let set = session.setting.set in
         let script = session.setting.script in
-        let items = items_in program in
-        let first = power_on inputs.dip in
+        let items = program_items program in
+        let first = power_on_board_view inputs.dip in
         let told = run_at (by_history set items first) (play_of script) [] index in
         let same = sym (runs-agree set items inputs.dip index (play_of script) ready.whole ready.lie) in
         let next = steps-agree set items first told.now ready.whole ready.lie (power-on-board inputs.dip) in
@@ -123,5 +124,5 @@ module _ (inputs : RunInputs) (program : Option Assembled) (session : SessionVal
               ap (λ (run : Walk BoardView). play_step (by_view set) (held script) run.now) same ∙ sym (next.with_script (held script));
         }
 
-    pub same-setting : setting_of session_plan inputs.dip ≡ session.setting
+    pub same-setting : setting_of_plan session_plan inputs.dip ≡ session.setting
     same-setting = λ i. record { set = session.setting.set; switches = sym ready.switches i; script = session.setting.script }

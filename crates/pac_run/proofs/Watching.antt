@@ -3,47 +3,48 @@ use Rattle.std.proofs.Common.{◌≡◌, ℕ, List, [], ◌∷◌, ◌++◌, Res
 use Rattle.pac_out.specs.declared.WriteFault.{WriteFault}
 use Rattle.pac_out.specs.declared.counted.Counted.{Counted}
 use Rattle.pac_out.specs.Counted.{Takes}
-use Rattle.pac_media.specs.Sound.{Finishes}
+use Rattle.pac_media.specs.Sound.{FinishesSound}
 use Rattle.pac_media.proofs.Gathered.{finishes-after}
-use Rattle.pac_step.specs.Output.{Output, Sound, Show}
+use Rattle.pac_board_model.specs.Output.{Output, Sound, Show}
 use Rattle.pac_board.specs.Sinks.{TookAll}
-use Rattle.pac_session.specs.Running.{Setting, whole_run}
-use Rattle.pac_session.specs.Session.{SessionValue, begun}
-use Rattle.pac_session.specs.declared.motion.Outcome as told
+use Rattle.pac_debug_session.specs.Running.{Setting, whole_run}
+use Rattle.pac_debug_session.specs.Session.{SessionValue, session_at_start}
+use Rattle.pac_debug_session.specs.declared.motion.RunTotals as told
 use Rattle.pac_debug.specs.declared.line.CommandFault.{CommandFault}
 use Rattle.pac_debug.specs.declared.line.CommandFault.TheVariants as faults
 use Rattle.pac_debug.specs.Obeying.{Scene}
-use Rattle.pac_debug.specs.Watched.{TellsAll, Watches, IsWatchRefused, IsWatchUntold, ToldUpTo, to_give}
+use Rattle.pac_debug.specs.Watched.{TellsAll, WatchesSession, IsWatchRefused, IsWatchUntold, ToldUpTo, outputs_to_give}
 use Rattle.pac_debug.proofs.HeldUp.{untold-gives}
 use Rattle.pac_run.specs.declared.fault.Output.{Output as Which}
 use Rattle.pac_run.specs.declared.fault.Output.TheVariants as which
 use Rattle.pac_run.specs.declared.film.Film.{Film}
 use Rattle.pac_run.specs.Films.{film_took}
 use Rattle.pac_run.specs.Recorded.{StopsFilm, StopsAmong}
-use Rattle.pac_run.specs.Texts.{frames_text}
-use Rattle.pac_run.specs.Watched.{TellsOf, FilmsTill, IsCutShort}
+use Rattle.pac_run.specs.Texts.{images_text}
+use Rattle.pac_run.specs.Watched.{SessionTells, FilmsTill, IsCutShort}
 use Rattle.pac_run.proofs.Filmed.{filmed}
 
 -- a session at the beginning of its run has all of it still to give
-pub all-to-give : (session : SessionValue) → session ≡ begun session.setting 0 → to_give session ≡ (whole_run session.setting).outputs
-all-to-give session fresh = ap to_give fresh
+pub all-to-give : (session : SessionValue) → session ≡ session_at_start session.setting 0 →
+    outputs_to_give session ≡ (whole_run session.setting).outputs
+all-to-give session fresh = ap outputs_to_give fresh
 
 -- what its lines tell
-pub tells-of : (session left : SessionValue) (lines : List (List ℕ)) (told : List ℕ) → session ≡ begun session.setting 0
-    → TellsAll lines session told left → TellsOf session.setting lines told
+pub tells-of : (session left : SessionValue) (lines : List (List ℕ)) (told : List ℕ) → session ≡ session_at_start session.setting 0
+    → TellsAll lines session told left → SessionTells session.setting lines told
 tells-of session left lines told fresh tells =
     record { left = left; tells = subst (λ it. TellsAll lines it told left) fresh tells }
 
 -- what a session leaves that its sink held up, and one that couldn't tell
 module _ {S T : Type 0} (took refused : S → Output → S → Type 0) (wrote : T → List ℕ → T → Type 0) (balked : T → T → Type 0)
-    (lines : List (List ℕ)) (old new : Scene S T) (result : Result told.Outcome CommandFault) (fault : CommandFault)
+    (lines : List (List ℕ)) (old new : Scene S T) (result : Result told.RunTotals CommandFault) (fault : CommandFault)
     (is : result ≡ Err fault)
-    (watched : Watches took refused wrote balked lines old result new) where
+    (watched : WatchesSession took refused wrote balked lines old result new) where
   pub held-up : fault ≡ faults.Refused → IsWatchRefused took refused wrote lines old new
-  held-up here = subst (λ result. Watches took refused wrote balked lines old result new) (is ∙ ap (λ it. Err it) here) watched
+  held-up here = subst (λ result. WatchesSession took refused wrote balked lines old result new) (is ∙ ap (λ it. Err it) here) watched
 
   pub untold : (why : WriteFault) → fault ≡ faults.Text why → IsWatchUntold took wrote balked lines old why new
-  untold why here = subst (λ result. Watches took refused wrote balked lines old result new) (is ∙ ap (λ it. Err it) here) watched
+  untold why here = subst (λ result. WatchesSession took refused wrote balked lines old result new) (is ∙ ap (λ it. Err it) here) watched
 
 module _ {F W : Type 0} (took_f : F → List ℕ → F → Type 0) (refused_f : F → F → Type 0) (took_w : W → List ℕ → W → Type 0)
     (refused_w : W → W → Type 0) where
@@ -69,18 +70,19 @@ module _ {F W : Type 0} (took_f : F → List ℕ → F → Type 0) (refused_f : 
   -- the text broke: what was filmed till then is written
   pub cut-short : (taken : List Output) (old mid new : Film F W) (answer : Result (Unit {0}) WriteFault)
       → TookAll (film_took took_f took_w) old taken mid
-      → Finishes took_w refused_w mid.wave [] answer new.wave → new.frames ≡ mid.frames
+      → FinishesSound took_w refused_w mid.wave [] answer new.wave → new.frames ≡ mid.frames
       → IsCutShort took_f took_w refused_w taken old new
   cut-short taken old mid new answer took flushed same =
       let film = filmed took_f refused_f took_w refused_w taken old mid took in
       record {
-        frames = subst (λ file. Takes took_f old.frames (frames_text taken) file) (sym same) film.frames;
+        frames = subst (λ file. Takes took_f old.frames (images_text taken) file) (sym same) film.frames;
         wave = record { answer = answer; written = finishes-after refused_w answer new.wave film.wave flushed };
       }
 
   -- and what was told
   pub told-off : {T : Type 0} (took : T → List ℕ → T → Type 0) (refused : T → T → Type 0) (lines : List (List ℕ))
-      (scene last : Scene (Film F W) T) (new : Film F W) (why : WriteFault) (fresh : scene.session ≡ begun scene.session.setting 0)
+      (scene last : Scene (Film F W) T) (new : Film F W) (why : WriteFault) (fresh : scene.session
+      ≡ session_at_start scene.session.setting 0)
       → (halt : IsWatchUntold (film_took took_f took_w) took refused lines scene why last)
       → IsCutShort took_f took_w refused_w halt.taken scene.sink new
       → FilmsTill took_f refused_f took_w refused_w took refused scene.session.setting lines scene.sink scene.text which.Text why.count new

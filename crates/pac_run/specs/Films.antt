@@ -4,8 +4,8 @@ use Rattle.pac_out.specs.Counted.{Takes, Refuses}
 use Rattle.pac_out.specs.declared.WriteFault.{WriteFault}
 use Rattle.pac_media.specs.Images.{ppm_of}
 use Rattle.pac_media.specs.Samples.{sample_text}
-use Rattle.pac_media.specs.Sound.{Gains, Fails}
-use Rattle.pac_step.specs.Output.{Output, Image, Sound, Show}
+use Rattle.pac_media.specs.Sound.{Gains, SoundFails}
+use Rattle.pac_board_model.specs.Output.{Output, Image, Sound, Show}
 use Rattle.pac_run.specs.declared.fault.Output.TheVariants as which
 use Rattle.pac_run.specs.declared.film.Film.{Film}
 
@@ -31,7 +31,7 @@ pub record RefusedSample {F W : Type 0} (took : W → List ℕ → W → Type 0)
     (new : Film F W) : Type 0 where
   pub frames : new.frames ≡ old.frames
   pub told : WriteFault
-  pub wave : Fails took refused old.wave (sample_text sample) told new.wave
+  pub wave : SoundFails took refused old.wave (sample_text sample) told new.wave
   pub fault : new.fault ≡ Some (which.Wave, told.count)
 
 pub record RefusedImage {F W : Type 0} (took : F → List ℕ → F → Type 0) (refused : F → F → Type 0) (old : Film F W) (image : Image)

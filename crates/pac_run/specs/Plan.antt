@@ -7,15 +7,15 @@ use Rattle.pac_inputs.specs.Script.{script_of}
 use Rattle.pac_inputs.specs.declared.line.Stretch.{Stretch}
 use Rattle.pac_inputs.specs.declared.fault.ScriptFault.{ScriptFault}
 use Rattle.pac_listing.specs.Listing.{listing, symbol_rows}
-use Rattle.pac_manifest.specs.Manifests.{manifest_of}
-use Rattle.pac_manifest.specs.Sets.{set_of}
-use Rattle.pac_manifest.specs.declared.fault.SetFault.{SetFault}
-use Rattle.pac_manifest.specs.declared.fault.SetError.{SetError}
-use Rattle.pac_manifest.specs.declared.fault.SetError.TheVariants as reading
-use Rattle.pac_manifest.specs.declared.part.Part.{Part}
-use Rattle.pac_program.specs.Programs.{Assembled, items_of}
+use Rattle.pac_roms_manifest.specs.Manifests.{manifest_of}
+use Rattle.pac_roms_manifest.specs.Sets.{set_of}
+use Rattle.pac_roms_manifest.specs.declared.fault.SetFault.{SetFault}
+use Rattle.pac_roms_manifest.specs.declared.fault.SetError.{SetError}
+use Rattle.pac_roms_manifest.specs.declared.fault.SetError.TheVariants as reading
+use Rattle.pac_roms_manifest.specs.declared.part.Part.{Part}
+use Rattle.pac_asm_program.specs.Programs.{Assembled, items_of}
 use Rattle.pac_roms.specs.Parts.{Parts, IsWhole}
-use Rattle.pac_board.specs.State.{at_power_on}
+use Rattle.pac_board.specs.State.{power_on_board}
 use Rattle.pac_run.specs.declared.inputs.RunInputs.{RunInputs}
 use Rattle.pac_run.specs.declared.plan.Prepared.{Prepared}
 use Rattle.pac_run.specs.declared.fault.RunFault.{RunFault}
@@ -35,13 +35,13 @@ abbrev pub ◌>>=◌ : {A B : Type 0} → Result A RunFault → (A → Result B 
 (Err fault) >>= next = Err fault
 
 -- the program of a source, where there is one
-abbrev pub assembled : Result Assembled AsmFault → Result (Option Assembled) RunFault
-assembled (Ok program) = Ok (Some program)
-assembled (Err refused) = Err (fault.Source refused)
+abbrev pub program_told : Result Assembled AsmFault → Result (Option Assembled) RunFault
+program_told (Ok program) = Ok (Some program)
+program_told (Err refused) = Err (fault.Source refused)
 
 abbrev pub program_in : Option (List ℕ) → Result (Option Assembled) RunFault
 program_in None = Ok None
-program_in (Some source) = assembled (program_of source)
+program_in (Some source) = program_told (program_of source)
 
 -- the set of a manifest and its files, with the program's ROM where there is a program
 abbrev pub set_told : {A : Type 0} → Result A SetFault → Result A RunFault
@@ -63,9 +63,9 @@ script_told (Ok script) = Ok script
 script_told (Err refused) = Err (fault.Script refused)
 
 -- the items of a program, and its listing: without a source there are no items and no symbols
-abbrev pub items_in : Option Assembled → List Item
-items_in None = []
-items_in (Some program) = items_of program
+abbrev pub program_items : Option Assembled → List Item
+program_items None = []
+program_items (Some program) = items_of program
 
 abbrev pub listing_in : Option (List ℕ) → Option Assembled → List ℕ
 listing_in (Some source) (Some program) = listing program source
@@ -76,9 +76,9 @@ abbrev pub source_in : RunInputs → Option (List ℕ)
 source_in inputs = option_map (λ bytes. bytes.now) inputs.source
 
 -- what is played of a program, a set and a script
-abbrev pub planned : RunInputs → Option Assembled → Parts → List Stretch → Plan
-planned inputs program set script = record {
-  items = items_in program;
+abbrev pub plan_with : RunInputs → Option Assembled → Parts → List Stretch → Plan
+plan_with inputs program set script = record {
+  items = program_items program;
   set = set;
   script = script;
   listing = listing_in (source_in inputs) program;
@@ -89,7 +89,7 @@ plan_of inputs = do
   program ← program_in (source_in inputs)
   set ← set_in inputs.manifest.now inputs.parts.now program
   script ← script_told (script_of inputs.script.now)
-  Ok (planned inputs program set script)
+  Ok (plan_with inputs program set script)
 
 -- ---- what is made of them
 
@@ -105,15 +105,15 @@ LieIn None = Unit {0}
 LieIn (Some program) = AllLie program.rom (items_of program)
 
 -- the set that a run has plays the items of its program
-abbrev pub Plays : Parts → Option Assembled → Type 0
-Plays set program = AllLie set.program (items_in program)
+abbrev pub PlaysProgram : Parts → Option Assembled → Type 0
+PlaysProgram set program = AllLie set.program (program_items program)
 
 -- the plan, with the board at power-on
 pub record IsPrepared (inputs : RunInputs) (prepared : Prepared) : Type 0 where
-  pub plan_is : plan_of inputs ≡ Ok (planned inputs prepared.program prepared.board.set prepared.script)
-  pub board : prepared.board ≡ at_power_on prepared.board.set inputs.dip
+  pub plan_is : plan_of inputs ≡ Ok (plan_with inputs prepared.program prepared.board.set prepared.script)
+  pub board : prepared.board ≡ power_on_board prepared.board.set inputs.dip
   pub whole : IsWhole prepared.board.set
-  pub lie : Plays prepared.board.set prepared.program
+  pub lie : PlaysProgram prepared.board.set prepared.program
 
 abbrev pub Prepares : RunInputs → Result Prepared RunFault → Type 0
 Prepares inputs (Ok prepared) = IsPrepared inputs prepared

@@ -2,48 +2,48 @@
 use Rattle.std.specs.Prelude.{◌≡◌, ℕ, ◌/◌, ◌≤◌, List, [], ◌∷◌, ◌++◌, length, Option, Result, Ok, Err}
 use Rattle.pac_cpu.specs.declared.once.Stop.{Stop}
 use Rattle.pac_inputs.specs.declared.line.Stretch.{Stretch}
-use Rattle.pac_out.specs.Counted.{HasTaken, Takes, Refuses, counted}
+use Rattle.pac_out.specs.Counted.{HasTaken, Takes, Refuses, file_count}
 use Rattle.pac_out.specs.declared.WriteFault.{WriteFault}
 use Rattle.pac_media.specs.Samples.{samples_text}
-use Rattle.pac_media.specs.Sound.{Delivers, Fails, Finishes}
+use Rattle.pac_media.specs.Sound.{Delivers, SoundFails, FinishesSound}
 use Rattle.pac_media.specs.Sound as media
-use Rattle.pac_step.specs.BoardView.{BoardView}
-use Rattle.pac_step.specs.Output.{Output, Image, Sound, Show}
-use Rattle.pac_step.specs.Step.{Moment, frame_ticks}
+use Rattle.pac_board_model.specs.BoardView.{BoardView}
+use Rattle.pac_board_model.specs.Output.{Output, Image, Sound, Show}
+use Rattle.pac_board_model.specs.Step.{Moment, frame_ticks}
 use Rattle.pac_board.specs.State.{BoardValue}
 use Rattle.pac_run.specs.declared.fault.Output.{Output as Which}
 use Rattle.pac_run.specs.declared.fault.Output.TheVariants as which
 use Rattle.pac_run.specs.declared.film.Film.{Film}
 use Rattle.pac_run.specs.declared.outcome.Outcome.{Outcome}
 use Rattle.pac_run.specs.Plays.{run_of}
-use Rattle.pac_run.specs.Run.{Writing, Took, Stopped, FramesStop, WaveStops}
+use Rattle.pac_run.specs.Run.{Writing, TakesText, StopsInText, FramesStop, WaveStops}
 use Rattle.pac_run.specs.Texts as text
 
 -- the sound of outputs, for a wave file that owes so many samples
 abbrev pub sound_text : ℕ → List Output → List ℕ
-sound_text owed outputs = samples_text (text.filled owed (text.samples_in outputs))
+sound_text owed outputs = samples_text (text.filled_samples owed (text.samples_in outputs))
 
 -- ---- a film over any writers
 
 -- all is written: the images, and the samples with zeros after them
 pub record IsRecorded {F W : Type 0} (took_f : F → List ℕ → F → Type 0) (took_w : W → List ℕ → W → Type 0) (outputs : List Output)
     (old new : Film F W) : Type 0 where
-  pub frames : Takes took_f old.frames (text.frames_text outputs) new.frames
+  pub frames : Takes took_f old.frames (text.images_text outputs) new.frames
   pub wave : Delivers took_w old.wave (sound_text old.wave.owed outputs) new.wave
 
 -- what a wave file was given is written, unless its writer refuses
 pub record IsFlushed {W : Type 0} (took : W → List ℕ → W → Type 0) (refused : W → W → Type 0) (old : media.Sound W) (bytes : List ℕ)
     (new : media.Sound W) : Type 0 where
   pub answer : Result Unit WriteFault
-  pub written : Finishes took refused old bytes answer new
+  pub written : FinishesSound took refused old bytes answer new
 
 -- The film was refused within an image: it had all images before, and the wave file has the sound till then.
 pub record StopsInImage {F W : Type 0} (took_f : F → List ℕ → F → Type 0) (refused_f : F → F → Type 0) (took_w : W → List ℕ → W → Type 0)
     (refused_w : W → W → Type 0) (taken : List Output) (image : Image) (old : Film F W) (count : ℕ) (new : Film F W) : Type 0 where
   pub fault : WriteFault
   pub count_is : count ≡ fault.count
-  pub frames : Refuses took_f refused_f old.frames (text.frames_text (taken ++ Show image ∷ [])) fault new.frames
-  pub images : (start : F) → HasTaken took_f start [] old.frames → counted (length (text.frames_text taken)) ≤ count
+  pub frames : Refuses took_f refused_f old.frames (text.images_text (taken ++ Show image ∷ [])) fault new.frames
+  pub images : (start : F) → HasTaken took_f start [] old.frames → file_count (length (text.images_text taken)) ≤ count
   pub wave : IsFlushed took_w refused_w old.wave (samples_text (text.samples_in taken)) new.wave
 
 -- the wave file was refused within some sound: the film has all images till then
@@ -51,10 +51,10 @@ pub record StopsInSound {F W : Type 0} (took_f : F → List ℕ → F → Type 0
     (taken : List Output) (sound : List ℕ) (old : Film F W) (count : ℕ) (new : Film F W) : Type 0 where
   pub fault : WriteFault
   pub count_is : count ≡ fault.count
-  pub frames : Takes took_f old.frames (text.frames_text taken) new.frames
-  pub wave : Fails took_w refused_w old.wave sound fault new.wave
+  pub frames : Takes took_f old.frames (text.images_text taken) new.frames
+  pub wave : SoundFails took_w refused_w old.wave sound fault new.wave
 
--- It took these outputs; the next one was refused, or after all of them the zeros.
+-- The film and the wave file took these outputs; the next one was refused, or after all of them the zeros.
 abbrev pub StopsFilm : {F W : Type 0} → (F → List ℕ → F → Type 0) → (F → F → Type 0) → (W → List ℕ → W → Type 0) → (W → W → Type 0)
     → (taken left : List Output) → Film F W → Which → ℕ → Film F W → Type 0
 StopsFilm took_f refused_f took_w refused_w taken (Show image ∷ more) old which.Frames count new =
@@ -65,7 +65,7 @@ StopsFilm took_f refused_f took_w refused_w taken [] old which.Wave count new =
     StopsInSound took_f took_w refused_w taken (sound_text old.wave.owed taken) old count new
 StopsFilm took_f refused_f took_w refused_w taken left old other count new = ⊥
 
--- among all outputs of a run
+-- film or wave file stopped among all outputs of a run
 pub record StopsAmong {F W : Type 0} (took_f : F → List ℕ → F → Type 0) (refused_f : F → F → Type 0) (took_w : W → List ℕ → W → Type 0)
     (refused_w : W → W → Type 0) (outputs : List Output) (old : Film F W) (output : Which) (count : ℕ) (new : Film F W) : Type 0 where
   pub taken : List Output
@@ -73,10 +73,10 @@ pub record StopsAmong {F W : Type 0} (took_f : F → List ℕ → F → Type 0) 
   pub parts : outputs ≡ taken ++ left
   pub film : StopsFilm took_f refused_f took_w refused_w taken left old output count new
 
-abbrev pub Performs : {F W A : Type 0} → (F → List ℕ → F → Type 0) → (F → F → Type 0) → (W → List ℕ → W → Type 0) → (W → W → Type 0)
+abbrev pub PerformsFilm : {F W A : Type 0} → (F → List ℕ → F → Type 0) → (F → F → Type 0) → (W → List ℕ → W → Type 0) → (W → W → Type 0)
     → List Output → Film F W → Result A (Which × ℕ) → Film F W → Type 0
-Performs took_f refused_f took_w refused_w outputs old (Ok done) new = IsRecorded took_f took_w outputs old new
-Performs took_f refused_f took_w refused_w outputs old (Err fault) new =
+PerformsFilm took_f refused_f took_w refused_w outputs old (Ok done) new = IsRecorded took_f took_w outputs old new
+PerformsFilm took_f refused_f took_w refused_w outputs old (Err fault) new =
     StopsAmong took_f refused_f took_w refused_w outputs old fault.0 fault.1 new
 
 -- what the end of a film that refused leaves: where its images were refused, the sound so far is written
@@ -101,12 +101,12 @@ FilmStops frames wave total outputs which.Frames count = FramesStop frames wave 
 FilmStops frames wave total outputs which.Wave count = WaveStops frames wave total outputs count
 FilmStops frames wave total outputs other count = ⊥
 
-abbrev pub Records : {F W A : Type 0} → Writing F → Writing W → ℕ → List Output → Result A (Which × ℕ) → Type 0
-Records frames wave total outputs (Ok done) =
-    Took frames (text.frames_text outputs) × Took wave (text.wave_text total outputs)
-Records frames wave total outputs (Err fault) = FilmStops frames wave total outputs fault.0 fault.1
+abbrev pub RecordsOutputs : {F W A : Type 0} → Writing F → Writing W → ℕ → List Output → Result A (Which × ℕ) → Type 0
+RecordsOutputs frames wave total outputs (Ok done) =
+    TakesText frames (text.images_text outputs) × TakesText wave (text.wave_file_text total outputs)
+RecordsOutputs frames wave total outputs (Err fault) = FilmStops frames wave total outputs fault.0 fault.1
 
 -- a text, put into one writer
-abbrev pub Written : {W A : Type 0} → Writing W → List ℕ → Result A WriteFault → Type 0
-Written writer bytes (Ok done) = Took writer bytes
-Written writer bytes (Err fault) = Stopped writer bytes fault.count
+abbrev pub WritesWholeText : {W A : Type 0} → Writing W → List ℕ → Result A WriteFault → Type 0
+WritesWholeText writer bytes (Ok done) = TakesText writer bytes
+WritesWholeText writer bytes (Err fault) = StopsInText writer bytes fault.count

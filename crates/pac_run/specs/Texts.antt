@@ -7,8 +7,8 @@ use Rattle.pac_cpu.specs.declared.once.Cause.{Cause}
 use Rattle.pac_cpu.specs.declared.once.Cause.TheVariants.{Opcode, Vector}
 use Rattle.pac_media.specs.Images.{ppm_of}
 use Rattle.pac_media.specs.Samples.{wav_header, samples_text}
-use Rattle.pac_step.specs.Laws.{frame_samples}
-use Rattle.pac_step.specs.Output.{Output, Image, Sound, Show}
+use Rattle.pac_board_model.specs.Laws.{frame_samples}
+use Rattle.pac_board_model.specs.Output.{Output, Image, Sound, Show}
 use Rattle.pac_run.specs.declared.outcome.Outcome.{Outcome}
 
 -- the pictures and the samples among outputs, in order
@@ -23,31 +23,33 @@ samples_in (Sound sample ∷ more) = sample ∷ samples_in more
 samples_in (Show image ∷ more) = samples_in more
 
 -- the images of the pictures, one after another
-abbrev pub frames_text : List Output → List ℕ
-frames_text outputs = flat_map (λ (image : Image). ppm_of image.lines image.palette) (pictures_in outputs)
+abbrev pub images_text : List Output → List ℕ
+images_text outputs = flat_map (λ (image : Image). ppm_of image.lines image.palette) (pictures_in outputs)
 
 -- a wave file of so many frames: after a stop zeros stand in for the samples that never came
-abbrev pub filled : ℕ → List ℤ → List ℤ
-filled count samples = samples ++ replicate (count - length samples) (pos 0)
+abbrev pub filled_samples : ℕ → List ℤ → List ℤ
+filled_samples count samples = samples ++ replicate (count - length samples) (pos 0)
 
-abbrev pub wave_text : ℕ → List Output → List ℕ
-wave_text frames outputs = wav_header (frame_samples * frames) ++ samples_text (filled (frame_samples * frames) (samples_in outputs))
+abbrev pub wave_file_text : ℕ → List Output → List ℕ
+wave_file_text frames outputs = wav_header (frame_samples * frames)
+    ++ samples_text (filled_samples (frame_samples * frames) (samples_in outputs))
 
--- the same as far as these outputs go, without the zeros after them
+-- a wave file as far as these outputs go, without the zeros after them
 abbrev pub wave_so_far : ℕ → List Output → List ℕ
 wave_so_far frames outputs = wav_header (frame_samples * frames) ++ samples_text (samples_in outputs)
 
 -- how a run ended: done, or at a stop with its bytes, or with the vector byte that is no RST. A text is the join
 -- of its pieces.
-abbrev pub joined : List (List ℕ) → List ℕ
-joined pieces = flat_map (λ piece. piece) pieces
+abbrev pub report_of_pieces : List (List ℕ) → List ℕ
+report_of_pieces pieces = flat_map (λ piece. piece) pieces
 
 abbrev pub cause_text : ℕ → List ℕ → Cause → List ℕ
 cause_text pc bytes Opcode =
-    joined (codes "stop S1 at " ∷ hex_word pc ∷ codes " bytes " ∷ hex_byte (slice_index bytes 0) ∷ codes " "
+    report_of_pieces (codes "stop S1 at " ∷ hex_word pc ∷ codes " bytes " ∷ hex_byte (slice_index bytes 0) ∷ codes " "
     ∷ hex_byte (slice_index bytes 1)
     ∷ codes " " ∷ hex_byte (slice_index bytes 2) ∷ codes " " ∷ hex_byte (slice_index bytes 3) ∷ codes "\n" ∷ [])
-cause_text pc bytes (Vector vector) = joined (codes "stop S2 at " ∷ hex_word pc ∷ codes " byte " ∷ hex_byte vector ∷ codes "\n" ∷ [])
+cause_text pc bytes (Vector vector) =
+    report_of_pieces (codes "stop S2 at " ∷ hex_word pc ∷ codes " byte " ∷ hex_byte vector ∷ codes "\n" ∷ [])
 
 abbrev pub end_text : Option Stop → List ℕ
 end_text None = codes "end done\n"
@@ -56,7 +58,7 @@ end_text (Some stop) = cause_text stop.pc stop.bytes stop.cause
 -- the frames shown of those asked for, the steps and the T-states
 abbrev pub counts_text : ℕ → ℕ → ℕ → ℕ → List ℕ
 counts_text shown total steps ticks =
-    joined (codes "frames " ∷ decimal shown ∷ codes " of " ∷ decimal total ∷ codes "\nsteps " ∷ decimal steps ∷ codes " ticks "
+    report_of_pieces (codes "frames " ∷ decimal shown ∷ codes " of " ∷ decimal total ∷ codes "\nsteps " ∷ decimal steps ∷ codes " ticks "
     ∷ decimal ticks ∷ codes "\n" ∷ [])
 
 -- the report of what a run of so many frames came to

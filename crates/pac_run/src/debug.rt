@@ -1,7 +1,7 @@
 //! A run under a debugger as one call.
 
 ghost use Rattle.std.specs.Prelude.{◌≡◌, IfOk, IfErr, Err};
-ghost use Rattle.pac_session.specs.Session.{IsNew, begun};
+ghost use Rattle.pac_debug_session.specs.Session.{IsNew, session_at_start};
 ghost use Rattle.pac_run.specs.declared.fault.RunFault.TheVariants.{NoMemory};
 ghost use Rattle.pac_run.specs.Plan.{Prepares};
 ghost use Rattle.pac_run.specs.Debugs.{Debugs, IsReady};
@@ -12,16 +12,16 @@ use crate::outcome::Outcome;
 use crate::plan::{Prepared, prepare};
 use crate::run::{list, report_on};
 use crate::watch::watch_run;
+use pac_asm_program::Program;
 use pac_board::Board;
+use pac_debug_session::Session;
 use pac_inputs::Script;
 use pac_media::Image;
 use pac_out::Out;
-use pac_program::Program;
-use pac_session::Session;
 use std::alloc::Global;
 
 /// What a session's run came to, as a run tells it.
-fn outcome_of(outcome: pac_session::Outcome) -> Outcome
+fn outcome_of(outcome: pac_debug_session::RunTotals) -> Outcome
     ensures { result ≡ record { frames = outcome.frames; steps = outcome.steps; ticks = outcome.ticks; stop = outcome.stop } }
 {
     Outcome {
@@ -71,7 +71,7 @@ fn write_watched<F: Out, W: Out, L: Out, R: Out, T: Out>(
 /// A session over what is played, at the beginning of its run. Refused for want of memory alone.
 fn session(alloc: Global, board: Board, script: Script) -> Result<Session, RunFault>
     requires { IsNew board }
-    ensures begun { IfOk result (λ session. session ≡ begun (record {
+    ensures begun { IfOk result (λ session. session ≡ session_at_start (record {
       set = board.set;
       switches = board.state.now.board.memory.switches;
       script = script;
@@ -118,9 +118,9 @@ fn make_ready(alloc: Global, inputs: &RunInputs) -> Result<Ready, RunFault>
     })
 }
 
-/// The same run under a debugger: the commands, a line each, are done first, and then the run goes on to the script's end. Images,
-/// sound, listing and report are those of `run_all`, whatever the commands do; to a fifth output goes what they tell. All memory is
-/// found before anything is written.
+/// The run of `run_all` under a debugger: the commands, a line each, are done first, and then the run goes on to the script's end.
+/// Images, sound, listing and report are those of `run_all`, whatever the commands do; a fifth output gets what they tell. All
+/// memory is found before anything is written.
 pub fn debug_all<F: Out, W: Out, L: Out, R: Out, T: Out>(
     alloc: Global,
     inputs: &RunInputs,

@@ -5,7 +5,7 @@ ghost use Rattle.pac_run.specs.declared.fault.RunFault.TheVariants.{NoMemory};
 
 use pac_asm::AsmFault;
 use pac_inputs::ScriptFault;
-use pac_manifest::SetFault;
+use pac_roms_manifest::SetFault;
 use std::alloc::AllocError;
 use std::fmt;
 
@@ -25,11 +25,11 @@ pub enum Output {
 }
 
 impl fmt::Display for Output {
-    ghost use Rattle.pac_run.specs.Names.{name_of};
+    ghost use Rattle.pac_run.specs.Names.{output_name};
 
-    ghost output = { λ output. Some (name_of output) };
+    ghost output = { λ output. Some (output_name output) };
 
-    /// Its name.
+    /// The name of the output.
     fn fmt<W: fmt::Write>(&self, f: &mut fmt::Formatter<W>) -> fmt::Result {
         match self {
             Output::Frames => f.write_str("frames"),

@@ -1,10 +1,10 @@
 //! Where a run's pictures and samples go: the film and the wave file, side by side.
 
 ghost use Rattle.std.specs.Prelude.{◌≡◌, Some, IsSome, IfOk};
-ghost use Rattle.pac_inputs.specs.Stretches.{total};
+ghost use Rattle.pac_inputs.specs.Stretches.{total_frames};
 ghost use Rattle.pac_run.specs.Films.{film_took, film_refused};
 ghost use Rattle.pac_run.specs.Plays.{IsUntouched, run_of};
-ghost use Rattle.pac_run.specs.Recorded.{GivesUp, HasPlayed, Performs, Records};
+ghost use Rattle.pac_run.specs.Recorded.{GivesUp, HasPlayed, PerformsFilm, RecordsOutputs};
 
 use crate::fault::Output;
 use crate::play::play;
@@ -76,7 +76,7 @@ impl<F: Out, W: Out> Film<F, W> {
     fn perform(&mut self, board: &mut Board, script: &Script) -> Result<Option<Stop>, (Output, u64)>
         requires { IsUntouched board.old }
         ensures played { IfOk result (λ stop. HasPlayed board.old script.now stop board.new) }
-        ensures film { Performs F.took F.refused W.took W.refused (run_of board.old script.now).outputs self.old result self.new }
+        ensures film { PerformsFilm F.took F.refused W.took W.refused (run_of board.old script.now).outputs self.old result self.new }
     {
         match play(board, script, self) {
             Ok(stop) => match self.wave.finish() {
@@ -99,10 +99,10 @@ pub fn record_run<F: Out, W: Out>(
 ) -> Result<Option<Stop>, (Output, u64)>
     requires { IsUntouched board.old }
     ensures played { IfOk result (λ stop. HasPlayed board.old script.now stop board.new) }
-    ensures texts { Records
+    ensures texts { RecordsOutputs
         (record { took = F.took; refused = F.refused; old = frames.old; new = frames.new })
         (record { took = W.took; refused = W.refused; old = wave.old; new = wave.new })
-        (total script.now) (run_of board.old script.now).outputs result }
+        (total_frames script.now) (run_of board.old script.now).outputs result }
 {
     let mut wave = WaveFile::begin(wave, FRAME_SAMPLES * script.frames());
     if let Err(fault) = wave.flush() {

@@ -1,6 +1,6 @@
 //! What a run is given.
 
-use pac_manifest::Part;
+use pac_roms_manifest::Part;
 
 /// What a run is given: bytes, as they were read.
 #[derive(Clone, Copy)]

@@ -6,8 +6,8 @@ ghost use Rattle.pac_out.specs.Counted.{Puts};
 use pac_out::counted::Counted;
 use pac_out::{Out, WriteFault};
 
-/// Writes pieces one after another. Nothing is put at last, so that a file that has failed tells its fault where there are no pieces,
-/// too.
+/// Writes pieces one after another, and no bytes at the end, so that a file that has failed tells its fault also where there are no
+/// pieces.
 pub fn put_pieces<W: Out>(output: &mut Counted<W>, pieces: &[&[u8]]) -> Result<(), WriteFault>
     ensures { Puts W.took W.refused output.old (flat_map (λ piece. piece.now) pieces.now) result output.new }
 {

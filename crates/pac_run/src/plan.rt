@@ -1,9 +1,9 @@
 //! What a run plays, made from what it is given. All of its memory is found here.
 
 ghost use Rattle.std.specs.Prelude.{◌≡◌, length, option_map, option_copied, IfOk, IfErr, IfSome};
-ghost use Rattle.pac_board.specs.State.{at_power_on};
+ghost use Rattle.pac_board.specs.State.{power_on_board};
 ghost use Rattle.pac_inputs.specs.Script.{script_of};
-ghost use Rattle.pac_program.specs.Programs.{Assembled};
+ghost use Rattle.pac_asm_program.specs.Programs.{Assembled};
 ghost use Rattle.pac_roms.specs.Parts.{IsWhole, program_size};
 ghost use Rattle.pac_run.specs.declared.fault.RunFault.TheVariants.{NoMemory};
 ghost use Rattle.pac_run.specs.Plan.{program_in, set_in, script_told, fault_told, Judges, LieIn, Prepares};
@@ -11,12 +11,12 @@ ghost use Rattle.pac_run.specs.Plan.{program_in, set_in, script_told, fault_told
 use crate::fault::RunFault;
 use crate::inputs::RunInputs;
 use pac_asm::{AsmError, assemble};
+use pac_asm_program::Program;
 use pac_board::Board;
 use pac_inputs::{Script, ScriptError, read_script};
-use pac_manifest::{Part, SetError, load_set, read_manifest};
 use pac_media::Image;
-use pac_program::Program;
 use pac_roms::RomSet;
+use pac_roms_manifest::{Part, SetError, load_set, read_manifest};
 use std::alloc::Global;
 
 /// What a run plays, and room for its images.
@@ -117,7 +117,7 @@ fn script(alloc: Global, text: &[u8]) -> Result<Script, RunFault>
 /// The board of a set at power-on, and room for an image.
 fn board(alloc: Global, set: RomSet, switches: u8) -> Result<(Board, Image), RunFault>
     ensures err { IfErr result (λ fault. fault ≡ NoMemory) }
-    ensures ok { IfOk result (λ made. made.0 ≡ at_power_on set switches) }
+    ensures ok { IfOk result (λ made. made.0 ≡ power_on_board set switches) }
 {
     let image = Image::new(alloc)?;
     match Board::init(alloc, set, switches) {

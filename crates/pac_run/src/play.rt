@@ -3,7 +3,7 @@
 ghost use Rattle.std.specs.Prelude.{◌≡◌, ◌+◌, ◌≤◌};
 ghost use Rattle.pac_board.specs.State as state;
 ghost use Rattle.pac_inputs.specs.Inputs.{mask};
-ghost use Rattle.pac_run.specs.Plays.{IsUntouched, Plays, PlaysFrame, frame_microseconds};
+ghost use Rattle.pac_run.specs.Plays.{IsUntouched, PlaysScript, PlaysFrame, frame_microseconds};
 
 use bitflags::Flags;
 use pac_board::{Board, Fault, Sink};
@@ -15,7 +15,7 @@ const FRAME_MICROSECONDS: u32 = 16_500;
 
 /// Holds these inputs, and no others.
 fn hold(board: &mut Board, inputs: Inputs)
-    ensures { board.new ≡ state.held board.old (mask inputs) }
+    ensures { board.new ≡ state.board_with_inputs board.old (mask inputs) }
 {
     board.input_clear(Inputs::from_bits_retain(0xFFFF));
     board.input_set(inputs);
@@ -40,7 +40,7 @@ pub fn play<S: Sink>(
     sink: &mut S,
 ) -> Result<Option<Stop>, Fault>
     requires { IsUntouched board.old }
-    ensures { Plays S.took S.refused board.old script.now sink.old result board.new sink.new }
+    ensures { PlaysScript S.took S.refused board.old script.now sink.old result board.new sink.new }
 {
     hold(board, script.held(1));
     for played in 0..script.frames() {

@@ -2,9 +2,9 @@
 
 ghost use Rattle.std.specs.Prelude.{◌≡◌, ◌/◌, ◌^◌, ◌<◌, option_copied};
 ghost use Rattle.pac_out.specs.Counted.{Puts};
-ghost use Rattle.pac_step.specs.Step.{frame_ticks};
+ghost use Rattle.pac_board_model.specs.Step.{frame_ticks};
 ghost use Rattle.pac_run.specs.Plan.{listing_in, IsPrepared};
-ghost use Rattle.pac_run.specs.Recorded.{Written, outcome_at};
+ghost use Rattle.pac_run.specs.Recorded.{WritesWholeText, outcome_at};
 ghost use Rattle.pac_run.specs.Run.{Runs};
 ghost use Rattle.pac_run.specs.Texts as text;
 
@@ -14,6 +14,7 @@ use crate::inputs::RunInputs;
 use crate::outcome::Outcome;
 use crate::plan::{Prepared, prepare};
 use crate::report::put_report;
+use pac_asm_program::Program;
 use pac_board::Board;
 use pac_cpu::Stop;
 use pac_inputs::Script;
@@ -21,7 +22,6 @@ use pac_listing::write_listing;
 use pac_media::Image;
 use pac_out::counted::Counted;
 use pac_out::{Out, WriteFault};
-use pac_program::Program;
 use std::alloc::Global;
 
 /// The T-states of a frame.
@@ -47,7 +47,7 @@ pub(crate) fn list<L: Out>(
     source: Option<&[u8]>,
     program: &Option<Program>,
 ) -> Result<(), WriteFault>
-    ensures { Written (record { took = L.took; refused = L.refused; old = listing.old; new = listing.new })
+    ensures { WritesWholeText (record { took = L.took; refused = L.refused; old = listing.old; new = listing.new })
         (listing_in (option_copied source.entry) program.now) result }
 {
     let mut file = Counted::new(listing);
@@ -60,7 +60,7 @@ pub(crate) fn report_on<R: Out>(
     outcome: Outcome,
     total: u32,
 ) -> Result<(), WriteFault>
-    ensures { Written (record { took = R.took; refused = R.refused; old = report.old; new = report.new })
+    ensures { WritesWholeText (record { took = R.took; refused = R.refused; old = report.old; new = report.new })
         (text.report outcome total) result }
 {
     let mut file = Counted::new(report);

@@ -2,19 +2,19 @@
 
 ghost use Rattle.std.specs.Prelude.{◌≡◌, IfOk};
 ghost use Rattle.std.specs.Str.Lines.{lines};
-ghost use Rattle.pac_inputs.specs.Stretches.{total};
-ghost use Rattle.pac_session.specs.Motions.{IsOutcome};
-ghost use Rattle.pac_session.specs.Running.{whole_run};
-ghost use Rattle.pac_session.specs.Session.{begun};
-ghost use Rattle.pac_run.specs.Watched.{Films, Watched};
+ghost use Rattle.pac_inputs.specs.Stretches.{total_frames};
+ghost use Rattle.pac_debug_session.specs.Motions.{IsOutcome};
+ghost use Rattle.pac_debug_session.specs.Running.{whole_run};
+ghost use Rattle.pac_debug_session.specs.Session.{session_at_start};
+ghost use Rattle.pac_run.specs.Watched.{Films, WatchesOutputs};
 
 use crate::fault::Output;
 use crate::film::{FRAME_SAMPLES, Film};
 use pac_debug::{CommandFault, watch};
+use pac_debug_session::{RunTotals, Session};
 use pac_media::{Frames, Image, WaveFile};
 use pac_out::Out;
 use pac_out::counted::Counted;
-use pac_session::{Outcome, Session};
 
 impl<F: Out, W: Out> Film<F, W> {
     /// Does a session's commands and goes on to the end of its run. All that the run gives out is written, whatever the commands
@@ -24,8 +24,8 @@ impl<F: Out, W: Out> Film<F, W> {
         session: &mut Session,
         commands: &[u8],
         text: &mut Counted<T>,
-    ) -> Result<Outcome, (Output, u64)>
-        requires { session.old ≡ begun session.old.setting 0 }
+    ) -> Result<RunTotals, (Output, u64)>
+        requires { session.old ≡ session_at_start session.old.setting 0 }
         ensures outcome { IfOk result (IsOutcome session.old) }
         ensures film { Films F.took F.refused W.took W.refused T.took T.refused session.old.setting (lines commands.now)
             self.old text.old result self.new text.new }
@@ -54,15 +54,15 @@ pub fn watch_run<F: Out, W: Out, T: Out>(
     frames: &mut F,
     wave: &mut W,
     text: &mut T,
-) -> Result<Outcome, (Output, u64)>
-    requires begun { session.old ≡ begun session.old.setting 0 }
-    requires count { frame_count ≡ total session.old.setting.script }
+) -> Result<RunTotals, (Output, u64)>
+    requires begun { session.old ≡ session_at_start session.old.setting 0 }
+    requires count { frame_count ≡ total_frames session.old.setting.script }
     ensures outcome { IfOk result (IsOutcome session.old) }
-    ensures texts { Watched
+    ensures texts { WatchesOutputs
         (record { took = F.took; refused = F.refused; old = frames.old; new = frames.new })
         (record { took = W.took; refused = W.refused; old = wave.old; new = wave.new })
         (record { took = T.took; refused = T.refused; old = text.old; new = text.new })
-        (total session.old.setting.script) (whole_run session.old.setting).outputs session.old.setting (lines commands.now) result }
+        (total_frames session.old.setting.script) (whole_run session.old.setting).outputs session.old.setting (lines commands.now) result }
 {
     session.facts();
     let mut wave = WaveFile::begin(wave, FRAME_SAMPLES * frame_count);

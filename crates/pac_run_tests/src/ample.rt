@@ -2,7 +2,7 @@
 
 use crate::outputs::Outputs;
 use pac_run::{Output, RunFault, RunInputs};
-use pac_sample_set::{Files, SET, SWITCHES, text_of};
+use pac_tests_set::{Files, SET, SWITCHES, text_of};
 use std::alloc::{AllocError, Global};
 
 /// Runs a source and a script over the set; why there is no outcome, if there is none.

@@ -3,7 +3,7 @@
 use crate::outputs::{Given, Lengths, Outputs};
 use pac_out::faulty::Faulty;
 use pac_run::{Output, RunFault};
-use pac_sample_set::{SET, SWITCHES};
+use pac_tests_set::{SET, SWITCHES};
 use std::alloc::Global;
 
 /// Shows a tile, and halts at 24 T-states; a step takes 4 from there on.

@@ -2,8 +2,8 @@
 
 use crate::outputs::{AMPLE, Given, Outputs, run};
 use pac_run::{Output, RunFault};
-use pac_sample_set::{SET, SWITCHES};
-use pac_scarce::Answer;
+use pac_tests_memory::Answer;
+use pac_tests_set::{SET, SWITCHES};
 use std::alloc::Global;
 
 /// Shows a tile.
@@ -108,7 +108,7 @@ fn writes(alloc: Global, place: usize, most: usize, whole: &Outputs) -> u64 {
     0
 }
 
-/// The same beside a run of which nothing is refused.
+/// How many writes there are of the output at this place, held against a run of which nothing is refused; 0 where one is wrong.
 fn writes_of(alloc: Global, place: usize, most: usize) -> u64 {
     match run(alloc, &CELL, usize::MAX) {
         Ok(whole) => writes(alloc, place, most, &whole),

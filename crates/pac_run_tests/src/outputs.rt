@@ -1,9 +1,9 @@
 //! Runs of the set whose outputs are kept.
 
-use pac_manifest::Part;
 use pac_out::faulty::Faulty;
+use pac_roms_manifest::Part;
 use pac_run::{RunFault, RunInputs, debug_all, run_all};
-use pac_sample_set::{Files, Tables, text_of};
+use pac_tests_set::{Files, Tables, text_of};
 use std::alloc::{AllocError, Global};
 use std::marker::Model;
 
@@ -59,7 +59,7 @@ impl Outputs {
         Outputs::refusing(alloc, rooms, most, &[0; 4])
     }
 
-    /// The same, each of which refuses the call of its number, once; 0 is none.
+    /// Empty ones of these rooms, each of which refuses the call of its number, once; 0 is none.
     pub fn refusing(
         alloc: Global,
         rooms: &Lengths,

@@ -4,9 +4,9 @@
 use crate::outputs::{AMPLE, Given, Outputs, run};
 use pac_asm::{AsmCode, AsmFault};
 use pac_inputs::ScriptFault;
-use pac_manifest::{Code, PartName, SetFault};
+use pac_roms_manifest::{ManifestCode, PartName, SetFault};
 use pac_run::RunFault;
-use pac_sample_set::{
+use pac_tests_set::{
     ALL_BLACK, BLUE_AND_RED, GREEN_TILE, LATE_GREEN_TILE, NO_WAVE, Picture, SET, SWITCHES, Tables,
     WHOLE_SET, are_shown,
 };
@@ -18,7 +18,7 @@ const CELL: &str = "LD A,42H\nLD (4040H),A\nHALT";
 /// Shows what the joystick and the DIP switches read as, as two tiles from x 16 on.
 const INPUTS: &str = "LD A,(5000H)\nLD (4040H),A\nLD A,(5080H)\nLD (4041H),A\nHALT";
 
-/// The same tile as in `CELL`, but written at T-state 8,020, when line 0 has passed and line 1 hasn't.
+/// Like `CELL`, but the tile is written at T-state 8,020, when line 0 has passed and line 1 hasn't.
 const LATE_CELL: &str = "DEFS 2000\nLD A,42H\nLD (4040H),A\nHALT";
 
 /// Three voices at full volume, each of samples of 15: 64 * 7 * 15 a voice.
@@ -222,7 +222,7 @@ fn is_alike_but_for_listings(alloc: Global, assembled: &Outputs) -> bool {
     }
 }
 
-/// The same, beside a run of the source.
+/// Whether a run of the source and one of the set's program differ in their listings alone.
 fn are_alike_but_for_listings(alloc: Global) -> bool {
     match outputs_of_cell(alloc, SET, Some(CELL)) {
         Some(assembled) => is_alike_but_for_listings(alloc, &assembled),
@@ -230,7 +230,7 @@ fn are_alike_but_for_listings(alloc: Global) -> bool {
     }
 }
 
-// The same bytes as a source and as the program of a set: all is equal but the listing.
+// A source, and its bytes as the program of a set: all is equal but the listing.
 #[test]
 fn a_source_and_a_program_of_a_set(rt: HostRuntime) {
     assert!(rt; are_alike_but_for_listings(rt.alloc()));
@@ -258,7 +258,7 @@ static REFUSED: [Refused; 5] = [
         source: "",
         tables: NO_WAVE,
         fault: RunFault::Set(SetFault {
-            code: Code::Unnamed,
+            code: ManifestCode::Unnamed,
             part: Some(PartName::Wave),
         }),
     },
@@ -266,7 +266,7 @@ static REFUSED: [Refused; 5] = [
         source: "",
         tables: ["tiles = 3", "", ""],
         fault: RunFault::Set(SetFault {
-            code: Code::Manifest,
+            code: ManifestCode::Manifest,
             part: None,
         }),
     },
@@ -274,7 +274,7 @@ static REFUSED: [Refused; 5] = [
         source: "",
         tables: WHOLE_SET,
         fault: RunFault::Set(SetFault {
-            code: Code::TwoPrograms,
+            code: ManifestCode::TwoPrograms,
             part: None,
         }),
     },
@@ -282,7 +282,7 @@ static REFUSED: [Refused; 5] = [
         source: "",
         tables: SET,
         fault: RunFault::Script(ScriptFault {
-            code: pac_inputs::Code::Count,
+            code: pac_inputs::ScriptCode::Count,
             line: 1,
         }),
     },

@@ -1,11 +1,11 @@
 //! A session for which there is no memory, each growth refused in turn.
 
 use crate::outputs::{AMPLE, Outputs};
-use pac_manifest::Part;
 use pac_out::faulty::Faulty;
+use pac_roms_manifest::Part;
 use pac_run::{RunFault, RunInputs};
-use pac_sample_set::{Files, SET, SWITCHES, text_of};
-use pac_scarce::Hoard;
+use pac_tests_memory::Hoard;
+use pac_tests_set::{Files, SET, SWITCHES, text_of};
 use std::alloc::{AllocError, Global};
 
 /// More turns than are refused.
@@ -68,7 +68,7 @@ fn is_whole(alloc: Global, inputs: &RunInputs, outputs: &mut Outputs, text: &mut
         && text.bytes() == TEXT
 }
 
-/// The same with a text.
+/// Whether a session with a text of its own is refused some times over these outputs, and whole then.
 fn is_told(alloc: Global, inputs: &RunInputs, outputs: &mut Outputs) -> bool {
     match Faulty::new(alloc, 300, usize::MAX, 0) {
         Ok(mut text) => is_whole(alloc, inputs, outputs, &mut text),
@@ -76,7 +76,7 @@ fn is_told(alloc: Global, inputs: &RunInputs, outputs: &mut Outputs) -> bool {
     }
 }
 
-/// The same of this manifest.
+/// Whether a session of this manifest is refused some times, and whole then.
 fn is_done(alloc: Global, manifest: &str) -> bool {
     let files = Files::new();
     let parts = files.parts();

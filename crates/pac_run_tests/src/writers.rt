@@ -3,7 +3,7 @@
 use crate::outputs::{AMPLE, Given, Lengths, Outputs, run};
 use pac_out::faulty::Faulty;
 use pac_run::{Output, RunFault};
-use pac_sample_set::{SET, SWITCHES};
+use pac_tests_set::{SET, SWITCHES};
 use std::alloc::Global;
 
 /// Shows a tile.
@@ -29,7 +29,7 @@ fn is_same_in_few_bytes(alloc: Global, whole: &Outputs) -> bool {
     }
 }
 
-/// The same, beside a run over writers that take all.
+/// Whether a run over writers that take seven bytes a call gives out what one over writers that take all does.
 fn are_same_in_few_bytes(alloc: Global) -> bool {
     match run(alloc, &CELL, usize::MAX) {
         Ok(whole) => is_same_in_few_bytes(alloc, &whole),
@@ -80,7 +80,7 @@ fn is_same_under_a_session(alloc: Global, plain: &Outputs) -> bool {
     }
 }
 
-/// The same, of the same run without commands.
+/// Whether a session's outputs are those of the run without commands.
 fn are_same_under_a_session(alloc: Global) -> bool {
     match run(alloc, &CELL, usize::MAX) {
         Ok(plain) => is_same_under_a_session(alloc, &plain),

@@ -4,7 +4,7 @@ use Rattle.std.proofs.Common.{List, length, slice_index, slice_set, get_or-set_o
 use Rattle.std.proofs.lemmas.Bool.Decides.{nat_tests}
 use Rattle.std.proofs.lemmas.Int.{ints}
 use Rattle.std.specs.Int.Signed.{le_z}
-use Rattle.pac_sprites.specs.Sprites.{is_within}
+use Rattle.pac_sprites.specs.Sprites.{is_in_box}
 
 -- one value more
 pub value-step : (values : List ℕ) (value : ℕ → ℕ) (place next : ℕ) → place < length values → next ≡ value place →
@@ -19,7 +19,7 @@ value-step values value place next inside is so_far =
 pub columns-between : (left first last : ℤ) (x start end : ℕ) → first ≡ left → last ≡ left +ℤ pos 16 → 16 ≤ start → end ≤ 272 →
     (16 ≤ x → x < 272 → nat_le start x ≡ le_z first (pos x)) →
     (16 ≤ x → x < 272 → nat_le end x ≡ le_z last (pos x)) →
-    (nat_le 16 x && nat_lt x 272 && is_within left x) ≡ (nat_le start x && nat_lt x end)
+    (nat_le 16 x && nat_lt x 272 && is_in_box left x) ≡ (nat_le start x && nat_lt x end)
 columns-between left first last x start end begins ends low high from until = grind (arith, ints, nat_tests)
 
 -- they are in order: a place that is before the first of them can't be the first after them

@@ -9,18 +9,18 @@ use Rattle.pac_num.specs.Pixels.{pixel_value}
 use Rattle.pac_sprites.specs.declared.Sprite.{Sprite}
 
 -- the bytes of the sprite ROM, the sprites that it has, and the colours that a sprite may have
-abbrev pub rom_size : ℕ
-rom_size = 4096
+abbrev pub sprite_rom_size : ℕ
+sprite_rom_size = 4096
 
-abbrev pub codes : ℕ
-codes = 64
+abbrev pub sprite_codes : ℕ
+sprite_codes = 64
 
-abbrev pub colours : ℕ
-colours = 32
+abbrev pub sprite_colours : ℕ
+sprite_colours = 32
 
 -- the pixels on a side of a sprite, and of the box that shows it
-abbrev pub side : ℕ
-side = 16
+abbrev pub sprite_side : ℕ
+sprite_side = 16
 
 -- the columns of the picture at which sprites show: the first of them, and the first after them
 abbrev pub first_column : ℕ
@@ -31,12 +31,12 @@ end_column = 272
 
 -- which byte of a sprite's 64 has pixel (x, y): the quarters, of four columns each, have their upper eight lines
 -- from byte 8, 16, 24 and 0 on, from left to right, and their lower eight lines 32 bytes further on
-abbrev pub byte_of : ℕ → ℕ → ℕ
-byte_of x y = 8 * ((x / 4 + 1) % 4) + y % 8 + 32 * (y / 8)
+abbrev pub pixel_byte_index : ℕ → ℕ → ℕ
+pixel_byte_index x y = 8 * ((x / 4 + 1) % 4) + y % 8 + 32 * (y / 8)
 
 -- pixel (x, y) of a sprite of the sprite ROM
-abbrev pub pixel_of : List ℕ → ℕ → ℕ → ℕ → ℕ
-pixel_of rom code x y = pixel_value (slice_index rom (64 * code + byte_of x y)) x
+abbrev pub sprite_pixel : List ℕ → ℕ → ℕ → ℕ → ℕ
+sprite_pixel rom code x y = pixel_value (slice_index rom (64 * code + pixel_byte_index x y)) x
 
 -- what the bytes of a sprite say, two of attributes and two of coordinates, in the order of their addresses: its
 -- box, of 16 by 16 pixels, begins at a column and a line that may lie outside the picture
@@ -45,7 +45,7 @@ sprite_of shape colour line column = record {
   code = shape / 4;
   flip_x = bit shape 0 == 1;
   flip_y = bit shape 1 == 1;
-  colour = colour % colours;
+  colour = colour % sprite_colours;
   left = pos 272 -ℤ pos column;
   top = pos line -ℤ pos 31;
 }
@@ -55,25 +55,25 @@ sprite_of shape colour line column = record {
 abbrev pub box_place : ℤ → ℕ → ℕ
 box_place first place = int_gap first (pos place)
 
-abbrev pub is_within : ℤ → ℕ → Bool
-is_within first place = le_z first (pos place) && nat_lt (box_place first place) side
+abbrev pub is_in_box : ℤ → ℕ → Bool
+is_in_box first place = le_z first (pos place) && nat_lt (box_place first place) sprite_side
 
 -- the columns of the picture at which a sprite shows: none shows in the 16 columns on either side, and no box
 -- wraps
 abbrev pub is_column_of : Sprite → ℕ → Bool
-is_column_of sprite x = nat_le first_column x && nat_lt x end_column && is_within sprite.left x
+is_column_of sprite x = nat_le first_column x && nat_lt x end_column && is_in_box sprite.left x
 
 -- whether a sprite shows at (x, y) of the picture
 abbrev pub covers_of : Sprite → ℕ → ℕ → Bool
-covers_of sprite x y = is_column_of sprite x && is_within sprite.top y
+covers_of sprite x y = is_column_of sprite x && is_in_box sprite.top y
 
 -- the column or the line of a sprite that stands at a place of its box, with its flip
-abbrev pub flipped : Bool → ℕ → ℕ
-flipped flip place = if flip then side - 1 - place else place
+abbrev pub flipped_place : Bool → ℕ → ℕ
+flipped_place flip place = if flip then sprite_side - 1 - place else place
 
 -- the value that a sprite has at a column and a line of its box
 abbrev pub boxed_of : List ℕ → Sprite → ℕ → ℕ → ℕ
-boxed_of rom sprite across down = pixel_of rom sprite.code (flipped sprite.flip_x across) (flipped sprite.flip_y down)
+boxed_of rom sprite across down = sprite_pixel rom sprite.code (flipped_place sprite.flip_x across) (flipped_place sprite.flip_y down)
 
 -- the value that a sprite has at (x, y) of the picture, where it shows there
 abbrev pub dot_of : List ℕ → Sprite → ℕ → ℕ → Option ℕ

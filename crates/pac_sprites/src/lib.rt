@@ -12,17 +12,17 @@ use std::ops::Range;
 /// The first column of the picture at which sprites show.
 const FIRST_COLUMN: u16 = 16;
 
-/// The first column after those.
+/// The first column after those at which sprites show.
 const END_COLUMN: u16 = 272;
 
 /// The value, 0 to 3, of pixel (x, y) of a sprite, 0 to 63, of the sprite ROM's 4,096 bytes.
 #[inline]
 pub fn pixel(rom: &[u8], code: u8, x: u8, y: u8) -> u8
-    requires rom { length rom.now ≡ sprites.rom_size }
-    requires code { code < sprites.codes }
-    requires x { x < sprites.side }
-    requires y { y < sprites.side }
-    ensures value { result ≡ sprites.pixel_of rom.now code x y }
+    requires rom { length rom.now ≡ sprites.sprite_rom_size }
+    requires code { code < sprites.sprite_codes }
+    requires x { x < sprites.sprite_side }
+    requires y { y < sprites.sprite_side }
+    ensures value { result ≡ sprites.sprite_pixel rom.now code x y }
     ensures below { result < 4 }
 {
     let quarter = 8 * ((x / 4 + 1) % 4);
@@ -33,9 +33,9 @@ pub fn pixel(rom: &[u8], code: u8, x: u8, y: u8) -> u8
 /// The column or the line of a sprite that stands at a place of its box, with its flip.
 #[inline]
 fn flipped(flip: bool, place: u8) -> u8
-    requires { place < sprites.side }
-    ensures value { result ≡ sprites.flipped flip place }
-    ensures below { result < sprites.side }
+    requires { place < sprites.sprite_side }
+    ensures value { result ≡ sprites.flipped_place flip place }
+    ensures below { result < sprites.sprite_side }
 {
     if flip { 15 - place } else { place }
 }
@@ -44,8 +44,8 @@ fn flipped(flip: bool, place: u8) -> u8
 #[inline]
 fn place_within(first: i16, place: u16) -> Option<u8>
     ensures value { result ≡
-        (if sprites.is_within first place then Some (sprites.box_place first place) else None) }
-    ensures below { IfSome result (λ within. within < sprites.side) }
+        (if sprites.is_in_box first place then Some (sprites.box_place first place) else None) }
+    ensures below { IfSome result (λ within. within < sprites.sprite_side) }
 {
     let within = i32::from(place) - i32::from(first);
     if 0 <= within && within < 16 {
@@ -95,8 +95,8 @@ impl Sprite {
     pub fn of(attributes: [u8; 2], coordinates: [u8; 2]) -> Sprite
         ensures sprite { result ≡ sprites.sprite_of (slice_index attributes 0) (slice_index attributes 1)
             (slice_index coordinates 0) (slice_index coordinates 1) }
-        ensures code { result.code < sprites.codes }
-        ensures colour { result.colour < sprites.colours }
+        ensures code { result.code < sprites.sprite_codes }
+        ensures colour { result.colour < sprites.sprite_colours }
         // -31 to 224
         ensures top { (negsuc 30 ≤ℤ result.top) × (result.top ≤ℤ pos 224) }
         ensures left { (pos 17 ≤ℤ result.left) × (result.left ≤ℤ pos 272) }
@@ -127,8 +127,8 @@ impl Sprite {
     /// The value, 0 to 3, that the sprite has at (x, y) of the picture, where it shows there.
     #[inline]
     pub fn pixel(&self, rom: &[u8], x: u16, y: u8) -> Option<u8>
-        requires rom { length rom.now ≡ sprites.rom_size }
-        requires code { self.now.code < sprites.codes }
+        requires rom { length rom.now ≡ sprites.sprite_rom_size }
+        requires code { self.now.code < sprites.sprite_codes }
         ensures value { result ≡ sprites.dot_of rom.now self.now x y }
         ensures below { IfSome result (λ value. value < 4) }
     {
@@ -150,7 +150,7 @@ impl Sprite {
         ensures end { result.end ≤ sprites.end_column }
         // where there are any, they are columns of the sprite's box
         ensures boxed { result.start < result.end →
-            (self.now.left ≤ℤ pos result.start) × (pos result.end ≤ℤ (self.now.left +ℤ pos sprites.side)) }
+            (self.now.left ≤ℤ pos result.start) × (pos result.end ≤ℤ (self.now.left +ℤ pos sprites.sprite_side)) }
     {
         let left = i32::from(self.left);
         column_from(left)..column_from(left + 16)
@@ -159,9 +159,9 @@ impl Sprite {
     /// Which line of the sprite's pixels shows on line y of the picture, where its box covers that line.
     #[inline]
     pub fn line_at(&self, y: u8) -> Option<u8>
-        ensures line { result ≡ (if sprites.is_within self.now.top y
-            then Some (sprites.flipped self.now.flip_y (sprites.box_place self.now.top y)) else None) }
-        ensures below { IfSome result (λ line. line < sprites.side) }
+        ensures line { result ≡ (if sprites.is_in_box self.now.top y
+            then Some (sprites.flipped_place self.now.flip_y (sprites.box_place self.now.top y)) else None) }
+        ensures below { IfSome result (λ line. line < sprites.sprite_side) }
     {
         let down = place_within(self.top, u16::from(y))?;
         Some(flipped(self.flip_y, down))
@@ -171,8 +171,8 @@ impl Sprite {
     #[inline]
     pub fn column_at(&self, x: u16) -> u8
         requires { sprites.is_column_of self.now x ≡ true }
-        ensures column { result ≡ sprites.flipped self.now.flip_x (sprites.box_place self.now.left x) }
-        ensures below { result < sprites.side }
+        ensures column { result ≡ sprites.flipped_place self.now.flip_x (sprites.box_place self.now.left x) }
+        ensures below { result < sprites.sprite_side }
     {
         flipped(self.flip_x, (i32::from(x) - i32::from(self.left)) as u8)
     }
@@ -180,9 +180,9 @@ impl Sprite {
     /// The values, 0 to 3, of the 16 pixels that the sprite has on line y of the picture, from left to right, where
     /// it covers that line; its columns may lie outside the picture.
     pub fn line(&self, rom: &[u8], y: u8) -> Option<[u8; 16]>
-        requires rom { length rom.now ≡ sprites.rom_size }
-        requires code { self.now.code < sprites.codes }
-        ensures covered { is_some result ≡ sprites.is_within self.now.top y }
+        requires rom { length rom.now ≡ sprites.sprite_rom_size }
+        requires code { self.now.code < sprites.sprite_codes }
+        ensures covered { is_some result ≡ sprites.is_in_box self.now.top y }
         ensures values { IfSome result (λ values. EachIndex values (λ across.
             slice_index values across ≡ sprites.boxed_of rom.now self.now across (sprites.box_place self.now.top y))) }
         ensures below { IfSome result (λ values. EachIndex values (λ across. slice_index values across < 4)) }
@@ -193,9 +193,9 @@ impl Sprite {
 
     /// The values of a line of the sprite's box.
     fn boxed_line(&self, rom: &[u8], down: u8) -> [u8; 16]
-        requires rom { length rom.now ≡ sprites.rom_size }
-        requires code { self.now.code < sprites.codes }
-        requires down { down < sprites.side }
+        requires rom { length rom.now ≡ sprites.sprite_rom_size }
+        requires code { self.now.code < sprites.sprite_codes }
+        requires down { down < sprites.sprite_side }
         ensures values { EachIndex result (λ across.
             slice_index result across ≡ sprites.boxed_of rom.now self.now across down) }
         ensures below { EachIndex result (λ across. slice_index result across < 4) }
@@ -210,10 +210,10 @@ impl Sprite {
     /// The value of the pixel at a column and a line of the sprite's box.
     #[inline]
     fn boxed(&self, rom: &[u8], across: u8, down: u8) -> u8
-        requires rom { length rom.now ≡ sprites.rom_size }
-        requires code { self.now.code < sprites.codes }
-        requires across { across < sprites.side }
-        requires down { down < sprites.side }
+        requires rom { length rom.now ≡ sprites.sprite_rom_size }
+        requires code { self.now.code < sprites.sprite_codes }
+        requires across { across < sprites.sprite_side }
+        requires down { down < sprites.sprite_side }
         ensures value { result ≡ sprites.boxed_of rom.now self.now across down }
         ensures below { result < 4 }
     {

@@ -8,16 +8,16 @@ use Rattle.std.specs.Int.{w16, w32, w64, from_le_bytes, cast_signed, cast_unsign
 use Rattle.pac_table.specs.declared.effects.InterruptMode.{InterruptMode}
 use Rattle.pac_table.specs.declared.effects.InterruptMode.TheVariants.{Zero, One, Two}
 use Rattle.pac_exec.specs.declared.regs.Regs.{Regs}
-use Rattle.pac_latch.specs.Latched.{Bits, digit}
+use Rattle.pac_latch.specs.Latched.{Bits, binary_digit}
 use Rattle.pac_latch.proofs.Bits.{bits_of-byte_of}
 use Rattle.pac_map.specs.View.{View}
 use Rattle.pac_roms.specs.Parts.{Parts}
-use Rattle.pac_manifest.specs.Sets.{digest_of}
+use Rattle.pac_roms_manifest.specs.Sets.{digest_of}
 use Rattle.pac_board.specs.declared.due.Due.{Due}
-use Rattle.pac_board.specs.State.{State}
-use Rattle.pac_state.specs.Text.{word, number_of_mode, processor, controls, due, sealed, body, save_text}
+use Rattle.pac_board.specs.State.{BoardState}
+use Rattle.pac_state.specs.Text.{saved_word, number_of_mode, processor_bytes, control_bytes, due_bytes, sealed_file, body, save_text}
 use Rattle.pac_state.specs.Text as text
-use Rattle.pac_state.specs.Reading.{word_at, is_set, mode_of, regs_of, sample_of, due_of, lines_of, controls_in, memory_of, state_in}
+use Rattle.pac_state.specs.Reading.{saved_word_at, is_bit_set, mode_of, regs_of, due_sample, due_of, lines_of, controls_in, memory_of, state_in}
 use Rattle.pac_state.specs.Files.{AreWords, FitsSample, IsState}
 use Rattle.pac_state.proofs.Read.{same-state}
 use Rattle.pac_state.proofs.Written.{HasPieces, has-pieces, has-picture, lines-again, length-sha1}
@@ -61,8 +61,8 @@ same-words : (regs : Regs) {ix ix' iy iy' sp sp' pc pc' : ℕ} {iff1 iff1' iff2 
     → with_words regs ix iy sp pc iff1 iff2 mode halted after_ei ≡ with_words regs ix' iy' sp' pc' iff1' iff2' mode' halted' after_ei'
 same-words regs a b c d e f g h i = rw (a, b, c, d, e, f, g, h, i) refl
 
-regs-again : (regs : Regs) → AreWords regs → regs_of (processor regs) ≡ regs
-unfolding processor
+regs-again : (regs : Regs) → AreWords regs → regs_of (processor_bytes regs) ≡ regs
+unfolding processor_bytes
 regs-again regs words =
     let bits = bits_of-byte_of (low_bits regs.iff1 regs.iff2 regs.halted regs.after_ei) in
     same-words regs (from_le_bytes-to_le_bytes_2 regs.ix words.ix) (from_le_bytes-to_le_bytes_2 regs.iy words.iy)
@@ -72,7 +72,7 @@ regs-again regs words =
 
 -- ---- the memory
 
-digit-again : (bit : Bool) → (digit bit == 1) ≡ bit
+digit-again : (bit : Bool) → (binary_digit bit == 1) ≡ bit
 digit-again true = refl
 digit-again false = refl
 
@@ -96,11 +96,11 @@ same-view : {switches vector count held held' : ℕ} {tile tile' colour colour' 
     ≡ view switches held' tile' colour' work' coordinates' registers' bits' vector request' count
 same-view a b c d e f g h = rw (a, b, c, d, e, f, g, h) refl
 
-memory-again : (version : ℕ) (digest bytes : List ℕ) (state : State) → HasPieces version digest state bytes
+memory-again : (version : ℕ) (digest bytes : List ℕ) (state : BoardState) → HasPieces version digest state bytes
     → state.now.board.memory.held < 2 ^ 16 → memory_of (controls_in bytes) bytes ≡ state.now.board.memory
-unfolding controls
+unfolding control_bytes
 memory-again version digest bytes state pieces held =
-    ap (λ (controls : List ℕ). memory_of controls bytes) pieces.controls
+    ap (λ (control_bytes : List ℕ). memory_of control_bytes bytes) pieces.controls
     ∙ same-view (from_le_bytes-to_le_bytes_2 state.now.board.memory.held held) pieces.tile pieces.colour pieces.work
     pieces.coordinates pieces.registers (bits_of-byte_of state.now.board.memory.latched.bits)
     (digit-again state.now.board.memory.latched.request)
@@ -108,7 +108,7 @@ memory-again version digest bytes state pieces held =
 -- ---- what is due
 
 sample-again : (sample : Option ℤ) → FitsSample sample
-    → sample_of (is_some sample) (from_le_bytes w16 (word (cast_unsigned w16 (unwrap_or sample (pos 0))))) ≡ sample
+    → due_sample (is_some sample) (from_le_bytes w16 (saved_word (cast_unsigned w16 (unwrap_or sample (pos 0))))) ≡ sample
 sample-again None fits = refl
 sample-again (Some sample) fits =
     let bound = Fits-of_z {w = w16} {z = sample} fits in
@@ -118,19 +118,22 @@ sample-again (Some sample) fits =
 abbrev waiting : Option ℤ → Bool → Due
 waiting sample picture = record { sample = sample; picture = picture }
 
-due-again : (due : Due) → FitsSample due.sample → due_of (text.due due) ≡ due
-unfolding text.due
-due-again due fits =
-    let bits = bits_of-byte_of (low_bits (is_some due.sample) due.picture false false) in
-    let first : is_set (slice_index (text.due due) 0) 0 ≡ is_some due.sample = ap (λ (bits : Bits). bits.interrupt_enable) bits in
-    let second : is_set (slice_index (text.due due) 0) 1 ≡ due.picture = ap (λ (bits : Bits). bits.sound_enable) bits in
-    let sample : sample_of (is_set (slice_index (text.due due) 0) 0) (word_at 1 (text.due due)) ≡ due.sample =
-    ap (λ is_due. sample_of is_due (word_at 1 (text.due due))) first ∙ sample-again due.sample fits in
-    ap (λ sample. waiting sample (is_set (slice_index (text.due due) 0) 1)) sample ∙ ap (waiting due.sample) second
+due-again : (due_bytes : Due) → FitsSample due_bytes.sample → due_of (text.due_bytes due_bytes) ≡ due_bytes
+unfolding text.due_bytes
+due-again due_bytes fits =
+    let bits = bits_of-byte_of (low_bits (is_some due_bytes.sample) due_bytes.picture false false) in
+    let first : is_bit_set (slice_index (text.due_bytes due_bytes) 0) 0 ≡ is_some due_bytes.sample =
+    ap (λ (bits : Bits). bits.interrupt_enable) bits in
+    let second : is_bit_set (slice_index (text.due_bytes due_bytes) 0) 1 ≡ due_bytes.picture =
+    ap (λ (bits : Bits). bits.sound_enable) bits in
+    let sample : due_sample (is_bit_set (slice_index (text.due_bytes due_bytes) 0) 0) (saved_word_at 1 (text.due_bytes due_bytes))
+    ≡ due_bytes.sample =
+    ap (λ is_due. due_sample is_due (saved_word_at 1 (text.due_bytes due_bytes))) first ∙ sample-again due_bytes.sample fits in
+    ap (λ sample. waiting sample (is_bit_set (slice_index (text.due_bytes due_bytes) 0) 1)) sample ∙ ap (waiting due_bytes.sample) second
 
 -- ---- the whole
 
-pub state-again : (version : ℕ) (set : Parts) (state : State) → IsState state → state_in (save_text version set state) ≡ state
+pub state-again : (version : ℕ) (set : Parts) (state : BoardState) → IsState state → state_in (save_text version set state) ≡ state
 state-again version set state is =
     let pieces = has-pieces version (digest_of set) state (length-sha1 _) is.memory in
     let picture = has-picture version (digest_of set) state (length-sha1 _) is.memory is.range.picture in

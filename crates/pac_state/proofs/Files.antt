@@ -11,16 +11,16 @@ use Rattle.std.specs.Int.{w16, from_le_bytes}
 use Rattle.sha1.specs.Sha1.{sha1}
 use Rattle.pac_map.specs.View.{IsWellFormed}
 use Rattle.pac_roms.specs.Parts.{Parts}
-use Rattle.pac_manifest.specs.Sets.{digest_of}
-use Rattle.pac_board.specs.State.{State, BoardValue}
+use Rattle.pac_roms_manifest.specs.Sets.{digest_of}
+use Rattle.pac_board.specs.State.{BoardState, BoardValue}
 use Rattle.pac_state.specs.declared.fault.LoadFault.{LoadFault}
 use Rattle.pac_state.specs.declared.fault.LoadFault.TheVariants.{NoState, OtherVersion, Size, OutOfRange, Damaged, OtherSet, NoMemory}
 use Rattle.pac_state.specs.declared.fault.LoadRefused.{LoadRefused}
 use Rattle.pac_state.specs.Text.{magic, body, save_text}
-use Rattle.pac_state.specs.Reading.{part, word_at, sample_of, processor_in, state_in}
-use Rattle.pac_state.specs.Saved.{file_size, begins, version_in, is_known, is_of_another_version, is_sealed, is_of, fault_of}
-use Rattle.pac_state.specs.Saved.{IsInRange, AreWritten, IsText, brought_up, Misses, Answers}
-use Rattle.pac_state.specs.Files.{FitsSample, IsState, IsFile, board_of, Accepts}
+use Rattle.pac_state.specs.Reading.{bytes_at_place, saved_word_at, due_sample, processor_in, state_in}
+use Rattle.pac_state.specs.Saved.{file_size, begins_with_magic, version_in, is_known, is_of_another_version, is_sealed, is_of_set, load_fault}
+use Rattle.pac_state.specs.Saved.{IsStateInRange, AreWritten, IsText, upgraded_board, Misses, LoadsBoard}
+use Rattle.pac_state.specs.Files.{FitsSample, IsState, IsFile, board_of_file, Accepts}
 use Rattle.pac_state.proofs.Taken.{below, size-of}
 use Rattle.pac_state.proofs.Whole.{AreBytes, length-part, part-bytes, text-of}
 use Rattle.pac_state.proofs.Written.{has-pieces, length-body, length-sha1}
@@ -31,31 +31,31 @@ use Rattle.pac_state.proofs.Again.{state-again}
 known-word : (version : ℕ) → is_known version ≡ true → version < 2 ^ 16
 known-word version known = grind (arith, known)
 
-none-found : (digest bytes : List ℕ) → begins bytes ≡ true → is_of_another_version bytes ≡ false → length bytes ≡ file_size
-    → is_sealed bytes ≡ true → is_of digest bytes ≡ true → fault_of digest bytes ≡ None
-unfolding fault_of
+none-found : (digest bytes : List ℕ) → begins_with_magic bytes ≡ true → is_of_another_version bytes ≡ false → length bytes ≡ file_size
+    → is_sealed bytes ≡ true → is_of_set digest bytes ≡ true → load_fault digest bytes ≡ None
+unfolding load_fault
 none-found digest bytes first second third fourth fifth = rw (first, second, third, fourth, fifth) refl
 
-text-size : (version : ℕ) (set : Parts) (state : State) → IsState state → length (save_text version set state) ≡ file_size
+text-size : (version : ℕ) (set : Parts) (state : BoardState) → IsState state → length (save_text version set state) ≡ file_size
 text-size version set state is =
     let long = length-body version (digest_of set) state (length-sha1 _) is.memory is.range.picture in
     let seal = length-sha1 (body version (digest_of set) state) in
     length-append (body version (digest_of set) state) (sha1 (body version (digest_of set) state)) ∙ omega (arith, long, seal)
 
-text-version : (version : ℕ) (set : Parts) (state : State) → is_known version ≡ true → IsState state
+text-version : (version : ℕ) (set : Parts) (state : BoardState) → is_known version ≡ true → IsState state
     → version_in (save_text version set state) ≡ version
 text-version version set state known is =
     let pieces = has-pieces version (digest_of set) state (length-sha1 _) is.memory in
     ap (from_le_bytes w16) pieces.version ∙ from_le_bytes-to_le_bytes_2 version (known-word version known)
 
-text-begins : (version : ℕ) (set : Parts) (state : State) → IsState state → begins (save_text version set state) ≡ true
+text-begins : (version : ℕ) (set : Parts) (state : BoardState) → IsState state → begins_with_magic (save_text version set state) ≡ true
 text-begins version set state is =
     let pieces = has-pieces version (digest_of set) state (length-sha1 _) is.memory in
     subst (λ n. bytes_eq (take (min 8 n) (save_text version set state)) (take (min 8 n) magic) ≡ true)
     (sym (text-size version set state is))
     ((bytes_eq-Decides (take 8 (save_text version set state)) magic).1 pieces.magic)
 
-text-no-other : (version : ℕ) (set : Parts) (state : State) → is_known version ≡ true → IsState state
+text-no-other : (version : ℕ) (set : Parts) (state : BoardState) → is_known version ≡ true → IsState state
     → is_of_another_version (save_text version set state) ≡ false
 text-no-other version set state known is =
     let same : is_known (version_in (save_text version set state)) ≡ true =
@@ -63,7 +63,7 @@ text-no-other version set state known is =
     let long = text-size version set state is in
     rw (same, long) refl
 
-text-sealed : (version : ℕ) (set : Parts) (state : State) → IsState state → is_sealed (save_text version set state) ≡ true
+text-sealed : (version : ℕ) (set : Parts) (state : BoardState) → IsState state → is_sealed (save_text version set state) ≡ true
 text-sealed version set state is =
     let message = body version (digest_of set) state in
     let long : length message ≡ 67736 = length-body version (digest_of set) state (length-sha1 _) is.memory is.range.picture in
@@ -73,18 +73,19 @@ text-sealed version set state is =
     subst (λ n. drop n (message ++ sha1 message) ≡ sha1 message) long (drop-append_seam message (sha1 message)) in
     (bytes_eq-Decides (sha1 (take 67736 (message ++ sha1 message))) (drop 67736 (message ++ sha1 message))).1 (ap sha1 before ∙ sym after)
 
-text-of-set : (version : ℕ) (set : Parts) (state : State) → IsState state → is_of (digest_of set) (save_text version set state) ≡ true
+text-of-set : (version : ℕ) (set : Parts) (state : BoardState) → IsState state →
+    is_of_set (digest_of set) (save_text version set state) ≡ true
 text-of-set version set state is =
     let pieces = has-pieces version (digest_of set) state (length-sha1 _) is.memory in
-    (bytes_eq-Decides (digest_of set) (part 10 20 (save_text version set state))).1 (sym pieces.digest)
+    (bytes_eq-Decides (digest_of set) (bytes_at_place 10 20 (save_text version set state))).1 (sym pieces.digest)
 
-text-sound : (version : ℕ) (set : Parts) (state : State) → is_known version ≡ true → IsState state
-    → fault_of (digest_of set) (save_text version set state) ≡ None
+text-sound : (version : ℕ) (set : Parts) (state : BoardState) → is_known version ≡ true → IsState state
+    → load_fault (digest_of set) (save_text version set state) ≡ None
 text-sound version set state known is =
     none-found (digest_of set) (save_text version set state) (text-begins version set state is) (text-no-other version set state known is)
     (text-size version set state is) (text-sealed version set state is) (text-of-set version set state is)
 
-text-written : (version : ℕ) (set : Parts) (state : State) → IsState state → AreWritten state (save_text version set state)
+text-written : (version : ℕ) (set : Parts) (state : BoardState) → IsState state → AreWritten state (save_text version set state)
 text-written version set state is =
     let pieces = has-pieces version (digest_of set) state (length-sha1 _) is.memory in
     record {
@@ -93,17 +94,17 @@ text-written version set state is =
       due = sym pieces.due;
     }
 
-text-is-text : (version : ℕ) (set : Parts) (state : State) → IsState state → IsText (save_text version set state)
+text-is-text : (version : ℕ) (set : Parts) (state : BoardState) → IsState state → IsText (save_text version set state)
 text-is-text version set state is =
     let same = sym (state-again version set state is) in
     record {
-      in_range = subst IsInRange same is.range;
+      in_range = subst IsStateInRange same is.range;
       written = subst (λ state'. AreWritten state' (save_text version set state)) same (text-written version set state is);
     }
 
 -- ---- what is taken is the text of a state
 
-word-below : (at : ℕ) (bytes : List ℕ) → AreBytes bytes → word_at at bytes < 2 ^ 16
+word-below : (at : ℕ) (bytes : List ℕ) → AreBytes bytes → saved_word_at at bytes < 2 ^ 16
 unfolding AreBytes
 word-below at bytes fits =
     let parts = part-bytes at 2 bytes fits in
@@ -111,11 +112,11 @@ word-below at bytes fits =
     let second = parts 1 in
     omega (arith, first, second)
 
-fits-sample : (is_due : Bool) (word : ℕ) → word < 2 ^ 16 → FitsSample (sample_of is_due word)
+fits-sample : (is_due : Bool) (word : ℕ) → word < 2 ^ 16 → FitsSample (due_sample is_due word)
 fits-sample true word below = sfits_to_z {w = w16} {n = word} (record { fits = below })
 fits-sample false word below = tt
 
-sizes : (bytes : List ℕ) → length bytes ≡ file_size → IsInRange (state_in bytes) → IsWellFormed (state_in bytes).now.board.memory
+sizes : (bytes : List ℕ) → length bytes ≡ file_size → IsStateInRange (state_in bytes) → IsWellFormed (state_in bytes).now.board.memory
 sizes bytes size range = record {
   tile = length-part 82 1024 bytes (omega (arith, size));
   colour = length-part 1106 1024 bytes (omega (arith, size));
@@ -126,7 +127,7 @@ sizes bytes size range = record {
   count = let below = range.count in omega (arith, below);
 }
 
-is-state : (bytes : List ℕ) → AreBytes bytes → length bytes ≡ file_size → IsInRange (state_in bytes) → IsState (state_in bytes)
+is-state : (bytes : List ℕ) → AreBytes bytes → length bytes ≡ file_size → IsStateInRange (state_in bytes) → IsState (state_in bytes)
 is-state bytes fits size range = record {
   words = record {
     ix = word-below 16 (processor_in bytes) (part-bytes 30 28 bytes fits);
@@ -135,16 +136,16 @@ is-state bytes fits size range = record {
     pc = word-below 22 (processor_in bytes) (part-bytes 30 28 bytes fits);
   };
   memory = sizes bytes size range;
-  held = word-below 4 (part 3214 7 bytes) (part-bytes 3214 7 bytes fits);
-  sample = fits-sample _ _ (word-below 1 (part 3221 3 bytes) (part-bytes 3221 3 bytes fits));
+  held = word-below 4 (bytes_at_place 3214 7 bytes) (part-bytes 3214 7 bytes fits);
+  sample = fits-sample _ _ (word-below 1 (bytes_at_place 3221 3 bytes) (part-bytes 3221 3 bytes fits));
   range = range;
 }
 
-known-of : (digest bytes : List ℕ) → fault_of digest bytes ≡ None → is_known (version_in bytes) ≡ true
-unfolding fault_of
+known-of : (digest bytes : List ℕ) → load_fault digest bytes ≡ None → is_known (version_in bytes) ≡ true
+unfolding load_fault
 known-of digest bytes none =
     let size = size-of digest bytes none in
-    let second = tested' (is_of_another_version bytes) OtherVersion _ (below (not (begins bytes)) NoState _ none) in
+    let second = tested' (is_of_another_version bytes) OtherVersion _ (below (not (begins_with_magic bytes)) NoState _ none) in
     known-from (is_known (version_in bytes)) (subst (λ n. (nat_le 10 n && not (is_known (version_in bytes))) ≡ false) size second)
   where
     tested' : (found : Bool) (fault : LoadFault) (rest : Option LoadFault) → (if found then Some fault else rest) ≡ None → found ≡ false
@@ -158,13 +159,13 @@ known-of digest bytes none =
 -- ---- the answer
 
 text-board : (set : Parts) (bytes : List ℕ) (file : IsFile set bytes)
-    → brought_up (version_in bytes) (record { set = set; state = state_in bytes; made = 0 }) ≡ board_of set file
+    → upgraded_board (version_in bytes) (record { set = set; state = state_in bytes; made = 0 }) ≡ board_of_file set file
 text-board set bytes file =
     let version : version_in bytes ≡ file.version =
     ap version_in file.text ∙ text-version file.version set file.state file.known file.is_state in
     let state : state_in bytes ≡ file.state = ap state_in file.text ∙ state-again file.version set file.state file.is_state in
-    ap (λ version. brought_up version (record { set = set; state = state_in bytes; made = 0 })) version
-    ∙ ap (λ (state : State). brought_up file.version (record { set = set; state = state; made = 0 })) state
+    ap (λ version. upgraded_board version (record { set = set; state = state_in bytes; made = 0 })) version
+    ∙ ap (λ (state : BoardState). upgraded_board file.version (record { set = set; state = state; made = 0 })) state
 
 no-memory : (set : Parts) (bytes : List ℕ) (fault : LoadFault) → IsText bytes → Misses bytes fault → fault ≡ NoMemory
 no-memory set bytes OutOfRange text misses = absurd (misses text)
@@ -176,7 +177,7 @@ no-memory set bytes Damaged text misses = absurd misses
 no-memory set bytes OtherSet text misses = absurd misses
 
 pub accepts : (set : Parts) (bytes : List ℕ) → ((i : ℕ) → get_or bytes i 0 < 256) → (result : Result BoardValue LoadRefused)
-    → Answers set bytes result → Accepts set bytes result
+    → LoadsBoard set bytes result → Accepts set bytes result
 unfolding AreBytes
 accepts set bytes fits (Ok board) answers =
     let size = size-of (digest_of set) bytes answers.sound in
@@ -191,7 +192,7 @@ accepts set bytes fits (Ok board) answers =
       board = λ file. answers.board ∙ text-board set bytes file;
     }
 accepts set bytes fits (Err refused) answers = λ (file : IsFile set bytes).
-    let sound : fault_of (digest_of set) bytes ≡ None =
-    ap (fault_of (digest_of set)) file.text ∙ text-sound file.version set file.state file.known file.is_state in
+    let sound : load_fault (digest_of set) bytes ≡ None =
+    ap (load_fault (digest_of set)) file.text ∙ text-sound file.version set file.state file.known file.is_state in
     let text : IsText bytes = subst IsText (sym file.text) (text-is-text file.version set file.state file.is_state) in
     ⊎_elim (λ told. let no : ⊥ = cc in absurd no) (λ (rest : _ × _). no-memory set bytes refused.fault text rest.1) answers.fault

@@ -3,9 +3,9 @@ use Rattle.std.proofs.Common.{◌≡◌, ℕ, List, refl}
 use Rattle.pac_exec.specs.declared.regs.Regs.{Regs}
 use Rattle.pac_map.specs.View.{View}
 use Rattle.pac_board.specs.declared.due.Due.{Due}
-use Rattle.pac_board.specs.State.{State}
+use Rattle.pac_board.specs.State.{BoardState}
 
-abbrev pub state : Regs → View → (first second third : ℕ) → List (List ℕ) → (time steps asked : ℕ) → Due → State
+abbrev pub state : Regs → View → (first second third : ℕ) → List (List ℕ) → (time steps asked : ℕ) → Due → BoardState
 state regs memory first second third lines time steps asked due = record {
   now = record {
     regs = regs;

@@ -7,11 +7,11 @@ use Rattle.pac_tiles.specs.Tabulate.{tabulate}
 use Rattle.pac_tiles.proofs.Tabulated.{length-tabulate, get_or-tabulate}
 use Rattle.pac_picture.specs.State.{IsPicture}
 use Rattle.pac_board.specs.declared.fields.Fields.{Fields}
-use Rattle.pac_board.specs.Fields.{state_of, AreInRange}
-use Rattle.pac_board.specs.State.{State}
+use Rattle.pac_board.specs.Fields.{state_of, AreBoardFields}
+use Rattle.pac_board.specs.State.{BoardState}
 use Rattle.pac_state.specs.declared.fault.LoadFault.{LoadFault}
 use Rattle.pac_state.specs.declared.fault.LoadFault.TheVariants.{NoState, OtherVersion, Size}
-use Rattle.pac_state.specs.Saved.{file_size, begins, is_of_another_version, fault_of, IsInRange}
+use Rattle.pac_state.specs.Saved.{file_size, begins_with_magic, is_of_another_version, load_fault, IsStateInRange}
 
 -- the rest of a search that finds nothing
 pub below : (found : Bool) (fault : LoadFault) (rest : Option LoadFault) → (if found then Some fault else rest) ≡ None → rest ≡ None
@@ -23,11 +23,11 @@ tested true fault rest none = refl
 tested false fault rest none = let no : ⊥ = cc in absurd no
 
 -- a file in which nothing is wrong before its fields has its size
-pub size-of : (digest bytes : List ℕ) → fault_of digest bytes ≡ None → length bytes ≡ file_size
-unfolding fault_of
+pub size-of : (digest bytes : List ℕ) → load_fault digest bytes ≡ None → length bytes ≡ file_size
+unfolding load_fault
 size-of digest bytes none =
     eqb-true (length bytes) file_size (tested (length bytes == file_size) Size _
-    (below (is_of_another_version bytes) OtherVersion _ (below (not (begins bytes)) NoState _ none)))
+    (below (is_of_another_version bytes) OtherVersion _ (below (not (begins_with_magic bytes)) NoState _ none)))
 
 -- a list of a function's values
 pub tabulated : {A : Type 0} (xs : List A) (count : ℕ) (value : ℕ → A) (other : A) → length xs ≡ count
@@ -38,10 +38,10 @@ tabulated xs count value other long same =
     same k within ∙ sym (get_or-tabulate count value k other within))
 
 -- fields in their ranges, with a picture, and a state in its ranges
-pub in-range : (fields : Fields) (state : State) → state_of fields ≡ state → AreInRange fields → IsPicture state.now.board.lines
-    → IsInRange state
+pub in-range : (fields : Fields) (state : BoardState) → state_of fields ≡ state → AreBoardFields fields → IsPicture state.now.board.lines
+    → IsStateInRange state
 in-range fields state same range =
-    subst (λ (s : State). IsPicture s.now.board.lines → IsInRange s) same (λ picture. record {
+    subst (λ (s : BoardState). IsPicture s.now.board.lines → IsStateInRange s) same (λ picture. record {
       registers = range.registers;
       count = range.count;
       accumulators = range.accumulators;
@@ -51,9 +51,9 @@ in-range fields state same range =
       picture = picture;
     })
 
-pub range-of : (fields : Fields) (state : State) → state_of fields ≡ state → IsInRange state → AreInRange fields
+pub range-of : (fields : Fields) (state : BoardState) → state_of fields ≡ state → IsStateInRange state → AreBoardFields fields
 range-of fields state same range =
-    let r : IsInRange (state_of fields) = subst (λ (s : State). IsInRange s) (sym same) range in
+    let r : IsStateInRange (state_of fields) = subst (λ (s : BoardState). IsStateInRange s) (sym same) range in
     record {
       registers = r.registers;
       count = r.count;

@@ -11,35 +11,38 @@ use Rattle.std.specs.Int.{w16, w32, w64, from_le_bytes}
 use Rattle.sha1.specs.Sha1.{sha1}
 use Rattle.pac_tiles.specs.Tabulate.{tabulate}
 use Rattle.pac_roms.specs.Parts.{Parts}
-use Rattle.pac_manifest.specs.Sets.{digest_of}
+use Rattle.pac_roms_manifest.specs.Sets.{digest_of}
 use Rattle.pac_state.specs.declared.fault.LoadFault.TheVariants.{NoState, OtherVersion, Size, Damaged, OtherSet}
-use Rattle.pac_state.specs.Text.{joined, magic, word, double_word, long_word, head, ram, devices, front, body, save_text}
-use Rattle.pac_state.specs.Reading.{part, lines_of, picture_in, state_in}
-use Rattle.pac_state.specs.Saved.{begins, is_of_another_version, is_sealed, is_of, fault_of, file_size, body_size, version_in, AreWritten}
+use Rattle.pac_state.specs.Text.{bytes_of_pieces, magic, saved_word, saved_double_word, saved_long_word, head, ram, devices, file_front, body, save_text}
+use Rattle.pac_state.specs.Reading.{bytes_at_place, lines_of, picture_in, state_in}
+use Rattle.pac_state.specs.Saved.{begins_with_magic, is_of_another_version, is_sealed, is_of_set, load_fault, file_size, body_size, version_in, AreWritten}
 use Rattle.pac_state.proofs.Taken.{below, tested, size-of}
 
 -- ---- parts of a list
 
-part-add : (at one other : ℕ) (bytes : List ℕ) → part at one bytes ++ part (at + one) other bytes ≡ part at (one + other) bytes
+part-add : (at one other : ℕ) (bytes : List ℕ) →
+    bytes_at_place at one bytes ++ bytes_at_place (at + one) other bytes ≡ bytes_at_place at (one + other) bytes
 part-add at one other bytes =
-    ap (λ (rest : List ℕ). part at one bytes ++ take other rest) (sym (drop-drop one at bytes)) ∙ sym (take-add one other (drop at bytes))
+    ap (λ (rest : List ℕ). bytes_at_place at one bytes ++ take other rest) (sym (drop-drop one at bytes))
+    ∙ sym (take-add one other (drop at bytes))
 
 -- pieces of these widths from a place on
 unfoldable pub cut : ℕ → List ℕ → List ℕ → List (List ℕ)
 cut at [] bytes = []
-cut at (width ∷ more) bytes = part at width bytes ∷ cut (at + width) more bytes
+cut at (width ∷ more) bytes = bytes_at_place at width bytes ∷ cut (at + width) more bytes
 
 unfoldable pub total : List ℕ → ℕ
 total [] = 0
 total (width ∷ more) = width + total more
 
-joined-cut : (at : ℕ) (widths bytes : List ℕ) → joined (cut at widths bytes) ≡ part at (total widths) bytes
+joined-cut : (at : ℕ) (widths bytes : List ℕ) → bytes_of_pieces (cut at widths bytes) ≡ bytes_at_place at (total widths) bytes
 unfolding cut total
 joined-cut at [] bytes = refl
 joined-cut at (width ∷ more) bytes =
-    ap (λ (rest : List ℕ). part at width bytes ++ rest) (joined-cut (at + width) more bytes) ∙ part-add at width (total more) bytes
+    ap (λ (rest : List ℕ). bytes_at_place at width bytes ++ rest) (joined-cut (at + width) more bytes)
+    ∙ part-add at width (total more) bytes
 
-pub length-part : (at width : ℕ) (bytes : List ℕ) → at + width ≤ length bytes → length (part at width bytes) ≡ width
+pub length-part : (at width : ℕ) (bytes : List ℕ) → at + width ≤ length bytes → length (bytes_at_place at width bytes) ≡ width
 length-part at width bytes inside =
     let rest : length (drop at bytes) ≡ length bytes - at = length-drop at bytes in
     let within : width ≤ length (drop at bytes) = omega (arith, rest, inside) in
@@ -64,35 +67,36 @@ drop-bytes : (at : ℕ) (bytes : List ℕ) → AreBytes bytes → AreBytes (drop
 unfolding AreBytes
 drop-bytes at bytes fits i = rw (get_or-drop at bytes i 0) (fits (at + i))
 
-pub part-bytes : (at width : ℕ) (bytes : List ℕ) → AreBytes bytes → AreBytes (part at width bytes)
+pub part-bytes : (at width : ℕ) (bytes : List ℕ) → AreBytes bytes → AreBytes (bytes_at_place at width bytes)
 part-bytes at width bytes fits = take-bytes width (drop at bytes) (drop-bytes at bytes fits)
 
 -- ---- numbers, read and written again
 
 word-again : (at : ℕ) (bytes : List ℕ) → AreBytes bytes → at + 2 ≤ length bytes
-    → word (from_le_bytes w16 (part at 2 bytes)) ≡ part at 2 bytes
+    → saved_word (from_le_bytes w16 (bytes_at_place at 2 bytes)) ≡ bytes_at_place at 2 bytes
 unfolding AreBytes
-word-again at bytes fits inside = le_bytes_2 (part at 2 bytes) _ (length-part at 2 bytes inside) (part-bytes at 2 bytes fits) refl
+word-again at bytes fits inside = le_bytes_2 (bytes_at_place at 2 bytes) _ (length-part at 2 bytes inside) (part-bytes at 2 bytes fits) refl
 
 double-again : (at : ℕ) (bytes : List ℕ) → AreBytes bytes → at + 4 ≤ length bytes
-    → double_word (from_le_bytes w32 (part at 4 bytes)) ≡ part at 4 bytes
+    → saved_double_word (from_le_bytes w32 (bytes_at_place at 4 bytes)) ≡ bytes_at_place at 4 bytes
 unfolding AreBytes
-double-again at bytes fits inside = le_bytes_4 (part at 4 bytes) _ (length-part at 4 bytes inside) (part-bytes at 4 bytes fits) refl
+double-again at bytes fits inside =
+    le_bytes_4 (bytes_at_place at 4 bytes) _ (length-part at 4 bytes inside) (part-bytes at 4 bytes fits) refl
 
 long-again : (at : ℕ) (bytes : List ℕ) → AreBytes bytes → at + 8 ≤ length bytes
-    → long_word (from_le_bytes w64 (part at 8 bytes)) ≡ part at 8 bytes
+    → saved_long_word (from_le_bytes w64 (bytes_at_place at 8 bytes)) ≡ bytes_at_place at 8 bytes
 unfolding AreBytes
-long-again at bytes fits inside = le_bytes_8 (part at 8 bytes) _ (length-part at 8 bytes inside) (part-bytes at 8 bytes fits) refl
+long-again at bytes fits inside = le_bytes_8 (bytes_at_place at 8 bytes) _ (length-part at 8 bytes inside) (part-bytes at 8 bytes fits) refl
 
 -- ---- the groups of pieces
 
 same-seven : {a b c d e f g a' b' c' d' e' f' g' : List ℕ} → a ≡ a' → b ≡ b' → c ≡ c' → d ≡ d' → e ≡ e' → f ≡ f' → g ≡ g'
-    → joined (a ∷ b ∷ c ∷ d ∷ e ∷ f ∷ g ∷ []) ≡ joined (a' ∷ b' ∷ c' ∷ d' ∷ e' ∷ f' ∷ g' ∷ [])
+    → bytes_of_pieces (a ∷ b ∷ c ∷ d ∷ e ∷ f ∷ g ∷ []) ≡ bytes_of_pieces (a' ∷ b' ∷ c' ∷ d' ∷ e' ∷ f' ∷ g' ∷ [])
 same-seven a b c d e f g = rw (a, b, c, d, e, f, g) refl
 
-head-is : (set : Parts) (bytes : List ℕ) → AreBytes bytes → length bytes ≡ file_size → magic ≡ part 0 8 bytes
-    → digest_of set ≡ part 10 20 bytes → AreWritten (state_in bytes) bytes
-    → joined (head (version_in bytes) (digest_of set) (state_in bytes)) ≡ part 0 82 bytes
+head-is : (set : Parts) (bytes : List ℕ) → AreBytes bytes → length bytes ≡ file_size → magic ≡ bytes_at_place 0 8 bytes
+    → digest_of set ≡ bytes_at_place 10 20 bytes → AreWritten (state_in bytes) bytes
+    → bytes_of_pieces (head (version_in bytes) (digest_of set) (state_in bytes)) ≡ bytes_at_place 0 82 bytes
 unfolding head cut total
 head-is set bytes fits size start digest written =
     same-seven start (word-again 8 bytes fits (omega (arith, size))) digest written.processor
@@ -100,67 +104,69 @@ head-is set bytes fits size start digest written =
     (long-again 74 bytes fits (omega (arith, size)))
     ∙ joined-cut 0 (8 ∷ 2 ∷ 20 ∷ 28 ∷ 8 ∷ 8 ∷ 8 ∷ []) bytes
 
-ram-is : (bytes : List ℕ) → joined (ram (state_in bytes)) ≡ part 82 3072 bytes
+ram-is : (bytes : List ℕ) → bytes_of_pieces (ram (state_in bytes)) ≡ bytes_at_place 82 3072 bytes
 unfolding ram cut total
 ram-is bytes = joined-cut 82 (1024 ∷ 1024 ∷ 1024 ∷ []) bytes
 
 devices-is : (bytes : List ℕ) → AreBytes bytes → length bytes ≡ file_size → AreWritten (state_in bytes) bytes
-    → joined (devices (state_in bytes)) ≡ part 3154 70 bytes
+    → bytes_of_pieces (devices (state_in bytes)) ≡ bytes_at_place 3154 70 bytes
 unfolding devices cut total
 devices-is bytes fits size written =
-    same-seven {a = part 3154 16 bytes} {b = part 3170 32 bytes} refl refl
+    same-seven {a = bytes_at_place 3154 16 bytes} {b = bytes_at_place 3170 32 bytes} refl refl
     (double-again 3202 bytes fits (omega (arith, size))) (double-again 3206 bytes fits (omega (arith, size)))
     (double-again 3210 bytes fits (omega (arith, size))) written.controls written.due
     ∙ joined-cut 3154 (16 ∷ 32 ∷ 4 ∷ 4 ∷ 4 ∷ 7 ∷ 3 ∷ []) bytes
 
-lines-joined : (count : ℕ) (picture : List ℕ) → joined (tabulate count (λ y. part (288 * y) 288 picture)) ≡ part 0 (288 * count) picture
+lines-joined : (count : ℕ) (picture : List ℕ) →
+    bytes_of_pieces (tabulate count (λ y. bytes_at_place (288 * y) 288 picture)) ≡ bytes_at_place 0 (288 * count) picture
 unfolding tabulate
 lines-joined zero picture = refl
 lines-joined (suc count) picture =
     let here : 0 + 288 * count ≡ 288 * count = omega arith in
     let next : 288 * count + 288 ≡ 288 * suc count = omega arith in
-    flat_map-append (λ line. line) (tabulate count (λ y. part (288 * y) 288 picture)) (part (288 * count) 288 picture ∷ [])
-    ∙ (ap (λ (last : List ℕ). joined (tabulate count (λ y. part (288 * y) 288 picture)) ++ last)
-    (append-nil (part (288 * count) 288 picture))
-    ∙ (ap (λ (before : List ℕ). before ++ part (288 * count) 288 picture) (lines-joined count picture)
-    ∙ (ap (λ at. part 0 (288 * count) picture ++ part at 288 picture) (sym here)
-    ∙ (part-add 0 (288 * count) 288 picture ∙ ap (λ width. part 0 width picture) next))))
+    flat_map-append (λ line. line) (tabulate count (λ y. bytes_at_place (288 * y) 288 picture))
+    (bytes_at_place (288 * count) 288 picture ∷ [])
+    ∙ (ap (λ (last : List ℕ). bytes_of_pieces (tabulate count (λ y. bytes_at_place (288 * y) 288 picture)) ++ last)
+    (append-nil (bytes_at_place (288 * count) 288 picture))
+    ∙ (ap (λ (before : List ℕ). before ++ bytes_at_place (288 * count) 288 picture) (lines-joined count picture)
+    ∙ (ap (λ at. bytes_at_place 0 (288 * count) picture ++ bytes_at_place at 288 picture) (sym here)
+    ∙ (part-add 0 (288 * count) 288 picture ∙ ap (λ width. bytes_at_place 0 width picture) next))))
 
-lines-are : (bytes : List ℕ) → length bytes ≡ file_size → joined (lines_of (picture_in bytes)) ≡ part 3224 64512 bytes
+lines-are : (bytes : List ℕ) → length bytes ≡ file_size → bytes_of_pieces (lines_of (picture_in bytes)) ≡ bytes_at_place 3224 64512 bytes
 lines-are bytes size =
     let long : length (picture_in bytes) ≡ 64512 = length-part 3224 64512 bytes (omega (arith, size)) in
     lines-joined 224 (picture_in bytes) ∙ take_all 64512 (picture_in bytes) (omega (arith, long))
 
 -- ---- the whole
 
-body-is : (set : Parts) (bytes : List ℕ) → AreBytes bytes → length bytes ≡ file_size → magic ≡ part 0 8 bytes
-    → digest_of set ≡ part 10 20 bytes → AreWritten (state_in bytes) bytes
-    → body (version_in bytes) (digest_of set) (state_in bytes) ≡ part 0 67736 bytes
+body-is : (set : Parts) (bytes : List ℕ) → AreBytes bytes → length bytes ≡ file_size → magic ≡ bytes_at_place 0 8 bytes
+    → digest_of set ≡ bytes_at_place 10 20 bytes → AreWritten (state_in bytes) bytes
+    → body (version_in bytes) (digest_of set) (state_in bytes) ≡ bytes_at_place 0 67736 bytes
 body-is set bytes fits size start digest written =
     let first = head-is set bytes fits size start digest written in
     let third = devices-is bytes fits size written in
-    let before : front (version_in bytes) (digest_of set) (state_in bytes) ≡ part 0 3224 bytes =
-    ap (λ (text : List ℕ). (text ++ joined (ram (state_in bytes))) ++ joined (devices (state_in bytes))) first
-    ∙ (ap (λ (text : List ℕ). (part 0 82 bytes ++ text) ++ joined (devices (state_in bytes))) (ram-is bytes)
-    ∙ (ap (λ (text : List ℕ). (part 0 82 bytes ++ part 82 3072 bytes) ++ text) third
-    ∙ (ap (λ (text : List ℕ). text ++ part 3154 70 bytes) (part-add 0 82 3072 bytes) ∙ part-add 0 3154 70 bytes))) in
-    ap (λ (text : List ℕ). text ++ joined (lines_of (picture_in bytes))) before
-    ∙ (ap (λ (text : List ℕ). part 0 3224 bytes ++ text) (lines-are bytes size) ∙ part-add 0 3224 64512 bytes)
+    let before : file_front (version_in bytes) (digest_of set) (state_in bytes) ≡ bytes_at_place 0 3224 bytes =
+    ap (λ (text : List ℕ). (text ++ bytes_of_pieces (ram (state_in bytes))) ++ bytes_of_pieces (devices (state_in bytes))) first
+    ∙ (ap (λ (text : List ℕ). (bytes_at_place 0 82 bytes ++ text) ++ bytes_of_pieces (devices (state_in bytes))) (ram-is bytes)
+    ∙ (ap (λ (text : List ℕ). (bytes_at_place 0 82 bytes ++ bytes_at_place 82 3072 bytes) ++ text) third
+    ∙ (ap (λ (text : List ℕ). text ++ bytes_at_place 3154 70 bytes) (part-add 0 82 3072 bytes) ∙ part-add 0 3154 70 bytes))) in
+    ap (λ (text : List ℕ). text ++ bytes_of_pieces (lines_of (picture_in bytes))) before
+    ∙ (ap (λ (text : List ℕ). bytes_at_place 0 3224 bytes ++ text) (lines-are bytes size) ∙ part-add 0 3224 64512 bytes)
 
-pub text-of : (set : Parts) (bytes : List ℕ) → ((i : ℕ) → get_or bytes i 0 < 256) → fault_of (digest_of set) bytes ≡ None
+pub text-of : (set : Parts) (bytes : List ℕ) → ((i : ℕ) → get_or bytes i 0 < 256) → load_fault (digest_of set) bytes ≡ None
     → AreWritten (state_in bytes) bytes → save_text (version_in bytes) set (state_in bytes) ≡ bytes
-unfolding fault_of AreBytes
+unfolding load_fault AreBytes
 text-of set bytes fits none written =
     let size = size-of (digest_of set) bytes none in
-    let begun = tested (begins bytes) NoState _ none in
-    let second = below (is_of_another_version bytes) OtherVersion _ (below (not (begins bytes)) NoState _ none) in
+    let begun = tested (begins_with_magic bytes) NoState _ none in
+    let second = below (is_of_another_version bytes) OtherVersion _ (below (not (begins_with_magic bytes)) NoState _ none) in
     let third = below (not (length bytes == file_size)) Size _ second in
     let closed = tested (is_sealed bytes) Damaged _ third in
-    let same = tested (is_of (digest_of set) bytes) OtherSet _ (below (not (is_sealed bytes)) Damaged _ third) in
+    let same = tested (is_of_set (digest_of set) bytes) OtherSet _ (below (not (is_sealed bytes)) Damaged _ third) in
     let start : take 8 bytes ≡ magic =
     subst (λ n. take (min 8 n) bytes ≡ take (min 8 n) magic) size
     ((bytes_eq-Decides (take (min 8 (length bytes)) bytes) (take (min 8 (length bytes)) magic)).0 begun) in
-    let digest : digest_of set ≡ part 10 20 bytes = (bytes_eq-Decides (digest_of set) (part 10 20 bytes)).0 same in
+    let digest : digest_of set ≡ bytes_at_place 10 20 bytes = (bytes_eq-Decides (digest_of set) (bytes_at_place 10 20 bytes)).0 same in
     let seal : sha1 (take body_size bytes) ≡ drop body_size bytes =
     (bytes_eq-Decides (sha1 (take body_size bytes)) (drop body_size bytes)).0 closed in
     let before : body (version_in bytes) (digest_of set) (state_in bytes) ≡ take body_size bytes =

@@ -7,96 +7,97 @@ use Rattle.std.proofs.lemmas.Grind.{flat_map-append}
 use Rattle.sha1.specs.Sha1.{sha1, digest_bytes}
 use Rattle.pac_map.specs.View.{IsWellFormed}
 use Rattle.pac_picture.specs.State.{IsPicture}
-use Rattle.pac_board.specs.State.{State}
-use Rattle.pac_state.specs.Text.{joined, magic, word, double_word, long_word, head, ram}
-use Rattle.pac_state.specs.Text.{devices, processor, controls, due, front, body, sealed}
-use Rattle.pac_state.specs.Reading.{part, lines_of}
+use Rattle.pac_board.specs.State.{BoardState}
+use Rattle.pac_state.specs.Text.{bytes_of_pieces, magic, saved_word, saved_double_word, saved_long_word, head, ram}
+use Rattle.pac_state.specs.Text.{devices, processor_bytes, control_bytes, due_bytes, file_front, body, sealed_file}
+use Rattle.pac_state.specs.Reading.{bytes_at_place, lines_of}
 use Rattle.pac_state.proofs.Pieces.{pieces-more, pieces-split}
 use Rattle.pac_state.proofs.Taken.{tabulated}
 use Rattle.pac_state.proofs.Whole.{cut, total}
 
 -- ---- pieces of a text, cut out of it
 
-part-here : (before piece after : List ℕ) → part (length before) (length piece) (before ++ (piece ++ after)) ≡ piece
+part-here : (before piece after : List ℕ) → bytes_at_place (length before) (length piece) (before ++ (piece ++ after)) ≡ piece
 part-here before piece after =
     ap (take (length piece)) (drop-append_seam before (piece ++ after)) ∙ take-append_seam piece after
 
 pub part-at : (at width : ℕ) (before piece after : List ℕ) → length before ≡ at → length piece ≡ width
-    → part at width (before ++ (piece ++ after)) ≡ piece
+    → bytes_at_place at width (before ++ (piece ++ after)) ≡ piece
 part-at at width before piece after here wide =
-    subst (λ at. part at width (before ++ (piece ++ after)) ≡ piece) here
-    (subst (λ width. part (length before) width (before ++ (piece ++ after)) ≡ piece) wide (part-here before piece after))
+    subst (λ at. bytes_at_place at width (before ++ (piece ++ after)) ≡ piece) here
+    (subst (λ width. bytes_at_place (length before) width (before ++ (piece ++ after)) ≡ piece) wide (part-here before piece after))
 
 abbrev widths : List (List ℕ) → List ℕ
 widths [] = []
 widths (piece ∷ more) = length piece ∷ widths more
 
 cut-joined : (before : List ℕ) (pieces : List (List ℕ)) (after : List ℕ)
-    → cut (length before) (widths pieces) (before ++ (joined pieces ++ after)) ≡ pieces
+    → cut (length before) (widths pieces) (before ++ (bytes_of_pieces pieces ++ after)) ≡ pieces
 unfolding cut
 cut-joined before [] after = refl
 cut-joined before (piece ∷ more) after =
     let at : length before + length piece ≡ length (before ++ piece) = sym (length-append before piece) in
-    let one : before ++ ((piece ++ joined more) ++ after) ≡ before ++ (piece ++ (joined more ++ after)) =
-    ap (λ (rest : List ℕ). before ++ rest) (append_assoc piece (joined more) after) in
-    let other : before ++ (piece ++ (joined more ++ after)) ≡ (before ++ piece) ++ (joined more ++ after) =
-    sym (append_assoc before piece (joined more ++ after)) in
-    let first : part (length before) (length piece) (before ++ ((piece ++ joined more) ++ after)) ≡ piece =
-    ap (part (length before) (length piece)) one ∙ part-here before piece (joined more ++ after) in
-    let rest : cut (length before + length piece) (widths more) (before ++ ((piece ++ joined more) ++ after)) ≡ more =
-    ap (λ at. cut at (widths more) (before ++ ((piece ++ joined more) ++ after))) at
+    let one : before ++ ((piece ++ bytes_of_pieces more) ++ after) ≡ before ++ (piece ++ (bytes_of_pieces more ++ after)) =
+    ap (λ (rest : List ℕ). before ++ rest) (append_assoc piece (bytes_of_pieces more) after) in
+    let other : before ++ (piece ++ (bytes_of_pieces more ++ after)) ≡ (before ++ piece) ++ (bytes_of_pieces more ++ after) =
+    sym (append_assoc before piece (bytes_of_pieces more ++ after)) in
+    let first : bytes_at_place (length before) (length piece) (before ++ ((piece ++ bytes_of_pieces more) ++ after)) ≡ piece =
+    ap (bytes_at_place (length before) (length piece)) one ∙ part-here before piece (bytes_of_pieces more ++ after) in
+    let rest : cut (length before + length piece) (widths more) (before ++ ((piece ++ bytes_of_pieces more) ++ after)) ≡ more =
+    ap (λ at. cut at (widths more) (before ++ ((piece ++ bytes_of_pieces more) ++ after))) at
     ∙ (ap (cut (length (before ++ piece)) (widths more)) (one ∙ other) ∙ cut-joined (before ++ piece) more after) in
     rw (first, rest) refl
 
-length-joined : (pieces : List (List ℕ)) → length (joined pieces) ≡ total (widths pieces)
+length-joined : (pieces : List (List ℕ)) → length (bytes_of_pieces pieces) ≡ total (widths pieces)
 unfolding total
 length-joined [] = refl
 length-joined (piece ∷ more) =
-    length-append piece (joined more) ∙ ap (λ rest. length piece + rest) (length-joined more)
+    length-append piece (bytes_of_pieces more) ∙ ap (λ rest. length piece + rest) (length-joined more)
 
 -- ---- the pieces of a state
 
-abbrev pieces : ℕ → List ℕ → State → List (List ℕ)
+abbrev pieces : ℕ → List ℕ → BoardState → List (List ℕ)
 pieces version digest state = (head version digest state ++ ram state) ++ devices state
 
 abbrev places : List ℕ
 places = 8 ∷ 2 ∷ 20 ∷ 28 ∷ 8 ∷ 8 ∷ 8 ∷ 1024 ∷ 1024 ∷ 1024 ∷ 16 ∷ 32 ∷ 4 ∷ 4 ∷ 4 ∷ 7 ∷ 3 ∷ []
 
-joined-pieces : (version : ℕ) (digest : List ℕ) (state : State) → joined (pieces version digest state) ≡ front version digest state
+joined-pieces : (version : ℕ) (digest : List ℕ) (state : BoardState) →
+    bytes_of_pieces (pieces version digest state) ≡ file_front version digest state
 joined-pieces version digest state =
     flat_map-append (λ (piece : List ℕ). piece) (head version digest state ++ ram state) (devices state)
-    ∙ ap (λ (text : List ℕ). text ++ joined (devices state))
+    ∙ ap (λ (text : List ℕ). text ++ bytes_of_pieces (devices state))
     (flat_map-append (λ (piece : List ℕ). piece) (head version digest state) (ram state))
 
-widths-are : (version : ℕ) (digest : List ℕ) (state : State) → length digest ≡ 20 → IsWellFormed state.now.board.memory
+widths-are : (version : ℕ) (digest : List ℕ) (state : BoardState) → length digest ≡ 20 → IsWellFormed state.now.board.memory
     → widths (pieces version digest state) ≡ places
-unfolding head ram devices processor controls due
+unfolding head ram devices processor_bytes control_bytes due_bytes
 widths-are version digest state long sizes = rw (long, sizes.tile, sizes.colour, sizes.work, sizes.coordinates, sizes.registers) refl
 
 -- where each piece stands
-pub record HasPieces (number : ℕ) (of_set : List ℕ) (state : State) (bytes : List ℕ) : Type 0 where
-  pub magic : part 0 8 bytes ≡ magic
-  pub version : part 8 2 bytes ≡ word number
-  pub digest : part 10 20 bytes ≡ of_set
-  pub processor : part 30 28 bytes ≡ processor state.now.regs
-  pub time : part 58 8 bytes ≡ long_word state.now.time
-  pub steps : part 66 8 bytes ≡ long_word state.now.steps
-  pub asked : part 74 8 bytes ≡ long_word state.asked
-  pub tile : part 82 1024 bytes ≡ state.now.board.memory.tile
-  pub colour : part 1106 1024 bytes ≡ state.now.board.memory.colour
-  pub work : part 2130 1024 bytes ≡ state.now.board.memory.work
-  pub coordinates : part 3154 16 bytes ≡ state.now.board.memory.coordinates
-  pub registers : part 3170 32 bytes ≡ state.now.board.memory.registers
-  pub first : part 3202 4 bytes ≡ double_word state.now.board.accumulators.first
-  pub second : part 3206 4 bytes ≡ double_word state.now.board.accumulators.second
-  pub third : part 3210 4 bytes ≡ double_word state.now.board.accumulators.third
-  pub controls : part 3214 7 bytes ≡ controls state.now.board.memory
-  pub due : part 3221 3 bytes ≡ due state.due
+pub record HasPieces (number : ℕ) (of_set : List ℕ) (state : BoardState) (bytes : List ℕ) : Type 0 where
+  pub magic : bytes_at_place 0 8 bytes ≡ magic
+  pub version : bytes_at_place 8 2 bytes ≡ saved_word number
+  pub digest : bytes_at_place 10 20 bytes ≡ of_set
+  pub processor : bytes_at_place 30 28 bytes ≡ processor_bytes state.now.regs
+  pub time : bytes_at_place 58 8 bytes ≡ saved_long_word state.now.time
+  pub steps : bytes_at_place 66 8 bytes ≡ saved_long_word state.now.steps
+  pub asked : bytes_at_place 74 8 bytes ≡ saved_long_word state.asked
+  pub tile : bytes_at_place 82 1024 bytes ≡ state.now.board.memory.tile
+  pub colour : bytes_at_place 1106 1024 bytes ≡ state.now.board.memory.colour
+  pub work : bytes_at_place 2130 1024 bytes ≡ state.now.board.memory.work
+  pub coordinates : bytes_at_place 3154 16 bytes ≡ state.now.board.memory.coordinates
+  pub registers : bytes_at_place 3170 32 bytes ≡ state.now.board.memory.registers
+  pub first : bytes_at_place 3202 4 bytes ≡ saved_double_word state.now.board.accumulators.first
+  pub second : bytes_at_place 3206 4 bytes ≡ saved_double_word state.now.board.accumulators.second
+  pub third : bytes_at_place 3210 4 bytes ≡ saved_double_word state.now.board.accumulators.third
+  pub controls : bytes_at_place 3214 7 bytes ≡ control_bytes state.now.board.memory
+  pub due : bytes_at_place 3221 3 bytes ≡ due_bytes state.due
 
-front-cut : (version : ℕ) (digest : List ℕ) (state : State) (after : List ℕ) → length digest ≡ 20 → IsWellFormed state.now.board.memory
-    → cut 0 places (front version digest state ++ after) ≡ pieces version digest state
+front-cut : (version : ℕ) (digest : List ℕ) (state : BoardState) (after : List ℕ) → length digest ≡ 20 → IsWellFormed state.now.board.memory
+    → cut 0 places (file_front version digest state ++ after) ≡ pieces version digest state
 front-cut version digest state after long sizes =
-    subst (λ (widths : List ℕ). cut 0 widths (front version digest state ++ after) ≡ pieces version digest state)
+    subst (λ (widths : List ℕ). cut 0 widths (file_front version digest state ++ after) ≡ pieces version digest state)
     (widths-are version digest state long sizes)
     (subst (λ (text : List ℕ). cut 0 (widths (pieces version digest state)) (text ++ after) ≡ pieces version digest state)
     (joined-pieces version digest state) (cut-joined [] (pieces version digest state) after))
@@ -104,8 +105,9 @@ front-cut version digest state after long sizes =
 nth : (n : ℕ) {one other : List (List ℕ)} → one ≡ other → get_or one n [] ≡ get_or other n []
 nth n same = ap (λ (pieces : List (List ℕ)). get_or pieces n []) same
 
-front-pieces : (version : ℕ) (digest : List ℕ) (state : State) (after : List ℕ) → length digest ≡ 20 → IsWellFormed state.now.board.memory
-    → HasPieces version digest state (front version digest state ++ after)
+front-pieces : (version : ℕ) (digest : List ℕ) (state : BoardState) (after : List ℕ) → length digest ≡ 20 →
+    IsWellFormed state.now.board.memory
+    → HasPieces version digest state (file_front version digest state ++ after)
 unfolding cut head ram devices
 front-pieces version digest state after long sizes =
     let same = front-cut version digest state after long sizes in
@@ -129,8 +131,8 @@ front-pieces version digest state after long sizes =
       due = nth 16 same;
     }
 
-pub length-front : (version : ℕ) (digest : List ℕ) (state : State) → length digest ≡ 20 → IsWellFormed state.now.board.memory
-    → length (front version digest state) ≡ 3224
+pub length-front : (version : ℕ) (digest : List ℕ) (state : BoardState) → length digest ≡ 20 → IsWellFormed state.now.board.memory
+    → length (file_front version digest state) ≡ 3224
 unfolding total
 length-front version digest state long sizes =
     ap length (sym (joined-pieces version digest state)) ∙ (length-joined (pieces version digest state)
@@ -138,36 +140,41 @@ length-front version digest state long sizes =
 
 -- ---- the lines of the picture
 
-lines-before : (lines : List (List ℕ)) → IsPicture lines → (count : ℕ) → count ≤ 224 → length (joined (take count lines)) ≡ 288 * count
+lines-before : (lines : List (List ℕ)) → IsPicture lines → (count : ℕ) → count ≤ 224 →
+    length (bytes_of_pieces (take count lines)) ≡ 288 * count
 lines-before lines picture zero within = refl
 lines-before lines picture (suc count) within =
     let high : length lines ≡ 224 = picture.high in
     let inside : count < length lines = omega (arith, high, within) in
     let wide : length (get_or lines count []) ≡ 288 = picture.wide count (omega (arith, within)) in
     let before = lines-before lines picture count (omega (arith, within)) in
-    let more : joined (take count lines) ++ get_or lines count [] ≡ joined (take (count + 1) lines) =
+    let more : bytes_of_pieces (take count lines) ++ get_or lines count [] ≡ bytes_of_pieces (take (count + 1) lines) =
     pieces-more (λ (piece : List ℕ). piece) lines count [] inside in
     let next : count + 1 ≡ suc count = omega arith in
-    ap (λ count. length (joined (take count lines))) (sym next) ∙ (ap length (sym more)
-    ∙ (length-append (joined (take count lines)) (get_or lines count []) ∙ omega (arith, wide, before)))
+    ap (λ count. length (bytes_of_pieces (take count lines))) (sym next) ∙ (ap length (sym more)
+    ∙ (length-append (bytes_of_pieces (take count lines)) (get_or lines count []) ∙ omega (arith, wide, before)))
 
-pub length-lines : (lines : List (List ℕ)) → IsPicture lines → length (joined lines) ≡ 64512
+pub length-lines : (lines : List (List ℕ)) → IsPicture lines → length (bytes_of_pieces lines) ≡ 64512
 length-lines lines picture =
     let all : take 224 lines ≡ lines = take_all 224 lines (let high : length lines ≡ 224 = picture.high in omega (arith, high)) in
-    ap (λ lines. length (joined lines)) (sym all) ∙ lines-before lines picture 224 (omega arith)
+    ap (λ lines. length (bytes_of_pieces lines)) (sym all) ∙ lines-before lines picture 224 (omega arith)
 
-line-at : (lines : List (List ℕ)) → IsPicture lines → (y : ℕ) → y < 224 → part (288 * y) 288 (joined lines) ≡ get_or lines y []
+line-at : (lines : List (List ℕ)) → IsPicture lines → (y : ℕ) → y < 224 →
+    bytes_at_place (288 * y) 288 (bytes_of_pieces lines) ≡ get_or lines y []
 line-at lines picture y inside =
     let high : length lines ≡ 224 = picture.high in
     let before = lines-before lines picture y (omega (arith, inside)) in
-    let split : (joined (take y lines) ++ get_or lines y []) ++ joined (drop (y + 1) lines) ≡ joined lines =
+    let split : (bytes_of_pieces (take y lines) ++ get_or lines y []) ++ bytes_of_pieces (drop (y + 1) lines) ≡ bytes_of_pieces lines =
     pieces-split (λ (piece : List ℕ). piece) lines y [] (omega (arith, high, inside)) in
-    ap (part (288 * y) 288) (sym split ∙ append_assoc (joined (take y lines)) (get_or lines y []) (joined (drop (y + 1) lines)))
-    ∙ part-at (288 * y) 288 (joined (take y lines)) (get_or lines y []) (joined (drop (y + 1) lines)) before (picture.wide y inside)
+    ap (bytes_at_place (288 * y) 288) (sym split
+    ∙ append_assoc (bytes_of_pieces (take y lines)) (get_or lines y []) (bytes_of_pieces (drop (y + 1) lines)))
+    ∙ part-at (288 * y) 288 (bytes_of_pieces (take y lines)) (get_or lines y []) (bytes_of_pieces (drop (y + 1) lines)) before
+    (picture.wide y inside)
 
-pub lines-again : (lines : List (List ℕ)) → IsPicture lines → lines_of (joined lines) ≡ lines
+pub lines-again : (lines : List (List ℕ)) → IsPicture lines → lines_of (bytes_of_pieces lines) ≡ lines
 lines-again lines picture =
-    sym (tabulated lines 224 (λ y. part (288 * y) 288 (joined lines)) [] picture.high (λ y inside. sym (line-at lines picture y inside)))
+    sym (tabulated lines 224 (λ y. bytes_at_place (288 * y) 288 (bytes_of_pieces lines)) [] picture.high
+    (λ y inside. sym (line-at lines picture y inside)))
 
 -- ---- the digests
 
@@ -177,24 +184,27 @@ length-sha1 message = refl
 
 -- ---- the whole
 
-pub has-pieces : (version : ℕ) (digest : List ℕ) (state : State) → length digest ≡ 20 → IsWellFormed state.now.board.memory
-    → HasPieces version digest state (sealed (body version digest state))
+pub has-pieces : (version : ℕ) (digest : List ℕ) (state : BoardState) → length digest ≡ 20 → IsWellFormed state.now.board.memory
+    → HasPieces version digest state (sealed_file (body version digest state))
 has-pieces version digest state long sizes =
     let seal = sha1 (body version digest state) in
-    subst (HasPieces version digest state) (sym (append_assoc (front version digest state) (joined state.now.board.lines) seal))
-    (front-pieces version digest state (joined state.now.board.lines ++ seal) long sizes)
+    subst (HasPieces version digest state)
+    (sym (append_assoc (file_front version digest state) (bytes_of_pieces state.now.board.lines) seal))
+    (front-pieces version digest state (bytes_of_pieces state.now.board.lines ++ seal) long sizes)
 
-pub has-picture : (version : ℕ) (digest : List ℕ) (state : State) → length digest ≡ 20 → IsWellFormed state.now.board.memory
-    → IsPicture state.now.board.lines → part 3224 64512 (sealed (body version digest state)) ≡ joined state.now.board.lines
+pub has-picture : (version : ℕ) (digest : List ℕ) (state : BoardState) → length digest ≡ 20 → IsWellFormed state.now.board.memory
+    → IsPicture state.now.board.lines →
+    bytes_at_place 3224 64512 (sealed_file (body version digest state)) ≡ bytes_of_pieces state.now.board.lines
 has-picture version digest state long sizes picture =
     let seal = sha1 (body version digest state) in
-    ap (part 3224 64512) (append_assoc (front version digest state) (joined state.now.board.lines) seal)
-    ∙ part-at 3224 64512 (front version digest state) (joined state.now.board.lines) seal (length-front version digest state long sizes)
+    ap (bytes_at_place 3224 64512) (append_assoc (file_front version digest state) (bytes_of_pieces state.now.board.lines) seal)
+    ∙ part-at 3224 64512 (file_front version digest state) (bytes_of_pieces state.now.board.lines) seal
+    (length-front version digest state long sizes)
     (length-lines state.now.board.lines picture)
 
-pub length-body : (version : ℕ) (digest : List ℕ) (state : State) → length digest ≡ 20 → IsWellFormed state.now.board.memory
+pub length-body : (version : ℕ) (digest : List ℕ) (state : BoardState) → length digest ≡ 20 → IsWellFormed state.now.board.memory
     → IsPicture state.now.board.lines → length (body version digest state) ≡ 67736
 length-body version digest state long sizes picture =
     let first = length-front version digest state long sizes in
     let second = length-lines state.now.board.lines picture in
-    length-append (front version digest state) (joined state.now.board.lines) ∙ omega (arith, first, second)
+    length-append (file_front version digest state) (bytes_of_pieces state.now.board.lines) ∙ omega (arith, first, second)

@@ -5,12 +5,12 @@ use Rattle.std.specs.Int.{w16}
 use Rattle.pac_exec.specs.declared.regs.Regs.{Regs}
 use Rattle.pac_map.specs.View.{IsWellFormed}
 use Rattle.pac_roms.specs.Parts.{Parts}
-use Rattle.pac_board.specs.State.{State, BoardValue}
+use Rattle.pac_board.specs.State.{BoardState, BoardValue}
 use Rattle.pac_state.specs.declared.fault.LoadFault.TheVariants.{NoMemory}
 use Rattle.pac_state.specs.declared.fault.LoadRefused.{LoadRefused}
 use Rattle.pac_state.specs.Text.{save_text}
 use Rattle.pac_state.specs.Reading.{state_in}
-use Rattle.pac_state.specs.Saved.{IsInRange, is_known, brought_up}
+use Rattle.pac_state.specs.Saved.{IsStateInRange, is_known, upgraded_board}
 
 -- registers of two bytes
 pub record AreWords (regs : Regs) : Type 0 where
@@ -26,12 +26,12 @@ FitsSample (Some sample) = FitsSigned w16 sample
 
 -- A state that a board can have: its memories have their sizes, its words 16 bits, and each field is in its range. What has one
 -- byte needs no bound: it stands in the text as it is.
-pub record IsState (state : State) : Type 0 where
+pub record IsState (state : BoardState) : Type 0 where
   pub words : AreWords state.now.regs
   pub memory : IsWellFormed state.now.board.memory
   pub held : state.now.board.memory.held < 2 ^ 16
   pub sample : FitsSample state.due.sample
-  pub range : IsInRange state
+  pub range : IsStateInRange state
 
 -- ---- files
 
@@ -39,20 +39,20 @@ pub record IsState (state : State) : Type 0 where
 pub record IsFile (set : Parts) (bytes : List ℕ) : Type 0 where
   pub version : ℕ
   pub known : is_known version ≡ true
-  pub state : State
+  pub state : BoardState
   pub is_state : IsState state
   pub text : bytes ≡ save_text version set state
 
--- the board of such a file
-abbrev pub board_of : {bytes : List ℕ} → (set : Parts) → IsFile set bytes → BoardValue
-board_of set file = brought_up file.version (record { set = set; state = file.state; made = 0 })
+-- the board of a state file of a set
+abbrev pub board_of_file : {bytes : List ℕ} → (set : Parts) → IsFile set bytes → BoardValue
+board_of_file set file = upgraded_board file.version (record { set = set; state = file.state; made = 0 })
 
 -- Exactly the files of a set are taken, want of memory apart, and the board is that of the file, whichever state and version
 -- it is said to be the text of.
 abbrev pub Accepts : Parts → List ℕ → Result BoardValue LoadRefused → Type 0
 Accepts set bytes (Ok board) = record {
   file : IsFile set bytes;
-  board : (file : IsFile set bytes) → board ≡ board_of set file;
+  board : (file : IsFile set bytes) → board ≡ board_of_file set file;
 }
 Accepts set bytes (Err refused) = IsFile set bytes → refused.fault ≡ NoMemory
 
@@ -60,12 +60,12 @@ Accepts set bytes (Err refused) = IsFile set bytes → refused.fault ≡ NoMemor
 
 -- Reading a state back out of its text gives the state.
 abbrev pub StatesAreReadBack : Type 0
-StatesAreReadBack = (version : ℕ) (set : Parts) (state : State) → IsState state → state_in (save_text version set state) ≡ state
+StatesAreReadBack = (version : ℕ) (set : Parts) (state : BoardState) → IsState state → state_in (save_text version set state) ≡ state
 
 -- Two states that have one text, with one set, are one state.
 abbrev pub TextsTellStates : Type 0
 TextsTellStates =
-    (version : ℕ) (set : Parts) (one other : State) → IsState one → IsState other
+    (version : ℕ) (set : Parts) (one other : BoardState) → IsState one → IsState other
     → save_text version set one ≡ save_text version set other → one ≡ other
 
 -- What was saved of a board gives a board with the same state, or there isn't the memory; the set comes back.

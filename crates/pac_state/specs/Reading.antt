@@ -10,25 +10,25 @@ use Rattle.pac_tiles.specs.Tabulate.{tabulate}
 use Rattle.pac_tiles.specs.Tiles.{width, height}
 use Rattle.pac_map.specs.View.{View}
 use Rattle.pac_board.specs.declared.due.Due.{Due}
-use Rattle.pac_board.specs.State.{State}
+use Rattle.pac_board.specs.State.{BoardState}
 
 -- so many bytes from a place on
-abbrev pub part : ℕ → ℕ → List ℕ → List ℕ
-part at width bytes = take width (drop at bytes)
+abbrev pub bytes_at_place : ℕ → ℕ → List ℕ → List ℕ
+bytes_at_place at width bytes = take width (drop at bytes)
 
 -- numbers of 2, 4 and 8 bytes at a place
-abbrev pub word_at : ℕ → List ℕ → ℕ
-word_at at bytes = from_le_bytes w16 (part at 2 bytes)
+abbrev pub saved_word_at : ℕ → List ℕ → ℕ
+saved_word_at at bytes = from_le_bytes w16 (bytes_at_place at 2 bytes)
 
-abbrev pub double_word_at : ℕ → List ℕ → ℕ
-double_word_at at bytes = from_le_bytes w32 (part at 4 bytes)
+abbrev pub saved_double_word_at : ℕ → List ℕ → ℕ
+saved_double_word_at at bytes = from_le_bytes w32 (bytes_at_place at 4 bytes)
 
-abbrev pub long_word_at : ℕ → List ℕ → ℕ
-long_word_at at bytes = from_le_bytes w64 (part at 8 bytes)
+abbrev pub saved_long_word_at : ℕ → List ℕ → ℕ
+saved_long_word_at at bytes = from_le_bytes w64 (bytes_at_place at 8 bytes)
 
 -- whether a bit of a byte is set
-abbrev pub is_set : ℕ → ℕ → Bool
-is_set byte place = bit byte place == 1
+abbrev pub is_bit_set : ℕ → ℕ → Bool
+is_bit_set byte place = bit byte place == 1
 
 -- an interrupt mode; no other number than 0 to 2 is written
 abbrev pub mode_of : ℕ → InterruptMode
@@ -55,72 +55,76 @@ regs_of bytes = record {
     h = slice_index bytes 14;
     l = slice_index bytes 15;
   };
-  ix = word_at 16 bytes;
-  iy = word_at 18 bytes;
-  sp = word_at 20 bytes;
-  pc = word_at 22 bytes;
+  ix = saved_word_at 16 bytes;
+  iy = saved_word_at 18 bytes;
+  sp = saved_word_at 20 bytes;
+  pc = saved_word_at 22 bytes;
   i = slice_index bytes 24;
   r = slice_index bytes 25;
-  iff1 = is_set (slice_index bytes 26) 0;
-  iff2 = is_set (slice_index bytes 26) 1;
+  iff1 = is_bit_set (slice_index bytes 26) 0;
+  iff2 = is_bit_set (slice_index bytes 26) 1;
   mode = mode_of (slice_index bytes 27);
-  halted = is_set (slice_index bytes 26) 2;
-  after_ei = is_set (slice_index bytes 26) 3;
+  halted = is_bit_set (slice_index bytes 26) 2;
+  after_ei = is_bit_set (slice_index bytes 26) 3;
 }
 
 -- what is due, of its 3 bytes
-abbrev pub sample_of : Bool → ℕ → Option ℤ
-sample_of is_due word = if is_due then Some (cast_signed w16 word) else None
+abbrev pub due_sample : Bool → ℕ → Option ℤ
+due_sample is_due word = if is_due then Some (cast_signed w16 word) else None
 
 abbrev pub due_of : List ℕ → Due
 due_of bytes = record {
-  sample = sample_of (is_set (slice_index bytes 0) 0) (word_at 1 bytes);
-  picture = is_set (slice_index bytes 0) 1;
+  sample = due_sample (is_bit_set (slice_index bytes 0) 0) (saved_word_at 1 bytes);
+  picture = is_bit_set (slice_index bytes 0) 1;
 }
 
 -- the lines of a picture's colour numbers
 abbrev pub lines_of : List ℕ → List (List ℕ)
-lines_of picture = tabulate height (λ y. part (width * y) width picture)
+lines_of picture = tabulate height (λ y. bytes_at_place (width * y) width picture)
 
 -- the memory: in a file, and the fields of the 7 bytes `controls`
 abbrev pub memory_of : List ℕ → List ℕ → View
 memory_of controls bytes = record {
   switches = slice_index controls 6;
-  held = word_at 4 controls;
-  tile = part 82 1024 bytes;
-  colour = part 1106 1024 bytes;
-  work = part 2130 1024 bytes;
-  coordinates = part 3154 16 bytes;
-  registers = part 3170 32 bytes;
+  held = saved_word_at 4 controls;
+  tile = bytes_at_place 82 1024 bytes;
+  colour = bytes_at_place 1106 1024 bytes;
+  work = bytes_at_place 2130 1024 bytes;
+  coordinates = bytes_at_place 3154 16 bytes;
+  registers = bytes_at_place 3170 32 bytes;
   latched = latched_of (slice_index controls 0) (slice_index controls 1) (slice_index controls 2 == 1) (slice_index controls 3);
 }
 
 -- where the parts of a file stand
 abbrev pub processor_in : List ℕ → List ℕ
-processor_in = part 30 28
+processor_in = bytes_at_place 30 28
 
 abbrev pub controls_in : List ℕ → List ℕ
-controls_in = part 3214 7
+controls_in = bytes_at_place 3214 7
 
 abbrev pub due_in : List ℕ → List ℕ
-due_in = part 3221 3
+due_in = bytes_at_place 3221 3
 
 abbrev pub picture_in : List ℕ → List ℕ
-picture_in = part 3224 64512
+picture_in = bytes_at_place 3224 64512
 
 -- the state in a file
-abbrev pub state_in : List ℕ → State
+abbrev pub state_in : List ℕ → BoardState
 state_in bytes = record {
   now = record {
     regs = regs_of (processor_in bytes);
     board = record {
       memory = memory_of (controls_in bytes) bytes;
-      accumulators = record { first = double_word_at 3202 bytes; second = double_word_at 3206 bytes; third = double_word_at 3210 bytes };
+      accumulators = record {
+        first = saved_double_word_at 3202 bytes;
+        second = saved_double_word_at 3206 bytes;
+        third = saved_double_word_at 3210 bytes;
+      };
       lines = lines_of (picture_in bytes);
     };
-    time = long_word_at 58 bytes;
-    steps = long_word_at 66 bytes;
+    time = saved_long_word_at 58 bytes;
+    steps = saved_long_word_at 66 bytes;
   };
-  asked = long_word_at 74 bytes;
+  asked = saved_long_word_at 74 bytes;
   due = due_of (due_in bytes);
 }

@@ -7,15 +7,15 @@ use Rattle.pac_map.specs.View.{HoldWhatTheyCan}
 use Rattle.pac_colour.specs.Colours.{numbers}
 use Rattle.pac_picture.specs.State.{IsPicture}
 use Rattle.pac_roms.specs.Parts.{Parts}
-use Rattle.pac_manifest.specs.Sets.{digest_of}
+use Rattle.pac_roms_manifest.specs.Sets.{digest_of}
 use Rattle.pac_table.specs.Instructions.{least_ticks}
 use Rattle.pac_wave.specs.Wave.{Fit20Bits}
-use Rattle.pac_board.specs.State.{State, BoardValue, latest_end, most_asked, passed_lines, recomposed, with_view}
+use Rattle.pac_board.specs.State.{BoardState, BoardValue, latest_end, most_asked, passed_lines, recomposed_view, with_view}
 use Rattle.pac_state.specs.declared.fault.LoadFault.{LoadFault}
 use Rattle.pac_state.specs.declared.fault.LoadFault.TheVariants.{NoState, OtherVersion, Size, OutOfRange, Damaged, OtherSet, NoMemory}
 use Rattle.pac_state.specs.declared.fault.LoadRefused.{LoadRefused}
-use Rattle.pac_state.specs.Text.{magic, processor, controls, due}
-use Rattle.pac_state.specs.Reading.{part, word_at, processor_in, controls_in, due_in, state_in}
+use Rattle.pac_state.specs.Text.{magic, processor_bytes, control_bytes, due_bytes}
+use Rattle.pac_state.specs.Reading.{bytes_at_place, saved_word_at, processor_in, controls_in, due_in, state_in}
 
 -- the bytes of a file, those that its digest is of, and those up to the end of the version
 abbrev pub file_size : ℕ
@@ -30,11 +30,11 @@ version_end = 10
 -- ---- what is wrong before any field of the state is looked at
 
 -- what is there of the first 8 bytes is what each file begins with
-abbrev pub begins : List ℕ → Bool
-begins bytes = bytes_eq (take (min 8 (length bytes)) bytes) (take (min 8 (length bytes)) magic)
+abbrev pub begins_with_magic : List ℕ → Bool
+begins_with_magic bytes = bytes_eq (take (min 8 (length bytes)) bytes) (take (min 8 (length bytes)) magic)
 
 abbrev pub version_in : List ℕ → ℕ
-version_in = word_at 8
+version_in = saved_word_at 8
 
 abbrev pub is_known : ℕ → Bool
 is_known version = version == 1 || version == 2
@@ -48,17 +48,17 @@ abbrev pub is_sealed : List ℕ → Bool
 is_sealed bytes = bytes_eq (sha1 (take body_size bytes)) (drop body_size bytes)
 
 -- the ROM set that the file is of has this digest
-abbrev pub is_of : List ℕ → List ℕ → Bool
-is_of digest bytes = bytes_eq digest (part 10 20 bytes)
+abbrev pub is_of_set : List ℕ → List ℕ → Bool
+is_of_set digest bytes = bytes_eq digest (bytes_at_place 10 20 bytes)
 
 -- V1, V2, V3, V5, V6: the first of them that holds of a file, for a set of this digest
-unfoldable pub fault_of : List ℕ → List ℕ → Option LoadFault
-fault_of digest bytes =
-    if not (begins bytes) then Some NoState
+unfoldable pub load_fault : List ℕ → List ℕ → Option LoadFault
+load_fault digest bytes =
+    if not (begins_with_magic bytes) then Some NoState
     else if is_of_another_version bytes then Some OtherVersion
     else if not (length bytes == file_size) then Some Size
     else if not (is_sealed bytes) then Some Damaged
-    else if not (is_of digest bytes) then Some OtherSet
+    else if not (is_of_set digest bytes) then Some OtherSet
     else None
 
 -- ---- the state
@@ -66,7 +66,7 @@ fault_of digest bytes =
 -- Fields that a board can have: registers of the wave generator hold what they can, the watchdog's count is below the one at
 -- which it resets the board, accumulators have 20 bits, time, steps and what was asked are in their limits, and the picture
 -- has colour numbers.
-pub record IsInRange (state : State) : Type 0 where
+pub record IsStateInRange (state : BoardState) : Type 0 where
   pub registers : HoldWhatTheyCan state.now.board.memory.registers
   pub count : state.now.board.memory.latched.count < watchdog_limit
   pub accumulators : Fit20Bits state.now.board.accumulators
@@ -77,14 +77,14 @@ pub record IsInRange (state : State) : Type 0 where
 
 -- Of the pieces of a file these three could be written in more than one way for one state, by bits and numbers that have no
 -- meaning. They stand as they are written for this state.
-pub record AreWritten (state : State) (bytes : List ℕ) : Type 0 where
-  pub processor : processor state.now.regs ≡ processor_in bytes
-  pub controls : controls state.now.board.memory ≡ controls_in bytes
-  pub due : due state.due ≡ due_in bytes
+pub record AreWritten (state : BoardState) (bytes : List ℕ) : Type 0 where
+  pub processor : processor_bytes state.now.regs ≡ processor_in bytes
+  pub controls : control_bytes state.now.board.memory ≡ controls_in bytes
+  pub due : due_bytes state.due ≡ due_in bytes
 
 -- The fields that stand in a file are a state's, and stand there as they are written.
 pub record IsText (bytes : List ℕ) : Type 0 where
-  pub in_range : IsInRange (state_in bytes)
+  pub in_range : IsStateInRange (state_in bytes)
   pub written : AreWritten (state_in bytes) bytes
 
 -- each number is a colour number
@@ -94,14 +94,14 @@ AreNumbers line = EachIndex line (λ x. slice_index line x < numbers)
 -- ---- the board
 
 -- version 1 has the picture of the last blank: the lines passed since then are composed from what the memory keeps
-abbrev pub brought_up : ℕ → BoardValue → BoardValue
-brought_up version board =
+abbrev pub upgraded_board : ℕ → BoardValue → BoardValue
+upgraded_board version board =
     if version == 1
-    then with_view board (recomposed board.set board.state.now.board (passed_lines board.state.now.time))
+    then with_view board (recomposed_view board.set board.state.now.board (passed_lines board.state.now.time))
     else board
 
-abbrev pub loaded : Parts → List ℕ → BoardValue
-loaded set bytes = brought_up (version_in bytes) (record { set = set; state = state_in bytes; made = 0 })
+abbrev pub loaded_board : Parts → List ℕ → BoardValue
+loaded_board set bytes = upgraded_board (version_in bytes) (record { set = set; state = state_in bytes; made = 0 })
 
 -- ---- the answer
 
@@ -112,29 +112,29 @@ Misses bytes NoMemory = ⊤
 Misses bytes fault = ⊥
 
 -- why a file is refused
-abbrev pub Refuses : Parts → List ℕ → LoadFault → Type 0
-Refuses set bytes fault =
-    (fault_of (digest_of set) bytes ≡ Some fault) ⊎ ((fault_of (digest_of set) bytes ≡ None) × Misses bytes fault)
+abbrev pub RefusesFile : Parts → List ℕ → LoadFault → Type 0
+RefusesFile set bytes fault =
+    (load_fault (digest_of set) bytes ≡ Some fault) ⊎ ((load_fault (digest_of set) bytes ≡ None) × Misses bytes fault)
 
 -- the board of a file, or why there is none, with the set that was handed in
-abbrev pub Answers : Parts → List ℕ → Result BoardValue LoadRefused → Type 0
-Answers set bytes (Ok board) = record {
-  sound : fault_of (digest_of set) bytes ≡ None;
+abbrev pub LoadsBoard : Parts → List ℕ → Result BoardValue LoadRefused → Type 0
+LoadsBoard set bytes (Ok board) = record {
+  sound : load_fault (digest_of set) bytes ≡ None;
   text : IsText bytes;
-  board : board ≡ loaded set bytes;
+  board : board ≡ loaded_board set bytes;
 }
-Answers set bytes (Err refused) = record {
+LoadsBoard set bytes (Err refused) = record {
   same_set : refused.set ≡ set;
-  fault : Refuses set bytes refused.fault;
+  fault : RefusesFile set bytes refused.fault;
 }
 
--- the same where nothing was found wrong before the fields, and before lines are brought up
-abbrev pub Reads : Parts → List ℕ → Result BoardValue LoadRefused → Type 0
-Reads set bytes (Ok board) = record {
+-- a board read from the fields of a file, before lines are brought up, where nothing was found wrong before those fields
+abbrev pub ReadsState : Parts → List ℕ → Result BoardValue LoadRefused → Type 0
+ReadsState set bytes (Ok board) = record {
   text : IsText bytes;
   board : board ≡ record { set = set; state = state_in bytes; made = 0 };
 }
-Reads set bytes (Err refused) = record {
+ReadsState set bytes (Err refused) = record {
   same_set : refused.set ≡ set;
   fault : Misses bytes refused.fault;
 }

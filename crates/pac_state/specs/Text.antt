@@ -4,37 +4,37 @@ use Rattle.std.specs.Prelude.{ℕ, pos, List, [], ◌∷◌, ◌++◌, is_some, 
 use Rattle.std.specs.Int.{w16, w32, w64, to_le_bytes, cast_unsigned}
 use Rattle.std.specs.List.{flat_map}
 use Rattle.sha1.specs.Sha1.{sha1}
-use Rattle.pac_latch.specs.Latched.{digit, number_of, byte_of}
+use Rattle.pac_latch.specs.Latched.{binary_digit, binary_number, byte_of_latch}
 use Rattle.pac_table.specs.declared.effects.InterruptMode.{InterruptMode}
 use Rattle.pac_table.specs.declared.effects.InterruptMode.TheVariants.{Zero, One, Two}
 use Rattle.pac_exec.specs.declared.regs.Regs.{Regs}
 use Rattle.pac_map.specs.View.{View}
 use Rattle.pac_roms.specs.Parts.{Parts}
-use Rattle.pac_manifest.specs.Sets.{digest_of}
+use Rattle.pac_roms_manifest.specs.Sets.{digest_of}
 use Rattle.pac_board.specs.declared.due.Due.{Due}
-use Rattle.pac_board.specs.State.{State}
+use Rattle.pac_board.specs.State.{BoardState}
 
 -- pieces, one after another
-abbrev pub joined : List (List ℕ) → List ℕ
-joined = flat_map (λ piece. piece)
+abbrev pub bytes_of_pieces : List (List ℕ) → List ℕ
+bytes_of_pieces = flat_map (λ piece. piece)
 
 -- numbers of 2, 4 and 8 bytes
-abbrev pub word : ℕ → List ℕ
-word n = to_le_bytes w16 n
+abbrev pub saved_word : ℕ → List ℕ
+saved_word n = to_le_bytes w16 n
 
-abbrev pub double_word : ℕ → List ℕ
-double_word n = to_le_bytes w32 n
+abbrev pub saved_double_word : ℕ → List ℕ
+saved_double_word n = to_le_bytes w32 n
 
-abbrev pub long_word : ℕ → List ℕ
-long_word n = to_le_bytes w64 n
+abbrev pub saved_long_word : ℕ → List ℕ
+saved_long_word n = to_le_bytes w64 n
 
 -- what each file begins with
 abbrev pub magic : List ℕ
 magic = codes "PACSTATE"
 
 -- bit 0 IFF1, 1 IFF2, 2 halted, 3 just after EI
-abbrev pub flags_of : Regs → ℕ
-flags_of regs = number_of (regs.iff1 ∷ regs.iff2 ∷ regs.halted ∷ regs.after_ei ∷ [])
+abbrev pub processor_flags : Regs → ℕ
+processor_flags regs = binary_number (regs.iff1 ∷ regs.iff2 ∷ regs.halted ∷ regs.after_ei ∷ [])
 
 abbrev pub number_of_mode : InterruptMode → ℕ
 number_of_mode Zero = 0
@@ -42,61 +42,63 @@ number_of_mode One = 1
 number_of_mode Two = 2
 
 -- the processor, 28 bytes: A F B C D E H L, the second set of them, IX IY SP PC, I R, flags and interrupt mode
-unfoldable pub processor : Regs → List ℕ
-processor regs =
+unfoldable pub processor_bytes : Regs → List ℕ
+processor_bytes regs =
     (regs.a ∷ regs.f ∷ regs.b ∷ regs.c ∷ regs.d ∷ regs.e ∷ regs.h ∷ regs.l ∷ [])
     ++ (regs.alternate.a ∷ regs.alternate.f ∷ regs.alternate.b ∷ regs.alternate.c ∷ regs.alternate.d ∷ regs.alternate.e
     ∷ regs.alternate.h ∷ regs.alternate.l ∷ [])
-    ++ word regs.ix ++ word regs.iy ++ word regs.sp ++ word regs.pc
-    ++ (regs.i ∷ regs.r ∷ flags_of regs ∷ number_of_mode regs.mode ∷ [])
+    ++ saved_word regs.ix ++ saved_word regs.iy ++ saved_word regs.sp ++ saved_word regs.pc
+    ++ (regs.i ∷ regs.r ∷ processor_flags regs ∷ number_of_mode regs.mode ∷ [])
 
 -- output latch, interrupt vector, request and the watchdog's count, then the mask of the inputs held and the byte of the DIP
 -- switches: 7 bytes
-unfoldable pub controls : View → List ℕ
-controls memory =
-    (byte_of memory.latched.bits ∷ memory.latched.vector ∷ digit memory.latched.request ∷ memory.latched.count ∷ [])
-    ++ word memory.held
+unfoldable pub control_bytes : View → List ℕ
+control_bytes memory =
+    (byte_of_latch memory.latched.bits ∷ memory.latched.vector ∷ binary_digit memory.latched.request ∷ memory.latched.count ∷ [])
+    ++ saved_word memory.held
     ++ (memory.switches ∷ [])
 
 -- what is due, 3 bytes: bit 0 a sample, bit 1 the picture; then the sample, 0 where none is due
-unfoldable pub due : Due → List ℕ
-due waiting = number_of (is_some waiting.sample ∷ waiting.picture ∷ []) ∷ word (cast_unsigned w16 (unwrap_or waiting.sample (pos 0)))
+unfoldable pub due_bytes : Due → List ℕ
+due_bytes waiting = binary_number (is_some waiting.sample ∷ waiting.picture ∷ []) ∷
+    saved_word (cast_unsigned w16 (unwrap_or waiting.sample (pos 0)))
 
 -- The pieces before the memory: the first bytes, the version, the digest of the ROM set, 20 bytes; the processor; the time in
 -- T-states, the steps, and the microseconds that were asked for.
-unfoldable pub head : ℕ → List ℕ → State → List (List ℕ)
+unfoldable pub head : ℕ → List ℕ → BoardState → List (List ℕ)
 head version digest state =
-    magic ∷ word version ∷ digest
-    ∷ processor state.now.regs ∷ long_word state.now.time ∷ long_word state.now.steps ∷ long_word state.asked
+    magic ∷ saved_word version ∷ digest
+    ∷ processor_bytes state.now.regs ∷ saved_long_word state.now.time ∷ saved_long_word state.now.steps ∷ saved_long_word state.asked
     ∷ []
 
 -- the three RAMs
-unfoldable pub ram : State → List (List ℕ)
+unfoldable pub ram : BoardState → List (List ℕ)
 ram state = state.now.board.memory.tile ∷ state.now.board.memory.colour ∷ state.now.board.memory.work ∷ []
 
 -- the sprites' coordinates, the wave generator's registers and its accumulators, and the rest
-unfoldable pub devices : State → List (List ℕ)
+unfoldable pub devices : BoardState → List (List ℕ)
 devices state =
     state.now.board.memory.coordinates ∷ state.now.board.memory.registers
-    ∷ double_word state.now.board.accumulators.first
-    ∷ double_word state.now.board.accumulators.second
-    ∷ double_word state.now.board.accumulators.third
-    ∷ controls state.now.board.memory ∷ due state.due
+    ∷ saved_double_word state.now.board.accumulators.first
+    ∷ saved_double_word state.now.board.accumulators.second
+    ∷ saved_double_word state.now.board.accumulators.third
+    ∷ control_bytes state.now.board.memory ∷ due_bytes state.due
     ∷ []
 
 -- all that comes before the picture, with the picture's colour numbers, the rows from the top
-abbrev pub front : ℕ → List ℕ → State → List ℕ
-front version digest state = joined (head version digest state) ++ joined (ram state) ++ joined (devices state)
+abbrev pub file_front : ℕ → List ℕ → BoardState → List ℕ
+file_front version digest state =
+    bytes_of_pieces (head version digest state) ++ bytes_of_pieces (ram state) ++ bytes_of_pieces (devices state)
 
-abbrev pub body : ℕ → List ℕ → State → List ℕ
-body version digest state = front version digest state ++ joined state.now.board.lines
+abbrev pub body : ℕ → List ℕ → BoardState → List ℕ
+body version digest state = file_front version digest state ++ bytes_of_pieces state.now.board.lines
 
--- and at the end the SHA-1 digest of all before
-abbrev pub sealed : List ℕ → List ℕ
-sealed text = text ++ sha1 text
+-- a text with its SHA-1 digest at the end
+abbrev pub sealed_file : List ℕ → List ℕ
+sealed_file text = text ++ sha1 text
 
-abbrev pub save_text : ℕ → Parts → State → List ℕ
-save_text version set state = sealed (body version (digest_of set) state)
+abbrev pub save_text : ℕ → Parts → BoardState → List ℕ
+save_text version set state = sealed_file (body version (digest_of set) state)
 
 -- the version that is written
 abbrev pub written_version : ℕ

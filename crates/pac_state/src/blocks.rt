@@ -3,7 +3,7 @@
 ghost use Rattle.std.specs.Prelude.{◌≡◌, ◌≤◌};
 ghost use Rattle.pac_inputs.specs.Inputs as inputs;
 ghost use Rattle.pac_latch.specs.Latched as latched;
-ghost use Rattle.pac_map.specs.Fields.{view_of};
+ghost use Rattle.pac_map.specs.Fields.{view_of_fields};
 ghost use Rattle.pac_state.specs.Text as text;
 
 use bitflags::Flags;
@@ -14,7 +14,7 @@ use pac_table::InterruptMode;
 
 /// A bit as a number.
 fn digit(bit: bool) -> u8
-    ensures value { result ≡ latched.digit bit }
+    ensures value { result ≡ latched.binary_digit bit }
     ensures bound { result ≤ 1 }
 {
     if bit { 1 } else { 0 }
@@ -22,7 +22,7 @@ fn digit(bit: bool) -> u8
 
 /// IFF1, IFF2, halted and just after EI, in the low four bits.
 fn flags(regs: &Regs) -> u8
-    ensures { result ≡ text.flags_of regs.now }
+    ensures { result ≡ text.processor_flags regs.now }
 {
     digit(regs.iff1) + 2 * (digit(regs.iff2) + 2 * (digit(regs.halted) + 2 * digit(regs.after_ei)))
 }
@@ -38,10 +38,10 @@ fn number_of_mode(mode: InterruptMode) -> u8
     }
 }
 
-/// The processor.
-#[tactic(auto, unfolding(crate::specs::Text::processor))]
+/// The 28 bytes of the processor.
+#[tactic(auto, unfolding(crate::specs::Text::processor_bytes))]
 pub(crate) fn processor(regs: &Regs) -> [u8; 28]
-    ensures { result ≡ text.processor regs.now }
+    ensures { result ≡ text.processor_bytes regs.now }
 {
     let [ix, ix_high] = regs.ix.to_le_bytes();
     let [iy, iy_high] = regs.iy.to_le_bytes();
@@ -89,15 +89,15 @@ pub(crate) fn mask(held: Inputs) -> u16
 
 /// The byte of the latch, whose eight bits all have a meaning.
 fn latch_byte(latch: u8) -> u8
-    ensures { result ≡ latched.byte_of (latched.bits_of latch) }
+    ensures { result ≡ latched.byte_of_latch (latched.bits_of latch) }
 {
     latch
 }
 
-/// Latch, vector, request and count, the inputs held, and the switches.
-#[tactic(auto, unfolding(crate::specs::Text::controls))]
-pub(crate) fn controls(memory: &pac_map::Fields) -> [u8; 7]
-    ensures { result ≡ text.controls (view_of memory.now) }
+/// The 7 bytes of latch, vector, request and count, the inputs held, and the switches.
+#[tactic(auto, unfolding(crate::specs::Text::control_bytes))]
+pub(crate) fn controls(memory: &pac_map::MemoryFields) -> [u8; 7]
+    ensures { result ≡ text.control_bytes (view_of_fields memory.now) }
 {
     let [held, held_high] = mask(memory.held).to_le_bytes();
     [
@@ -111,10 +111,10 @@ pub(crate) fn controls(memory: &pac_map::Fields) -> [u8; 7]
     ]
 }
 
-/// What is due.
-#[tactic(auto, unfolding(crate::specs::Text::due))]
+/// The 3 bytes of what is due.
+#[tactic(auto, unfolding(crate::specs::Text::due_bytes))]
 pub(crate) fn due(due: Due) -> [u8; 3]
-    ensures { result ≡ text.due due }
+    ensures { result ≡ text.due_bytes due }
 {
     let bits = digit(due.sample.is_some()) + 2 * digit(due.picture);
     let [low, high] = due.sample.unwrap_or(0).to_le_bytes();

@@ -7,14 +7,14 @@ ghost use Rattle.pac_state.specs.Saved as saved;
 use crate::fault::LoadFault;
 use sha1::Sha1;
 
-/// What each file begins with.
+/// The first 8 bytes of each state file.
 pub(crate) const MAGIC: &[u8; 8] = b"PACSTATE";
 
 /// The N bytes from a place on.
 #[inline]
 pub(crate) fn part<const N: usize>(bytes: &[u8], at: usize) -> &[u8; N]
     requires { at + N ≤ length bytes.now }
-    ensures { result.now ≡ read.part at N bytes.now }
+    ensures { result.now ≡ read.bytes_at_place at N bytes.now }
 {
     bytes[at..].first_chunk().unwrap()
 }
@@ -23,7 +23,7 @@ pub(crate) fn part<const N: usize>(bytes: &[u8], at: usize) -> &[u8; N]
 #[inline]
 pub(crate) fn word(bytes: &[u8], at: usize) -> u16
     requires { at + 2 ≤ length bytes.now }
-    ensures { result ≡ read.word_at at bytes.now }
+    ensures { result ≡ read.saved_word_at at bytes.now }
 {
     u16::from_le_bytes(*part(bytes, at))
 }
@@ -32,7 +32,7 @@ pub(crate) fn word(bytes: &[u8], at: usize) -> u16
 #[inline]
 pub(crate) fn double_word(bytes: &[u8], at: usize) -> u32
     requires { at + 4 ≤ length bytes.now }
-    ensures { result ≡ read.double_word_at at bytes.now }
+    ensures { result ≡ read.saved_double_word_at at bytes.now }
 {
     u32::from_le_bytes(*part(bytes, at))
 }
@@ -41,14 +41,14 @@ pub(crate) fn double_word(bytes: &[u8], at: usize) -> u32
 #[inline]
 pub(crate) fn long_word(bytes: &[u8], at: usize) -> u64
     requires { at + 8 ≤ length bytes.now }
-    ensures { result ≡ read.long_word_at at bytes.now }
+    ensures { result ≡ read.saved_long_word_at at bytes.now }
 {
     u64::from_le_bytes(*part(bytes, at))
 }
 
 /// Whether what is there of the first 8 bytes is what each file begins with.
 fn begins(bytes: &[u8]) -> bool
-    ensures { result ≡ saved.begins bytes.now }
+    ensures { result ≡ saved.begins_with_magic bytes.now }
 {
     let there = bytes.len().min(8);
     bytes[..there] == MAGIC[..there]
@@ -74,7 +74,7 @@ fn is_sealed(bytes: &[u8]) -> bool
 /// Whether a file is of a board whose ROM set has this digest.
 fn is_of(digest: &[u8; 20], bytes: &[u8]) -> bool
     requires { length bytes.now ≡ saved.file_size }
-    ensures { result ≡ saved.is_of digest.now bytes.now }
+    ensures { result ≡ saved.is_of_set digest.now bytes.now }
 {
     *digest == *part(bytes, 10)
 }
@@ -87,9 +87,9 @@ fn is_of_another_version(bytes: &[u8]) -> bool
 }
 
 /// The first of V1, V2, V3, V5 and V6 that holds of a file, for a ROM set of this digest.
-#[tactic(auto, unfolding(crate::specs::Saved::fault_of))]
+#[tactic(auto, unfolding(crate::specs::Saved::load_fault))]
 pub(crate) fn fault_of(digest: &[u8; 20], bytes: &[u8]) -> Option<LoadFault>
-    ensures { result ≡ saved.fault_of digest.now bytes.now }
+    ensures { result ≡ saved.load_fault digest.now bytes.now }
 {
     if !begins(bytes) {
         Some(LoadFault::NoState)

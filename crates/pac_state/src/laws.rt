@@ -1,7 +1,7 @@
 //! What holds of files and boards together.
 
 ghost use Rattle.std.specs.Prelude.{◌≡◌, IfOk};
-ghost use Rattle.pac_manifest.specs.Sets.{digest_of};
+ghost use Rattle.pac_roms_manifest.specs.Sets.{digest_of};
 ghost use Rattle.pac_state.specs.Files.{IsState, LoadsAgain, StatesAreReadBack, TextsTellStates};
 ghost use Rattle.pac_state.specs.Saved as saved;
 ghost use Rattle.pac_state.specs.Saves.{Saves};

@@ -3,27 +3,27 @@
 ghost use Rattle.std.specs.Prelude.{◌≡◌, length};
 ghost use Rattle.pac_state.specs.Files.{Accepts};
 ghost use Rattle.pac_state.specs.Saved as saved;
-ghost use Rattle.pac_manifest.specs.Sets.{digest_of};
+ghost use Rattle.pac_roms_manifest.specs.Sets.{digest_of};
 
 use crate::fault::{LoadFault, LoadRefused};
 use crate::header::{fault_of, part, word};
 use crate::reading::{fields, is_taken, take_lines};
 use pac_board::Board;
-use pac_manifest::digest;
 use pac_picture::Lines;
 use pac_roms::RomSet;
+use pac_roms_manifest::digest;
 use std::alloc::Global;
 
 /// What is wrong with a file for a set, before any field of the state is looked at.
 fn checked(bytes: &[u8], set: &RomSet) -> Option<LoadFault>
-    ensures { result ≡ saved.fault_of (digest_of set.now) bytes.now }
+    ensures { result ≡ saved.load_fault (digest_of set.now) bytes.now }
 {
     fault_of(&digest(set), bytes)
 }
 
 /// Composes the lines that have passed where the board was in a file of version 1.
 fn bring_up(board: &mut Board, version: u16)
-    ensures { board.new ≡ saved.brought_up version board.old }
+    ensures { board.new ≡ saved.upgraded_board version board.old }
 {
     if version == 1 {
         board.recompose();
@@ -33,7 +33,7 @@ fn bring_up(board: &mut Board, version: u16)
 /// The board whose fields stand in a file of the right size, as they stand there.
 fn read(alloc: Global, bytes: &[u8], set: RomSet) -> Result<Board, LoadRefused>
     requires { length bytes.now ≡ saved.file_size }
-    ensures { saved.Reads set bytes.now result }
+    ensures { saved.ReadsState set bytes.now result }
 {
     let Ok(mut lines) = Lines::new(alloc) else {
         return Err(LoadRefused {
@@ -70,7 +70,7 @@ fn read(alloc: Global, bytes: &[u8], set: RomSet) -> Result<Board, LoadRefused>
 /// and V4 that is wrong with the file, or for want of memory; the set then comes back. So exactly the texts of states in
 /// their ranges are taken.
 pub fn load(alloc: Global, bytes: &[u8], set: RomSet) -> Result<Board, LoadRefused>
-    ensures answer { saved.Answers set bytes.now result }
+    ensures answer { saved.LoadsBoard set bytes.now result }
     ensures files { Accepts set bytes.now result }
 {
     if let Some(fault) = checked(bytes, &set) {

@@ -3,7 +3,7 @@
 ghost use Rattle.std.specs.Prelude.{◌≡◌, ◌<◌, ◌^◌, length};
 ghost use Rattle.pac_inputs.specs.Inputs as inputs;
 ghost use Rattle.pac_state.specs.Files.{AreWords, FitsSample, IsState};
-ghost use Rattle.pac_board.specs.Fields.{state_of, AreInRange};
+ghost use Rattle.pac_board.specs.Fields.{state_of, AreBoardFields};
 
 use crate::blocks::mask;
 use pac_board::{Due, Fields};
@@ -41,14 +41,14 @@ fn inputs(held: Inputs)
 fn sample(due: Due)
     ensures { FitsSample due.sample }
 {
-    // where it is read, its type tells it
+    // reading the sample tells the range of its type
     if let Some(sample) = due.sample {
         let _sample = sample;
     }
 }
 
 /// Memories have their sizes.
-fn sizes(memory: &pac_map::Fields)
+fn sizes(memory: &pac_map::MemoryFields)
     ensures tile { length memory.now.tile.now ≡ 1024 }
     ensures colour { length memory.now.colour.now ≡ 1024 }
     ensures work { length memory.now.work.now ≡ 1024 }
@@ -66,13 +66,13 @@ fn sizes(memory: &pac_map::Fields)
 
 /// Fields in their ranges are those of a state.
 pub(crate) fn in_range(fields: &Fields)
-    requires { AreInRange fields.now }
+    requires { AreBoardFields fields.now }
     ensures { IsState (state_of fields.now) }
 {
     words(&fields.regs);
     inputs(fields.memory.held);
     sample(fields.due);
     sizes(&fields.memory);
-    // any row tells that all of them are there
+    // the contract of reading any row tells that all of them are there
     let _top = fields.lines.row(0);
 }

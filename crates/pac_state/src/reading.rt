@@ -1,9 +1,9 @@
 //! The fields of a state in the bytes of a file.
 
 ghost use Rattle.std.specs.Prelude.{◌≡◌, ◌↔◌, ◌<◌, ◌≤◌, ◌*◌, ◌+◌, true, length, slice_index};
-ghost use Rattle.pac_board.specs.Fields.{state_of, AreInRange};
+ghost use Rattle.pac_board.specs.Fields.{state_of, AreBoardFields};
 ghost use Rattle.pac_inputs.specs.Inputs as inputs;
-ghost use Rattle.pac_map.specs.Fields.{view_of};
+ghost use Rattle.pac_map.specs.Fields.{view_of_fields};
 ghost use Rattle.pac_picture.specs.State.{IsPicture};
 ghost use Rattle.pac_state.specs.Reading as read;
 ghost use Rattle.pac_state.specs.Saved as saved;
@@ -22,7 +22,7 @@ use pac_table::InterruptMode;
 /// Whether a bit of a byte is set.
 fn is_set(byte: u8, place: u8) -> bool
     requires { place < 8 }
-    ensures { result ≡ read.is_set byte place }
+    ensures { result ≡ read.is_bit_set byte place }
 {
     bit(byte, place) == 1
 }
@@ -106,12 +106,12 @@ fn inputs_of(mask: u16) -> Inputs
 }
 
 /// The memory in a file.
-fn memory(bytes: &[u8]) -> pac_map::Fields<'_>
+fn memory(bytes: &[u8]) -> pac_map::MemoryFields<'_>
     requires { length bytes.now ≡ saved.file_size }
-    ensures { view_of result ≡ read.memory_of (read.controls_in bytes.now) bytes.now }
+    ensures { view_of_fields result ≡ read.memory_of (read.controls_in bytes.now) bytes.now }
 {
     let controls: &[u8; 7] = part(bytes, 3214);
-    pac_map::Fields {
+    pac_map::MemoryFields {
         tile: part(bytes, 82),
         colour: part(bytes, 1106),
         work: part(bytes, 2130),
@@ -161,7 +161,7 @@ fn are_written(fields: &Fields, bytes: &[u8]) -> bool
 /// Whether fields that were read from a file are a state's, and stand there as they are written.
 pub(crate) fn is_taken(fields: &Fields, bytes: &[u8]) -> bool
     requires { length bytes.now ≡ saved.file_size }
-    ensures { (result ≡ true) ↔ (AreInRange fields.now × saved.AreWritten (state_of fields.now) bytes.now) }
+    ensures { (result ≡ true) ↔ (AreBoardFields fields.now × saved.AreWritten (state_of fields.now) bytes.now) }
 {
     fields.are_in_range() && are_written(fields, bytes)
 }
@@ -191,7 +191,7 @@ pub(crate) fn take_lines(lines: &mut Lines, bytes: &[u8; 64512]) -> bool
         }
         lines.set_row(y, line);
     }
-    // any row tells that all of them are there
+    // the contract of reading any row tells that all of them are there
     let _after = lines.row(0);
     true
 }

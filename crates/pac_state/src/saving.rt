@@ -4,7 +4,7 @@ ghost use Rattle.std.specs.Prelude.{◌≡◌, ◌++◌, ℕ, List, OnOk};
 ghost use Rattle.std.specs.List.{flat_map};
 ghost use Rattle.sha1.specs.Sha1.{Holds};
 ghost use Rattle.pac_board.specs.Fields.{state_of};
-ghost use Rattle.pac_manifest.specs.Sets.{digest_of};
+ghost use Rattle.pac_roms_manifest.specs.Sets.{digest_of};
 ghost use Rattle.pac_out.specs.Counted.{Puts};
 ghost use Rattle.pac_state.specs.Saves.{Saves};
 ghost use Rattle.pac_state.specs.Text as text;
@@ -12,10 +12,10 @@ ghost use Rattle.pac_state.specs.Text as text;
 use crate::blocks::{controls, due, processor};
 use crate::header::MAGIC;
 use pac_board::{Board, Fields};
-use pac_manifest::digest;
 use pac_out::counted::Counted;
 use pac_out::{Out, WriteFault};
 use pac_picture::Lines;
+use pac_roms_manifest::digest;
 use sha1::Sha1;
 
 /// The version that is written.
@@ -30,8 +30,8 @@ fn put<W: Out>(file: &mut Counted<W>, hasher: &mut Sha1, bytes: &[u8]) -> Result
     file.put(bytes)
 }
 
-/// Writes pieces one after another, and takes them into a digest. Nothing is put at last, so that a file that has failed tells its
-/// fault where there are no pieces, too.
+/// Writes pieces one after another, and takes them into a digest. No bytes are put at the end, so that a file that has failed tells
+/// its fault also where there are no pieces.
 fn put_pieces<W: Out>(
     file: &mut Counted<W>,
     hasher: &mut Sha1,
@@ -53,9 +53,10 @@ fn put_head<W: Out>(
     digest: &[u8; 20],
     fields: &Fields,
 ) -> Result<(), WriteFault>
-    ensures put { Puts W.took W.refused file.old (text.joined (text.head text.written_version digest.now (state_of fields.now))) result file.new }
+    ensures put { Puts W.took W.refused file.old (text.bytes_of_pieces (text.head text.written_version digest.now (state_of fields.now)))
+        result file.new }
     ensures hashed { OnOk result ((m : List ℕ) → Holds hasher.old m
-        → Holds hasher.new (m ++ text.joined (text.head text.written_version digest.now (state_of fields.now)))) }
+        → Holds hasher.new (m ++ text.bytes_of_pieces (text.head text.written_version digest.now (state_of fields.now)))) }
 {
     let digest = *digest;
     let pieces: [&[u8]; 7] = [
@@ -77,8 +78,9 @@ fn put_ram<W: Out>(
     hasher: &mut Sha1,
     fields: &Fields,
 ) -> Result<(), WriteFault>
-    ensures put { Puts W.took W.refused file.old (text.joined (text.ram (state_of fields.now))) result file.new }
-    ensures hashed { OnOk result ((m : List ℕ) → Holds hasher.old m → Holds hasher.new (m ++ text.joined (text.ram (state_of fields.now)))) }
+    ensures put { Puts W.took W.refused file.old (text.bytes_of_pieces (text.ram (state_of fields.now))) result file.new }
+    ensures hashed { OnOk result ((m : List ℕ) → Holds hasher.old m →
+        Holds hasher.new (m ++ text.bytes_of_pieces (text.ram (state_of fields.now)))) }
 {
     let tile = fields.memory.tile;
     let colour = fields.memory.colour;
@@ -92,8 +94,9 @@ fn put_devices<W: Out>(
     hasher: &mut Sha1,
     fields: &Fields,
 ) -> Result<(), WriteFault>
-    ensures put { Puts W.took W.refused file.old (text.joined (text.devices (state_of fields.now))) result file.new }
-    ensures hashed { OnOk result ((m : List ℕ) → Holds hasher.old m → Holds hasher.new (m ++ text.joined (text.devices (state_of fields.now)))) }
+    ensures put { Puts W.took W.refused file.old (text.bytes_of_pieces (text.devices (state_of fields.now))) result file.new }
+    ensures hashed { OnOk result ((m : List ℕ) → Holds hasher.old m →
+        Holds hasher.new (m ++ text.bytes_of_pieces (text.devices (state_of fields.now)))) }
 {
     let memory = fields.memory;
     let coordinates = memory.coordinates;
@@ -118,9 +121,9 @@ fn put_front<W: Out>(
     digest: &[u8; 20],
     fields: &Fields,
 ) -> Result<(), WriteFault>
-    ensures put { Puts W.took W.refused file.old (text.front text.written_version digest.now (state_of fields.now)) result file.new }
+    ensures put { Puts W.took W.refused file.old (text.file_front text.written_version digest.now (state_of fields.now)) result file.new }
     ensures hashed { OnOk result ((m : List ℕ) → Holds hasher.old m
-        → Holds hasher.new (m ++ text.front text.written_version digest.now (state_of fields.now))) }
+        → Holds hasher.new (m ++ text.file_front text.written_version digest.now (state_of fields.now))) }
 {
     put_head(file, hasher, digest, fields)?;
     put_ram(file, hasher, fields)?;
@@ -133,8 +136,8 @@ fn put_lines<W: Out>(
     hasher: &mut Sha1,
     lines: &Lines,
 ) -> Result<(), WriteFault>
-    ensures put { Puts W.took W.refused file.old (text.joined lines.now) result file.new }
-    ensures hashed { OnOk result ((m : List ℕ) → Holds hasher.old m → Holds hasher.new (m ++ text.joined lines.now)) }
+    ensures put { Puts W.took W.refused file.old (text.bytes_of_pieces lines.now) result file.new }
+    ensures hashed { OnOk result ((m : List ℕ) → Holds hasher.old m → Holds hasher.new (m ++ text.bytes_of_pieces lines.now)) }
 {
     for y in 0..224u8 {
         put(file, hasher, lines.row(y))?;
@@ -148,7 +151,8 @@ fn put_state<W: Out>(
     digest: &[u8; 20],
     fields: &Fields,
 ) -> Result<(), WriteFault>
-    ensures { Puts W.took W.refused file.old (text.sealed (text.body text.written_version digest.now (state_of fields.now))) result file.new }
+    ensures { Puts W.took W.refused file.old (text.sealed_file (text.body text.written_version digest.now (state_of fields.now))) result
+        file.new }
 {
     let mut hasher = Sha1::new();
     put_front(file, &mut hasher, digest, fields)?;

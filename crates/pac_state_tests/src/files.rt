@@ -56,7 +56,7 @@ pub fn file_of(alloc: Global, set: &RomSet, pieces: &[Piece]) -> Result<Vec<u8>,
     Ok(file)
 }
 
-/// The same of a board whose program begins with these bytes.
+/// Like `file_of`, for a board whose program begins with these bytes.
 pub fn file(alloc: Global, program: &[u8], pieces: &[Piece]) -> Result<Vec<u8>, AllocError> {
     let set = set(alloc, program)?;
     file_of(alloc, &set, pieces)

@@ -3,8 +3,8 @@
 use crate::files::file_of;
 use crate::sets::{CELL, set};
 use pac_roms::RomSet;
-use pac_scarce::Hoard;
 use pac_state::{LoadFault, load};
+use pac_tests_memory::Hoard;
 use std::alloc::Global;
 use std::process::Abort;
 use std::test::Fail;

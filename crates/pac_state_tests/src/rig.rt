@@ -4,7 +4,7 @@ use crate::files::{Piece, SIZE, file};
 use crate::sets::set;
 use pac_board::kept::{Kept, Taken};
 use pac_board::{Board, Fault};
-use pac_out::memory::Memory;
+use pac_out::memory::MemoryWriter;
 use pac_state::{load, save};
 use std::alloc::{AllocError, Global};
 use std::marker::Model;
@@ -55,8 +55,8 @@ impl Rig {
     }
 
     /// What is saved of the board.
-    pub fn saved(&self, alloc: Global) -> Result<Memory, AllocError> {
-        let mut file = Memory::new(alloc, SIZE)?;
+    pub fn saved(&self, alloc: Global) -> Result<MemoryWriter, AllocError> {
+        let mut file = MemoryWriter::new(alloc, SIZE)?;
         match save(&self.board, &mut file) {
             Ok(()) => Ok(file),
             Err(_) => Err(AllocError),

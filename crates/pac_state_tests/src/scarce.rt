@@ -6,8 +6,8 @@ use crate::sets::set;
 use pac_board::kept::Kept;
 use pac_board::{Board, Fault};
 use pac_roms::RomSet;
-use pac_scarce::Hoard;
 use pac_state::{LoadFault, LoadRefused, load};
+use pac_tests_memory::Hoard;
 use std::alloc::{AllocError, Global};
 
 /// More turns than are refused.

@@ -4,12 +4,12 @@ use Rattle.std.specs.Prelude.{◌≡◌, ℕ, zero, suc, ◌+◌, Bool, if◌the
 use Rattle.std.specs.List.{list_any}
 use Rattle.pac_table.specs.declared.patterns.Page.{Page}
 use Rattle.pac_table.specs.declared.patterns.Page.TheVariants as page
-use Rattle.pac_table.specs.Pages.{on_page}
+use Rattle.pac_table.specs.Pages.{is_on_page}
 use Rattle.pac_table.specs.Table.{table}
 
 -- whether a row takes an opcode byte of a page
 abbrev pub is_documented : Page → ℕ → Bool
-is_documented page byte = list_any (on_page page byte) table
+is_documented page byte = list_any (is_on_page page byte) table
 
 -- how many numbers below a limit pass
 abbrev pub count_below : (ℕ → Bool) → ℕ → ℕ

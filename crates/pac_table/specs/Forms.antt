@@ -155,20 +155,20 @@ abbrev pub one_if : Bool → ℕ
 one_if test = if test then 1 else 0
 
 -- how many operands of a form fill a part
-abbrev pub fillers : Row → (Shape → Bool) → ℕ
-fillers row fills = one_if (fills row.operands.first) + one_if (fills row.operands.second)
+abbrev pub filler_count : Row → (Shape → Bool) → ℕ
+filler_count row fills = one_if (fills row.operands.first) + one_if (fills row.operands.second)
 
 -- whether the form of a row fills its code, each part once
-abbrev pub is_filled : Row → Bool
-is_filled row =
+abbrev pub fills_code : Row → Bool
+fills_code row =
     let pattern = row.pattern in
     let family = is_family row.operands.mnemonic in
     fits_code pattern row.operands.first && fits_code pattern row.operands.second &&
     one_if family == one_if (is_alu_operation pattern.first || is_shift_operation pattern.first) &&
-    fillers row fills_first + one_if family == one_if (is_present pattern.first) &&
-    fillers row fills_second == one_if (is_present pattern.second) &&
-    fillers row fills_word == one_if (has_byte pattern.immediate || has_word pattern.immediate) &&
-    fillers row fills_displacement == one_if (has_distance pattern.immediate || has_displacement pattern.immediate)
+    filler_count row fills_first + one_if family == one_if (is_present pattern.first) &&
+    filler_count row fills_second == one_if (is_present pattern.second) &&
+    filler_count row fills_word == one_if (has_byte pattern.immediate || has_word pattern.immediate) &&
+    filler_count row fills_displacement == one_if (has_distance pattern.immediate || has_displacement pattern.immediate)
 
 abbrev pub FillsCodes : Type 0
-FillsCodes = (row : ℕ) → row < row_count → IsTrue (is_filled (row_at row))
+FillsCodes = (row : ℕ) → row < row_count → IsTrue (fills_code (row_at row))

@@ -3,7 +3,7 @@
 
 /// A place of 8 bits.
 #[derive(Clone, Copy)]
-pub enum Place {
+pub enum BytePlace {
     /// The register in the first field.
     First,
     /// The register in the second field.
@@ -124,7 +124,7 @@ pub enum Control {
 #[derive(Clone, Copy)]
 pub enum ByteLoad {
     /// LD of a byte: where it goes, then where it comes from. No flag changes.
-    Load(Place, Place),
+    Load(BytePlace, BytePlace),
     /// LD A,I and LD A,R, which set flags.
     LoadFromSpecial(Special),
     /// LD I,A and LD R,A.
@@ -166,11 +166,11 @@ pub enum Exchange {
 #[derive(Clone, Copy)]
 pub enum ByteArithmetic {
     /// ADD, ADC, SUB, SBC, AND, XOR, OR or CP, by the first field, of A and a place.
-    Alu(Place),
+    Alu(BytePlace),
     /// INC of a byte.
-    Increment(Place),
+    Increment(BytePlace),
     /// DEC of a byte.
-    Decrement(Place),
+    Decrement(BytePlace),
     /// DAA.
     DecimalAdjust,
     /// CPL.
@@ -205,7 +205,7 @@ pub enum RotateAndShift {
     /// RLCA, RRCA, RLA, RRA.
     RotateAccumulator(Rotation),
     /// RLC, RRC, RL, RR, SLA, SRA or SRL, by the first field.
-    Shift(Place),
+    Shift(BytePlace),
     /// RLD.
     RotateDigitLeft,
     /// RRD.
@@ -216,11 +216,11 @@ pub enum RotateAndShift {
 #[derive(Clone, Copy)]
 pub enum BitOperation {
     /// BIT; the first field is the bit's number.
-    Test(Place),
+    Test(BytePlace),
     /// RES; the first field is the bit's number.
-    Reset(Place),
+    Reset(BytePlace),
     /// SET; the first field is the bit's number.
-    Set(Place),
+    Set(BytePlace),
 }
 
 /// Where a jump goes (UM0080, "Jump Group").

@@ -2,7 +2,7 @@
 //! User Manual UM0080).
 #![tactic(auto)]
 
-ghost use Rattle.pac_table.specs.Instructions.{AtMostOne};
+ghost use Rattle.pac_table.specs.Instructions.{AtMostOneMatches};
 ghost use Rattle.pac_table.specs.Counts.{CountsOpcodes};
 ghost use Rattle.pac_table.specs.Forms.{FillsCodes};
 
@@ -15,9 +15,9 @@ mod table;
 
 pub use dispatch::{matching_row, plain_row};
 pub use effects::{
-    BitOperation, Block, BlockOperation, ByteArithmetic, ByteLoad, Call, Control, Direction,
-    Effect, Exchange, InterruptMode, Jump, Pair, Place, Port, RotateAndShift, Rotation, Special,
-    WordArithmetic, WordLoad,
+    BitOperation, Block, BlockOperation, ByteArithmetic, ByteLoad, BytePlace, Call, Control,
+    Direction, Effect, Exchange, InterruptMode, Jump, Pair, Port, RotateAndShift, Rotation,
+    Special, WordArithmetic, WordLoad,
 };
 pub use instruction::Instr;
 pub use operands::{Mnemonic, Operands, Shape};
@@ -26,7 +26,7 @@ pub use table::{Row, row_numbered, rows};
 
 /// At most one row matches any bytes.
 pub fn at_most_one()
-    ensures { AtMostOne }
+    ensures { AtMostOneMatches }
 {}
 
 /// The table has the documented opcodes: 252 without a prefix, 248 after CB, 58 after ED, 39 each

@@ -23,12 +23,12 @@ pub enum Page {
 }
 
 impl Page {
-    ghost use Rattle.pac_table.specs.Patterns.{prefix, has_page, is_displaced, opcode_place, immediate_place};
+    ghost use Rattle.pac_table.specs.Patterns.{page_prefix, has_page_prefix, is_displacement_first, opcode_place, immediate_place};
 
     /// Whether bytes begin with the page's prefix.
     #[inline]
     pub fn is_prefix_of(self, bytes: [u8; 4]) -> bool
-        ensures { result ≡ has_page self bytes }
+        ensures { result ≡ has_page_prefix self bytes }
     {
         match self {
             Page::Plain => true,
@@ -44,7 +44,7 @@ impl Page {
     /// How many bytes the prefix has.
     #[inline]
     pub fn prefix_size(self) -> u8
-        ensures value { result ≡ length (prefix self) }
+        ensures value { result ≡ length (page_prefix self) }
         ensures bound { result ≤ longest_prefix }
     {
         match self {
@@ -57,7 +57,7 @@ impl Page {
     /// Whether the displacement stands before the opcode byte.
     #[inline]
     pub fn is_displaced(self) -> bool
-        ensures { result ≡ is_displaced self }
+        ensures { result ≡ is_displacement_first self }
     {
         matches!(self, Page::DdCb | Page::FdCb)
     }
@@ -120,12 +120,12 @@ pub enum Field {
 }
 
 impl Field {
-    ghost use Rattle.pac_table.specs.Patterns.{weight, size, lacks_six, lists, held};
+    ghost use Rattle.pac_table.specs.Patterns.{field_weight, field_size, lacks_six, lists, value_in_field};
 
     /// The worth of the field's lowest bit.
     #[inline]
     pub fn weight(self) -> u8
-        ensures value { result ≡ weight self }
+        ensures value { result ≡ field_weight self }
         ensures positive { 0 < result }
     {
         match self {
@@ -144,7 +144,7 @@ impl Field {
     /// How many values the field's bits have.
     #[inline]
     pub fn size(self) -> u8
-        ensures value { result ≡ size self }
+        ensures value { result ≡ field_size self }
         ensures positive { 0 < result }
     {
         match self {
@@ -182,7 +182,7 @@ impl Field {
     /// What the field holds in an opcode byte.
     #[inline]
     pub fn held(self, opcode: u8) -> u8
-        ensures { result ≡ held self opcode }
+        ensures { result ≡ value_in_field self opcode }
     {
         opcode / self.weight() % self.size()
     }

@@ -10,7 +10,7 @@ width = 288
 abbrev pub height : ℕ
 height = 224
 
--- and in cells
+-- the picture's size in cells
 abbrev pub columns : ℕ
 columns = 36
 
@@ -18,20 +18,20 @@ abbrev pub rows : ℕ
 rows = 28
 
 -- the pixels on a side of a tile, and of the cell that shows it
-abbrev pub side : ℕ
-side = 8
+abbrev pub tile_side : ℕ
+tile_side = 8
 
 -- the bytes of the tile ROM and of tile RAM
-abbrev pub rom_size : ℕ
-rom_size = 4096
+abbrev pub tile_rom_size : ℕ
+tile_rom_size = 4096
 
-abbrev pub ram_size : ℕ
-ram_size = 1024
+abbrev pub tile_ram_size : ℕ
+tile_ram_size = 1024
 
 -- pixel (x, y) of a tile: a tile has 16 bytes of the tile ROM, first those of its right half from the top, then
 -- those of its left half
-abbrev pub pixel_of : List ℕ → ℕ → ℕ → ℕ → ℕ
-pixel_of rom tile x y = pixel_value (slice_index rom (16 * tile + y + (if nat_lt x 4 then 8 else 0))) x
+abbrev pub tile_pixel : List ℕ → ℕ → ℕ → ℕ → ℕ
+tile_pixel rom tile x y = pixel_value (slice_index rom (16 * tile + y + (if nat_lt x 4 then 8 else 0))) x
 
 -- where in tile RAM the cell of a column and a row stands: the 32 columns in the middle go through RAM row by
 -- row, the two on either side column by column

@@ -9,10 +9,10 @@ use pac_num::pixel_value;
 /// The value, 0 to 3, of pixel (x, y) of a tile of the tile ROM's 4,096 bytes.
 #[inline]
 pub fn pixel(rom: &[u8], tile: u8, x: u8, y: u8) -> u8
-    requires rom { length rom.now ≡ tiles.rom_size }
-    requires x { x < tiles.side }
-    requires y { y < tiles.side }
-    ensures value { result ≡ tiles.pixel_of rom.now tile x y }
+    requires rom { length rom.now ≡ tiles.tile_rom_size }
+    requires x { x < tiles.tile_side }
+    requires y { y < tiles.tile_side }
+    ensures value { result ≡ tiles.tile_pixel rom.now tile x y }
     ensures below { result < 4 }
 {
     let half = if x < 4 { 8 } else { 0 };
@@ -25,7 +25,7 @@ pub fn offset(column: u8, row: u8) -> u16
     requires column { column < tiles.columns }
     requires row { row < tiles.rows }
     ensures offset { result ≡ tiles.offset_of column row }
-    ensures below { result < tiles.ram_size }
+    ensures below { result < tiles.tile_ram_size }
 {
     let column = u16::from(column);
     let row = u16::from(row);

@@ -3,15 +3,15 @@ use Rattle.std.proofs.Common.{◌≡◌, ℕ, ◌+◌, ◌%◌, ◌^◌, ◌<◌
 use Rattle.std.proofs.lemmas.List.Sums.{sum_by-cons}
 use Rattle.pac_wave.specs.declared.Voice.{Voice}
 use Rattle.pac_wave.specs.declared.Voice.TheVariants.{First, Second, Third}
-use Rattle.pac_wave.specs.Wave.{Accumulators, Fit20Bits, accumulator, frequency, after}
-use Rattle.pac_wave.specs.Sums.{Tick, after_all, growth, AccumulatorsAreSums}
+use Rattle.pac_wave.specs.Wave.{Accumulators, Fit20Bits, accumulator, frequency, accumulators_after}
+use Rattle.pac_wave.specs.Sums.{Tick, accumulators_after_ticks, frequency_sum, AccumulatorsAreSums}
 
 -- one sample more
 grown-sum : (start frequency rest : ℕ) → ((start + frequency) % 2 ^ 20 + rest) % 2 ^ 20 ≡ (start + (frequency + rest)) % 2 ^ 20
 grown-sum start frequency rest = omega arith
 
 after-voice : (registers : List ℕ) (all : Accumulators) (voice : Voice) →
-    accumulator (after registers true all) voice ≡ (accumulator all voice + frequency registers voice) % 2 ^ 20
+    accumulator (accumulators_after registers true all) voice ≡ (accumulator all voice + frequency registers voice) % 2 ^ 20
 after-voice registers all First = refl
 after-voice registers all Second = refl
 after-voice registers all Third = refl
@@ -23,19 +23,19 @@ within all Third fit = fit.third
 
 sums-on : (on : Bool) (registers : List ℕ) (start : Accumulators) (ticks : List Tick) (voice : Voice) →
     ((all : Accumulators) → accumulator all voice < 2 ^ 20 →
-    accumulator (after_all all ticks) voice ≡ (accumulator all voice + growth voice ticks) % 2 ^ 20) →
+    accumulator (accumulators_after_ticks all ticks) voice ≡ (accumulator all voice + frequency_sum voice ticks) % 2 ^ 20) →
     accumulator start voice < 2 ^ 20 →
-    accumulator (after_all (after registers on start) ticks) voice
-    ≡ (accumulator start voice + growth voice (record { registers = registers; on = on } ∷ ticks)) % 2 ^ 20
+    accumulator (accumulators_after_ticks (accumulators_after registers on start) ticks) voice
+    ≡ (accumulator start voice + frequency_sum voice (record { registers = registers; on = on } ∷ ticks)) % 2 ^ 20
 sums-on true registers start ticks voice rest below =
     let now = after-voice registers start voice in
-    let less : accumulator (after registers true start) voice < 2 ^ 20 = rw now (omega arith) in
-    rest (after registers true start) less
-    ∙ rw (now, sum_by-cons) (grown-sum (accumulator start voice) (frequency registers voice) (growth voice ticks))
+    let less : accumulator (accumulators_after registers true start) voice < 2 ^ 20 = rw now (omega arith) in
+    rest (accumulators_after registers true start) less
+    ∙ rw (now, sum_by-cons) (grown-sum (accumulator start voice) (frequency registers voice) (frequency_sum voice ticks))
 sums-on false registers start ticks voice rest below = rest start below
 
 pub sums : (voice : Voice) (ticks : List Tick) (start : Accumulators) → accumulator start voice < 2 ^ 20 →
-    accumulator (after_all start ticks) voice ≡ (accumulator start voice + growth voice ticks) % 2 ^ 20
+    accumulator (accumulators_after_ticks start ticks) voice ≡ (accumulator start voice + frequency_sum voice ticks) % 2 ^ 20
 sums voice [] start below = omega (arith, below)
 sums voice (tick ∷ ticks) start below = sums-on tick.on tick.registers start ticks voice (λ all. sums voice ticks all) below
 

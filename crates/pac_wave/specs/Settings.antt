@@ -4,8 +4,8 @@ use Rattle.pac_wave.specs.declared.Voice.{Voice}
 use Rattle.pac_wave.specs.declared.settings.Setting.{Setting}
 use Rattle.pac_wave.specs.Wave.{waveform, volume, frequency}
 
-abbrev pub setting_of : List ℕ → Voice → Setting
-setting_of registers voice = record {
+abbrev pub voice_setting : List ℕ → Voice → Setting
+voice_setting registers voice = record {
   waveform = waveform registers voice;
   volume = volume registers voice;
   frequency = frequency registers voice;

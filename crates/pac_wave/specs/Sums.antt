@@ -2,7 +2,7 @@
 use Rattle.std.specs.Prelude.{◌≡◌, ℕ, ◌+◌, ◌%◌, Bool, List, fold, filter}
 use Rattle.std.specs.List.{sum_by}
 use Rattle.pac_wave.specs.declared.Voice.{Voice}
-use Rattle.pac_wave.specs.Wave.{Accumulators, Fit20Bits, accumulator_range, accumulator, frequency, after}
+use Rattle.pac_wave.specs.Wave.{Accumulators, Fit20Bits, accumulator_range, accumulator, frequency, accumulators_after}
 
 -- the registers at a sample, and whether sound was on
 pub record Tick : Type 0 where
@@ -10,15 +10,15 @@ pub record Tick : Type 0 where
   pub on : Bool
 
 -- the accumulators after the samples of a list, the first one first
-abbrev pub after_all : Accumulators → List Tick → Accumulators
-after_all = fold (λ all tick. after tick.registers tick.on all)
+abbrev pub accumulators_after_ticks : Accumulators → List Tick → Accumulators
+accumulators_after_ticks = fold (λ all tick. accumulators_after tick.registers tick.on all)
 
 -- a voice's frequencies at all samples at which sound was on, added up
-abbrev pub growth : Voice → List Tick → ℕ
-growth voice ticks = sum_by (λ tick. frequency tick.registers voice) (filter (λ tick. tick.on) ticks)
+abbrev pub frequency_sum : Voice → List Tick → ℕ
+frequency_sum voice ticks = sum_by (λ tick. frequency tick.registers voice) (filter (λ tick. tick.on) ticks)
 
 -- an accumulator is where it started and all frequencies since, in 20 bits
 abbrev pub AccumulatorsAreSums : Type 0
 AccumulatorsAreSums =
     (start : Accumulators) (ticks : List Tick) (voice : Voice) → Fit20Bits start
-    → accumulator (after_all start ticks) voice ≡ (accumulator start voice + growth voice ticks) % accumulator_range
+    → accumulator (accumulators_after_ticks start ticks) voice ≡ (accumulator start voice + frequency_sum voice ticks) % accumulator_range

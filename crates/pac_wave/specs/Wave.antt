@@ -15,35 +15,35 @@ abbrev pub accumulator_range : ℕ
 accumulator_range = 2 ^ 20
 
 -- what a register holds: the low four bits of the byte that was written
-abbrev pub register : List ℕ → ℕ → ℕ
-register registers place = slice_index registers place % 16
+abbrev pub register_nibble : List ℕ → ℕ → ℕ
+register_nibble registers place = slice_index registers place % 16
 
 -- The voice table. The registers are two RAMs of 16, 00 to 0F and 10 to 1F, and the three voices share both alike: voice v
 -- ends at 5 + 5v in each, in the first with its waveform's number and in the second with its volume.
-abbrev pub number : Voice → ℕ
-number First = 0
-number Second = 1
-number Third = 2
+abbrev pub voice_number : Voice → ℕ
+voice_number First = 0
+voice_number Second = 1
+voice_number Third = 2
 
 -- the number of a voice's waveform, three bits
 abbrev pub waveform : List ℕ → Voice → ℕ
-waveform registers voice = register registers (0x05 + 5 * number voice) % 8
+waveform registers voice = register_nibble registers (0x05 + 5 * voice_number voice) % 8
 
 -- a voice's volume
 abbrev pub volume : List ℕ → Voice → ℕ
-volume registers voice = register registers (0x15 + 5 * number voice)
+volume registers voice = register_nibble registers (0x15 + 5 * voice_number voice)
 
 -- a digit of a voice's frequency, four bits, counted from the lowest, 0: they stand before its volume, the highest, 4, next to it.
 -- Digit 0 of the second and the third voice isn't there, since the voice before ends in its place: it reads 0.
-abbrev pub digit : List ℕ → Voice → ℕ → ℕ
-digit registers voice k =
-    if k == 0 && nat_lt 0 (number voice) then 0 else register registers (0x10 + 5 * number voice + k)
+abbrev pub frequency_digit : List ℕ → Voice → ℕ → ℕ
+frequency_digit registers voice k =
+    if k == 0 && nat_lt 0 (voice_number voice) then 0 else register_nibble registers (0x10 + 5 * voice_number voice + k)
 
 -- a voice's frequency: 20 bits, by its five digits
 abbrev pub frequency : List ℕ → Voice → ℕ
 frequency registers voice =
-    digit registers voice 0 + 16 * digit registers voice 1 + 16 ^ 2 * digit registers voice 2
-    + 16 ^ 3 * digit registers voice 3 + 16 ^ 4 * digit registers voice 4
+    frequency_digit registers voice 0 + 16 * frequency_digit registers voice 1 + 16 ^ 2 * frequency_digit registers voice 2
+    + 16 ^ 3 * frequency_digit registers voice 3 + 16 ^ 4 * frequency_digit registers voice 4
 
 -- where each voice stands in its waveform: 20 bits, of which the top five number a sample
 pub record Accumulators : Type 0 where
@@ -63,53 +63,53 @@ pub record Fit20Bits (all : Accumulators) : Type 0 where
   pub third : all.third < accumulator_range
 
 -- at power-on all are 0 (this profile)
-abbrev pub power_on : Accumulators
-power_on = record { first = 0; second = 0; third = 0 }
+abbrev pub power_on_accumulators : Accumulators
+power_on_accumulators = record { first = 0; second = 0; third = 0 }
 
 -- the accumulators of a list of three
-abbrev pub of_list : List ℕ → Accumulators
-of_list all = record { first = slice_index all 0; second = slice_index all 1; third = slice_index all 2 }
+abbrev pub accumulators_of_list : List ℕ → Accumulators
+accumulators_of_list all = record { first = slice_index all 0; second = slice_index all 1; third = slice_index all 2 }
 
 -- the sample that an accumulator points to in its waveform: the wave PROM has eight waveforms of 32 samples, of
 -- four bits each
-abbrev pub pointed : List ℕ → ℕ → ℕ → ℕ
-pointed prom waveform accumulator = slice_index prom (32 * waveform + accumulator / 32768) % 16
+abbrev pub waveform_sample : List ℕ → ℕ → ℕ → ℕ
+waveform_sample prom waveform accumulator = slice_index prom (32 * waveform + accumulator / 32768) % 16
 
 -- a sample about its middle, at a volume
-abbrev pub amplified : ℕ → ℕ → ℤ
-amplified sample volume = (pos sample -ℤ pos 8) *ℤ pos volume
+abbrev pub amplified_sample : ℕ → ℕ → ℤ
+amplified_sample sample volume = (pos sample -ℤ pos 8) *ℤ pos volume
 
 -- what a voice puts into the sound
 abbrev pub level : List ℕ → List ℕ → Voice → ℕ → ℤ
 level prom registers voice accumulator =
-    amplified (pointed prom (waveform registers voice) accumulator) (volume registers voice)
+    amplified_sample (waveform_sample prom (waveform registers voice) accumulator) (volume registers voice)
 
 -- three voices together: 64 times their sum
-abbrev pub mixed : ℤ → ℤ → ℤ → ℤ
-mixed first second third = pos 64 *ℤ ((first +ℤ second) +ℤ third)
+abbrev pub mixed_voices : ℤ → ℤ → ℤ → ℤ
+mixed_voices first second third = pos 64 *ℤ ((first +ℤ second) +ℤ third)
 
--- what it comes to: from 64 * 3 * -120 to 64 * 3 * 105
+-- the range of three voices together: from 64 * 3 * -120 to 64 * 3 * 105
 abbrev pub IsSample : ℤ → Type 0
 IsSample value = (negsuc 23039 ≤ℤ value) × (value ≤ℤ pos 20160)
 
 -- the sound sample: 0 while sound is off
-abbrev pub sample_of : List ℕ → List ℕ → Accumulators → Bool → ℤ
-sample_of prom registers all on =
+abbrev pub sound_sample : List ℕ → List ℕ → Accumulators → Bool → ℤ
+sound_sample prom registers all on =
     if on
-    then mixed (level prom registers First all.first) (level prom registers Second all.second) (level prom registers Third all.third)
+    then mixed_voices (level prom registers First all.first) (level prom registers Second all.second) (level prom registers Third all.third)
     else pos 0
 
 -- an accumulator grows by its voice's frequency, in 20 bits
-abbrev pub grown : List ℕ → Voice → ℕ → ℕ
-grown registers voice accumulator = (accumulator + frequency registers voice) % accumulator_range
+abbrev pub grown_accumulator : List ℕ → Voice → ℕ → ℕ
+grown_accumulator registers voice accumulator = (accumulator + frequency registers voice) % accumulator_range
 
 -- the accumulators after a sample: they stay while sound is off
-abbrev pub after : List ℕ → Bool → Accumulators → Accumulators
-after registers on all =
+abbrev pub accumulators_after : List ℕ → Bool → Accumulators → Accumulators
+accumulators_after registers on all =
     if on
     then record {
-      first = grown registers First all.first;
-      second = grown registers Second all.second;
-      third = grown registers Third all.third;
+      first = grown_accumulator registers First all.first;
+      second = grown_accumulator registers Second all.second;
+      third = grown_accumulator registers Third all.third;
     }
     else all

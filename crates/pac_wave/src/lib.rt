@@ -3,7 +3,7 @@
 
 ghost use Rattle.std.specs.Prelude.{◌≡◌, ◌<◌, ◌∷◌, [], length};
 ghost use Rattle.pac_wave.specs.Settings.{IsLevel};
-ghost use Rattle.pac_wave.specs.Wave.{Fit20Bits, power_on, of_list};
+ghost use Rattle.pac_wave.specs.Wave.{Fit20Bits, power_on_accumulators, accumulators_of_list};
 ghost use Rattle.pac_wave.specs.Wave as spec;
 
 pub mod laws;
@@ -15,11 +15,11 @@ use std::marker::Model;
 /// One of the wave generator's voices.
 #[derive(Clone, Copy)]
 pub enum Voice {
-    /// The one whose frequency has all 20 bits.
+    /// The voice whose frequency has all 20 bits.
     First,
-    /// The one of the registers from 16H on.
+    /// The voice of the registers from 16H on.
     Second,
-    /// The one of the registers from 1BH on.
+    /// The voice of the registers from 1BH on.
     Third,
 }
 
@@ -48,7 +48,7 @@ impl Model for Wave {
 pub(crate) fn amplified(sample: u8, volume: u8) -> i16
     requires sample { sample < 16 }
     requires volume { volume < 16 }
-    ensures amplified { result ≡ spec.amplified sample volume }
+    ensures amplified { result ≡ spec.amplified_sample sample volume }
     ensures within { IsLevel result }
 {
     (i16::from(sample) - 8) * i16::from(volume)
@@ -60,7 +60,7 @@ fn mixed(first: i16, second: i16, third: i16) -> i16
     requires first { IsLevel first }
     requires second { IsLevel second }
     requires third { IsLevel third }
-    ensures mixed { result ≡ spec.mixed first second third }
+    ensures mixed { result ≡ spec.mixed_voices first second third }
     ensures within { spec.IsSample result }
 {
     64 * (first + second + third)
@@ -69,7 +69,7 @@ fn mixed(first: i16, second: i16, third: i16) -> i16
 impl Wave {
     /// All accumulators 0, as at power-on.
     pub fn new() -> Wave
-        ensures { result ≡ power_on }
+        ensures { result ≡ power_on_accumulators }
     {
         Wave {
             first: 0,
@@ -81,8 +81,8 @@ impl Wave {
 
     /// The accumulators of the first, the second and the third voice, each below 2^20.
     pub fn of(accumulators: [u32; 3]) -> Wave
-        requires { Fit20Bits (of_list accumulators) }
-        ensures { result ≡ of_list accumulators }
+        requires { Fit20Bits (accumulators_of_list accumulators) }
+        ensures { result ≡ accumulators_of_list accumulators }
     {
         let [first, second, third] = accumulators;
         Wave {
@@ -93,7 +93,7 @@ impl Wave {
         }
     }
 
-    /// Becomes what another one is. What its registers said isn't taken: the next sample looks at its own.
+    /// Takes another's accumulators, and not what its registers said: the next sample looks at its own registers.
     #[inline]
     pub fn copy_from(&mut self, other: &Wave)
         ensures { self.new ≡ other.now }
@@ -108,8 +108,8 @@ impl Wave {
     /// accumulators stay; else they grow by their voices' frequencies after the sample.
     pub fn tick(&mut self, prom: &[u8], registers: &[u8; 32], on: bool) -> i16
         requires prom { length prom.now ≡ spec.prom_size }
-        ensures sample { result ≡ spec.sample_of prom.now registers.now self.old on }
-        ensures accumulators { self.new ≡ spec.after registers.now on self.old }
+        ensures sample { result ≡ spec.sound_sample prom.now registers.now self.old on }
+        ensures accumulators { self.new ≡ spec.accumulators_after registers.now on self.old }
         ensures within { spec.IsSample result }
     {
         if !on {
@@ -131,7 +131,7 @@ impl Wave {
     /// The accumulators of the first, the second and the third voice, each below 2^20.
     pub fn accumulators(&self) -> [u32; 3]
         ensures accumulators { result ≡ self.now.first ∷ self.now.second ∷ self.now.third ∷ [] }
-        ensures of { of_list result ≡ self.now }
+        ensures of { accumulators_of_list result ≡ self.now }
         ensures below { Fit20Bits self.now }
     {
         [self.first, self.second, self.third]

@@ -1,7 +1,7 @@
 //! What the registers say of the voices, told once for as many samples as they stay the same.
 
 ghost use Rattle.std.specs.Prelude.{◌≡◌, ◌<◌, ◌+◌, ◌*◌, length};
-ghost use Rattle.pac_wave.specs.Settings.{IsLevel, setting_of};
+ghost use Rattle.pac_wave.specs.Settings.{IsLevel, voice_setting};
 ghost use Rattle.pac_wave.specs.Wave as spec;
 
 use crate::{Voice, amplified};
@@ -22,7 +22,7 @@ pub(crate) struct Setting {
 #[inline]
 fn register(registers: &[u8; 32], place: usize) -> u8
     requires { place < 32 }
-    ensures register { result ≡ spec.register registers.now place }
+    ensures register { result ≡ spec.register_nibble registers.now place }
     ensures below { result < 16 }
 {
     registers[place] % 16
@@ -60,8 +60,8 @@ fn digits(lowest: u8, registers: &[u8; 32], place: usize) -> u32
     requires lowest { lowest < 16 }
     requires place { place < 29 }
     ensures digits { result ≡
-        lowest + 16 * spec.register registers.now place + 256 * spec.register registers.now (place + 1)
-        + 4096 * spec.register registers.now (place + 2) + 65536 * spec.register registers.now (place + 3) }
+        lowest + 16 * spec.register_nibble registers.now place + 256 * spec.register_nibble registers.now (place + 1)
+        + 4096 * spec.register_nibble registers.now (place + 2) + 65536 * spec.register_nibble registers.now (place + 3) }
     ensures below { result < spec.accumulator_range }
 {
     u32::from(lowest)
@@ -86,7 +86,7 @@ fn frequency(registers: &[u8; 32], voice: Voice) -> u32
 
 /// What the registers say of a voice.
 fn read_setting(registers: &[u8; 32], voice: Voice) -> Setting
-    ensures { result ≡ setting_of registers.now voice }
+    ensures { result ≡ voice_setting registers.now voice }
 {
     Setting {
         waveform: waveform(registers, voice),
@@ -107,21 +107,21 @@ pub(crate) struct Settings {
 impl Model for Settings {
     ghost use Rattle.std.specs.Prelude.{ℕ, List, ◌≡◌};
     ghost use Rattle.pac_wave.specs.declared.Voice.TheVariants.{First, Second, Third};
-    ghost use Rattle.pac_wave.specs.Settings.{setting_of};
+    ghost use Rattle.pac_wave.specs.Settings.{voice_setting};
 
     ghost Value = { List ℕ };
 
     ghost view = { λ settings. settings.registers };
 
     ghost invariant = { λ settings. record {
-      first : settings.first ≡ setting_of settings.registers First;
-      second : settings.second ≡ setting_of settings.registers Second;
-      third : settings.third ≡ setting_of settings.registers Third;
+      first : settings.first ≡ voice_setting settings.registers First;
+      second : settings.second ≡ voice_setting settings.registers Second;
+      third : settings.third ≡ voice_setting settings.registers Third;
     } };
 }
 
 impl Settings {
-    /// Those of registers.
+    /// Registers with what they say of each voice.
     pub(crate) fn of(registers: &[u8; 32]) -> Settings
         ensures { result ≡ registers.now }
     {
@@ -133,7 +133,7 @@ impl Settings {
         }
     }
 
-    /// Becomes those of registers, which mostly are the same as before.
+    /// Takes over these registers; mostly they are as before, and then nothing is read anew.
     #[inline]
     pub(crate) fn follow(&mut self, registers: &[u8; 32])
         ensures { self.new ≡ registers.now }
@@ -143,10 +143,10 @@ impl Settings {
         }
     }
 
-    /// What they say of a voice.
+    /// What the registers say of a voice.
     #[inline]
     fn setting(&self, voice: Voice) -> Setting
-        ensures setting { result ≡ setting_of self.now voice }
+        ensures setting { result ≡ voice_setting self.now voice }
         ensures waveform { result.waveform < 8 }
         ensures volume { result.volume < 16 }
         ensures frequency { result.frequency < spec.accumulator_range }
@@ -179,7 +179,7 @@ impl Settings {
     #[inline]
     pub(crate) fn grown(&self, voice: Voice, accumulator: u32) -> u32
         requires accumulator { accumulator < spec.accumulator_range }
-        ensures grown { result ≡ spec.grown self.now voice accumulator }
+        ensures grown { result ≡ spec.grown_accumulator self.now voice accumulator }
         ensures below { result < spec.accumulator_range }
     {
         (accumulator + self.setting(voice).frequency) % 0x10_0000

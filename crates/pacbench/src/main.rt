@@ -5,7 +5,7 @@
 use pac_asm::assemble;
 use pac_listing::write_listing;
 use pac_out::counted::Counted;
-use pac_out::memory::Memory;
+use pac_out::memory::MemoryWriter;
 use pacbench_common::rounds;
 use std::alloc::{AllocError, Global};
 use std::io::{self, Error, ErrorKind};
@@ -92,7 +92,7 @@ struct Made {
 
 /// One round, or an error where the source isn't assembled or its listing isn't taken whole.
 fn round(rt: &HostRuntime, source: &[u8]) -> io::Result<Made> {
-    let mut memory = Memory::new(rt.alloc(), LISTING_BYTES)?;
+    let mut memory = MemoryWriter::new(rt.alloc(), LISTING_BYTES)?;
     let mut listing = Counted::new(&mut memory);
     let start = Instant::now(rt)?;
     let Ok(program) = assemble(rt.alloc(), source) else {

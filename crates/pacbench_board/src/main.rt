@@ -4,7 +4,7 @@
 #![tactic(auto)]
 
 ghost use Rattle.std.specs.Prelude.{◌≡◌, IfOk};
-ghost use Rattle.pac_session.specs.Session.{IsNew};
+ghost use Rattle.pac_debug_session.specs.Session.{IsNew};
 
 mod session;
 mod sum;
@@ -48,7 +48,7 @@ fn set(alloc: Global) -> Result<RomSet, AllocError> {
     RomSet::of(alloc, program.rom(), &raw)
 }
 
-/// A board at power-on with these.
+/// A board at power-on with the mixed program.
 fn board(alloc: Global) -> Result<Board, AllocError>
     ensures { IfOk result (λ board. IsNew board) }
 {
@@ -59,7 +59,7 @@ fn board(alloc: Global) -> Result<Board, AllocError>
     }
 }
 
-/// Runs the frames on a board. It stands by itself, so that its instructions can be counted.
+/// Runs the frames on a board. A call of its own, so that its instructions can be counted.
 #[inline(never)]
 fn run_frames(board: &mut Board, sum: &mut Sum) {
     for _ in 0..FRAMES {
@@ -77,13 +77,13 @@ fn time_frames(rt: &HostRuntime, board: &mut Board, sum: &mut Sum) -> io::Result
     Ok(nanos)
 }
 
-/// The frames of a new board.
+/// Runs the frames on a new board, and gives their nanoseconds.
 fn frames(rt: &HostRuntime, sum: &mut Sum) -> io::Result<u128> {
     let mut board = board(rt.alloc())?;
     time_frames(rt, &mut board, sum)
 }
 
-/// Tells of the frames.
+/// Prints how fast the frames ran.
 fn tell_frames(rt: &HostRuntime, nanos: u128, sum: &Sum) {
     let nanos = nanos.max(1);
     let rate = u128::from(FRAMES) * 1_000_000_000 / nanos;

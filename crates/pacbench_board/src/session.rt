@@ -1,15 +1,15 @@
 //! A debugger's session over the mixed program: the way back, step by step, and a long run of frames.
 
-ghost use Rattle.pac_session.specs.Session.{IsNew};
+ghost use Rattle.pac_debug_session.specs.Session.{IsNew};
 
 use crate::board;
 use crate::sum::Sum;
 use pac_board::Board;
 use pac_debug::command;
+use pac_debug_session::Session;
 use pac_inputs::{Script, read_script};
 use pac_out::counted::Counted;
 use pac_out::{Failed, Out};
-use pac_session::Session;
 use std::alloc::{AllocError, Global};
 use std::io;
 use std::time::Instant;
@@ -17,8 +17,8 @@ use std::time::Instant;
 /// How often the session goes back by a step.
 const BACKS: u32 = 1000;
 
-/// What brings it to where it goes back from: 25 times 4,096 steps, so that the steps which each `back` does again are as many as
-/// they can be, 4,095 for the first and one fewer each time.
+/// The command that brings the session to where it goes back from: 25 times 4,096 steps, so that the steps which each `back` does
+/// again are as many as they can be, 4,095 for the first and one fewer each time.
 const THERE: &[u8] = b"step 102400";
 
 /// The text of the script of its run, of as many frames as a script can have.
@@ -33,13 +33,13 @@ struct Stretch {
     command: &'static [u8],
 }
 
-/// All that the script has.
+/// All frames of the script.
 const ALL: Stretch = Stretch {
     frames: 36_000,
     command: b"frames 36000",
 };
 
-/// A few, where the times don't matter.
+/// A few frames, where the times don't matter.
 const FEW: Stretch = Stretch {
     frames: 360,
     command: b"frames 360",

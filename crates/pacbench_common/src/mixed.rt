@@ -1,7 +1,7 @@
 //! The program that is measured, as a source and assembled.
 
 use pac_asm::assemble;
-use pac_program::Program;
+use pac_asm_program::Program;
 use std::alloc::{AllocError, Global};
 
 /// The mixed program: arithmetic, loads and calls, all of tile RAM rewritten about once a frame, sound in three voices, eight

@@ -13,7 +13,7 @@ use std::time::Instant;
 /// The steps of a round.
 const STEPS: u32 = 10_000_000;
 
-/// Those of the one where none is asked for and the time doesn't matter.
+/// The steps of the one round that is done where none is asked for and the time doesn't matter.
 const FEW_STEPS: u32 = 100_000;
 
 /// What a round came to.
@@ -25,7 +25,7 @@ struct Round {
     ram: u64,
 }
 
-/// Makes so many steps. It stands by itself, so that its instructions can be counted.
+/// Makes so many steps. A call of its own, so that its instructions can be counted.
 #[inline(never)]
 fn make_steps(cpu: &mut Cpu, bus: &mut Flat, steps: u32) {
     for _ in 0..steps {

@@ -1,7 +1,7 @@
 //! The board's memory made from its fields, told by them, and written over by another's.
 
 ghost use Rattle.std.specs.Prelude.{◌≡◌, ◌↔◌, IfOk, true, length};
-ghost use Rattle.pac_map.specs.Fields.{AreInRange, view_of};
+ghost use Rattle.pac_map.specs.Fields.{AreMemoryFields, view_of_fields};
 ghost use Rattle.pac_map.specs.View.{HoldWhatTheyCan};
 
 use super::{Memory, kept};
@@ -11,7 +11,7 @@ use std::alloc::{AllocError, Global};
 
 /// The fields of the board's memory, as a save file has them.
 #[derive(Clone, Copy)]
-pub struct Fields<'a> {
+pub struct MemoryFields<'a> {
     /// The tile RAM.
     pub tile: &'a [u8; 1024],
     /// The colour RAM.
@@ -49,11 +49,11 @@ fn hold_what_they_can(registers: &[u8; 32]) -> bool
     true
 }
 
-impl Fields<'_> {
-    /// Whether a board can have these: each register of the wave generator holds what it can, and the watchdog's count is
-    /// at most 16.
+impl MemoryFields<'_> {
+    /// Whether a board can have these fields: each register of the wave generator holds what it can, and the watchdog's
+    /// count is at most 16.
     pub fn are_in_range(&self) -> bool
-        ensures { (result ≡ true) ↔ AreInRange self.now }
+        ensures { (result ≡ true) ↔ AreMemoryFields self.now }
     {
         self.count <= 16 && hold_what_they_can(&self.registers)
     }
@@ -70,9 +70,9 @@ fn copied<const N: usize>(alloc: Global, bytes: &[u8; N]) -> Result<Box<[u8; N]>
 impl Memory {
     /// The memory of these fields: each register holds what it can, and the count is in its range. Refused for want of
     /// memory alone.
-    pub fn of(alloc: Global, fields: &Fields) -> Result<Memory, AllocError>
-        requires { AreInRange fields.now }
-        ensures { IfOk result (λ memory. memory ≡ view_of fields.now) }
+    pub fn of(alloc: Global, fields: &MemoryFields) -> Result<Memory, AllocError>
+        requires { AreMemoryFields fields.now }
+        ensures { IfOk result (λ memory. memory ≡ view_of_fields fields.now) }
     {
         Ok(Memory {
             switches: fields.switches,
@@ -86,12 +86,12 @@ impl Memory {
         })
     }
 
-    /// Its fields.
-    pub fn fields(&self) -> Fields
-        ensures fields { view_of result ≡ self.now }
-        ensures in_range { AreInRange result }
+    /// The fields of the memory.
+    pub fn fields(&self) -> MemoryFields
+        ensures fields { view_of_fields result ≡ self.now }
+        ensures in_range { AreMemoryFields result }
     {
-        Fields {
+        MemoryFields {
             tile: &self.tile,
             colour: &self.colour,
             work: &self.work,
@@ -106,7 +106,7 @@ impl Memory {
         }
     }
 
-    /// Becomes what another one is. Takes no memory.
+    /// Becomes a copy of another memory. Takes no memory.
     pub fn copy_from(&mut self, other: &Memory)
         ensures { self.new ≡ other.now }
     {

@@ -2,7 +2,7 @@
 
 ghost use Rattle.std.specs.Prelude.{◌≡◌};
 ghost use Rattle.pac_inputs.specs.Inputs.{mask};
-ghost use Rattle.pac_latch.specs.Latched.{request_of};
+ghost use Rattle.pac_latch.specs.Latched.{interrupt_request};
 ghost use Rattle.pac_map.specs.View as spec;
 ghost use Rattle.pac_map.specs.View.{IsWellFormed};
 
@@ -14,7 +14,7 @@ impl Memory {
     /// The interrupt vector where a request stands.
     #[inline]
     pub fn request(&self) -> Option<u8>
-        ensures { result ≡ request_of self.now.latched }
+        ensures { result ≡ interrupt_request self.now.latched }
     {
         self.latch.request()
     }
@@ -57,7 +57,7 @@ impl Memory {
     /// The sprites' attributes, two bytes each.
     #[inline]
     pub fn attributes(&self) -> &[u8]
-        ensures bytes { result.now ≡ spec.attributes self.now }
+        ensures bytes { result.now ≡ spec.sprite_attributes self.now }
         ensures well_formed { IsWellFormed self.now }
     {
         &self.work[0x3F0..]

@@ -2,11 +2,11 @@ use Rattle.std.proofs.Common.{◌≡◌, ℕ, List, [], Some, Ok, sym, ◌∙◌
 use Rattle.std.specs.List.{flat_map}
 use Rattle.std.specs.Str.Lines.{lines}
 use Rattle.pac_code.specs.Items.{AllLie}
-use Rattle.pac_program.specs.Names.{Named, number_of}
-use Rattle.pac_program.specs.Programs.{Assembled, items_in, items_of}
-use Rattle.pac_program.specs.Rom.{rom_of, AreApart, IsZeroElsewhere}
-use Rattle.pac_program.specs.declared.line.Line.{Line}
-use Rattle.pac_asm.specs.declared.place.Place.{Place}
+use Rattle.pac_asm_program.specs.Names.{Symbol, number_of_symbol}
+use Rattle.pac_asm_program.specs.Programs.{Assembled, items_in, items_of}
+use Rattle.pac_asm_program.specs.Rom.{rom_of, AreApart, IsZeroElsewhere}
+use Rattle.pac_asm_program.specs.declared.line.Line.{Line}
+use Rattle.pac_asm.specs.declared.place.LineLayout.{LineLayout}
 use Rattle.pac_asm.specs.Assignments.{first_spot, OneIsRight}
 use Rattle.pac_asm.specs.Entries.{entries_in, HasEntriesOf}
 use Rattle.pac_asm.specs.Phase2.{phase2}
@@ -43,7 +43,7 @@ returns-clause-zero c =
 pub returns-clause-right : goal.returns-clause-right
 returns-clause-right c =
     subst (λ (program : Assembled). OneIsRight (lines c.args.source.now) program.symbols) (sym c.new.ensures)
-    (subst (λ (symbols : List Named). OneIsRight (lines c.args.source.now) symbols) (sym c.parts-symbols.ensures.symbols)
+    (subst (λ (symbols : List Symbol). OneIsRight (lines c.args.source.now) symbols) (sym c.parts-symbols.ensures.symbols)
     (symbols-are-right (lines c.args.source.now) c.in_ok-lay_out.field-0 c.in_ok-lay_out.ensures))
 
 pub returns-clause-entries : goal.returns-clause-entries
@@ -52,11 +52,11 @@ returns-clause-entries c =
     let after = c.in_ok-lay_out.field-0 in
     let filled = c.in_ok-lines.lines.items in
     let second : phase2 after.symbols 1 [] texts after.places ≡ Ok filled =
-    subst (λ (places : List Place). phase2 after.symbols 1 [] texts places ≡ Ok filled)
+    subst (λ (places : List LineLayout). phase2 after.symbols 1 [] texts places ≡ Ok filled)
     (c.places.ensures.value ∙ c.parts-symbols.ensures.places)
-    (subst (λ (symbols : List Named). phase2 symbols 1 [] texts c.places.result.now ≡ Ok filled) c.parts-symbols.ensures.symbols
+    (subst (λ (symbols : List Symbol). phase2 symbols 1 [] texts c.places.result.now ≡ Ok filled) c.parts-symbols.ensures.symbols
     c.in_ok-lines.ensures.exact) in
     subst (λ (program : Assembled). HasEntriesOf texts program) (sym c.new.ensures)
-    (subst (λ (symbols : List Named). entries_in (number_of symbols) first_spot texts ≡ Some filled)
+    (subst (λ (symbols : List Symbol). entries_in (number_of_symbol symbols) first_spot texts ≡ Some filled)
     (sym c.parts-symbols.ensures.symbols)
     (has-entries texts after filled c.in_ok-lay_out.ensures second))

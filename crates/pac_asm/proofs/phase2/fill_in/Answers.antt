@@ -1,6 +1,6 @@
 use Rattle.std.proofs.Common.{[], sym, subst, inl, inr}
 use Rattle.std.specs.Str.Lines.{lines}
-use Rattle.pac_asm.specs.Errors.{Fails}
+use Rattle.pac_asm.specs.Errors.{AssemblyFails}
 use Rattle.pac_asm.specs.Phase2 as spec
 use Rattle.pac_asm.specs.declared.fault.AsmError.{AsmError}
 use Rattle.pac_asm.proofs.Filling.{begins, fits, onward, ends, finished}
@@ -20,7 +20,7 @@ line_at-requires c =
 
 pub returns-in-Err-clause-exact : goal.returns-in-Err-clause-exact
 returns-in-Err-clause-exact c =
-    subst (λ (error : AsmError). Fails error (spec.phase2 c.args.symbols.now 1 [] (lines c.args.source.now) c.args.places.now))
+    subst (λ (error : AsmError). AssemblyFails error (spec.phase2 c.args.symbols.now 1 [] (lines c.args.source.now) c.args.places.now))
     (sym c.in_line.ensures)
     (ends c.args.source.now c.loop-line.rest.now c.in-Some.line.now c.in-Some.below.now c.args.symbols.now c.args.places.now
     c.loop-line.left.now c.in-Some-first_place.others.now c.in-Some-first_place.place c.loop-line.number c.loop-line.filled.items

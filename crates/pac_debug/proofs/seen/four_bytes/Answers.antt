@@ -1,8 +1,8 @@
 use Rattle.std.proofs.Common.{◌≡◌, ℕ, ◌+◌, refl, ap, ◌∙◌}
 use Rattle.pac_map.specs.Contents.{read_of}
-use Rattle.pac_num.specs.Numbers.{address}
+use Rattle.pac_num.specs.Numbers.{wrapped_address}
 use Rattle.pac_debug_text.specs.Peeks.{bytes_from}
-use Rattle.pac_debug.specs.Answers.{byte_at}
+use Rattle.pac_debug.specs.Answers.{session_byte_at}
 use Rattle.pac_debug.proofs.seen.four_bytes.Goals as goal
 
 pub returns : goal.returns
@@ -10,15 +10,16 @@ unfolding bytes_from
 returns c =
     let s = c.args.session.now in
     let board = c.board-board.result.now in
-    let seen : (at : ℕ) → read_of board.set.program board.state.now.board.memory at ≡ byte_at s at
+    let seen : (at : ℕ) → read_of board.set.program board.state.now.board.memory at ≡ session_byte_at s at
     = λ at. ap (λ set. read_of set.program board.state.now.board.memory at) c.board-board.ensures.set
     ∙ ap (λ now. read_of s.setting.set.program now.board.memory at) c.board-board.ensures.now in
     let second = c.offset-second.ensures in
-    let third : c.offset-third.result ≡ address (address (c.args.at + 1) + 1) = c.offset-third.ensures ∙ ap (λ a. address (a + 1)) second in
-    let fourth : c.offset-fourth.result ≡ address (address (address (c.args.at + 1) + 1) + 1) =
-    c.offset-fourth.ensures ∙ ap (λ a. address (a + 1)) third in
+    let third : c.offset-third.result ≡ wrapped_address (wrapped_address (c.args.at + 1) + 1) = c.offset-third.ensures
+    ∙ ap (λ a. wrapped_address (a + 1)) second in
+    let fourth : c.offset-fourth.result ≡ wrapped_address (wrapped_address (wrapped_address (c.args.at + 1) + 1) + 1) =
+    c.offset-fourth.ensures ∙ ap (λ a. wrapped_address (a + 1)) third in
     let one = c.peek.ensures ∙ seen c.args.at in
-    let two = c.peek-2.ensures ∙ seen c.offset-second.result ∙ ap (byte_at s) second in
-    let three = c.peek-3.ensures ∙ seen c.offset-third.result ∙ ap (byte_at s) third in
-    let four = c.peek-4.ensures ∙ seen c.offset-fourth.result ∙ ap (byte_at s) fourth in
+    let two = c.peek-2.ensures ∙ seen c.offset-second.result ∙ ap (session_byte_at s) second in
+    let three = c.peek-3.ensures ∙ seen c.offset-third.result ∙ ap (session_byte_at s) third in
+    let four = c.peek-4.ensures ∙ seen c.offset-fourth.result ∙ ap (session_byte_at s) fourth in
     rw (one, two, three, four) refl

@@ -1,8 +1,8 @@
 use Rattle.std.proofs.Common.{◌≡◌, List, ℕ, suc, ◌+◌, ◌-◌, subst, arith}
 use Rattle.std.proofs.lemmas.Result.{err_from_is_err_and}
-use Rattle.pac_num.specs.Numbers.{address}
+use Rattle.pac_num.specs.Numbers.{wrapped_address}
 use Rattle.pac_out.proofs.Gathering.{Leaves, leaves-less, leaves-refused, leaves-nothing}
-use Rattle.pac_debug_text.specs.Peeks.{byte_text}
+use Rattle.pac_debug_text.specs.Peeks.{spaced_byte}
 use Rattle.pac_debug_text.proofs.PeekLemmas.{bytes_text, bytes-more, bytes-none}
 use Rattle.pac_debug_text.proofs.peek.gather_bytes.Goals as goal
 
@@ -16,7 +16,8 @@ returns-in_err-gather_byte g c =
     (bytes_text byte c.args.at c.args.count) rest c.loop.pending c.loop.output)
     (bytes-more byte at later _ c.peek.result one c.peek.ensures) c.loop.invariant in
     let p = err_from_is_err_and c.from_residual.result c.from_residual.ensures.1 in
-    rw (p.1, p.2) (leaves-refused (byte_text c.peek.result) (bytes_text byte (address (at + 1)) later) left c.in_err-gather_byte.ensures)
+    rw (p.1, p.2) (leaves-refused (spaced_byte c.peek.result) (bytes_text byte (wrapped_address (at + 1)) later) left
+    c.in_err-gather_byte.ensures)
 
 pub loop-preserved : goal.loop-preserved
 loop-preserved g c =
@@ -27,7 +28,7 @@ loop-preserved g c =
     let left = subst (λ (rest : List ℕ). Leaves g.W.Out.took c.args.pending.now c.args.output.now
     (bytes_text byte c.args.at c.args.count) rest c.loop.pending c.loop.output)
     (bytes-more byte at later _ c.peek.result one c.peek.ensures) c.loop.invariant in
-    rw c.offset-next.ensures (leaves-less (byte_text c.peek.result) (bytes_text byte (address (at + 1)) later) left
+    rw c.offset-next.ensures (leaves-less (spaced_byte c.peek.result) (bytes_text byte (wrapped_address (at + 1)) later) left
     c.in_ok-gather_byte.ensures)
 
 pub returns : goal.returns

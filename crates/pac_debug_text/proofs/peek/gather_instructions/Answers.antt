@@ -1,6 +1,6 @@
 use Rattle.std.proofs.Common.{◌≡◌, List, ℕ, suc, ◌+◌, ◌-◌, subst, arith}
 use Rattle.std.proofs.lemmas.Result.{err_from_is_err_and}
-use Rattle.pac_num.specs.Numbers.{address}
+use Rattle.pac_num.specs.Numbers.{wrapped_address}
 use Rattle.pac_out.proofs.Gathering.{Leaves, leaves-less, leaves-refused, leaves-nothing}
 use Rattle.pac_dis.specs.Texts.{size_at}
 use Rattle.pac_dis_text.specs.Lines.{line_text}
@@ -19,7 +19,7 @@ returns-in_err-size g c =
     (instructions_text byte c.args.count c.args.at) rest c.loop.pending c.loop.output)
     (instructions-more byte at later _ code one c.four_from-code.ensures) c.loop.invariant in
     let p = err_from_is_err_and c.from_residual.result c.from_residual.ensures.1 in
-    rw (p.1, p.2) (leaves-refused (line_text at code) (instructions_text byte later (address (at + size_at code))) left
+    rw (p.1, p.2) (leaves-refused (line_text at code) (instructions_text byte later (wrapped_address (at + size_at code))) left
     c.in_err-size.ensures.line)
 
 pub loop-preserved : goal.loop-preserved
@@ -33,7 +33,7 @@ loop-preserved g c =
     (instructions_text byte c.args.count c.args.at) rest c.loop.pending c.loop.output)
     (instructions-more byte at later _ code one c.four_from-code.ensures) c.loop.invariant in
     rw (c.offset-next.ensures, c.from.ensures, c.in_ok-size.ensures.size)
-    (leaves-less (line_text at code) (instructions_text byte later (address (at + size_at code))) left c.in_ok-size.ensures.line)
+    (leaves-less (line_text at code) (instructions_text byte later (wrapped_address (at + size_at code))) left c.in_ok-size.ensures.line)
 
 pub returns : goal.returns
 returns g c =

@@ -1,8 +1,8 @@
 use Rattle.std.proofs.Common.{◌≡◌, List, ℕ, ◌+◌, ◌-◌, subst, arith}
 use Rattle.std.proofs.lemmas.Result.{err_from_is_err_and}
-use Rattle.pac_num.specs.Numbers.{address}
+use Rattle.pac_num.specs.Numbers.{wrapped_address}
 use Rattle.pac_out.proofs.Gathering.{Leaves, leaves-less, leaves-refused, leaves-nothing}
-use Rattle.pac_debug_text.specs.Peeks.{row_bytes, row_text, memory_text}
+use Rattle.pac_debug_text.specs.Peeks.{memory_row_bytes, row_text, memory_text}
 use Rattle.pac_debug_text.proofs.PeekLemmas.{rows-more, rows-none}
 use Rattle.pac_debug_text.proofs.peek.gather_rows.Goals as goal
 
@@ -16,7 +16,8 @@ returns-in_err-gather_row g c =
     (memory_text byte c.args.at c.args.count) rest c.loop-left.pending c.loop-left.output)
     (rows-more byte at left shown (omega (arith, c.loop-left-test.true)) c.min-shown.ensures) c.loop-left.invariant in
     let p = err_from_is_err_and c.from_residual.result c.from_residual.ensures.1 in
-    rw (p.1, p.2) (leaves-refused (row_text byte at shown) (memory_text byte (address (at + row_bytes)) (left - shown)) leaves
+    rw (p.1, p.2) (leaves-refused (row_text byte at shown) (memory_text byte (wrapped_address (at + memory_row_bytes)) (left - shown))
+    leaves
     c.in_err-gather_row.ensures)
 
 pub loop-left-preserved : goal.loop-left-preserved
@@ -28,7 +29,8 @@ loop-left-preserved g c =
     let leaves = subst (λ (rest : List ℕ). Leaves g.W.Out.took c.args.pending.now c.args.output.now
     (memory_text byte c.args.at c.args.count) rest c.loop-left.pending c.loop-left.output)
     (rows-more byte at left shown (omega (arith, c.loop-left-test.true)) c.min-shown.ensures) c.loop-left.invariant in
-    rw c.offset-next.ensures (leaves-less (row_text byte at shown) (memory_text byte (address (at + row_bytes)) (left - shown)) leaves
+    rw c.offset-next.ensures (leaves-less (row_text byte at shown)
+    (memory_text byte (wrapped_address (at + memory_row_bytes)) (left - shown)) leaves
     c.in_ok-gather_row.ensures)
 
 pub returns : goal.returns

@@ -2,7 +2,7 @@ use Rattle.std.proofs.Common.{◌≡◌, sym, ◌∙◌, ap, subst, arith, lengt
 use Rattle.std.specs.Prelude.{option_map}
 use Rattle.std.specs.Option.{option_map_or}
 use Rattle.pac_table.proofs.Lengths.{length-code}
-use Rattle.pac_table.specs.Instructions.{Instruction, code, decoded}
+use Rattle.pac_table.specs.Instructions.{Instruction, code, decoded_instruction}
 use Rattle.pac_code.specs.Codes.{Begins}
 use Rattle.pac_dis.specs.Front.{first_four}
 use Rattle.pac_dis.proofs.Fronts.{begins-within, begins-first_four, first_four-begins, front-found, front-cut, front-none}
@@ -16,8 +16,8 @@ size_in found = found.1
 
 pub returns-in_err-instr-clause-exact : goal.returns-in_err-instr-clause-exact
 returns-in_err-instr-clause-exact c =
-    let none : decoded (first_four c.args.bytes.now) ≡ None =
-    ap decoded (sym c.first_four.ensures) ∙ sym c.decode.ensures.exact ∙ ap (option_map instruction_in) c.in_err-instr.was in
+    let none : decoded_instruction (first_four c.args.bytes.now) ≡ None =
+    ap decoded_instruction (sym c.first_four.ensures) ∙ sym c.decode.ensures.exact ∙ ap (option_map instruction_in) c.in_err-instr.was in
     ap (option_map instruction_in) c.from_residual.ensures ∙ front-none c.args.bytes.now none
 
 pub returns-in_err-instr-clause-inverse : goal.returns-in_err-instr-clause-inverse
@@ -30,7 +30,7 @@ pub returns-then-from-bytes-clause-exact : goal.returns-then-from-bytes-clause-e
 returns-then-from-bytes-clause-exact c =
     let size : c.in_ok-instr.size ≡ length (code c.in_ok-instr.instr) = c.in_ok-instr.ensures.size in
     front-found c.args.bytes.now c.in_ok-instr.instr
-    (ap decoded (sym c.first_four.ensures) ∙ sym c.decode.ensures.exact ∙ ap (option_map instruction_in) c.in_ok-instr.was)
+    (ap decoded_instruction (sym c.first_four.ensures) ∙ sym c.decode.ensures.exact ∙ ap (option_map instruction_in) c.in_ok-instr.was)
     (omega (arith, size, c.from.ensures, c.if-from-bytes.true))
 
 pub returns-then-from-bytes-clause-prefix : goal.returns-then-from-bytes-clause-prefix
@@ -49,7 +49,7 @@ pub returns-else-from-bytes-clause-exact : goal.returns-else-from-bytes-clause-e
 returns-else-from-bytes-clause-exact c =
     let size : c.in_ok-instr.size ≡ length (code c.in_ok-instr.instr) = c.in_ok-instr.ensures.size in
     front-cut c.args.bytes.now c.in_ok-instr.instr
-    (ap decoded (sym c.first_four.ensures) ∙ sym c.decode.ensures.exact ∙ ap (option_map instruction_in) c.in_ok-instr.was)
+    (ap decoded_instruction (sym c.first_four.ensures) ∙ sym c.decode.ensures.exact ∙ ap (option_map instruction_in) c.in_ok-instr.was)
     (omega (arith, size, c.from.ensures, c.if-from-bytes.false))
 
 pub returns-else-from-bytes-clause-inverse : goal.returns-else-from-bytes-clause-inverse

@@ -1,7 +1,7 @@
 use Rattle.std.proofs.Common.{◌≡◌, List, ℕ, ◌<◌, length, sym, subst, arith, drop, ◌+◌, ◌++◌, ap, ◌∙◌}
 use Rattle.std.proofs.lemmas.Bool.{eqb-false, eqb-true}
 use Rattle.std.proofs.lemmas.Result.{err_from_is_err_and}
-use Rattle.pac_num.specs.Numbers.{address}
+use Rattle.pac_num.specs.Numbers.{wrapped_address}
 use Rattle.pac_out.proofs.Gathering.{Leaves, leaves-less, leaves-refused, leaves-nothing}
 use Rattle.pac_dis_text.specs.Lines.{line_text, lines_after, disassembly}
 use Rattle.pac_dis_text.proofs.LineLemmas.{later_lines, lines-more, lines-rest, lines-none}
@@ -26,10 +26,11 @@ loop-rest-preserved g c =
     let left = subst (λ (later : List ℕ). Leaves g.W.Out.took c.args.pending.now c.args.file.now (disassembly c.args.bytes.now) later
     c.loop-rest.pending c.loop-rest.file) (lines-more at rest some) c.loop-rest.invariant.1 in
     let size = c.in_ok-size.size in
-    let next : c.offset-at.result ≡ address (at + size) = c.offset-at.ensures ∙ ap (λ n. address (at + n)) c.from.ensures in (
+    let next : c.offset-at.result ≡ wrapped_address (at + size) = c.offset-at.ensures
+    ∙ ap (λ n. wrapped_address (at + n)) c.from.ensures in (
       omega (arith, next),
       rw (c.split_at.ensures.back, next, c.from-in-loop-rest.ensures)
-          (leaves-less (line_text at rest) (lines_after 0 (address (at + size)) (drop size rest))
+          (leaves-less (line_text at rest) (lines_after 0 (wrapped_address (at + size)) (drop size rest))
           (subst (λ (later : List ℕ). Leaves g.W.Out.took c.args.pending.now c.args.file.now (disassembly c.args.bytes.now)
           (line_text at rest ++ later) c.loop-rest.pending c.loop-rest.file)
           (lines-rest at size rest c.in_ok-size.ensures.size c.in_ok-size.ensures.at_least) left) c.in_ok-size.ensures.line),

@@ -1,6 +1,6 @@
 use Rattle.std.proofs.Common.{◌<◌, ◌+◌, ◌*◌, length}
-use Rattle.pac_expr.specs.Trees.{marks}
-use Rattle.pac_expr.specs.Reading.{Begins}
+use Rattle.pac_expr.specs.Trees.{token_marks}
+use Rattle.pac_expr.specs.Reading.{BeginsWithTree}
 use Rattle.pac_expr.proofs.reading.+reading.Given as goal
 
 abbrev pub decreases-operand : goal.decreases-operand
@@ -14,7 +14,7 @@ decreases-right_of g l = 2 * length l.tokens.now + 2
 
 abbrev pub invariant-part-loop-operator : goal.invariant-part-loop-operator
 invariant-part-loop-operator g l = record {
-  begins : Begins (g.S.Symbols.lookup l.symbols) l.here l.rank (marks l.tokens) l.left (marks l.rest);
+  begins : BeginsWithTree (g.S.SymbolLookup.lookup l.symbols) l.here l.rank (token_marks l.tokens) l.left (token_marks l.rest);
   shorter : length l.rest < length l.tokens;
 }
 

@@ -6,12 +6,13 @@ use Rattle.pac_expr.proofs.reading.value.Goals as goal
 pub returns-clause-found : goal.returns-clause-found
 unfolding tree_in
 returns-clause-found g c =
-    value-found (g.S.Symbols.lookup c.args.symbols.now) c.args.here c.args.expr.now c.evaluated.result c.evaluated.ensures
+    value-found (g.S.SymbolLookup.lookup c.args.symbols.now) c.args.here c.args.expr.now c.evaluated.result c.evaluated.ensures
 
 pub returns-clause-only : goal.returns-clause-only
 unfolding tree_in
 returns-clause-only g c =
-    value-only (g.S.Symbols.lookup c.args.symbols.now) c.args.here c.args.expr.now c.evaluated.result c.evaluated.ensures
+    value-only (g.S.SymbolLookup.lookup c.args.symbols.now) c.args.here c.args.expr.now c.evaluated.result c.evaluated.ensures
 
 pub returns-clause-undefined : goal.returns-clause-undefined
-returns-clause-undefined g c = undefined-told (g.S.Symbols.lookup c.args.symbols.now) c.args.here _ c.evaluated.result c.evaluated.ensures
+returns-clause-undefined g c = undefined-told (g.S.SymbolLookup.lookup c.args.symbols.now) c.args.here _ c.evaluated.result
+    c.evaluated.ensures

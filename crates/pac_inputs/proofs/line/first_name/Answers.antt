@@ -1,6 +1,6 @@
 use Rattle.std.proofs.Common.{drop, ap, ◌∙◌, arith}
 use Rattle.std.proofs.lemmas.List.{take_rest}
-use Rattle.pac_inputs.specs.Words.{is_comma}
+use Rattle.pac_inputs.specs.Words.{is_comma_byte}
 use Rattle.pac_lex.proofs.PartLemmas.{more-parts}
 use Rattle.pac_inputs.proofs.line.first_name.Goals as goal
 
@@ -9,4 +9,4 @@ returns-in-len1-up-clause-more c =
     let rest = c.split_at.result.1.now in
     let back = c.split_at.ensures.back ∙ ap (λ n. drop n c.args.names.now) c.name_len.ensures.value in
     rw (take_rest rest 1, c.split_at.ensures.front, c.name_len.ensures.value)
-    (more-parts is_comma c.args.names.now rest back (omega (arith, c.in-len1-up.len_at_least)))
+    (more-parts is_comma_byte c.args.names.now rest back (omega (arith, c.in-len1-up.len_at_least)))

@@ -1,10 +1,13 @@
 use Rattle.std.proofs.Common.{length, ◌-◌, ◌≡◌, ◌≤◌, drop}
-use Rattle.pac_lex.specs.Texts.{closing}
+use Rattle.pac_lex.specs.Texts.{closing_length}
 use Rattle.pac_lex.proofs.QuoteLemmas.{more}
 use Rattle.pac_lex.proofs.quote.closing.Given as goal
 
 abbrev pub invariant-loop-at : goal.invariant-loop-at
-invariant-loop-at l = record { within : l.at ≤ length l.bytes; rest : closing l.bytes ≡ more l.at (closing (drop l.at l.bytes)) }
+invariant-loop-at l = record {
+  within : l.at ≤ length l.bytes;
+  rest : closing_length l.bytes ≡ more l.at (closing_length (drop l.at l.bytes));
+}
 
 abbrev pub decreases-loop-at : goal.decreases-loop-at
 decreases-loop-at l = length l.bytes - l.at

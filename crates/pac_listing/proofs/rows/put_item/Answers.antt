@@ -4,7 +4,7 @@ use Rattle.std.proofs.lemmas.Result.{err_from_is_err_and}
 use Rattle.pac_out.specs.Counted.{Refuses}
 use Rattle.pac_out.specs.Pending.{Gathers}
 use Rattle.pac_out.proofs.Gathering.{gathers-both, gathers-within}
-use Rattle.pac_listing.specs.Listing.{first_row, all_rows, next_row}
+use Rattle.pac_listing.specs.Listing.{first_row, all_rows, next_row_address}
 use Rattle.pac_listing.specs.Texts.{row_bytes}
 use Rattle.pac_listing.proofs.RowLemmas.{item-more}
 use Rattle.pac_listing.proofs.rows.put_item.Goals as goal
@@ -20,7 +20,7 @@ returns-in_err-put_first_row g c =
     (subst (λ (text : List ℕ). Refuses g.W.Out.took g.W.Out.refused c.args.file.now (c.args.pending.now ++ text)
     c.in_err-put_first_row.field-0.0 c.put_first_row-2.new.file) rows
     (gathers-within g.W.Out.refused c.args.pending.now (first_row c.args.number c.hex_word.result c.byte_columns.result c.args.text.now)
-    (all_rows (next_row c.args.at) (drop row_bytes bytes)) c.in_err-put_first_row.ensures))
+    (all_rows (next_row_address c.args.at) (drop row_bytes bytes)) c.in_err-put_first_row.ensures))
 
 pub returns : goal.returns
 returns g c =
@@ -31,5 +31,5 @@ returns g c =
     subst (λ (text : List ℕ). Gathers g.W.Out.took g.W.Out.refused c.args.pending.now c.args.file.now text c.put_further_rows.result
     c.put_further_rows.new.pending c.put_further_rows.new.file) rows
     (gathers-both g.W.Out.refused c.args.pending.now (first_row c.args.number c.hex_word.result c.byte_columns.result c.args.text.now)
-    (all_rows (next_row c.args.at) c.after_row.result.now) c.put_further_rows.result c.put_further_rows.new.pending
+    (all_rows (next_row_address c.args.at) c.after_row.result.now) c.put_further_rows.result c.put_further_rows.new.pending
     c.put_further_rows.new.file c.in_ok-put_first_row.ensures c.put_further_rows.ensures)

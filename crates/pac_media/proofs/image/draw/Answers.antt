@@ -1,7 +1,7 @@
 use Rattle.std.proofs.Common.{◌≡◌, ◌<◌, ◌≤◌, ◌++◌, length, take, ap, ◌∙◌, rules, arith}
 use Rattle.std.proofs.lemmas.List.{take_all}
 use Rattle.std.specs.List.{flat_map}
-use Rattle.pac_media.specs.Images.{colour_in, header, ppm_of}
+use Rattle.pac_media.specs.Images.{palette_colour, header, ppm_of}
 use Rattle.pac_media.proofs.ImageLines.{line-more}
 use Rattle.pac_media.proofs.image.draw.Goals as goal
 
@@ -27,5 +27,5 @@ returns-clause-image c =
     let some : 0 < c.loop-y.y = omega (arith, all) in
     let high = c.loop-y.invariant.high some in
     let within : length c.args.picture.now.lines ≤ c.loop-y.y = omega (arith, all, high) in
-    c.loop-y.invariant.drawn ∙ ap (λ lines. header ++ flat_map (flat_map (colour_in c.args.picture.now.palette)) lines)
+    c.loop-y.invariant.drawn ∙ ap (λ lines. header ++ flat_map (flat_map (palette_colour c.args.picture.now.palette)) lines)
     (take_all c.loop-y.y c.args.picture.now.lines within)

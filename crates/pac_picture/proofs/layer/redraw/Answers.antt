@@ -1,5 +1,5 @@
 use Rattle.std.proofs.Common.{◌≢◌, ◌<◌, length, get_or, rules, refl, ◌∙◌, arith}
-use Rattle.pac_picture.specs.Layer.{pattern_of}
+use Rattle.pac_picture.specs.Layer.{tile_pattern}
 use Rattle.pac_picture.proofs.Counts.{count-none, count-step, one-at-most, draw-other, draw-step}
 use Rattle.pac_picture.proofs.layer.redraw.Goals as goal
 
@@ -22,7 +22,7 @@ loop-column-preserved c =
       below = omega (arith, one, c.loop-column.invariant.below);
       counted = count-step _ _ _ _ c.loop-column.invariant.counted c.redraw_cell-count.ensures.count;
       drawn = draw-step c.args.mask.now c.args.cells.now c.loop-column.cells c.redraw_cell-count.new.cells c.loop-column.column
-          (λ k. pattern_of c.args.graphics.now (get_or c.args.colours.now k 0) (get_or c.args.tiles.now k 0))
+          (λ k. tile_pattern c.args.graphics.now (get_or c.args.colours.now k 0) (get_or c.args.tiles.now k 0))
           is inside c.loop-column.invariant.drawn c.loop-column.invariant.rest;
       rest = λ k past.
           let apart : k ≢ c.loop-column.column = omega (arith, past) in

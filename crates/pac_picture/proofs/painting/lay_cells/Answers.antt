@@ -12,7 +12,8 @@ pub loop-column-preserved : goal.loop-column-preserved
 loop-column-preserved c = (
   search (rules, places),
   cells-step c.args.cells.now c.loop-column.out _ c.loop-column.column c.args.y _
-      (c.copy_from_slice.ensures.after ∙ c.copied-line.ensures) (search (rules, places)) c.loop-column.invariant.0 c.loop-column-test.true c.loop-column.invariant.1,
+      (c.copy_from_slice.ensures.after
+      ∙ c.copied-line.ensures) (search (rules, places)) c.loop-column.invariant.0 c.loop-column-test.true c.loop-column.invariant.1,
 )
 
 pub returns : goal.returns

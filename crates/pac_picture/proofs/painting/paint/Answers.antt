@@ -1,16 +1,16 @@
 use Rattle.std.proofs.Common.{sym, ◌∙◌}
-use Rattle.pac_sprites.specs.Sprites.{is_within}
+use Rattle.pac_sprites.specs.Sprites.{is_in_box}
 use Rattle.pac_picture.proofs.Dots.{answer-none, answer-some, dot-off, dot-on}
 use Rattle.pac_picture.proofs.painting.paint.Goals as goal
 
 pub returns-in_default : goal.returns-in_default
 returns-in_default c =
-    let off = answer-none (is_within c.args.sprite.now.top c.args.y) _ (sym c.in_default.is ∙ c.line_at.ensures.line) in
+    let off = answer-none (is_in_box c.args.sprite.now.top c.args.y) _ (sym c.in_default.is ∙ c.line_at.ensures.line) in
     record { dots = λ x inside. dot-off c.args.graphics.now c.args.sprite.now x c.args.y _ off }
 
 pub returns : goal.returns
 returns c =
-    let on = answer-some (is_within c.args.sprite.now.top c.args.y) _ c.in-Some.line (sym c.in-Some.is ∙ c.line_at.ensures.line) in
+    let on = answer-some (is_in_box c.args.sprite.now.top c.args.y) _ c.in-Some.line (sym c.in-Some.is ∙ c.line_at.ensures.line) in
     record {
       dots = λ x inside.
           c.paint_line.ensures.dots x inside

@@ -1,7 +1,7 @@
 use Rattle.std.proofs.Common.{None, ◌∙◌, arith, refl, sym}
 use Rattle.std.specs.Str.Lines.{lines}
-use Rattle.pac_inputs.specs.Stretches.{total}
-use Rattle.pac_session.specs.Running.{whole_run}
+use Rattle.pac_inputs.specs.Stretches.{total_frames}
+use Rattle.pac_debug_session.specs.Running.{whole_run}
 use Rattle.pac_run.proofs.Lent.{delivered, header-broke, header-short, header-counted, films}
 use Rattle.pac_run.proofs.watch.watch_run.Goals as goal
 
@@ -17,7 +17,7 @@ returns-in-Err-clause-texts g c =
     header-short g.W.Out.took g.W.Out.refused _ _ c.begin-wave.result c.flush.new.self c.in-Err.fault c.begin-wave.ensures.text
     c.in-Err.ensures.written in (
       header-broke g.F.Out.took g.F.Out.refused g.W.Out.took g.W.Out.refused _ _ _ c.args.frame_count
-          (total c.args.session.now.setting.script)
+          (total_frames c.args.session.now.setting.script)
           (whole_run c.args.session.now.setting).outputs
           c.begin-wave.result c.flush.new.self c.in-Err.fault _ c.begin-wave.ensures.text c.requires.count
           c.in-Err.ensures.written c.into_writer.ensures (assumption),
@@ -27,7 +27,8 @@ returns-in-Err-clause-texts g c =
 
 pub returns-clause-texts : goal.returns-clause-texts
 returns-clause-texts g c =
-    films g.F.Out.took g.F.Out.refused g.W.Out.took g.W.Out.refused _ _ _ _ c.args.frame_count (total c.args.session.now.setting.script)
+    films g.F.Out.took g.F.Out.refused g.W.Out.took g.W.Out.refused _ _ _ _ c.args.frame_count
+    (total_frames c.args.session.now.setting.script)
     (record { frames = c.new.result; wave = c.flush.new.self; fault = None }) c.watch-watched.new.self c.new.ensures
     (delivered c.begin-wave.ensures.text c.in_default.ensures.written)
     (header-counted _ c.begin-wave.ensures.text c.in_default.ensures.written)

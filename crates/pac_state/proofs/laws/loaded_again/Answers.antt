@@ -2,14 +2,14 @@ use Rattle.std.proofs.Common.{◌≡◌, List, ℕ, refl, sym, ap, ◌∙◌, Re
 use Rattle.pac_roms.specs.Parts.{Parts}
 use Rattle.pac_board.specs.State.{BoardValue}
 use Rattle.pac_state.specs.declared.fault.LoadRefused.{LoadRefused}
-use Rattle.pac_state.specs.Text.{sealed, body, written_version}
-use Rattle.pac_state.specs.Saved.{Answers}
+use Rattle.pac_state.specs.Text.{sealed_file, body, written_version}
+use Rattle.pac_state.specs.Saved.{LoadsBoard}
 use Rattle.pac_state.specs.Files.{IsFile, Accepts, LoadsAgain}
 use Rattle.pac_state.proofs.laws.loaded_again.Goals as goal
 
 loads : (set : Parts) (bytes : List ℕ) (old : BoardValue) (file : IsFile set bytes) → file.version ≡ written_version
     → file.state ≡ old.state → (result : Result BoardValue LoadRefused)
-    → Answers set bytes result → Accepts set bytes result → LoadsAgain set old result
+    → LoadsBoard set bytes result → Accepts set bytes result → LoadsAgain set old result
 loads set bytes old file version state (Ok board) answers accepts = accepts.board file ∙ rw (version, state) refl
 loads set bytes old file version state (Err refused) answers accepts = record { same_set = answers.same_set; fault = accepts file }
 
@@ -22,6 +22,6 @@ returns c =
       state = board.state;
       is_state = c.boards_have_states.ensures;
       text = c.requires.saved
-          ∙ ap (λ (digest : List ℕ). sealed (body written_version digest board.state)) (sym c.requires.set);
+          ∙ ap (λ (digest : List ℕ). sealed_file (body written_version digest board.state)) (sym c.requires.set);
     } in
     loads c.args.set c.args.bytes.now board file refl refl c.load.result c.load.ensures.answer c.load.ensures.files

@@ -1,7 +1,7 @@
 use Rattle.std.proofs.Common.{◌≡◌, ◌<◌, ℕ, List, get_or, sym, ap, subst, ◌∙◌}
 use Rattle.pac_board.specs.State.{BoardValue}
 use Rattle.pac_state.specs.Reading.{state_in}
-use Rattle.pac_state.specs.Saved.{version_in, brought_up}
+use Rattle.pac_state.specs.Saved.{version_in, upgraded_board}
 use Rattle.pac_state.specs.Saves.{Saves}
 use Rattle.pac_state.specs.Text.{save_text}
 use Rattle.pac_state.proofs.Whole.{text-of}
@@ -13,7 +13,7 @@ returns g c =
     let version : version_in c.args.bytes.now ≡ 2 = c.requires in
     let board : BoardValue = record { set = c.args.set; state = state_in c.args.bytes.now; made = 0 } in
     let same : c.in_ok-board.board ≡ board =
-    c.in_ok-board.ensures.answer.board ∙ ap (λ (version : ℕ). brought_up version board) version in
+    c.in_ok-board.ensures.answer.board ∙ ap (λ (version : ℕ). upgraded_board version board) version in
     subst (λ (text : List ℕ). Saves g.W.Out.took g.W.Out.refused c.args.out.now text c.save.result c.save.new.out)
     (ap (λ (board : BoardValue). save_text 2 board.set board.state) same
     ∙ (ap (λ (version : ℕ). save_text version c.args.set (state_in c.args.bytes.now)) (sym version)

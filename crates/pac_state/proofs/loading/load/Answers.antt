@@ -1,7 +1,7 @@
 use Rattle.std.proofs.Common.{Ok, Err, inl, inr, refl, sym, ap, ◌∙◌, arith}
 use Rattle.std.proofs.lemmas.Result.{err_from_is_err_and}
-use Rattle.pac_manifest.specs.Sets.{digest_of}
-use Rattle.pac_state.specs.Saved.{brought_up, version_in}
+use Rattle.pac_roms_manifest.specs.Sets.{digest_of}
+use Rattle.pac_state.specs.Saved.{upgraded_board, version_in}
 use Rattle.pac_state.proofs.Files.{accepts}
 use Rattle.pac_state.proofs.Taken.{size-of}
 use Rattle.pac_state.proofs.loading.load.Goals as goal
@@ -23,8 +23,8 @@ pub returns-clause-answer : goal.returns-clause-answer
 returns-clause-answer c = record {
   sound = sym c.checked.ensures ∙ c.in_default.is;
   text = c.in_ok-board.ensures.text;
-  board = c.bring_up.ensures ∙ (ap (λ version. brought_up version c.in_ok-board.board) c.word.ensures
-      ∙ ap (brought_up (version_in c.args.bytes.now)) c.in_ok-board.ensures.board);
+  board = c.bring_up.ensures ∙ (ap (λ version. upgraded_board version c.in_ok-board.board) c.word.ensures
+      ∙ ap (upgraded_board (version_in c.args.bytes.now)) c.in_ok-board.ensures.board);
 }
 
 pub returns-in_err-board-clause-answer : goal.returns-in_err-board-clause-answer

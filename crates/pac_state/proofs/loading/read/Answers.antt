@@ -1,7 +1,7 @@
 use Rattle.std.proofs.Common.{◌≡◌, ℕ, List, true, false, refl, sym, ap, subst, ◌∙◌, arith}
 use Rattle.pac_picture.specs.State.{IsPicture}
 use Rattle.pac_board.specs.Fields.{state_of}
-use Rattle.pac_board.specs.State.{State}
+use Rattle.pac_board.specs.State.{BoardState}
 use Rattle.pac_state.specs.Reading.{lines_of, picture_in, state_in}
 use Rattle.pac_state.specs.Saved.{AreWritten, IsText}
 use Rattle.pac_state.proofs.Taken.{in-range, range-of}
@@ -35,7 +35,7 @@ returns-then-not-is_taken c = record {
   fault = λ (text : IsText c.args.bytes.now).
       let range = range-of c.fields-fields.result (state_in c.args.bytes.now) c.fields-fields.ensures text.in_range in
       let written : AreWritten (state_of c.fields-fields.result) c.args.bytes.now =
-      subst (λ (state : State). AreWritten state c.args.bytes.now) (sym c.fields-fields.ensures) text.written in
+      subst (λ (state : BoardState). AreWritten state c.args.bytes.now) (sym c.fields-fields.ensures) text.written in
       let clash : false ≡ true = sym c.if-not-is_taken.true ∙ c.is_taken-is_taken.ensures.1 (range, written) in
       let no : ⊥ = cc in absurd no;
 }
@@ -52,7 +52,7 @@ returns-in-Ok-of c =
     record {
       text = record {
         in_range = in-range c.fields-fields.result (state_in c.args.bytes.now) c.fields-fields.ensures taken.0 picture;
-        written = subst (λ (state : State). AreWritten state c.args.bytes.now) c.fields-fields.ensures taken.1;
+        written = subst (λ (state : BoardState). AreWritten state c.args.bytes.now) c.fields-fields.ensures taken.1;
       };
       board = c.in-Ok-of.ensures.board ∙ ap (λ state. record { set = c.args.set; state = state; made = 0 }) c.fields-fields.ensures;
     }

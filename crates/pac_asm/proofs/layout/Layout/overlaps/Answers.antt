@@ -1,7 +1,7 @@
 use Rattle.std.proofs.Common.{◌≡◌, ◌∙◌, ap, List, Bool, take, drop, length, arith}
 use Rattle.std.specs.List.{list_any}
-use Rattle.pac_program.specs.Programs.{rom_size}
-use Rattle.pac_asm.specs.declared.place.Place.{Place}
+use Rattle.pac_asm_program.specs.Programs.{rom_size}
+use Rattle.pac_asm.specs.declared.place.LineLayout.{LineLayout}
 use Rattle.pac_asm.specs.Standings.{overlaps}
 use Rattle.pac_asm.proofs.Coverage.{part_taken, length-cells}
 use Rattle.pac_asm.proofs.layout.Layout.overlaps.Goals as goal
@@ -19,4 +19,4 @@ returns c =
     ∙ ap (λ (cells : List Bool). list_any (λ taken. taken) (take c.args.span.size (drop c.args.span.at cells)))
     (same ∙ c.self.invariant.cells)
     ∙ part_taken c.self.inside.places.items c.args.span rom_size c.requires
-    ∙ ap (λ (places : List Place). overlaps places c.args.span) c.self.view_is
+    ∙ ap (λ (places : List LineLayout). overlaps places c.args.span) c.self.view_is

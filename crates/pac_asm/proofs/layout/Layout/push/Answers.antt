@@ -1,7 +1,7 @@
 use Rattle.std.proofs.Common.{◌≡◌, ◌∙◌, sym, ap, List, [], ◌∷◌, ◌++◌, Bool, length, refl, arith, subst}
-use Rattle.pac_program.specs.Programs.{rom_size}
-use Rattle.pac_asm.specs.declared.place.Place.{Place}
-use Rattle.pac_asm.specs.declared.place.Place.TheVariants.{Blank, Skipped, Placed}
+use Rattle.pac_asm_program.specs.Programs.{rom_size}
+use Rattle.pac_asm.specs.declared.place.LineLayout.{LineLayout}
+use Rattle.pac_asm.specs.declared.place.LineLayout.TheVariants.{Blank, Skipped, Placed}
 use Rattle.pac_asm.specs.Layouts.{IsLaidOut, IsFree, IsFreePlace, cells_below}
 use Rattle.pac_asm.proofs.Coverage.{with_span, with_nothing, length-cells, apart-push}
 use Rattle.pac_asm.proofs.layout.Layout.push.Goals as goal
@@ -14,16 +14,20 @@ take_cells-requires c =
     omega (arith, size, free.inside, ap length same)
 
 -- the places with one more, and what they take
-laid_out : (places items : List Place) (place : Place) (cells : List Bool) → items ≡ places ++ place ∷ [] → IsFreePlace places place
+laid_out : (places items : List LineLayout) (place : LineLayout) (cells : List Bool) → items ≡ places ++ place ∷ [] →
+    IsFreePlace places place
     → IsLaidOut places cells → (more : List Bool) → more ≡ cells_below rom_size (places ++ place ∷ []) → IsLaidOut items more
 laid_out places items place cells is free was more e =
-    subst (λ (after : List Place). IsLaidOut after more) (sym is) (record { apart = apart-push [] places place was.apart free; cells = e })
+    subst (λ (after : List LineLayout). IsLaidOut after more) (sym is) (record {
+      apart = apart-push [] places place was.apart free;
+      cells = e;
+    })
 
 pub invariant_of-self-in-Placed : goal.invariant_of-self-in-Placed
 invariant_of-self-in-Placed c =
     let places = c.self.inside.places.items in
     let span = c.in-Placed.span in
-    let free : IsFree places c.in-Placed.span = subst (λ (above : List Place). IsFree above c.in-Placed.span) (sym c.self.view_is)
+    let free : IsFree places c.in-Placed.span = subst (λ (above : List LineLayout). IsFree above c.in-Placed.span) (sym c.self.view_is)
     (subst (IsFreePlace c.args.self.now) c.in-Placed.is c.requires) in
     let same : c.as_mut_slice.result.now ≡ c.self.inside.taken.value = cc in
     laid_out places c.push.new.self.items (Placed span) c.self.inside.taken.value

@@ -2,7 +2,7 @@
 use Rattle.std.proofs.Common.{◌≡◌, ℕ, ◌-◌, ap, ◌∙◌, sym, drop, take, length, List}
 use Rattle.std.proofs.Math.Seq.{take-length}
 use Rattle.std.proofs.lemmas.List.{length-drop}
-use Rattle.pac_map.specs.View.{attributes}
+use Rattle.pac_map.specs.View.{sprite_attributes}
 use Rattle.pac_map.proofs.memory.Memory.attributes.Goals as goal
 
 rest-taken : (bytes : List ℕ) → length bytes ≡ 1024 → take 16 (drop 1008 bytes) ≡ drop 1008 bytes
@@ -14,4 +14,4 @@ pub returns-clause-bytes : goal.returns-clause-bytes
 returns-clause-bytes c =
     ap (λ bytes. take 16 (drop 1008 bytes)) c.deref.ensures
     ∙ rest-taken c.self.inside.work.value c.self.invariant.work
-    ∙ ap attributes c.self.view_is
+    ∙ ap sprite_attributes c.self.view_is

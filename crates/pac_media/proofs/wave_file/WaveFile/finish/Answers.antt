@@ -1,7 +1,7 @@
 use Rattle.std.proofs.Common.{◌≡◌, ℕ, ◌+◌, ◌-◌, ◌<◌, List, pos, replicate, subst, arith}
 use Rattle.std.proofs.lemmas.Result.{err_from_is_err_and}
 use Rattle.pac_media.specs.Samples.{samples_text}
-use Rattle.pac_media.specs.Sound.{Gains, Fails}
+use Rattle.pac_media.specs.Sound.{Gains, SoundFails}
 use Rattle.pac_media.proofs.Gathered.{fails-within, finishes-after, silence-rest}
 use Rattle.pac_media.proofs.wave_file.WaveFile.finish.Goals as goal
 
@@ -11,7 +11,8 @@ returns-in_err-put-clause-written g c =
     let all = c.args.self.now.owed in
     let below : count < all = omega (arith, c.loop-test.true, c.loop.invariant.end_is) in
     let p = err_from_is_err_and c.from_residual.result c.from_residual.ensures.1 in
-    rw (p.1, p.2) (subst (λ (text : List ℕ). Fails g.W.Out.took g.W.Out.refused c.args.self.now text c.in_err-put.field-0.0 c.put.new.self)
+    rw (p.1, p.2) (subst (λ (text : List ℕ). SoundFails g.W.Out.took g.W.Out.refused c.args.self.now text c.in_err-put.field-0.0
+    c.put.new.self)
     (silence-rest count all below)
     (fails-within c.loop.invariant.given c.in_err-put.ensures.put (samples_text (replicate (all - (count + 1)) (pos 0)))))
 

@@ -1,5 +1,5 @@
 use Rattle.std.proofs.Common.{◌≡◌, ◌<◌, [], length, rules, arith}
-use Rattle.pac_picture.specs.Layer.{image_of}
+use Rattle.pac_picture.specs.Layer.{sprite_image}
 use Rattle.pac_picture.proofs.Places.{set-step, tabulate-is}
 use Rattle.pac_picture.proofs.graphics.Roms.image.Goals as goal
 
@@ -12,7 +12,7 @@ loop-y-preserved c =
     }
 
 pub returns : goal.returns
-unfolding image_of
+unfolding sprite_image
 returns c =
     let all : c.loop-y.y ≡ 16 = omega arith in
     tabulate-is c.loop-y.lines 16 _ [] c.loop-y.invariant.long (rw all at c.loop-y.invariant.filled)

@@ -1,5 +1,5 @@
 use Rattle.std.proofs.Common.{◌≡◌, ◌<◌, [], length, rules, arith}
-use Rattle.pac_picture.specs.Layer.{pattern_of}
+use Rattle.pac_picture.specs.Layer.{tile_pattern}
 use Rattle.pac_picture.proofs.Places.{set-step, tabulate-is}
 use Rattle.pac_picture.proofs.graphics.Roms.pattern.Goals as goal
 
@@ -12,7 +12,7 @@ loop-y-preserved c =
     }
 
 pub returns : goal.returns
-unfolding pattern_of
+unfolding tile_pattern
 returns c =
     let all : c.loop-y.y ≡ 8 = omega arith in
     tabulate-is c.loop-y.lines 8 _ [] c.loop-y.invariant.long (rw all at c.loop-y.invariant.filled)

@@ -1,0 +1,106 @@
+-- Lists of operands: what each of them is, where each is something.
+use Rattle.std.proofs.Common.{◌≡◌, ℕ, ◌<◌, ◌==◌, ◌&&◌, Bool, true, false, List, [], ◌∷◌, Option, Some, None, map, is_some, if◌then◌else◌}
+use Rattle.std.proofs.Common.{refl, arith, option_map, length, unwrap_or}
+use Rattle.std.proofs.lemmas.List.{length-map}
+use Rattle.std.specs.Option.{option_and_then, option_map_or}
+use Rattle.std.specs.List.{list_all, list_any, slice_split}
+use Rattle.std.proofs.lemmas.List.Splits.{length-slice_split}
+use Rattle.pac_lex.specs.declared.token.Token.{Token}
+use Rattle.pac_lex.specs.Tokens.{Lexeme, views}
+use Rattle.pac_expr.specs.Trees.{Tree, atom, here}
+use Rattle.pac_expr.specs.Parsing.{tree_in}
+use Rattle.pac_asm_operation.specs.Reserved.{expression_in, is_reserved_token}
+use Rattle.pac_asm_operation.specs.Operands.{is_comma, parts_at_commas}
+use Rattle.pac_asm_line.specs.Statements.{DataPart, text, value, bytes, words}
+use Rattle.pac_asm_line.specs.Forms.{each_or_none, one_or_more, one_or_two, part_in, text_in, text_or_value}
+use Rattle.pac_asm_line.specs.Views.{part_of_tokens, spelled_tree}
+
+-- what an item and the items after it are together
+each-step : {X Y : Type 0} (g : X → Y) (x : X) (xs : List X) (found : Option Y) (others : Option (List Y)) (all : Bool) →
+    ((y : Y) → found ≡ Some y → g x ≡ y) → others ≡ (if all then Some (map g xs) else None) →
+    option_and_then (λ y. option_map (λ ys. y ∷ ys) others) found ≡ (if is_some found && all then Some (map g (x ∷ xs)) else None)
+each-step g x xs None others all agree same = refl
+each-step g x xs (Some y) others true agree same = rw (same, agree y refl) refl
+each-step g x xs (Some y) others false agree same = rw same refl
+
+pub each-all : {X Y : Type 0} (f : X → Option Y) (g : X → Y) → ((x : X) (y : Y) → f x ≡ Some y → g x ≡ y) → (xs : List X) →
+    each_or_none f xs ≡ (if list_all (λ x. is_some (f x)) xs then Some (map g xs) else None)
+each-all f g agree [] = refl
+each-all f g agree (x ∷ xs) =
+    each-step g x xs (f x) (each_or_none f xs) (list_all (λ x. is_some (f x)) xs) (agree x) (each-all f g agree xs)
+
+-- three operands or more are no space
+none-of-three : (size fill other : Option Tree) (others : Option (List Tree)) →
+    one_or_two (option_and_then (λ y. option_map (λ ys. y ∷ ys)
+    (option_and_then (λ y. option_map (λ ys. y ∷ ys) (option_and_then (λ y. option_map (λ ys. y ∷ ys) others) other)) fill)) size) ≡ None
+none-of-three None fill other others = refl
+none-of-three (Some x) None other others = refl
+none-of-three (Some x) (Some y) None others = refl
+none-of-three (Some x) (Some y) (Some z) None = refl
+none-of-three (Some x) (Some y) (Some z) (Some zs) = refl
+
+none-of-more : (f : List Lexeme → Option Tree) (a b : List Lexeme) (rest : List (List Lexeme)) → 0 < length rest →
+    one_or_two (each_or_none f (a ∷ b ∷ rest)) ≡ None
+none-of-more f a b [] filled = absurd (omega (arith, filled))
+none-of-more f a b (c ∷ rest) filled = none-of-three (f a) (f b) (f c) (each_or_none f rest)
+
+-- parting gives one part at least
+pub split-some : {X : Type 0} (p : X → Bool) (xs : List X) → 0 < length (slice_split p xs)
+split-some p xs = rw (length-slice_split p xs) (omega arith)
+
+pub too-many : (f : List Lexeme → Option Tree) (p : Lexeme → Bool) (a b : List Lexeme) (tokens : List Lexeme) →
+    one_or_two (each_or_none f (a ∷ b ∷ slice_split p tokens)) ≡ None
+too-many f p a b tokens = none-of-more f a b (slice_split p tokens) (split-some p tokens)
+
+-- one operand or more
+one-or-more : {X Y : Type 0} (make : List X → Y) (all : Bool) (xs : List X) → 0 < length xs →
+    one_or_more make (if all then Some xs else None) ≡ (if all then Some (make xs) else None)
+one-or-more make false xs filled = refl
+one-or-more make true [] filled = absurd (omega (arith, filled))
+one-or-more make true (x ∷ xs) filled = refl
+
+pub some-of : {X Y Z : Type 0} (make : List Y → Z) (f : X → Option Y) (g : X → Y) → ((x : X) (y : Y) → f x ≡ Some y → g x ≡ y) →
+    (xs : List X) → 0 < length xs →
+    one_or_more make (each_or_none f xs) ≡ (if list_all (λ x. is_some (f x)) xs then Some (make (map g xs)) else None)
+some-of make f g agree xs filled =
+    rw (each-all f g agree xs) (one-or-more make (list_all (λ x. is_some (f x)) xs) (map g xs) (simp length-map filled))
+
+-- the tree of an expression is the one that its tokens spell
+under : (reserved : Bool) (found : Option Tree) (t : Tree) → (if reserved then None else found) ≡ Some t → unwrap_or found (atom here) ≡ t
+under true found t same = cc
+under false None t same = cc
+under false (Some other) t same = cc
+
+pub spelled-of : (tokens : List Lexeme) (t : Tree) → expression_in tokens ≡ Some t → spelled_tree tokens ≡ t
+unfolding expression_in
+spelled-of tokens t same = under (list_any is_reserved_token tokens) (tree_in tokens) t same
+
+part-by : (found : Option (List ℕ)) (tree : Option Tree) (other : Tree) (p : DataPart) → ((t : Tree) → tree ≡ Some t → other ≡ t) →
+    text_or_value tree found ≡ Some p → option_map_or text found (value other) ≡ p
+part-by (Some characters) tree other p agree same = cc
+part-by None None other p agree same = cc
+part-by None (Some t) other p agree same = let e : other ≡ t = agree t refl in cc
+
+pub part-of : (tokens : List Lexeme) (p : DataPart) → part_in tokens ≡ Some p → part_of_tokens tokens ≡ p
+part-of tokens p same = part-by (text_in tokens) (expression_in tokens) (spelled_tree tokens) p (spelled-of tokens) same
+
+-- where there are tokens, their parts are what their commas part
+pub parts-by : (tokens : List Token) → (length tokens == 0) ≡ false → parts_at_commas (views tokens) ≡ slice_split is_comma (views tokens)
+parts-by [] filled = cc
+parts-by (token ∷ tokens) filled = refl
+
+pub bytes-by : (tokens : List Token) (all : Bool) → (length tokens == 0) ≡ false →
+    all ≡ list_all (λ tokens. is_some (part_in tokens)) (slice_split is_comma (views tokens)) →
+    one_or_more bytes (each_or_none part_in (parts_at_commas (views tokens)))
+    ≡ (if all then Some (bytes (map part_of_tokens (parts_at_commas (views tokens)))) else None)
+bytes-by tokens all filled same =
+    rw (parts-by tokens filled, same)
+    (some-of bytes part_in part_of_tokens part-of (slice_split is_comma (views tokens)) (split-some is_comma (views tokens)))
+
+pub words-by : (tokens : List Token) (all : Bool) → (length tokens == 0) ≡ false →
+    all ≡ list_all (λ tokens. is_some (expression_in tokens)) (slice_split is_comma (views tokens)) →
+    one_or_more words (each_or_none expression_in (parts_at_commas (views tokens)))
+    ≡ (if all then Some (words (map spelled_tree (parts_at_commas (views tokens)))) else None)
+words-by tokens all filled same =
+    rw (parts-by tokens filled, same)
+    (some-of words expression_in spelled_tree spelled-of (slice_split is_comma (views tokens)) (split-some is_comma (views tokens)))

@@ -1,0 +1,58 @@
+-- The bytes of operands are as many as their form says.
+use Rattle.std.proofs.Common.{◌≡◌, ℕ, ℤ, ◌+◌, ◌*◌, List, [], ◌∷◌, ◌++◌, Option, Ok, Err, refl, ◌∙◌, arith, length, length-append}
+use Rattle.std.specs.List.{sum_by}
+use Rattle.std.proofs.lemmas.List.Sums.{sum_by-cons}
+use Rattle.pac_expr.specs.Trees.{Tree}
+use Rattle.pac_num.specs.Numbers.{low_byte, high_byte}
+use Rattle.pac_asm_line.specs.Statements.{DataPart, text, value}
+use Rattle.pac_asm_line.specs.Contents.{OrFault, byte_value, gathered_bytes, joined_bytes, map_unless_fault, part_bytes, part_size, word_bytes, word_value}
+
+-- bytes joined to others
+joined-length : (a b : OrFault (List ℕ)) (m n : ℕ) (bytes : List ℕ) →
+    ((xs : List ℕ) → a ≡ Ok xs → length xs ≡ m) → ((ys : List ℕ) → b ≡ Ok ys → length ys ≡ n) →
+    joined_bytes a b ≡ Ok bytes → length bytes ≡ m + n
+joined-length (Ok xs) (Ok ys) m n bytes first second same =
+    let e : bytes ≡ xs ++ ys = cc in
+    let p : length xs ≡ m = first xs refl in
+    let q : length ys ≡ n = second ys refl in
+    rw (e, length-append xs ys, p, q) refl
+joined-length (Ok xs) (Err fault) m n bytes first second same = cc
+joined-length (Err fault) (Ok ys) m n bytes first second same = cc
+joined-length (Err fault) (Err other) m n bytes first second same = cc
+
+gathered-length : {X : Type 0} (f : X → OrFault (List ℕ)) (size : X → ℕ) →
+    ((x : X) (bytes : List ℕ) → f x ≡ Ok bytes → length bytes ≡ size x) → (xs : List X) (bytes : List ℕ) →
+    gathered_bytes f xs ≡ Ok bytes → length bytes ≡ sum_by size xs
+gathered-length f size each [] bytes same = let e : bytes ≡ [] = cc in rw e refl
+gathered-length f size each (x ∷ xs) bytes same =
+    rw (sum_by-cons size x xs)
+    (joined-length (f x) (gathered_bytes f xs) (size x) (sum_by size xs) bytes (each x) (gathered-length f size each xs) same)
+
+made-length : (given : OrFault ℕ) (f : ℕ → List ℕ) (n : ℕ) (bytes : List ℕ) → ((k : ℕ) → length (f k) ≡ n) →
+    map_unless_fault f given ≡ Ok bytes → length bytes ≡ n
+made-length (Ok k) f n bytes each same = let e : bytes ≡ f k = cc in rw e (each k)
+made-length (Err fault) f n bytes each same = cc
+
+part-length : (names : List ℕ → Option ℤ) (here : ℕ) (part : DataPart) (bytes : List ℕ) →
+    part_bytes names here part ≡ Ok bytes → length bytes ≡ part_size part
+part-length names here (text characters) bytes same = let e : bytes ≡ characters = cc in rw e refl
+part-length names here (value tree) bytes same = made-length (byte_value names here tree) (λ byte. byte ∷ []) 1 bytes (λ k. refl) same
+
+pub parts-length : (names : List ℕ → Option ℤ) (here : ℕ) (parts : List DataPart) (bytes : List ℕ) →
+    gathered_bytes (part_bytes names here) parts ≡ Ok bytes → length bytes ≡ sum_by part_size parts
+parts-length names here parts bytes same =
+    gathered-length (part_bytes names here) part_size (part-length names here) parts bytes same
+
+two-each : (trees : List Tree) → sum_by (λ tree. 2) trees ≡ 2 * length trees
+two-each [] = refl
+two-each (tree ∷ trees) = rw (sum_by-cons (λ tree. 2) tree trees, two-each trees) (omega arith)
+
+word-length : (names : List ℕ → Option ℤ) (here : ℕ) (tree : Tree) (bytes : List ℕ) →
+    word_bytes names here tree ≡ Ok bytes → length bytes ≡ 2
+word-length names here tree bytes same =
+    made-length (word_value names here tree) (λ word. low_byte word ∷ high_byte word ∷ []) 2 bytes (λ k. refl) same
+
+pub words-length : (names : List ℕ → Option ℤ) (here : ℕ) (trees : List Tree) (bytes : List ℕ) →
+    gathered_bytes (word_bytes names here) trees ≡ Ok bytes → length bytes ≡ 2 * length trees
+words-length names here trees bytes same =
+    gathered-length (word_bytes names here) (λ tree. 2) (word-length names here) trees bytes same ∙ two-each trees

@@ -1,0 +1,36 @@
+-- The operands of a list of parts.
+use Rattle.std.proofs.Common.{ℕ, ◌+◌, ◌<◌, List, [], ◌∷◌, length, arith}
+use Rattle.std.specs.Prelude.{Option, Some, None, IfSome}
+use Rattle.std.specs.List.{slice_split}
+use Rattle.std.proofs.lemmas.List.Splits.{length-slice_split}
+use Rattle.pac_lex.specs.Tokens.{Lexeme}
+use Rattle.pac_expr.specs.Trees.{Tree}
+use Rattle.pac_asm_operation.specs.declared.operand.Operand.{Operand}
+use Rattle.pac_asm_operation.specs.Operands.{is_comma, operand_of, operands_of_parts, operand_before}
+
+abbrev pub AreMore : ℕ → Option (List (Operand Tree)) → Type 0
+AreMore n operands = IfSome operands (λ all. n < length all)
+
+-- one operand more
+pub more-before : (n : ℕ) (first : Option (Operand Tree)) (operands : Option (List (Operand Tree))) → AreMore n operands →
+    AreMore (n + 1) (operand_before first operands)
+more-before n None None more = tt
+more-before n None (Some all) more = tt
+more-before n (Some first) None more = tt
+more-before n (Some first) (Some all) more = omega (arith, more)
+
+some-part : (parts : List (List Lexeme)) → 0 < length parts → AreMore 0 (operands_of_parts parts)
+some-part [] some = absurd (omega (arith, some))
+some-part (part ∷ parts) some = at-least (operand_of part) (operands_of_parts parts)
+  where
+    at-least : (first : Option (Operand Tree)) (operands : Option (List (Operand Tree))) → AreMore 0 (operand_before first operands)
+    at-least None None = tt
+    at-least None (Some all) = tt
+    at-least (Some first) None = tt
+    at-least (Some first) (Some all) = omega arith
+
+-- after a comma there is a part at least
+pub split-has-part : (tokens : List Lexeme) → AreMore 0 (operands_of_parts (slice_split is_comma tokens))
+split-has-part tokens =
+    let count = length-slice_split is_comma tokens in
+    some-part (slice_split is_comma tokens) (omega (arith, count))

@@ -1,0 +1,178 @@
+-- The rows with a name, asked one by one, against the search of the whole table.
+use Rattle.std.proofs.Common.{◌≡◌, ℕ, suc, ◌+◌, ◌<◌, Bool, true, false, not, nat_lt, if◌then◌else◌, cond}
+use Rattle.std.proofs.Common.{List, [], ◌∷◌, length, drop, get_or, find, refl, sym, ◌∙◌, ap, subst, arith, inl, inr, add-one}
+use Rattle.std.specs.Prelude.{Option, Some, None, is_some, option_map, position}
+use Rattle.std.specs.List.{All, position_or_len}
+use Rattle.std.proofs.Math.Seq.{drop-cons}
+use Rattle.std.proofs.lemmas.List.{get_or_default}
+use Rattle.std.proofs.lemmas.Bool.{cases_Bool, cond-true, cond-false}
+use Rattle.std.proofs.lemmas.Bool.Decides.{nat_tests}
+use Rattle.pac_table.specs.declared.table.Row.{Row}
+use Rattle.pac_table.specs.Table.{table}
+use Rattle.pac_table.specs.Instructions.{row_at}
+use Rattle.pac_table_names.specs.Names.{value_named}
+use Rattle.pac_table_names.specs.ByName.{rows_named_from, rows_named}
+
+-- ---- a search by places
+
+less-more : (a b : ℕ) → nat_lt (1 + a) (suc b) ≡ nat_lt a b
+less-more a b = grind (arith, nat_tests)
+
+counted : (b : Bool) (n : ℕ) → cond b (Some (1 + n)) None ≡ option_map (λ k. 1 + k) (cond b (Some n) None)
+counted true n = refl
+counted false n = refl
+
+first-less : (b : ℕ) → nat_lt 0 (suc b) ≡ true
+first-less b = grind (arith, nat_tests)
+
+position-cons : {X : Type 0} (p : X → Bool) (x : X) (xs : List X) →
+    position p (x ∷ xs) ≡ (if p x then Some 0 else option_map (λ k. 1 + k) (position p xs))
+position-cons p x xs =
+    elim (cases_Bool (p x)) [
+      | inl passes ↦
+          let none : position_or_len p (x ∷ xs) ≡ 0 = ap (λ b. cond (not b) (1 + position_or_len p xs) 0) passes in
+          ap {B = Option ℕ} (λ n. cond (nat_lt n (suc (length xs))) (Some n) None) none ∙
+          cond-true (nat_lt 0 (suc (length xs))) (Some 0) None (first-less (length xs)) ∙
+          sym (cond-true (p x) (Some 0) (option_map (λ k. 1 + k) (position p xs)) passes)
+      | inr fails ↦
+          let more : position_or_len p (x ∷ xs) ≡ 1 + position_or_len p xs = ap (λ b. cond (not b) (1 + position_or_len p xs) 0) fails in
+          ap {B = Option ℕ} (λ n. cond (nat_lt n (suc (length xs))) (Some n) None) more ∙
+          ap {B = Option ℕ} (λ b. cond b (Some (1 + position_or_len p xs)) None) (less-more (position_or_len p xs) (length xs)) ∙
+          counted (nat_lt (position_or_len p xs) (length xs)) (position_or_len p xs) ∙
+          sym (cond-false (p x) (Some 0) (option_map (λ k. 1 + k) (position p xs)) fails)
+    ]
+
+-- ---- the rows with a name
+
+-- the rows from n on are these
+abbrev RowsFrom : ℕ → List Row → Type 0
+RowsFrom n rows = (k : ℕ) (d : Row) → k < length rows → row_at (n + k) ≡ get_or rows k d
+
+next-rows : (n : ℕ) (row : Row) (rows : List Row) → RowsFrom n (row ∷ rows) → RowsFrom (n + 1) rows
+next-rows n row rows from k d below =
+    let place : n + 1 + k ≡ n + suc k = omega arith in
+    ap row_at place ∙ from (suc k) d (omega (arith, below))
+
+map-twice : (n : ℕ) (o : Option ℕ) → option_map (λ k. n + 1 + k) o ≡ option_map (λ k. n + k) (option_map (λ k. 1 + k) o)
+map-twice n None = refl
+map-twice n (Some k) = let same : n + 1 + k ≡ n + (1 + k) = omega arith in ap Some same
+
+search-from : (word : List ℕ) (p : Row → Bool) (n : ℕ) (rows : List Row) →
+    ((row : Row) → p row ≡ true → is_some (value_named row.operands.mnemonic word) ≡ true) → RowsFrom n rows →
+    find (λ m. p (row_at m)) (rows_named_from word n rows) ≡ option_map (λ k. n + k) (position p rows)
+search-from word p n [] named from = refl
+search-from word p n (row ∷ rows) named from =
+    let rest = search-from word p (n + 1) rows named (next-rows n row rows from) in
+    let here : row_at n ≡ row = ap row_at (let same : n ≡ n + 0 = omega arith in same) ∙ from 0 row (omega arith) in
+    let test : ℕ → Bool = λ m. p (row_at m) in
+    let right = ap (option_map (λ k. n + k)) (position-cons p row rows) in
+    elim (cases_Bool (p row)) [
+      | inl passes ↦
+          let start : n + 0 ≡ n = omega arith in
+          ap (find test)
+          (cond-true (is_some (value_named row.operands.mnemonic word)) (n ∷ rows_named_from word (n + 1) rows)
+          (rows_named_from word (n + 1) rows)
+          (named row passes)) ∙
+          cond-true (p (row_at n)) (Some n) (find test (rows_named_from word (n + 1) rows)) (ap p here ∙ passes) ∙
+          sym (
+          right ∙ ap (option_map (λ k. n + k)) (cond-true (p row) (Some 0) (option_map (λ k. 1 + k) (position p rows)) passes) ∙
+          ap Some start)
+      | inr fails ↦
+          let skipped : find test (rows_named_from word n (row ∷ rows)) ≡ find test (rows_named_from word (n + 1) rows) =
+          elim (is_some (value_named row.operands.mnemonic word)) as
+          (λ b. find test (if b then n ∷ rows_named_from word (n + 1) rows else rows_named_from word (n + 1) rows) ≡
+          find test (rows_named_from word (n + 1) rows)) [
+            | true ↦ cond-false (p (row_at n)) (Some n) (find test (rows_named_from word (n + 1) rows)) (ap p here ∙ fails)
+            | false ↦ refl
+          ] in
+          skipped ∙ rest ∙ map-twice n (position p rows) ∙
+          sym (
+          right ∙ ap (option_map (λ k. n + k)) (cond-false (p row) (Some 0) (option_map (λ k. 1 + k) (position p rows)) fails))
+    ]
+
+same-option : (o : Option ℕ) → option_map (λ k. 0 + k) o ≡ o
+same-option None = refl
+same-option (Some k) = let same : 0 + k ≡ k = omega arith in ap Some same
+
+table-rows : RowsFrom 0 table
+unfolding row_at
+table-rows k d below = let place : 0 + k ≡ k = omega arith in ap row_at place ∙ get_or_default table k _ d below
+
+pub named-search : (word : List ℕ) (p : Row → Bool) →
+    ((row : Row) → p row ≡ true → is_some (value_named row.operands.mnemonic word) ≡ true) →
+    position p table ≡ find (λ n. p (row_at n)) (rows_named word)
+unfolding rows_named
+named-search word p named = sym (search-from word p 0 table named table-rows ∙ same-option (position p table))
+
+-- ---- searches of a list of numbers
+
+all-rest : (P : ℕ → Type 0) (x : ℕ) (xs : List ℕ) → All P (x ∷ xs) → All P xs
+all-rest P x xs all k d below = all (suc k) d (omega (arith, below))
+
+all-first : (P : ℕ → Type 0) (x : ℕ) (xs : List ℕ) → All P (x ∷ xs) → P x
+all-first P x xs all = all 0 0 (omega arith)
+
+-- tests that agree at each number find the same
+pub find-same : (p q : ℕ → Bool) (xs : List ℕ) → All (λ n. p n ≡ q n) xs → find p xs ≡ find q xs
+find-same p q [] same = refl
+find-same p q (x ∷ xs) same =
+    ap (λ b. cond b (Some x) (find p xs)) (all-first (λ n. p n ≡ q n) x xs same) ∙
+    ap (λ o. cond (q x) (Some x) o) (find-same p q xs (all-rest (λ n. p n ≡ q n) x xs same))
+
+-- and so do functions of what is found
+pub find-map-same : {Y : Type 0} (p : ℕ → Bool) (f g : ℕ → Y) (xs : List ℕ) → All (λ n. f n ≡ g n) xs →
+    option_map f (find p xs) ≡ option_map g (find p xs)
+find-map-same p f g [] same = refl
+find-map-same p f g (x ∷ xs) same =
+    elim (p x) as (λ b. option_map f (cond b (Some x) (find p xs)) ≡ option_map g (cond b (Some x) (find p xs))) [
+      | true ↦ ap Some (all-first (λ n. f n ≡ g n) x xs same)
+      | false ↦ find-map-same p f g xs (all-rest (λ n. f n ≡ g n) x xs same)
+    ]
+
+pub record FoundAt (p : ℕ → Bool) (P : ℕ → Type 0) (n : ℕ) : Type 0 where
+  pub passes : p n ≡ true
+  pub holds : P n
+
+pub found-at : (p : ℕ → Bool) (P : ℕ → Type 0) (xs : List ℕ) (n : ℕ) → find p xs ≡ Some n → All P xs → FoundAt p P n
+found-at p P [] n found all = absurd (cc)
+found-at p P (x ∷ xs) n found all =
+    elim (cases_Bool (p x)) [
+      | inl passes ↦
+          let here : Some x ≡ Some n = sym (cond-true (p x) (Some x) (find p xs) passes) ∙ found in
+          let same : x ≡ n = cc here in
+          subst (λ m. FoundAt p P m) same (record { passes = passes; holds = all-first P x xs all })
+      | inr fails ↦
+          found-at p P xs n (sym (cond-false (p x) (Some x) (find p xs) fails) ∙ found) (all-rest P x xs all)
+    ]
+
+-- ---- one step of such a search
+
+at-place : (p : ℕ → Bool) (xs : List ℕ) (k : ℕ) → k < length xs →
+    find p (drop k xs) ≡ cond (p (get_or xs k 0)) (Some (get_or xs k 0)) (find p (drop (k + 1) xs))
+at-place p xs k below =
+    ap (find p) (drop-cons xs k 0 below) ∙
+    ap (λ n. cond (p (get_or xs k 0)) (Some (get_or xs k 0)) (find p (drop n xs))) (sym (add-one k))
+
+pub found-placed : {Y : Type 0} (p : ℕ → Bool) (f : ℕ → Y) (xs : List ℕ) (k : ℕ) (y : Y) → k < length xs →
+    find p (drop k xs) ≡ find p xs → Some y ≡ (if p (get_or xs k 0) then Some (f (get_or xs k 0)) else None) →
+    Some y ≡ option_map f (find p xs)
+found-placed p f xs k y below so_far is =
+    elim (cases_Bool (p (get_or xs k 0))) [
+      | inl passes ↦
+          is ∙ cond-true (p (get_or xs k 0)) (Some (f (get_or xs k 0))) None passes ∙
+          ap (option_map f)
+          (sym (at-place p xs k below ∙ cond-true (p (get_or xs k 0)) (Some (get_or xs k 0)) (find p (drop (k + 1) xs)) passes) ∙ so_far)
+      | inr fails ↦ let wrong : Some y ≡ None = is ∙ cond-false (p (get_or xs k 0)) (Some (f (get_or xs k 0))) None fails in absurd (cc)
+    ]
+
+pub more-placed : {Y : Type 0} (p : ℕ → Bool) (f : ℕ → Y) (xs : List ℕ) (k : ℕ) → k < length xs →
+    find p (drop k xs) ≡ find p xs → None ≡ (if p (get_or xs k 0) then Some (f (get_or xs k 0)) else None) →
+    find p (drop (k + 1) xs) ≡ find p xs
+more-placed p f xs k below so_far is =
+    elim (cases_Bool (p (get_or xs k 0))) [
+      | inl passes ↦
+          let wrong : None ≡ Some (f (get_or xs k 0)) = is ∙ cond-true (p (get_or xs k 0)) (Some (f (get_or xs k 0))) None passes in
+          absurd (cc)
+      | inr fails ↦
+          sym (at-place p xs k below ∙ cond-false (p (get_or xs k 0)) (Some (get_or xs k 0)) (find p (drop (k + 1) xs)) fails) ∙ so_far
+    ]

@@ -1,0 +1,31 @@
+//! Why an operation is no instruction.
+
+ghost use Rattle.std.specs.Prelude.{◌≡◌};
+ghost use Rattle.pac_asm_operation.specs.Operations.{first_operation_fault};
+
+/// Why an operation is no instruction at an address; the first in this order is told.
+#[derive(Clone, Copy, Debug, PartialEq, Eq)]
+pub enum OperationFault {
+    /// A name that isn't defined.
+    Undefined,
+    /// A partial result outside 32 bits, or a division by zero.
+    Arithmetic,
+    /// A number out of its range.
+    Range,
+}
+
+impl OperationFault {
+    /// The first of two faults of a line: an undefined name, then arithmetic, then a range.
+    pub fn first(self, other: OperationFault) -> OperationFault
+        ensures { result ≡ first_operation_fault self other }
+    {
+        match self {
+            OperationFault::Undefined => OperationFault::Undefined,
+            OperationFault::Range => other,
+            OperationFault::Arithmetic => match other {
+                OperationFault::Undefined => OperationFault::Undefined,
+                _ => OperationFault::Arithmetic,
+            },
+        }
+    }
+}

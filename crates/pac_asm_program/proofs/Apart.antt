@@ -1,0 +1,66 @@
+-- Items that share no address lie in their ROM, and where no item lies it holds 0.
+use Rattle.std.proofs.Common.{◌≡◌, ℕ, ◌+◌, ◌-◌, ◌<◌, true, false, List, [], ◌∷◌, length, map, get_or, take, drop, ap}
+use Rattle.std.proofs.Common.{sym, ◌∙◌, arith, ⊎_elim, zero, suc, refl}
+use Rattle.std.specs.List.{All}
+use Rattle.std.specs.List.{range_with_len, slice_index}
+use Rattle.std.proofs.lemmas.Bool.{cases_Bool, true≢false, cond-true, cond-false, lt-ltb, le-leb, and_from}
+use Rattle.std.proofs.lemmas.List.{get_or-take, get_or-drop, length-take-le, length-drop, ext_get_or}
+use Rattle.std.proofs.lemmas.List.FromFn.{get_or-map-range_with_len, length-map-range_with_len}
+use Rattle.pac_code.specs.Items.{Item, bytes_of}
+use Rattle.pac_asm_program.specs.Programs.{rom_size}
+use Rattle.std.proofs.lemmas.List.Elements.{All-head, All-tail}
+use Rattle.pac_asm_program.specs.Rom.{covers, rom_byte_at, rom_of, AreApart, ApartItemsLie, IsZeroElsewhere}
+
+-- the byte at an address is that of the item that covers it
+byte-is : (items : List Item) → AreApart items → (k : ℕ) (d : Item) → k < length items → (cell : ℕ)
+    → covers (get_or items k d) cell ≡ true
+    → rom_byte_at items cell ≡ slice_index (bytes_of (get_or items k d)) (cell - (get_or items k d).at)
+byte-is [] apart k d below cell h = absurd (omega arith)
+byte-is (x ∷ xs) apart zero d below cell h = cond-true _ _ _ h
+byte-is (x ∷ xs) apart (suc k) d below cell h =
+    ⊎_elim
+    (λ (yes : covers x cell ≡ true). absurd (true≢false (sym h ∙ apart.0 k d (omega arith) cell yes)))
+    (λ (no : covers x cell ≡ false). cond-false _ _ _ no ∙ byte-is xs apart.1 k d (omega arith) cell h)
+    (cases_Bool (covers x cell))
+
+pub apart_items_lie : ApartItemsLie
+unfolding rom_of
+apart_items_lie items apart fit k d below =
+    let item = get_or items k d in
+    let bytes = bytes_of item in
+    let rom = map (rom_byte_at items) (range_with_len 0 rom_size) in
+    let size : length rom ≡ rom_size = length-map-range_with_len (rom_byte_at items) 0 rom_size in
+    let inside = (fit k d below).inside in
+    let rest : length (drop item.at rom) ≡ length rom - item.at = length-drop item.at rom in
+    record {
+      valid = (fit k d below).valid;
+      inside = omega (arith, size, inside);
+      bytes = ext_get_or 0 (take (length bytes) (drop item.at rom)) bytes
+          (length-take-le (length bytes) (drop item.at rom) (omega (arith, size, inside, rest)))
+          (λ j lt.
+          let within : j < length bytes = omega (
+            arith,
+            lt,
+            length-take-le (length bytes) (drop item.at rom)
+                (omega (arith, size, inside, rest)),
+          ) in
+          let same : item.at + j - item.at ≡ j = omega arith in
+          get_or-take (length bytes) (drop item.at rom) j 0 within
+          ∙ get_or-drop item.at rom j 0
+          ∙ get_or-map-range_with_len (rom_byte_at items) 0 rom_size (item.at + j) (item.at + j) 0 (omega (arith, inside)) (omega arith)
+          ∙ byte-is items apart k d below (item.at + j)
+          (and_from _ _ (le-leb item.at (item.at + j) (omega arith)) (lt-ltb (item.at + j) (item.at + length bytes) (omega arith)))
+          ∙ ap (λ n. get_or bytes n 0) same);
+    }
+
+-- the byte at an address that no item covers
+byte-zero : (items : List Item) (cell : ℕ) → All (λ item. covers item cell ≡ false) items → rom_byte_at items cell ≡ 0
+byte-zero [] cell none = refl
+byte-zero (x ∷ xs) cell none =
+    cond-false _ _ _ (All-head (λ item. covers item cell ≡ false) x xs none)
+    ∙ byte-zero xs cell (All-tail (λ item. covers item cell ≡ false) x xs none)
+
+pub zero-elsewhere : (items : List Item) → IsZeroElsewhere (rom_of items) items
+unfolding rom_of
+zero-elsewhere items cell below none =
+    get_or-map-range_with_len (rom_byte_at items) 0 rom_size cell cell 0 below (omega arith) ∙ byte-zero items cell none

@@ -1,0 +1,26 @@
+-- A run told by the source's items and the history is the run told by the bytes and the view.
+use Rattle.std.proofs.Common.{ℕ, [], refl, arith}
+use Rattle.pac_table.proofs.Lengths.{length-code}
+use Rattle.pac_code.proofs.RoundTrip.{decodes-prefix}
+use Rattle.pac_map.proofs.WellFormed.{power-on-well-formed}
+use Rattle.pac_picture.specs.State.{black}
+use Rattle.pac_picture.proofs.Composed.{black-picture}
+use Rattle.pac_board_model.specs.BoardView.{IsBoard, power_on_board_view}
+use Rattle.pac_board_model.specs.History.{board_after_entries}
+use Rattle.pac_board_model.specs.Trace.{by_history, by_view}
+use Rattle.pac_board_model.specs.Laws.{RunsAgree}
+use Rattle.pac_board_model.proofs.Carried.{run-carried}
+use Rattle.pac_board_model.proofs.Items.{view-carries}
+
+pub power-on-board : (switches : ℕ) → IsBoard (power_on_board_view switches)
+power-on-board switches = record {
+  memory = power-on-well-formed switches;
+  accumulators = record { first = omega arith; second = omega arith; third = omega arith };
+  lines = black-picture black refl;
+}
+
+pub runs-agree : RunsAgree
+runs-agree set items switches index play whole lie =
+    let first = power_on_board_view switches in
+    run-carried (board_after_entries set first) (by_history set items first) (by_view set)
+    (view-carries decodes-prefix length-code set items first whole lie (power-on-board switches)) play [] index

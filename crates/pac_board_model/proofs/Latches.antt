@@ -1,0 +1,115 @@
+-- The latch that a history leaves in the view is the one that the history tells.
+use Rattle.std.proofs.Common.{◌≡◌, ◌≢◌, ℕ, zero, suc, ◌+◌, ◌≤◌, ◌==◌, min, nat_le, Bool, true, false, cond, not, ◌&&◌, ◌||◌}
+use Rattle.std.proofs.Common.{List, [], ◌∷◌, replicate, slice_index_or, Option, Some, None, unwrap_or, refl, ap, ◌∙◌, arith}
+use Rattle.std.proofs.lemmas.Bool.Decides.{nat_tests}
+use Rattle.pac_latch.specs.Latched.{latch_bits, latch_place, is_latch_bit_set, withdraws, watchdog_limit, latched_after_bit, interrupt_request}
+use Rattle.pac_latch.specs.Latched as latch
+use Rattle.pac_latch.proofs.Bits.{is_set-written, is_set-others}
+use Rattle.pac_map.specs.declared.bus_table.BusPlace.{BusPlace}
+use Rattle.pac_map.specs.declared.bus_table.BusPlace.TheVariants.{Latch, Kick}
+use Rattle.pac_map.specs.View.{View}
+use Rattle.pac_map.specs.Entry.{Entry, Write, Vector, Blank, Accept, Reset, view_after_write}
+use Rattle.pac_board_model.specs.History.{view_after_entries}
+use Rattle.pac_board_model.specs.Queries.{lowest, is_latch, last_bit, bit_at, history_vector, takes_back, is_requested, history_request}
+use Rattle.pac_board_model.specs.Queries.{blanks_since, is_reset_due}
+
+clear-at : (count place : ℕ) → slice_index_or (replicate count false) place false ≡ false
+clear-at zero place = refl
+clear-at (suc count) zero = refl
+clear-at (suc count) (suc place) = clear-at count place
+
+bit-written : (view : View) (to : BusPlace) (byte place : ℕ)
+    → is_latch_bit_set (view_after_write view to byte).latched place
+    ≡ cond (is_latch place to) (lowest byte) (is_latch_bit_set view.latched place)
+bit-written view (Latch other) byte place = choose (latch_place other == latch_place place) refl
+  where
+    choose : (b : Bool) → (latch_place other == latch_place place) ≡ b
+        → is_latch_bit_set (latched_after_bit view.latched other (lowest byte)) place
+        ≡ cond b (lowest byte) (is_latch_bit_set view.latched place)
+    choose true e =
+        let same : latch_place place ≡ latch_place other = grind (arith, nat_tests) in
+        ap (λ at. slice_index_or (latch_bits (latched_after_bit view.latched other (lowest byte)).bits) at false) same
+        ∙ is_set-written view.latched other (lowest byte)
+    choose false e =
+        let apart : latch_place place ≢ latch_place other = grind (arith, nat_tests) in
+        is_set-others view.latched other (lowest byte) place apart
+bit-written view Kick byte place = refl
+bit-written view _ byte place = refl
+
+-- what an entry decides comes before what older ones do
+decided : {A : Type 0} (here : Bool) (value : A) (older : Option A) (first : A)
+    → cond here value (unwrap_or older first) ≡ unwrap_or (cond here (Some value) older) first
+decided true value older first = refl
+decided false value older first = refl
+
+pub bit-viewed : (start : View) (entries : List Entry) (place : ℕ)
+    → is_latch_bit_set (view_after_entries start entries).latched place ≡ bit_at start entries place
+bit-viewed start [] place = refl
+bit-viewed start (Reset ∷ older) place = clear-at 8 (latch_place place)
+bit-viewed start (Write to byte ∷ older) place =
+    bit-written (view_after_entries start older) to byte place
+    ∙ ap (cond (is_latch place to) (lowest byte)) (bit-viewed start older place)
+    ∙ decided (is_latch place to) (lowest byte) (last_bit place older) (is_latch_bit_set start.latched place)
+bit-viewed start (entry ∷ older) place = bit-viewed start older place
+
+vector-written : (view : View) (to : BusPlace) (byte : ℕ) → (view_after_write view to byte).latched.vector ≡ view.latched.vector
+vector-written view (Latch place) byte = refl
+vector-written view Kick byte = refl
+vector-written view _ byte = refl
+
+pub vector-viewed : (start : View) (entries : List Entry) → (view_after_entries start entries).latched.vector ≡ history_vector start entries
+vector-viewed start [] = refl
+vector-viewed start (Vector byte ∷ older) = refl
+vector-viewed start (Write to byte ∷ older) = vector-written (view_after_entries start older) to byte ∙ vector-viewed start older
+vector-viewed start (entry ∷ older) = vector-viewed start older
+
+both-nor : (history_request taken : Bool) → (history_request && not taken) ≡ cond taken false history_request
+both-nor true true = refl
+both-nor true false = refl
+both-nor false true = refl
+both-nor false false = refl
+
+request-written : (view : View) (to : BusPlace) (byte : ℕ)
+    → (view_after_write view to byte).latched.request ≡ cond (takes_back to byte) false view.latched.request
+request-written view (Latch place) byte = both-nor view.latched.request (withdraws place (lowest byte))
+request-written view Kick byte = refl
+request-written view _ byte = refl
+
+pub requested-viewed : (start : View) (entries : List Entry) →
+    (view_after_entries start entries).latched.request ≡ is_requested start entries
+requested-viewed start [] = refl
+requested-viewed start (Accept ∷ older) = refl
+requested-viewed start (Reset ∷ older) = refl
+requested-viewed start (Write to byte ∷ older) =
+    request-written (view_after_entries start older) to byte ∙ ap (cond (takes_back to byte) false) (requested-viewed start older)
+requested-viewed start (Blank frame ∷ older) =
+    λ i. requested-viewed start older i || bit-viewed start older 0 i
+requested-viewed start (entry ∷ older) = requested-viewed start older
+
+pub request-viewed : (start : View) (entries : List Entry) →
+    interrupt_request (view_after_entries start entries).latched ≡ history_request start entries
+request-viewed start entries = λ i. cond (requested-viewed start entries i) (Some (vector-viewed start entries i)) None
+
+one-more : (count blanks : ℕ) → count ≡ min watchdog_limit blanks → min watchdog_limit (count + 1) ≡ min watchdog_limit (suc blanks)
+one-more count blanks same = grind (arith, nat_tests)
+
+first-count : (count : ℕ) → count ≤ watchdog_limit → count ≡ min watchdog_limit count
+first-count count low = grind (arith, nat_tests)
+
+pub count-viewed : (start : View) (entries : List Entry) → start.latched.count ≤ watchdog_limit
+    → (view_after_entries start entries).latched.count ≡ min watchdog_limit (blanks_since start.latched.count entries)
+count-viewed start [] low = first-count start.latched.count low
+count-viewed start (Reset ∷ older) low = refl
+count-viewed start (Write Kick byte ∷ older) low = refl
+count-viewed start (Write (Latch place) byte ∷ older) low = count-viewed start older low
+count-viewed start (Blank frame ∷ older) low =
+    one-more (view_after_entries start older).latched.count (blanks_since start.latched.count older) (count-viewed start older low)
+count-viewed start (entry ∷ older) low = count-viewed start older low
+
+pub due-viewed : (start : View) (entries : List Entry) → start.latched.count ≤ watchdog_limit
+    → latch.is_watchdog_due (view_after_entries start entries).latched ≡ is_reset_due start entries
+due-viewed start entries low =
+    ap (λ count. count == watchdog_limit) (count-viewed start entries low) ∙ met (blanks_since start.latched.count entries)
+  where
+    met : (blanks : ℕ) → (min watchdog_limit blanks == watchdog_limit) ≡ nat_le watchdog_limit blanks
+    met blanks = grind (arith, nat_tests)

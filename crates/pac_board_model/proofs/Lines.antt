@@ -1,0 +1,58 @@
+-- The picture of the board that a history leaves has the lines that the history says.
+use Rattle.std.proofs.Common.{◌≡◌, ◌≢◌, ℕ, ◌<◌, ◌==◌, Bool, true, false, cond}
+use Rattle.std.proofs.Common.{List, [], ◌∷◌, length, slice_index_or, slice_set, length-set, refl, sym, ap, ◌∙◌, arith}
+use Rattle.std.proofs.lemmas.Bool.Decides.{nat_tests}
+use Rattle.std.proofs.lemmas.Grind.{get_or-set_at}
+use Rattle.std.proofs.lemmas.List.{ext_get_or, get_or-set_other}
+use Rattle.pac_roms.specs.Parts.{Parts}
+use Rattle.pac_tiles.specs.Tiles.{height}
+use Rattle.pac_tiles.proofs.Tabulated.{length-tabulate, get_or-tabulate}
+use Rattle.pac_picture.specs.Picture.{picture_line}
+use Rattle.pac_map.specs.Entry.{Entry, Line}
+use Rattle.pac_board_model.specs.BoardView.{BoardView, IsBoard, video_roms, video_memory}
+use Rattle.pac_board_model.specs.History.{board_after_entries}
+use Rattle.pac_board_model.specs.Shown.{line_at, lines_at}
+use Rattle.pac_board_model.proofs.Memories.{video-memory-kept}
+
+pub lines-high : (set : Parts) (start : BoardView) (entries : List Entry) → IsBoard start
+    → length (board_after_entries set start entries).lines ≡ height
+lines-high set start [] fit = fit.lines.high
+lines-high set start (Line frame line ∷ older) fit = length-set (board_after_entries set start older).lines line _
+    ∙ lines-high set start older fit
+lines-high set start (entry ∷ older) fit = lines-high set start older fit
+
+-- a line after one is set
+line-set : (lines : List (List ℕ)) (line y : ℕ) (composed : ℕ → List ℕ) → y < length lines
+    → slice_index_or (slice_set lines line (composed line)) y [] ≡ cond (line == y) (composed y) (slice_index_or lines y [])
+line-set lines line y composed below = choose (line == y) refl
+  where
+    choose : (b : Bool) → (line == y) ≡ b
+        → slice_index_or (slice_set lines line (composed line)) y [] ≡ cond b (composed y) (slice_index_or lines y [])
+    choose true e =
+        let same : y ≡ line = grind (arith, nat_tests) in
+        let inside : line < length lines = omega arith in
+        get_or-set_at lines line y (composed line) [] same inside ∙ ap composed (sym same)
+    choose false e =
+        let apart : y ≢ line = grind (arith, nat_tests) in
+        get_or-set_other lines line y (composed line) [] apart
+
+pub line-viewed : (set : Parts) (start : BoardView) (entries : List Entry) (y : ℕ) → IsBoard start → y < height
+    → slice_index_or (board_after_entries set start entries).lines y [] ≡ line_at set start entries y
+line-viewed set start [] y fit below = refl
+line-viewed set start (Line frame line ∷ older) y fit below =
+    let within : y < length (board_after_entries set start older).lines = let e = lines-high set start older fit in
+    omega (arith, e, below) in
+    line-set (board_after_entries set start older).lines line y
+    (picture_line (video_roms set) (video_memory (board_after_entries set start older).memory)) within
+    ∙ (λ i. cond (line == y) (picture_line (video_roms set) (video-memory-kept set start older fit.memory i) y)
+    (line-viewed set start older y fit below i))
+line-viewed set start (entry ∷ older) y fit below = line-viewed set start older y fit below
+
+pub lines-viewed : (set : Parts) (start : BoardView) (entries : List Entry) → IsBoard start
+    → (board_after_entries set start entries).lines ≡ lines_at set start entries
+lines-viewed set start entries fit =
+    let lines = (board_after_entries set start entries).lines in
+    let long = lines-high set start entries fit in
+    ext_get_or [] lines (lines_at set start entries) (long ∙ sym (length-tabulate height (line_at set start entries))) (λ y below.
+    let within : y < height = omega (arith, long, below) in
+    line-viewed set start entries y fit within ∙ sym (get_or-tabulate height (line_at set start entries) y [] within))

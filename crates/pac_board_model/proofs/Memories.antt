@@ -1,0 +1,41 @@
+-- The memory of the board that a history leaves is the view that it leaves: samples and lines change nothing of it.
+use Rattle.std.proofs.Common.{◌≡◌, List, [], ◌∷◌, refl, ap, ◌∙◌}
+use Rattle.pac_roms.specs.Parts.{Parts}
+use Rattle.pac_map.specs.Entry.{Entry, Sample, Line, view_after}
+use Rattle.pac_map.specs.View.{IsWellFormed}
+use Rattle.pac_board_model.specs.BoardView.{BoardView, video_memory}
+use Rattle.pac_board_model.specs.History.{board_after_entries, view_after_entries, history_registers}
+use Rattle.pac_board_model.specs.Queries.{bit_at}
+use Rattle.pac_board_model.specs.Shown.{memory_at, sound_enable, flip}
+use Rattle.pac_board_model.proofs.Latches.{bit-viewed}
+use Rattle.pac_board_model.proofs.Lists.{tile-listed, colour-listed, attributes-listed, coordinates-listed, registers-listed}
+
+pub memory-viewed : (set : Parts) (start : BoardView) (entries : List Entry)
+    → (board_after_entries set start entries).memory ≡ view_after_entries start.memory entries
+memory-viewed set start [] = refl
+memory-viewed set start (Sample number ∷ older) = memory-viewed set start older
+memory-viewed set start (Line frame line ∷ older) = memory-viewed set start older
+memory-viewed set start (entry ∷ older) = ap (λ view. view_after view entry) (memory-viewed set start older)
+
+-- what a sample asks of it, and what a line is composed from
+pub registers-kept : (set : Parts) (start : BoardView) (entries : List Entry) → IsWellFormed start.memory
+    → (board_after_entries set start entries).memory.registers ≡ history_registers start.memory entries
+registers-kept set start entries well =
+    ap (λ view. view.registers) (memory-viewed set start entries) ∙ registers-listed start.memory entries well
+
+pub sound-kept : (set : Parts) (start : BoardView) (entries : List Entry)
+    → (board_after_entries set start entries).memory.latched.bits.sound_enable ≡ bit_at start.memory entries sound_enable
+sound-kept set start entries =
+    ap (λ view. view.latched.bits.sound_enable) (memory-viewed set start entries) ∙ bit-viewed start.memory entries sound_enable
+
+pub video-memory-kept : (set : Parts) (start : BoardView) (entries : List Entry) → IsWellFormed start.memory
+    → video_memory (board_after_entries set start entries).memory ≡ memory_at start.memory entries
+video-memory-kept set start entries well =
+    ap video_memory (memory-viewed set start entries)
+    ∙ (λ i. record {
+      tile_ram = tile-listed start.memory entries well i;
+      colour_ram = colour-listed start.memory entries well i;
+      attributes = attributes-listed start.memory entries well i;
+      coordinates = coordinates-listed start.memory entries well i;
+      flip = bit-viewed start.memory entries flip i;
+    })

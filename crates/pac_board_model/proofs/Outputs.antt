@@ -1,0 +1,132 @@
+-- What a run gives out is what its history says: each sample, each picture, and how many of them by when.
+use Rattle.std.proofs.Common.{◌≡◌, ◌≢◌, ℕ, suc, ◌/◌, ◌%◌, true}
+use Rattle.std.proofs.Common.{List, [], ◌∷◌, ◌++◌, refl, sym, ap, ◌∙◌, append_assoc, arith}
+use Rattle.pac_code.specs.Items.{Item}
+use Rattle.pac_roms.specs.Parts.{Parts}
+use Rattle.pac_map.specs.Entry.{Entry, Sample, Line, Blank}
+use Rattle.pac_board_model.specs.BoardView.{BoardView, power_on_board_view}
+use Rattle.pac_board_model.specs.Laws.{OutputsAreOfTheHistory, OutputsAreTimed}
+use Rattle.pac_board_model.specs.Output.{Output, Sound, Show}
+use Rattle.pac_board_model.specs.Shown.{history_outputs, sample_count, blank_count}
+use Rattle.pac_board_model.specs.Step.{Questions, StepProgress, sample_event, line_event, at_moment}
+use Rattle.pac_board_model.specs.Step.{sample_ticks, frame_ticks}
+use Rattle.pac_board_model.specs.Trace.{by_history}
+use Rattle.pac_board_model.proofs.RunsKeep.{is_quiet, sampled-holds, lined-holds, blanked-holds, run-told}
+use Rattle.pac_board_model.proofs.Walks.{not-both}
+
+module _ (set : Parts) (items : List Item) (start : BoardView) where
+  abbrev ask : Questions (List Entry)
+  ask = by_history set items start
+
+  -- ---- the outputs themselves
+
+  abbrev told : List Entry → List Output
+  told entries = history_outputs set start entries
+
+  quiet-told : (entry : Entry) (entries : List Entry) → is_quiet entry ≡ true → told (entry ∷ entries) ≡ told entries
+  quiet-told (Sample number) entries h = not-both (sym h)
+  quiet-told (Line frame line) entries h = not-both (sym h)
+  quiet-told (Blank frame) entries h = not-both (sym h)
+  quiet-told entry entries h = refl
+
+  -- so are those of a moment's events
+  IsTold : List Output → StepProgress (List Entry) → Type 0
+  IsTold given met = given ++ met.outputs ≡ told met.board
+
+  gives-told : (given : List Output) (met : StepProgress (List Entry)) (output : Output) → IsTold given met
+      → given ++ (met.outputs ++ output ∷ []) ≡ told met.board ++ output ∷ []
+  unfolding IsTold
+  gives-told given met output h =
+      sym (append_assoc given met.outputs (output ∷ [])) ∙ ap (λ outputs. outputs ++ output ∷ []) h
+
+  moment-told : (moment : ℕ) (given : List Output) (met : StepProgress (List Entry)) → IsTold given met →
+      IsTold given (at_moment ask moment met)
+  unfolding IsTold
+  moment-told moment given met h =
+      let sounded = sample_event ask moment met in
+      let seen = line_event ask moment sounded in
+      let first = sampled-holds ask (IsTold given) moment met (λ _. gives-told given met (Sound (ask.sample met.board)) h) (λ _. h) in
+      let second = lined-holds ask (IsTold given) moment sounded (λ _. first) (λ _. first) in
+      let third = gives-told given seen (Show (ask.image seen.board)) second in
+      blanked-holds ask (IsTold given) moment seen (λ _. (third, third)) (λ _. second)
+
+pub outputs-of-history : OutputsAreOfTheHistory
+unfolding IsTold
+outputs-of-history set items start index play =
+    run-told (by_history set items start) (λ time given entries. given ≡ history_outputs set start entries)
+    (λ time given entries entry quiet h. h ∙ sym (quiet-told set items start entry entries quiet))
+    (λ time moment given met next h. moment-told set items start moment given met h) play [] index refl
+
+-- ---- how many by when
+
+pub quiet-samples : (entry : Entry) (entries : List Entry) → is_quiet entry ≡ true → sample_count (entry ∷ entries) ≡ sample_count entries
+quiet-samples (Sample number) entries h = not-both (sym h)
+quiet-samples entry entries h = refl
+
+quiet-blanks : (entry : Entry) (entries : List Entry) → is_quiet entry ≡ true → blank_count (entry ∷ entries) ≡ blank_count entries
+quiet-blanks (Blank frame) entries h = not-both (sym h)
+quiet-blanks entry entries h = refl
+
+-- from one moment to the next the count of samples, or of frames, grows where one ends
+sample-ends : (time moment : ℕ) → moment ≡ suc time → moment % sample_ticks ≡ 0 → suc (time / sample_ticks) ≡ moment / sample_ticks
+sample-ends time moment next ends = omega arith
+
+pub sample-lasts : (time moment : ℕ) → moment ≡ suc time → moment % sample_ticks ≢ 0 → time / sample_ticks ≡ moment / sample_ticks
+sample-lasts time moment next lasts = omega arith
+
+frame-ends : (time moment : ℕ) → moment ≡ suc time → moment % frame_ticks ≡ 0 → suc (time / frame_ticks) ≡ moment / frame_ticks
+frame-ends time moment next ends = omega arith
+
+frame-lasts : (time moment : ℕ) → moment ≡ suc time → moment % frame_ticks ≢ 0 → time / frame_ticks ≡ moment / frame_ticks
+frame-lasts time moment next lasts = omega arith
+
+module _ (set : Parts) (items : List Item) (start : BoardView) where
+  HasSamples : ℕ → StepProgress (List Entry) → Type 0
+  HasSamples count met = sample_count met.board ≡ count
+
+  moment-samples : (time moment : ℕ) (met : StepProgress (List Entry)) → moment ≡ suc time → sample_count met.board ≡ time / sample_ticks
+      → sample_count (at_moment (by_history set items start) moment met).board ≡ moment / sample_ticks
+  unfolding HasSamples
+  moment-samples time moment met next h =
+      let ask = by_history set items start in
+      let Counted = HasSamples (moment / sample_ticks) in
+      let sounded = sample_event ask moment met in
+      let seen = line_event ask moment sounded in
+      let one : suc (sample_count met.board) ≡ suc (time / sample_ticks) = ap suc h in
+      let first = sampled-holds ask Counted moment met
+      (λ ends. one ∙ sample-ends time moment next ends)
+      (λ lasts. h ∙ sample-lasts time moment next lasts) in
+      let second = lined-holds ask Counted moment sounded (λ _. first) (λ _. first) in
+      blanked-holds ask Counted moment seen (λ _. (second, second)) (λ _. second)
+
+  HasBlanks : ℕ → StepProgress (List Entry) → Type 0
+  HasBlanks count met = blank_count met.board ≡ count
+
+  moment-blanks : (time moment : ℕ) (met : StepProgress (List Entry)) → moment ≡ suc time → blank_count met.board ≡ time / frame_ticks
+      → blank_count (at_moment (by_history set items start) moment met).board ≡ moment / frame_ticks
+  unfolding HasBlanks
+  moment-blanks time moment met next h =
+      let ask = by_history set items start in
+      let sounded = sample_event ask moment met in
+      let seen = line_event ask moment sounded in
+      let Before = HasBlanks (time / frame_ticks) in
+      let first = sampled-holds ask Before moment met (λ _. h) (λ _. h) in
+      let second = lined-holds ask Before moment sounded (λ _. first) (λ _. first) in
+      blanked-holds ask (HasBlanks (moment / frame_ticks)) moment seen
+      (λ ends. let one = ap suc second ∙ frame-ends time moment next ends in (one, one))
+      (λ lasts. second ∙ frame-lasts time moment next lasts)
+
+pub outputs-timed : OutputsAreTimed
+outputs-timed set items switches index play =
+    let first = power_on_board_view switches in
+    let ask = by_history set items first in
+    record {
+      samples =
+          run-told ask (λ time given entries. sample_count entries ≡ time / sample_ticks)
+          (λ time given entries entry quiet h. quiet-samples entry entries quiet ∙ h)
+          (λ time moment given met next h. moment-samples set items first time moment met next h) play [] index refl;
+      blanks =
+          run-told ask (λ time given entries. blank_count entries ≡ time / frame_ticks)
+          (λ time given entries entry quiet h. quiet-blanks entry entries quiet ∙ h)
+          (λ time moment given met next h. moment-blanks set items first time moment met next h) play [] index refl;
+    }

@@ -1,0 +1,189 @@
+-- What every run keeps: a fact of the time, of what was given out so far and of the board, which no write, output, acceptance,
+-- reset or held input changes, and which the events of each moment carry on to the next.
+use Rattle.std.proofs.Common.{◌≡◌, ◌≢◌, ℕ, zero, suc, ◌+◌, ◌-◌, ◌*◌, ◌/◌, ◌%◌, ◌==◌, if◌then◌else◌, Option, None, Some, Bool, true, false}
+use Rattle.std.proofs.Common.{nat_le, ◌&&◌, List, [], ◌∷◌, ◌++◌, refl, sym, subst, arith}
+use Rattle.std.proofs.lemmas.Bool.Decides.{nat_tests}
+use Rattle.std.proofs.lemmas.List.{append-nil}
+use Rattle.pac_bus.specs.Action.{Action, Write as Written, Output as Sent}
+use Rattle.pac_cpu.specs.declared.once.StepKind.{StepKind}
+use Rattle.pac_cpu.specs.declared.once.StepKind.TheVariants.{Ran, Halted, Accepted}
+use Rattle.pac_cpu.specs.declared.once.Stop.{Stop}
+use Rattle.pac_cpu.specs.Step.{CpuStep, Steps, Stops, cpu_step}
+use Rattle.pac_map.specs.Entry.{Entry, Write, Vector, Sample, Line, Blank, Accept, Hold}
+use Rattle.pac_map.specs.Place.{write_place}
+use Rattle.pac_board_model.specs.Output.{Output, Sound, Show}
+use Rattle.pac_board_model.specs.Step.{Questions, Moment, StepProgress, Next, Goes, Ends, put_all, put_actions, put_kind, at_moment, through, progress_after_cpu}
+use Rattle.pac_board_model.specs.Step.{surroundings, after_cpu_step, step, note, give, sample_event, line_event, reset_event, watchdog_event, blank_event}
+use Rattle.pac_board_model.specs.Step.{scan_line, scan_frame, sample_ticks, line_ticks, frame_ticks, hidden_lines}
+use Rattle.pac_board_model.specs.Trace.{Play, moment_with_inputs, next_with_inputs, play_step, power_on_moment, run_at}
+use Rattle.pac_board_model.specs.Walk.{Walk, walk, onward_if, walk_after_step}
+
+-- whether an entry is none of the three that the clock makes
+abbrev pub is_quiet : Entry → Bool
+is_quiet (Sample number) = false
+is_quiet (Line frame line) = false
+is_quiet (Blank frame) = false
+is_quiet _ = true
+
+-- ---- the events of a moment, case by case
+
+-- a sample given, a line composed and a picture given
+abbrev pub with_sample : {Board : Type 0} → Questions Board → ℕ → StepProgress Board → StepProgress Board
+with_sample ask moment met = note ask (Sample (moment / sample_ticks)) (give (Sound (ask.sample met.board)) met)
+
+abbrev pub with_line : {Board : Type 0} → Questions Board → ℕ → StepProgress Board → StepProgress Board
+with_line ask moment met = note ask (Line (scan_frame moment) (scan_line moment - hidden_lines)) met
+
+abbrev pub with_picture : {Board : Type 0} → Questions Board → ℕ → StepProgress Board → StepProgress Board
+with_picture ask moment met = note ask (Blank (moment / frame_ticks)) (give (Show (ask.image met.board)) met)
+
+-- whether a line that is shown ends at a moment
+abbrev pub ends_line : ℕ → Bool
+ends_line moment = moment % line_ticks == 0 && nat_le hidden_lines (scan_line moment)
+
+module _ {Board : Type 0} (ask : Questions Board) (Holds : StepProgress Board → Type 0) (moment : ℕ) (met : StepProgress Board) where
+  pub sampled-holds : (moment % sample_ticks ≡ 0 → Holds (with_sample ask moment met)) → (moment % sample_ticks ≢ 0 → Holds met)
+      → Holds (sample_event ask moment met)
+  sampled-holds at_one elsewhere = choose (moment % sample_ticks == 0) refl
+    where
+      choose : (b : Bool) → (moment % sample_ticks == 0) ≡ b → Holds (if b then with_sample ask moment met else met)
+      choose true e = at_one (grind (arith, nat_tests))
+      choose false e = elsewhere (grind (arith, nat_tests))
+
+  pub lined-holds : (ends_line moment ≡ true → Holds (with_line ask moment met)) → (ends_line moment ≡ false → Holds met)
+      → Holds (line_event ask moment met)
+  lined-holds at_one elsewhere = choose (ends_line moment) refl
+    where
+      choose : (b : Bool) → ends_line moment ≡ b → Holds (if b then with_line ask moment met else met)
+      choose true e = at_one e
+      choose false e = elsewhere e
+
+  watched-holds : Holds (reset_event ask met) → Holds met → Holds (watchdog_event ask met)
+  watched-holds due quiet = choose (ask.is_due met.board)
+    where
+      choose : (b : Bool) → Holds (if b then reset_event ask met else met)
+      choose true = due
+      choose false = quiet
+
+module _ {Board : Type 0} (ask : Questions Board) (Holds : StepProgress Board → Type 0) (moment : ℕ) (met : StepProgress Board) where
+  pub blanked-holds : (moment % frame_ticks ≡ 0 → Holds (with_picture ask moment met)
+      × Holds (reset_event ask (with_picture ask moment met)))
+      → (moment % frame_ticks ≢ 0 → Holds met) → Holds (blank_event ask moment met)
+  blanked-holds at_one elsewhere = choose (moment % frame_ticks == 0) refl
+    where
+      choose : (b : Bool) → (moment % frame_ticks == 0) ≡ b
+          → Holds (if b then watchdog_event ask (with_picture ask moment met) else met)
+      choose true e =
+          let both = at_one (grind (arith, nat_tests)) in
+          watched-holds ask Holds moment (with_picture ask moment met) both.1 both.0
+      choose false e = elsewhere (grind (arith, nat_tests))
+
+-- ---- a run
+
+module _ {Board : Type 0} (ask : Questions Board) (Told : ℕ → List Output → Board → Type 0)
+    (quiet : (time : ℕ) (given : List Output) (board : Board) (entry : Entry) → is_quiet entry ≡ true → Told time given board
+    → Told time given (ask.put board entry))
+    (moves : (time moment : ℕ) (given : List Output) (met : StepProgress Board) → moment ≡ suc time →
+    Told time (given ++ met.outputs) met.board
+    → Told moment (given ++ (at_moment ask moment met).outputs) (at_moment ask moment met).board) where
+  port-told : (time : ℕ) (given : List Output) (board : Board) (byte : ℕ) (wired : Bool) → Told time given board
+      → Told time given (put_all ask board (if wired then Vector byte ∷ [] else []))
+  port-told time given board byte true told = quiet time given board (Vector byte) refl told
+  port-told time given board byte false told = told
+
+  actions-told : (time : ℕ) (given : List Output) (board : Board) (actions : List Action) → Told time given board
+      → Told time given (put_actions ask board actions)
+  actions-told time given board [] told = told
+  actions-told time given board (Written at byte ∷ actions) told =
+      actions-told time given (ask.put board (Write (write_place at) byte)) actions
+      (quiet time given board (Write (write_place at) byte) refl told)
+  actions-told time given board (Sent port byte ∷ actions) told =
+      actions-told time given (put_all ask board (if port == 0 then Vector byte ∷ [] else [])) actions
+      (port-told time given board byte (port == 0) told)
+
+  kind-told : (time : ℕ) (given : List Output) (board : Board) (kind : StepKind) → Told time given board
+      → Told time given (put_kind ask board kind)
+  kind-told time given board Accepted told = quiet time given board Accept refl told
+  kind-told time given board Halted told = told
+  kind-told time given board (Ran instruction) told = told
+
+  through-told : (time ticks : ℕ) (given : List Output) (met : StepProgress Board) → Told time (given ++ met.outputs) met.board
+      → Told (time + ticks) (given ++ (through ask time ticks met).outputs) (through ask time ticks met).board
+  through-told time zero given met told =
+      let same : time ≡ time + 0 = omega arith in subst (λ t. Told t (given ++ met.outputs) met.board) same told
+  through-told time (suc ticks) given met told =
+      let next : time + suc ticks ≡ suc (time + ticks) = omega arith in
+      moves (time + ticks) (time + suc ticks) given (through ask time ticks met) next (through-told time ticks given met told)
+
+  -- what a step comes to keeps it
+  NextTold : List Output → Next Board → Type 0
+  NextTold given (Goes now outputs kind) = Told now.time (given ++ outputs) now.board
+  NextTold given (Ends stop) = Unit {0}
+
+  cpu-step-told : (now : Moment Board) (given : List Output) (h : CpuStep) → Told now.time given now.board
+      → NextTold given (after_cpu_step ask now h)
+  unfolding NextTold
+  cpu-step-told now given (Steps regs actions ticks kind) told =
+      through-told now.time ticks given (progress_after_cpu ask now.board regs actions kind)
+      (subst (λ outputs. Told now.time outputs (put_actions ask (put_kind ask now.board kind) actions)) (sym (append-nil given))
+      (actions-told now.time given (put_kind ask now.board kind) actions (kind-told now.time given now.board kind told)))
+  cpu-step-told now given (Stops stop) told = tt
+
+  -- so a step goes on to where it is kept, or stops
+  pub step-told-then : {C : Type 0} (now : Moment Board) (given : List Output) → Told now.time given now.board
+      → ((after : Moment Board) (outputs : List Output) (kind : StepKind) → step ask now ≡ Goes after outputs kind
+      → Told after.time (given ++ outputs) after.board → C)
+      → ((stop : Stop) → step ask now ≡ Ends stop → C) → C
+  unfolding NextTold
+  step-told-then {C = C} now given told goes_on ends =
+      let part = cpu_step (surroundings ask now.board) now.regs (ask.request now.board) in
+      choose (step ask now) refl (cpu-step-told now given part told)
+    where
+      choose : (h : Next Board) → step ask now ≡ h → NextTold given h → C
+      choose (Goes after outputs kind) e kept = goes_on after outputs kind e kept
+      choose (Ends stop) e kept = ends stop e
+
+  played-told : (held : ℕ → ℕ) (time : ℕ) (given : List Output) (h : Next Board) → NextTold given h
+      → NextTold given (next_with_inputs ask held time h)
+  unfolding NextTold
+  played-told held time given (Goes now outputs kind) told = choose (time / frame_ticks == now.time / frame_ticks)
+    where
+      choose : (same : Bool) → NextTold given (Goes (if same then now else moment_with_inputs ask held now) outputs kind)
+      choose true = told
+      choose false = quiet now.time (given ++ outputs) now.board (Hold (held (now.time / frame_ticks + 1))) refl told
+  played-told held time given (Ends stop) told = tt
+
+  WalkTold : Walk Board → Type 0
+  WalkTold w = Told w.now.time w.outputs w.now.board
+
+  step-told : (w : Walk Board) (h : Next Board) → NextTold w.outputs h → WalkTold w → WalkTold (walk_after_step w h)
+  unfolding NextTold WalkTold
+  step-told w (Goes now outputs kind) next told = next
+  step-told w (Ends stop) next told = told
+
+  onward-told : (held : ℕ → ℕ) (w : Walk Board) (stop : Option Stop) (late : Bool) → WalkTold w
+      → WalkTold (onward_if (play_step ask held) w stop late)
+  unfolding WalkTold
+  onward-told held w (Some stop) late told = told
+  onward-told held w None true told = told
+  onward-told held w None false told =
+      let part = cpu_step (surroundings ask w.now.board) w.now.regs (ask.request w.now.board) in
+      step-told w (play_step ask held w.now)
+      (played-told held w.now.time w.outputs (step ask w.now) (cpu-step-told w.now w.outputs part told)) told
+
+  walk-told : (held : ℕ → ℕ) (limit : ℕ) (from : Moment Board) (n : ℕ) → Told from.time [] from.board
+      → WalkTold (walk (play_step ask held) limit from n)
+  unfolding WalkTold
+  walk-told held limit from zero told = told
+  walk-told held limit from (suc n) told =
+      let w = walk (play_step ask held) limit from n in
+      onward-told held w w.stop (nat_le limit w.now.time) (walk-told held limit from n told)
+
+  -- a run keeps it, at each index
+  pub run-told : (play : Play) (board : Board) (index : ℕ) → Told 0 [] board
+      → let run = run_at ask play board index in
+      Told run.now.time run.outputs run.now.board
+  unfolding WalkTold
+  run-told play board index told =
+      walk-told play.held (frame_ticks * play.frames) (power_on_moment (ask.put board (Hold (play.held 1)))) index
+      (quiet 0 [] board (Hold (play.held 1)) refl told)

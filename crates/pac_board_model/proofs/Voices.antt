@@ -1,0 +1,52 @@
+-- The voices of the board that a history leaves stand where the sums over its samples say.
+use Rattle.std.proofs.Common.{◌≡◌, ℕ, ◌+◌, ◌%◌, ◌^◌, ◌<◌, Bool, true, false, cond, List, [], ◌∷◌, refl, ◌∙◌, arith}
+use Rattle.pac_roms.specs.Parts.{Parts}
+use Rattle.pac_wave.specs.declared.Voice.{Voice}
+use Rattle.pac_wave.specs.declared.Voice.TheVariants.{First, Second, Third}
+use Rattle.pac_wave.specs.Wave.{Accumulators, Fit20Bits, accumulator, frequency, accumulators_after}
+use Rattle.pac_map.specs.Entry.{Entry, Sample}
+use Rattle.pac_board_model.specs.BoardView.{BoardView, IsBoard}
+use Rattle.pac_board_model.specs.History.{board_after_entries, history_registers}
+use Rattle.pac_board_model.specs.Queries.{bit_at}
+use Rattle.pac_board_model.specs.Shown.{history_growth, accumulator_at, accumulators_at, sound_enable}
+use Rattle.pac_board_model.proofs.Memories.{registers-kept, sound-kept}
+
+-- a voice after a sample
+after-voice : (history_registers : List ℕ) (on : Bool) (all : Accumulators) (voice : Voice)
+    → accumulator (accumulators_after history_registers on all) voice
+    ≡ cond on ((accumulator all voice + frequency history_registers voice) % 2 ^ 20) (accumulator all voice)
+after-voice history_registers true all First = refl
+after-voice history_registers true all Second = refl
+after-voice history_registers true all Third = refl
+after-voice history_registers false all voice = refl
+
+within : (all : Accumulators) (voice : Voice) → Fit20Bits all → accumulator all voice < 2 ^ 20
+within all First fit = fit.first
+within all Second fit = fit.second
+within all Third fit = fit.third
+
+-- one sample more
+one-more : (on : Bool) (now start grown frequency : ℕ) → now ≡ (start + grown) % 2 ^ 20
+    → cond on ((now + frequency) % 2 ^ 20) now ≡ (start + (grown + cond on frequency 0)) % 2 ^ 20
+one-more true now start grown frequency same = omega arith
+one-more false now start grown frequency same = omega arith
+
+pub voice-viewed : (set : Parts) (start : BoardView) (entries : List Entry) (voice : Voice) → IsBoard start
+    → accumulator (board_after_entries set start entries).accumulators voice ≡ accumulator_at start entries voice
+voice-viewed set start [] voice fit = let below = within start.accumulators voice fit.accumulators in omega (arith, below)
+voice-viewed set start (Sample number ∷ older) voice fit =
+    let all = (board_after_entries set start older).accumulators in
+    (λ i. accumulator (accumulators_after (registers-kept set start older fit.memory i) (sound-kept set start older i) all) voice)
+    ∙ after-voice (history_registers start.memory older) (bit_at start.memory older sound_enable) all voice
+    ∙ one-more (bit_at start.memory older sound_enable) (accumulator all voice) (accumulator start.accumulators voice)
+    (history_growth start.memory voice older) (frequency (history_registers start.memory older) voice)
+    (voice-viewed set start older voice fit)
+voice-viewed set start (entry ∷ older) voice fit = voice-viewed set start older voice fit
+
+pub voices-viewed : (set : Parts) (start : BoardView) (entries : List Entry) → IsBoard start
+    → (board_after_entries set start entries).accumulators ≡ accumulators_at start entries
+voices-viewed set start entries fit = λ i. record {
+  first = voice-viewed set start entries First fit i;
+  second = voice-viewed set start entries Second fit i;
+  third = voice-viewed set start entries Third fit i;
+}

@@ -1,0 +1,100 @@
+-- To be believed: what has happened to the board: a start view and the list of entries since, the newest first. Whatever the
+-- board answers is asked of these two: the last entry that decides, and where none does, the start view.
+use Rattle.std.specs.Prelude.{ℕ, ◌+◌, ◌-◌, List, [], ◌∷◌, ◌==◌, Bool, false, Option, Some, None, unwrap_or, if◌then◌else◌, slice_index}
+use Rattle.pac_map.specs.declared.bus_table.BusPlace.{BusPlace}
+use Rattle.pac_map.specs.declared.bus_table.BusPlace.TheVariants.{Tile, Colour, Work, Wave, Coordinate}
+use Rattle.pac_map.specs.Lookups.{Lookups, answer_at}
+use Rattle.pac_map.specs.Entry.{Entry, Write, Hold, view_after}
+use Rattle.pac_map.specs.Place.{ram_size, coordinates_size, registers_size}
+use Rattle.pac_map.specs.View.{View, kept_nibble, attributes_size}
+use Rattle.pac_tiles.specs.Tabulate.{tabulate}
+use Rattle.pac_roms.specs.Parts.{Parts}
+use Rattle.pac_board_model.specs.BoardView.{BoardView, board_after}
+
+-- whether a place is this cell of tile, colour or work RAM
+abbrev pub is_tile : ℕ → BusPlace → Bool
+is_tile cell (Tile other) = other == cell
+is_tile cell _ = false
+
+abbrev pub is_colour : ℕ → BusPlace → Bool
+is_colour cell (Colour other) = other == cell
+is_colour cell _ = false
+
+abbrev pub is_work : ℕ → BusPlace → Bool
+is_work cell (Work other) = other == cell
+is_work cell _ = false
+
+-- whether a place is this one of the sprites' coordinates, or this register of the wave generator
+abbrev pub is_coordinate : ℕ → BusPlace → Bool
+is_coordinate place (Coordinate other) = other == place
+is_coordinate place _ = false
+
+abbrev pub is_wave_register : ℕ → BusPlace → Bool
+is_wave_register register (Wave other) = other == register
+is_wave_register register _ = false
+
+-- the byte last written to the place that a test tells
+abbrev pub last_written : (BusPlace → Bool) → List Entry → Option ℕ
+last_written here [] = None
+last_written here (Write place byte ∷ older) = if here place then Some byte else last_written here older
+last_written here (entry ∷ older) = last_written here older
+
+-- the mask of inputs last held
+abbrev pub last_held : List Entry → Option ℕ
+last_held [] = None
+last_held (Hold mask ∷ older) = Some mask
+last_held (entry ∷ older) = last_held older
+
+abbrev pub tile_at : View → List Entry → ℕ → ℕ
+tile_at start entries cell = unwrap_or (last_written (is_tile cell) entries) (slice_index start.tile cell)
+
+abbrev pub colour_at : View → List Entry → ℕ → ℕ
+colour_at start entries cell = unwrap_or (last_written (is_colour cell) entries) (slice_index start.colour cell)
+
+abbrev pub work_at : View → List Entry → ℕ → ℕ
+work_at start entries cell = unwrap_or (last_written (is_work cell) entries) (slice_index start.work cell)
+
+abbrev pub coordinate_at : View → List Entry → ℕ → ℕ
+coordinate_at start entries place = unwrap_or (last_written (is_coordinate place) entries) (slice_index start.coordinates place)
+
+-- a register of the wave generator holds what it can of the byte last written
+abbrev pub register_at : View → List Entry → ℕ → ℕ
+register_at start entries register =
+    kept_nibble register (unwrap_or (last_written (is_wave_register register) entries) (slice_index start.registers register))
+
+-- sprite coordinates and wave registers as lists, and the sprites' attributes, which are the last bytes of work RAM
+abbrev pub history_coordinates : View → List Entry → List ℕ
+history_coordinates start entries = tabulate coordinates_size (λ place. coordinate_at start entries place)
+
+abbrev pub history_registers : View → List Entry → List ℕ
+history_registers start entries = tabulate registers_size (λ register. register_at start entries register)
+
+abbrev pub history_attributes : View → List Entry → List ℕ
+history_attributes start entries = tabulate attributes_size (λ place. work_at start entries (ram_size - attributes_size + place))
+
+abbrev pub history_inputs : View → List Entry → ℕ
+history_inputs start entries = unwrap_or (last_held entries) start.held
+
+-- what reads ask of a program ROM and a history
+abbrev pub history_lookups : List ℕ → View → List Entry → Lookups
+history_lookups program start entries = record {
+  program = slice_index program;
+  tile = tile_at start entries;
+  colour = colour_at start entries;
+  work = work_at start entries;
+  held = history_inputs start entries;
+  switches = start.switches;
+}
+
+-- the byte that a read from an address gives
+abbrev pub read : List ℕ → View → List Entry → ℕ → ℕ
+read program start entries address = answer_at (history_lookups program start entries) address
+
+-- the board that a history leaves, and its memory: each entry in turn, the oldest first
+abbrev pub board_after_entries : Parts → BoardView → List Entry → BoardView
+board_after_entries set start [] = start
+board_after_entries set start (entry ∷ older) = board_after set (board_after_entries set start older) entry
+
+abbrev pub view_after_entries : View → List Entry → View
+view_after_entries start [] = start
+view_after_entries start (entry ∷ older) = view_after (view_after_entries start older) entry

@@ -1,8 +1,0 @@
-use Rattle.pac_listing.specs.Listing.{listing}
-use Rattle.pac_run.proofs.Lent.{written}
-use Rattle.pac_command.proofs.asm.put_listing.Goals as goal
-
-pub returns : goal.returns
-returns g c =
-    written g.L.Out.took g.L.Out.refused _ _ c.write_listing.result (listing c.args.program.now c.args.source.now) c.new-file.result
-    c.write_listing.new.file c.new-file.ensures c.write_listing.ensures assumption

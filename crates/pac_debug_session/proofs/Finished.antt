@@ -1,0 +1,115 @@
+-- To the end of a run: what was due, and what the run gives from there on.
+use Rattle.std.proofs.Common.{◌≡◌, ℕ, ◌/◌, Bool, true, false, not, ◌&&◌, ◌||◌, nat_lt, ◌<◌, length, drop, ◌++◌, refl, sym, ap, subst}
+use Rattle.std.proofs.Common.{◌∙◌, append_assoc, arith}
+use Rattle.std.proofs.lemmas.Bool.Decides.{nat_tests}
+use Rattle.pac_board_model.specs.Output.{Output}
+use Rattle.pac_board_model.specs.Step.{frame_ticks}
+use Rattle.pac_board_model.proofs.Walks.{not-both}
+use Rattle.pac_board.proofs.Sinks.{took-both, refuses-after}
+use Rattle.pac_board.specs.Sinks.{TookAll}
+use Rattle.pac_board.specs.State.{nothing_due}
+use Rattle.pac_debug_session.specs.declared.motion.MotionEnd.{MotionEnd}
+use Rattle.pac_debug_session.specs.declared.motion.MotionEnd.TheVariants.{AtStop, AtEnd, AtBreakpoint, AtFrame, AtStep}
+use Rattle.pac_debug_session.specs.declared.motion.Motion.TheVariants.{ToEnd}
+use Rattle.pac_debug_session.specs.declared.motion.RunTotals.{RunTotals}
+use Rattle.pac_debug_session.specs.Motions.{rests, RestsBy, moved_to, HasTravelled, IsTravelRefused, IsOutcome, IsFinished, IsFinishRefused}
+use Rattle.pac_debug_session.specs.Running.{Setting, run, whole_run, goes_at, outputs_between, outputs_from}
+use Rattle.pac_debug_session.specs.Session.{SessionValue, IsSession, session_due_outputs}
+use Rattle.pac_debug_session.proofs.Travelled.{never-met, whole-there}
+
+-- nothing but the run's end ends it
+rests-at-end : (s : SessionValue) (from index : ℕ) → rests s ToEnd from index ≡ not (goes_at s.setting index)
+rests-at-end s from index = choose (nat_lt from index)
+  where
+    choose : (later : Bool) → ((later && false) || not (goes_at s.setting index)) ≡ not (goes_at s.setting index)
+    choose true = refl
+    choose false = refl
+
+unended : (goes : Bool) → not goes ≡ false → goes ≡ true
+unended true e = refl
+unended false e = not-both e
+
+-- why it rests, said of where it is then
+pub rests-there : (mid new : SessionValue) (from index : ℕ) (why : MotionEnd) → new ≡ moved_to mid index
+    → RestsBy mid ToEnd from index why → RestsBy new ToEnd from index why
+rests-there mid new from index AtEnd is rest =
+    subst (λ (s : SessionValue). RestsBy s ToEnd from index AtEnd) (sym is) rest
+rests-there mid new from index (AtStop stop) is rest =
+    subst (λ (s : SessionValue). RestsBy s ToEnd from index (AtStop stop)) (sym is)
+    (record { early = rest.early; unmet = rest.unmet; stop_is = rest.stop_is })
+rests-there mid new from index AtBreakpoint is rest = never-met mid from index rest.met
+rests-there mid new from index AtFrame is rest = never-met mid from index rest.met
+rests-there mid new from index AtStep is rest = never-met mid from index rest.met
+
+-- at the end it is where it was at the furthest
+furthest-there : (s : SessionValue) → IsSession s → not (goes_at s.setting s.index) ≡ true → s.furthest ≡ s.index
+furthest-there s facts over = choose (nat_lt s.index s.furthest) refl
+  where
+    choose : (b : Bool) → nat_lt s.index s.furthest ≡ b → s.furthest ≡ s.index
+    choose true e =
+        let less : s.index < s.furthest = grind (arith, nat_tests) in
+        not-both (sym over ∙ ap not (facts.goes s.index less))
+    choose false e = let within = facts.within in grind (arith, nat_tests)
+
+module _ {S : Type 0} (took refused : S → Output → S → Type 0) (old : SessionValue) (sink between : S)
+    (before : TookAll took sink (session_due_outputs old) between) where
+  -- after what was due is taken
+  abbrev begun-again : SessionValue
+  begun-again = record old { due = nothing_due; replayed = 0 }
+
+  pub finished : (mid new : SessionValue) (later : S) (why : MotionEnd) (outcome : RunTotals) → mid ≡ begun-again
+      → HasTravelled took mid ToEnd between why new later → IsOutcome new outcome → IsSession new
+      → IsFinished took old sink outcome new later
+  finished mid new later why outcome mid_is travelled ended facts =
+      let gone = subst (λ (s : SessionValue). HasTravelled took s ToEnd between why new later) mid_is travelled in
+      let setting = ap (λ (s : SessionValue). s.setting) gone.session in
+      let over : not (goes_at old.setting new.index) ≡ true = sym (rests-at-end begun-again old.index new.index) ∙ gone.rest.here in
+      let there = furthest-there new facts (ap (λ (run : Setting). not (goes_at run new.index)) setting ∙ over) in
+      let by = rests-there mid new mid.index new.index why travelled.session travelled.why_is in
+      let whole = whole-there new mid.index why facts by in
+      let given : (run old.setting new.furthest).outputs ≡ (whole_run old.setting).outputs
+      = ap (λ n. (run old.setting n).outputs) there ∙ ap (λ (s : Setting). (run s new.index).outputs) (sym setting)
+      ∙ sym whole.outputs ∙ ap (λ (s : Setting). (whole_run s).outputs) setting in
+      let rest_is : outputs_between old.setting old.furthest new.furthest ≡ outputs_from old.setting old.furthest
+      = ap (λ xs. drop (length (run old.setting old.furthest).outputs) xs) given in
+      record {
+        rest = record {
+          after = gone.rest.after;
+          here = over;
+          none_before = λ earlier from less.
+              sym (rests-at-end begun-again old.index earlier) ∙ gone.rest.none_before earlier from less;
+        };
+        outcome_is = record {
+          frames = subst (λ (run : Setting). outcome.frames ≡ (whole_run run).now.time / frame_ticks) setting ended.frames;
+          steps = subst (λ (run : Setting). outcome.steps ≡ (whole_run run).now.steps) setting ended.steps;
+          ticks = subst (λ (run : Setting). outcome.ticks ≡ (whole_run run).now.time) setting ended.ticks;
+          stop = subst (λ (run : Setting). outcome.stop ≡ (whole_run run).stop) setting ended.stop;
+        };
+        session = gone.session;
+        sink_is =
+            subst (λ xs. TookAll took sink (session_due_outputs old ++ xs) later) rest_is
+            (took-both took (session_due_outputs old) (outputs_between old.setting old.furthest new.furthest) sink between later before
+            gone.sink_is);
+      }
+
+  pub finish-refused : (mid new : SessionValue) (later : S) → mid ≡ begun-again
+      → IsTravelRefused took refused mid ToEnd between new later → IsFinishRefused took refused old sink new later
+  finish-refused mid new later mid_is travelled =
+      let gone = subst (λ (s : SessionValue). IsTravelRefused took refused s ToEnd between new later) mid_is travelled in
+      let due = session_due_outputs old in
+      record {
+        last = gone.last;
+        index = gone.index;
+        fresh = gone.fresh;
+        restless = λ earlier from less.
+            unended (goes_at old.setting earlier) (sym (rests-at-end begun-again old.index earlier) ∙ gone.restless earlier from less);
+        session = gone.session;
+        taken = due ++ gone.taken;
+        parts = ap (λ xs. due ++ xs) gone.parts ∙ sym (append_assoc due gone.taken (session_due_outputs new));
+        of_last =
+            let most = gone.of_last in (
+              most.0,
+              append_assoc due (outputs_between old.setting old.furthest gone.last) most.0 ∙ ap (λ xs. due ++ xs) most.1,
+            );
+        refuses = refuses-after took refused due gone.taken (session_due_outputs new) sink between later before gone.refuses;
+      }

@@ -1,0 +1,111 @@
+-- A run at its indices: where it goes on, each index is one step, and each step takes its time.
+use Rattle.std.proofs.Common.{◌≡◌, ℕ, zero, suc, ◌<◌, Bool, true, false, ◌&&◌, not, is_none, Option, None, Some}
+use Rattle.std.proofs.Common.{List, ◌++◌, length, drop, refl, sym, ap, subst, ◌∙◌, arith}
+use Rattle.std.proofs.lemmas.Bool.Decides.{nat_tests}
+use Rattle.std.proofs.Math.Seq.{drop-append_seam}
+use Rattle.pac_cpu.specs.declared.once.StepKind.{StepKind}
+use Rattle.pac_inputs.specs.Stretches.{held}
+use Rattle.pac_board_model.specs.BoardView.{BoardView}
+use Rattle.pac_board_model.specs.Laws.{IsTimely}
+use Rattle.pac_board_model.specs.Output.{Output}
+use Rattle.pac_board_model.specs.Step.{Moment, Next, Goes, Ends}
+use Rattle.pac_board_model.specs.Trace.{by_view}
+use Rattle.pac_board_model.specs.Walk.{Walk, walk_after_step}
+use Rattle.pac_board_model.proofs.Walks.{open-goes-on, going-steps, play-timely, not-both}
+use Rattle.pac_debug_session.specs.Running.{Setting, run, now_at, next_from, next_at, limit, is_late, stop_in, stop_at, goes_at, outputs_between}
+
+-- ---- tests
+
+both : (late none : Bool) → (not late && none) ≡ true → (late ≡ false) × (none ≡ true)
+both false true e = (refl, refl)
+both false false e = not-both (sym e)
+both true none e = not-both (sym e)
+
+none-is : {A : Type 0} (found : Option A) → is_none found ≡ true → found ≡ None
+none-is None e = refl
+none-is (Some x) e = not-both (sym e)
+
+-- ---- a step that is done
+
+-- what a step that goes on comes to
+pub record IsGoing (h : Next BoardView) : Type 0 where
+  pub now : Moment BoardView
+  pub outputs : List Output
+  pub kind : StepKind
+  pub is : h ≡ Goes now outputs kind
+
+going : (h : Next BoardView) → stop_in h ≡ None → IsGoing h
+going (Goes now outputs kind) e = record { now = now; outputs = outputs; kind = kind; is = refl }
+going (Ends stop) e = cc
+
+module _ (setting : Setting) where
+  pub timely : (now : Moment BoardView) → IsTimely now (next_from setting now)
+  timely now = play-timely (by_view setting.set) (held setting.script) now
+
+  -- the run goes on at an index
+  pub goes-early : (index : ℕ) → goes_at setting index ≡ true → is_late setting index ≡ false
+  goes-early index goes = (both (is_late setting index) (is_none (stop_at setting index)) goes).0
+
+  pub goes-on : (index : ℕ) → goes_at setting index ≡ true → IsGoing (next_at setting index)
+  goes-on index goes =
+      going (next_at setting index)
+      (none-is (stop_at setting index) (both (is_late setting index) (is_none (stop_at setting index)) goes).1)
+
+  pub early-time : (index : ℕ) → is_late setting index ≡ false → (now_at setting index).time < limit setting
+  early-time index early = grind (arith, nat_tests)
+
+  -- where it met no stop so far and isn't over, the next index is the next step
+  pub next-index : (index : ℕ) → (run setting index).stop ≡ None → is_late setting index ≡ false
+      → run setting (suc index) ≡ walk_after_step (run setting index) (next_at setting index)
+  next-index index open_yet early =
+      let w = run setting index in
+      going-steps (next_from setting) (limit setting) w (open-goes-on (limit setting) w open_yet (early-time index early))
+
+  -- an index up to which the run goes on
+  pub record IsOpen (index : ℕ) : Type 0 where
+    pub open_yet : (run setting index).stop ≡ None
+    pub steps : (now_at setting index).steps ≡ index
+
+  pub record IsOneMore (index : ℕ) (now : Moment BoardView) (outputs : List Output) : Type 0 where
+    pub stands : IsOpen (suc index)
+    pub now_is : now_at setting (suc index) ≡ now
+    pub outputs_is : (run setting (suc index)).outputs ≡ (run setting index).outputs ++ outputs
+    pub later : (now_at setting index).time < (now_at setting (suc index)).time
+
+  pub one-more : (index : ℕ) (now : Moment BoardView) (outputs : List Output) (kind : StepKind) → IsOpen index
+      → is_late setting index ≡ false → next_at setting index ≡ Goes now outputs kind → IsOneMore index now outputs
+  one-more index now outputs kind before early is =
+      let w = run setting index in
+      let whole : run setting (suc index) ≡ walk_after_step w (Goes now outputs kind)
+      = next-index index before.open_yet early ∙ ap (walk_after_step w) is in
+      let times = subst (IsTimely w.now) is (timely w.now) in
+      let one = times.2 in
+      let longer = times.0 in
+      let so_far = before.steps in
+      let now_is : now_at setting (suc index) ≡ now = ap (λ (walked : Walk BoardView). walked.now) whole in
+      let steps = ap (λ (m : Moment BoardView). m.steps) now_is in
+      let time = ap (λ (m : Moment BoardView). m.time) now_is in
+      record {
+        stands = record {
+          open_yet = ap (λ (walked : Walk BoardView). walked.stop) whole;
+          steps = omega arith;
+        };
+        now_is = now_is;
+        outputs_is = ap (λ (walked : Walk BoardView). walked.outputs) whole;
+        later = omega arith;
+      }
+
+  pub open-up-to : (index : ℕ) → ((earlier : ℕ) → earlier < index → goes_at setting earlier ≡ true) → IsOpen index
+  open-up-to zero goes = record { open_yet = refl; steps = refl }
+  open-up-to (suc index) goes =
+      let here = goes index (omega arith) in
+      let on = goes-on index here in
+      (one-more index on.now on.outputs on.kind (open-up-to index (λ earlier less. goes earlier (omega arith)))
+      (goes-early index here) on.is).stands
+
+  -- ---- what is given out
+
+  pub between : (from index : ℕ) (outputs : List Output) → (run setting index).outputs ≡ (run setting from).outputs ++ outputs
+      → outputs_between setting from index ≡ outputs
+  between from index outputs is =
+      ap (drop (length (run setting from).outputs)) is ∙ drop-append_seam (run setting from).outputs outputs

@@ -1,0 +1,43 @@
+-- The ring of checkpoints: it is full before one is taken and after, and it is filled one by one.
+use Rattle.std.proofs.Common.{◌≡◌, ◌∙◌, ℕ, ◌+◌, ◌-◌, ◌<◌, ◌≤◌, List, [], ◌∷◌, ◌++◌, length, drop, None, is_some}
+use Rattle.std.proofs.Common.{ap, true≢false, arith, length-append}
+use Rattle.std.specs.Prelude.{slice_get}
+use Rattle.std.proofs.lemmas.List.{length-drop}
+use Rattle.circular_buffer.specs.Buffer.{keep_last}
+use Rattle.pac_debug_session.specs.declared.kept.SessionSnapshot.{SessionSnapshot}
+
+-- one that is dropped makes room for one that comes
+pub one-for-one : (kept : List SessionSnapshot) (one : SessionSnapshot) (capacity : ℕ) → length kept ≡ 16 → capacity ≡ 16
+    → keep_last capacity (drop 1 kept ++ one ∷ []) ≡ drop 1 kept ++ one ∷ []
+one-for-one kept one capacity count room =
+    let all = drop 1 kept ++ one ∷ [] in
+    let left = length-drop 1 kept in
+    let parts = length-append (drop 1 kept) (one ∷ []) in
+    let none : length all - capacity ≡ 0 = omega (arith, left, parts, count, room) in
+    ap (λ n. drop n all) none
+
+-- and they are as many as before
+pub as-many : (kept : List SessionSnapshot) (one : SessionSnapshot) → length kept ≡ 16 → length (drop 1 kept ++ one ∷ []) ≡ 16
+as-many kept one count =
+    let left = length-drop 1 kept in
+    let parts = length-append (drop 1 kept) (one ∷ []) in
+    omega (arith, left, parts, count)
+
+-- a full one has a first
+pub has-first : (kept : List SessionSnapshot) → length kept ≡ 16 → slice_get kept 0 ≡ None → ⊥
+has-first [] count none = absurd (omega arith)
+has-first (one ∷ more) count none = true≢false (ap is_some none)
+
+-- one more in one that isn't full
+pub one-more-kept : (kept : List SessionSnapshot) (one : SessionSnapshot) (capacity count : ℕ) → length kept ≡ count → count < 16 →
+    capacity ≡ 16
+    → length (keep_last capacity (kept ++ one ∷ [])) ≡ count + 1
+one-more-kept kept one capacity count is below room =
+    let all = kept ++ one ∷ [] in
+    let parts = length-append kept (one ∷ []) in
+    let none : length all - capacity ≡ 0 = omega (arith, parts, is, below, room) in
+    let long : length all ≡ count + 1 = omega (arith, parts, is) in
+    ap (λ n. length (drop n all)) none ∙ long
+
+pub all-made : (made count : ℕ) → made ≡ count → 16 ≤ count → count ≤ 16 → made ≡ 16
+all-made made count is low high = omega arith

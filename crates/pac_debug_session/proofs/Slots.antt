@@ -1,0 +1,127 @@
+-- What slots and checkpoints keep, and a session that goes to it.
+use Rattle.std.proofs.Common.{◌≡◌, ℕ, zero, suc, ◌<◌, ◌≤◌, true, List, [], ◌∷◌, length, map, set, get_or, Option, None, Some}
+use Rattle.std.proofs.Common.{sym, ap, subst, ◌∙◌, arith}
+use Rattle.std.proofs.lemmas.List.{map-set, length-set}
+use Rattle.pac_inputs.specs.declared.line.Stretch.{Stretch}
+use Rattle.pac_board_model.specs.BoardView.{BoardView}
+use Rattle.pac_board_model.specs.Step.{Moment}
+use Rattle.pac_board.specs.State.{BoardValue, nothing_due, restored_board}
+use Rattle.pac_debug_session.specs.declared.history.PastStep.{PastStep}
+use Rattle.pac_debug_session.specs.declared.kept.SessionSnapshot.{SessionSnapshot}
+use Rattle.pac_debug_session.specs.declared.kept.SlotContents.{SlotContents}
+use Rattle.pac_debug_session.specs.Inside.{IsStanding, AreSlotsRight}
+use Rattle.pac_debug_session.specs.Keeping.{Ring, mark_of, mark_if, IsKeptAt, IsSlot, AreSlots}
+use Rattle.pac_debug_session.specs.Past.{told_at}
+use Rattle.pac_debug_session.specs.Running.{Setting, now_at}
+use Rattle.pac_debug_session.specs.Session.{IsSeen, AreSeen}
+use Rattle.pac_debug_session.proofs.Indices.{open-up-to}
+use Rattle.pac_debug_session.proofs.Steppings.{with_board}
+
+-- ---- one slot of them all
+
+module _ (setting : Setting) (furthest : ℕ) where
+  slots-set : (slots : List SlotContents) (place : ℕ) (slot : SlotContents) → AreSlots setting slots → IsSlot setting slot
+      → AreSlots setting (set slots place slot)
+  slots-set [] place slot all one = tt
+  slots-set (first ∷ more) zero slot all one = (one, all.1)
+  slots-set (first ∷ more) (suc place) slot all one = (all.0, slots-set more place slot all.1 one)
+
+  seen-set : (marks : List (Option ℕ)) (place : ℕ) (mark : Option ℕ) → AreSeen furthest marks → IsSeen furthest mark
+      → AreSeen furthest (set marks place mark)
+  seen-set [] place mark all one = tt
+  seen-set (first ∷ more) zero mark all one = (one, all.1)
+  seen-set (first ∷ more) (suc place) mark all one = (all.0, seen-set more place mark all.1 one)
+
+  -- a slot that is filled anew
+  pub right-set : (slots : List SlotContents) (place : ℕ) (slot : SlotContents) → AreSlotsRight setting furthest slots → IsSlot setting slot
+      → IsSeen furthest (mark_of slot) → AreSlotsRight setting furthest (set slots place slot)
+  right-set slots place slot right one seen = record {
+    count = length-set slots place slot ∙ right.count;
+    kept = slots-set slots place slot right.kept one;
+    seen =
+        subst (AreSeen furthest) (sym (map-set mark_of slots place slot))
+        (seen-set (map mark_of slots) place (mark_of slot) right.seen seen);
+  }
+
+  -- the slot of a place
+  slot-at : (slots : List SlotContents) (place : ℕ) (slot : SlotContents) → place < length slots → slot ≡ get_or slots place slot →
+      AreSlots setting slots
+      → IsSlot setting slot
+  slot-at [] place slot less is all = absurd (omega arith)
+  slot-at (first ∷ more) zero slot less is all = subst (IsSlot setting) (sym is) all.0
+  slot-at (first ∷ more) (suc place) slot less is all = slot-at more place slot (omega arith) is all.1
+
+  seen-at : (slots : List SlotContents) (place : ℕ) (slot : SlotContents) → place < length slots → slot ≡ get_or slots place slot
+      → AreSeen furthest (map mark_of slots) → IsSeen furthest (mark_of slot)
+  seen-at [] place slot less is all = absurd (omega arith)
+  seen-at (first ∷ more) zero slot less is all = subst (λ (s : SlotContents). IsSeen furthest (mark_of s)) (sym is) all.0
+  seen-at (first ∷ more) (suc place) slot less is all = seen-at more place slot (omega arith) is all.1
+
+  pub mark-at : (slots : List SlotContents) (place : ℕ) (slot : SlotContents) → place < length slots → slot ≡ get_or slots place slot
+      → get_or (map mark_of slots) place None ≡ mark_of slot
+  mark-at [] place slot less is = absurd (omega arith)
+  mark-at (first ∷ more) zero slot less is = ap mark_of (sym is)
+  mark-at (first ∷ more) (suc place) slot less is = mark-at more place slot (omega arith) is
+
+  -- what a filled slot keeps was seen
+  pub record IsFilled (slot : SlotContents) : Type 0 where
+    pub kept : IsKeptAt setting slot.kept.snapshot.now.steps slot.kept
+    pub seen : slot.kept.snapshot.now.steps ≤ furthest
+    pub mark : mark_of slot ≡ Some slot.kept.snapshot.now.steps
+
+  pub filled-at : (slots : List SlotContents) (place : ℕ) (slot : SlotContents) → place < length slots → slot ≡ get_or slots place slot
+      → AreSlotsRight setting furthest slots → slot.filled ≡ true → IsFilled slot
+  filled-at slots place slot less is right filled =
+      let mark : mark_of slot ≡ Some slot.kept.snapshot.now.steps = ap (λ b. mark_if b slot.kept.snapshot.now.steps) filled in
+      record {
+        kept = slot-at slots place slot less is right.kept filled;
+        seen = subst (IsSeen furthest) mark (seen-at slots place slot less is right.seen);
+        mark = mark;
+      }
+
+  -- ---- a session at what was kept
+
+  pub stands-at : (now : Moment BoardView) (history : List PastStep) (ring : Ring) (index : ℕ) (kept : SessionSnapshot)
+      → IsStanding setting now history furthest ring → IsKeptAt setting index kept → index ≤ furthest
+      → IsStanding setting kept.snapshot.now kept.history furthest ring × (kept.snapshot.now.steps ≡ index)
+  stands-at now history ring index kept stands at seen =
+      let opened = open-up-to setting index (λ earlier less. stands.goes earlier (omega arith)) in
+      let steps : kept.snapshot.now.steps ≡ index = ap (λ (m : Moment BoardView). m.steps) at.now ∙ opened.steps in (
+        record {
+          now_is = at.now ∙ ap (now_at setting) (sym steps);
+          within = omega arith;
+          history_is = at.history ∙ ap (λ n. told_at setting n) (sym steps);
+          goes = stands.goes;
+          few = stands.few;
+          enough = stands.enough;
+          all = stands.all;
+          checkpoints = stands.checkpoints;
+        },
+        steps,
+      )
+
+-- ---- after what was kept is put back
+
+module _ (switches : ℕ) (script : List Stretch) (board new : BoardValue) (history : List PastStep) (kept : SessionSnapshot) (furthest : ℕ)
+    (board_is : new ≡ restored_board board kept.snapshot) (history_is : history ≡ kept.history) where
+  abbrev setting-of : BoardValue → Setting
+  setting-of b = record { set = b.set; switches = switches; script = script }
+
+  pub standing-there : (ring : Ring) → IsStanding (setting-of board) kept.snapshot.now kept.history furthest ring
+      → IsStanding (setting-of new) new.state.now history furthest ring
+  standing-there ring stands =
+      subst (λ (b : BoardValue). IsStanding (setting-of b) b.state.now history furthest ring) (sym board_is)
+      (subst (λ steps. IsStanding (setting-of board) kept.snapshot.now steps furthest ring) (sym history_is) stands)
+
+  pub right-there : (slots : List SlotContents) → AreSlotsRight (setting-of board) furthest slots →
+      AreSlotsRight (setting-of new) furthest slots
+  right-there slots right = subst (λ (b : BoardValue). AreSlotsRight (setting-of b) furthest slots) (sym board_is) right
+
+  pub value-there : (breakpoints : List ℕ) (marks : List (Option ℕ)) (replayed index : ℕ) → kept.snapshot.now.steps ≡ index
+      → kept.snapshot.due ≡ nothing_due
+      → with_board switches script new furthest breakpoints marks replayed
+      ≡ record (with_board switches script board furthest breakpoints marks replayed) { index = index; due = nothing_due }
+  value-there breakpoints marks replayed index steps nothing =
+      ap (λ (b : BoardValue). with_board switches script b furthest breakpoints marks replayed) board_is
+      ∙ ap (λ n. record (with_board switches script board furthest breakpoints marks replayed) { index = n; due = kept.snapshot.due }) steps
+      ∙ ap (λ due. record (with_board switches script board furthest breakpoints marks replayed) { index = index; due = due }) nothing

@@ -1,0 +1,357 @@
+-- A motion is steps forwards, one after another, up to the least index at which it rests.
+use Rattle.std.proofs.Common.{◌≡◌, ℕ, suc, ◌+◌, ◌-◌, ◌^◌, ◌<◌, ◌≤◌, Bool, true, false, not, ◌&&◌, ◌||◌, is_none, max, nat_lt}
+use Rattle.std.proofs.Common.{Option, None, Some, ◌++◌, refl, sym, ap, subst, ◌∙◌, append_assoc, arith}
+use Rattle.std.proofs.lemmas.Bool.Decides.{nat_tests}
+use mathlib.Core.List.{IsPrefix, prefix-append}
+use Rattle.pac_cpu.specs.declared.once.Stop.{Stop}
+use Rattle.pac_inputs.specs.Stretches.{held}
+use Rattle.pac_map.specs.Entry.{Hold}
+use Rattle.pac_table.specs.Instructions.{most_ticks}
+use Rattle.pac_board_model.specs.Output.{Output}
+use Rattle.pac_board_model.specs.BoardView.{BoardView, power_on_board_view, board_after}
+use Rattle.pac_board_model.specs.Step.{Next, Goes, Ends}
+use Rattle.pac_board_model.specs.Trace.{by_view, power_on_moment}
+use Rattle.pac_board_model.specs.Walk.{Walk, walk_after_step, has_ended}
+use Rattle.pac_board_model.proofs.Runs.{runs-end, walk-near}
+use Rattle.pac_board_model.proofs.Walks.{not-both, late-has-ended, stopped-has-ended}
+use Rattle.pac_board.proofs.Sinks.{took-both, refuses-after}
+use Rattle.pac_board.specs.Sinks.{TookAll}
+use Rattle.pac_board.specs.State.{nothing_due, steps_counted}
+use Rattle.pac_debug_session.specs.declared.motion.MotionEnd.{MotionEnd}
+use Rattle.pac_debug_session.specs.declared.motion.MotionEnd.TheVariants.{AtStop, AtEnd, AtBreakpoint, AtFrame, AtStep}
+use Rattle.pac_debug_session.specs.declared.motion.Motion.{Motion}
+use Rattle.pac_debug_session.specs.declared.motion.Motion.TheVariants.{Steps, Continue, Frames, ToEnd}
+use Rattle.pac_debug_session.specs.Motions.{has_met, rests, motion_ending, stop_of, RestsBy, moved_to, session_one_step_on, HasStepped, HasMetStop}
+use Rattle.pac_debug_session.specs.Motions.{IsSessionStepRefused}
+use Rattle.pac_debug_session.specs.Motions.{HasTravelled, IsTravelRefused}
+use Rattle.pac_debug_session.specs.Running.{Setting, play_of, run, whole_run, now_at, next_from, next_at, limit, is_late, stop_in, stop_at}
+use Rattle.pac_debug_session.specs.Running.{goes_at}
+use Rattle.pac_debug_session.specs.Running.{outputs_between}
+use Rattle.pac_debug_session.specs.Session.{SessionValue, IsSession, breaks_at, session_due_outputs}
+use Rattle.pac_debug_session.proofs.Indices.{IsOpen, open-up-to, next-index, timely, early-time, goes-on, one-more}
+use Rattle.pac_debug_session.proofs.Forwards.{between-joined, between-self}
+
+-- ---- counts
+
+counted-none : (made n : ℕ) → made < 2 ^ 64 → steps_counted made (n - n) ≡ made
+counted-none made n fits = omega arith
+
+pub counted-sum : (made a b c : ℕ) → a ≤ b → b ≤ c → steps_counted (steps_counted made (b - a)) (c - b) ≡ steps_counted made (c - a)
+counted-sum made a b c ab bc = omega arith
+
+-- ---- where a motion rests
+
+module _ (s : SessionValue) (motion : Motion) (from : ℕ) where
+  rests-late : (index : ℕ) → is_late s.setting index ≡ true → rests s motion from index ≡ true
+  rests-late index late = choose (has_met s motion from index)
+    where
+      here : not (goes_at s.setting index) ≡ true
+      here = ap (λ over. not (not over && is_none (stop_at s.setting index))) late
+
+      choose : (met : Bool) → (met || not (goes_at s.setting index)) ≡ true
+      choose true = refl
+      choose false = here
+
+  rests-stopped : (index : ℕ) (stop : Stop) → is_late s.setting index ≡ false → stop_at s.setting index ≡ Some stop
+      → rests s motion from index ≡ true
+  rests-stopped index stop early met = choose (has_met s motion from index)
+    where
+      here : not (goes_at s.setting index) ≡ true
+      here =
+          ap (λ over. not (not over && is_none (stop_at s.setting index))) early ∙ ap (λ found. not (is_none found)) met
+
+      choose : (met : Bool) → (met || not (goes_at s.setting index)) ≡ true
+      choose true = refl
+      choose false = here
+
+  rests-met : (index : ℕ) → has_met s motion from index ≡ true → rests s motion from index ≡ true
+  rests-met index met = ap (λ done. done || not (goes_at s.setting index)) met
+
+  goes-past : (index : ℕ) → has_met s motion from index ≡ false → goes_at s.setting index ≡ true → rests s motion from index ≡ false
+  goes-past index unmet goes = ap (λ done. done || not (goes_at s.setting index)) unmet ∙ ap not goes
+
+-- a motion to the end meets nothing before it
+pub never-met : {A : Type 0} (s : SessionValue) (from index : ℕ) → has_met s ToEnd from index ≡ true → A
+never-met s from index met = choose (nat_lt from index) met
+  where
+    choose : {A : Type 0} (b : Bool) → (b && false) ≡ true → A
+    choose true e = not-both (sym e)
+    choose false e = not-both (sym e)
+
+-- the word for it
+pub met-by : (s : SessionValue) (motion : Motion) (from index : ℕ) → is_late s.setting index ≡ false → has_met s motion from index ≡ true
+    → RestsBy s motion from index (motion_ending motion (breaks_at s index))
+met-by s (Steps count) from index early met = record { early = early; met = met; word = refl }
+met-by s Continue from index early met = record { early = early; met = met; word = refl }
+met-by s (Frames count) from index early met = choose (breaks_at s index) refl
+  where
+    choose : (breaks : Bool) → breaks_at s index ≡ breaks → RestsBy s (Frames count) from index (motion_ending (Frames count) breaks)
+    choose true e = record { early = early; met = met; word = ap (motion_ending (Frames count)) (sym e) }
+    choose false e = record { early = early; met = met; word = ap (motion_ending (Frames count)) (sym e) }
+met-by s ToEnd from index early met = never-met s from index met
+
+-- ---- the motion
+
+module _ {S : Type 0} (took : S → Output → S → Type 0) (old : SessionValue) (motion : Motion) (sink : S) where
+  -- so far no index rests, and all outputs were taken
+  pub record IsUnderway (s : SessionValue) (taker : S) : Type 0 where
+    pub after : old.index ≤ s.index
+    pub restless : (earlier : ℕ) → old.index ≤ earlier → earlier < s.index → rests old motion old.index earlier ≡ false
+    pub session : s ≡ moved_to old s.index
+    pub sink_is : TookAll took sink (outputs_between old.setting old.furthest s.furthest) taker
+
+  pub underway-begins : IsSession old → old.due ≡ nothing_due → IsUnderway old sink
+  underway-begins facts nothing =
+      let within = facts.within in
+      let far : old.furthest ≡ max old.furthest old.index = omega arith in
+      let made : old.made ≡ steps_counted old.made (old.index - old.index) = sym (counted-none old.made old.index facts.counted) in
+      record {
+        after = omega arith;
+        restless = λ earlier from less. absurd (omega arith);
+        session =
+            ap (λ n. record old { furthest = n }) far
+            ∙ ap (λ due. record old { furthest = max old.furthest old.index; due = due }) nothing
+            ∙ ap (λ n. record old { furthest = max old.furthest old.index; due = nothing_due; made = n }) made;
+        sink_is = subst (λ xs. TookAll took sink xs sink) (sym (between-self old.setting old.furthest)) refl;
+      }
+
+  -- facts of where it is, said of where it began
+  met-there : (s : SessionValue) (i : ℕ) (b : Bool) → s ≡ moved_to old s.index → has_met s motion old.index i ≡ b
+      → has_met old motion old.index i ≡ b
+  met-there s i b session met = subst (λ (t : SessionValue). has_met t motion old.index i ≡ b) session met
+
+  -- one step more
+  moved-on : (s : SessionValue) → s ≡ moved_to old s.index → old.index ≤ s.index → session_one_step_on s ≡ moved_to old (s.index + 1)
+  moved-on s session after =
+      let i = s.index in
+      let far : max (max old.furthest i) (i + 1) ≡ max old.furthest (i + 1) = omega arith in
+      let made : steps_counted (steps_counted old.made (i - old.index)) (i + 1 - i) ≡ steps_counted old.made (i + 1 - old.index)
+      = counted-sum old.made old.index i (i + 1) after (omega arith) in
+      ap (λ (t : SessionValue). record t {
+        index = i + 1;
+        furthest = max t.furthest (i + 1);
+        due = nothing_due;
+        made = steps_counted t.made (i + 1 - i);
+      }) session
+      ∙ ap (λ n. record old {
+        index = i + 1;
+        furthest = n;
+        due = nothing_due;
+        made = steps_counted (steps_counted old.made (i - old.index)) (i + 1 - i);
+      }) far
+      ∙ ap (λ n. record old { index = i + 1; furthest = max old.furthest (i + 1); due = nothing_due; made = n }) made
+
+  -- no index rests up to a step that goes on
+  restless-on : (s : SessionValue) (taker : S) → IsUnderway s taker → has_met s motion old.index s.index ≡ false
+      → goes_at s.setting s.index ≡ true → (earlier : ℕ) → old.index ≤ earlier → earlier ≤ s.index
+      → rests old motion old.index earlier ≡ false
+  restless-on s taker under unmet goes earlier from less = choose (nat_lt earlier s.index) refl
+    where
+      choose : (b : Bool) → nat_lt earlier s.index ≡ b → rests old motion old.index earlier ≡ false
+      choose true e = under.restless earlier from (grind (arith, nat_tests))
+      choose false e =
+          let same : s.index ≡ earlier = grind (arith, nat_tests) in
+          let setting = ap (λ (t : SessionValue). t.setting) under.session in
+          let here : goes_at old.setting s.index ≡ true = ap (λ run. goes_at run s.index) (sym setting) ∙ goes in
+          subst (λ i. rests old motion old.index i ≡ false) same
+          (goes-past old motion old.index s.index (met-there s s.index false under.session unmet) here)
+
+  pub underway-more : (s new : SessionValue) (taker later : S) → IsUnderway s taker → has_met s motion old.index s.index ≡ false
+      → HasStepped took s taker new later → IsUnderway new later
+  underway-more s new taker later under unmet one =
+      let after = under.after in
+      let setting = ap (λ (t : SessionValue). t.setting) under.session in
+      let session = one.session ∙ moved-on s under.session after in
+      let index : new.index ≡ s.index + 1 = ap (λ (t : SessionValue). t.index) session in
+      let first = ap (λ (t : SessionValue). t.furthest) under.session in
+      let second = ap (λ (t : SessionValue). t.furthest) session in
+      record {
+        after = omega arith;
+        restless = λ earlier from less. restless-on s taker under unmet one.goes earlier from (omega arith);
+        session = session ∙ ap (moved_to old) (sym index);
+        sink_is =
+            subst (λ xs. TookAll took sink xs later)
+            (between-joined old.setting old.furthest s.furthest new.furthest (omega arith) (omega arith))
+            (took-both took (outputs_between old.setting old.furthest s.furthest) (outputs_between old.setting s.furthest new.furthest)
+            sink taker later under.sink_is
+            (subst (λ run. TookAll took taker (outputs_between run s.furthest new.furthest) later) setting one.sink_is));
+      }
+
+  -- it rests where it is
+  pub underway-rests : (s : SessionValue) (taker : S) (why : MotionEnd) → IsUnderway s taker → rests old motion old.index s.index ≡ true
+      → RestsBy old motion old.index s.index why → HasTravelled took old motion sink why s taker
+  underway-rests s taker why under here by = record {
+    rest = record { after = under.after; here = here; none_before = under.restless };
+    why_is = by;
+    session = under.session;
+    sink_is = under.sink_is;
+  }
+
+  pub underway-late : (s : SessionValue) (taker : S) → IsUnderway s taker → is_late s.setting s.index ≡ true
+      → HasTravelled took old motion sink AtEnd s taker
+  underway-late s taker under late =
+      let setting = ap (λ (t : SessionValue). t.setting) under.session in
+      let over : is_late old.setting s.index ≡ true = ap (λ run. is_late run s.index) (sym setting) ∙ late in
+      underway-rests s taker AtEnd under (rests-late old motion old.index s.index over) over
+
+  pub underway-met : (s : SessionValue) (taker : S) → IsUnderway s taker → is_late s.setting s.index ≡ false
+      → has_met s motion old.index s.index ≡ true → HasTravelled took old motion sink (motion_ending motion (breaks_at s s.index)) s taker
+  underway-met s taker under early met =
+      let setting = ap (λ (t : SessionValue). t.setting) under.session in
+      let open_yet : is_late old.setting s.index ≡ false = ap (λ run. is_late run s.index) (sym setting) ∙ early in
+      let there = met-there s s.index true under.session met in
+      let same : breaks_at s s.index ≡ breaks_at old s.index
+      = ap (λ (t : SessionValue). breaks_at t s.index) under.session in
+      subst (λ breaks. HasTravelled took old motion sink (motion_ending motion breaks) s taker) (sym same)
+      (underway-rests s taker (motion_ending motion (breaks_at old s.index)) under (rests-met old motion old.index s.index there)
+      (met-by old motion old.index s.index open_yet there))
+
+  pub underway-stopped : (s new : SessionValue) (taker later : S) (stop : Stop) → IsUnderway s taker → is_late s.setting s.index ≡ false
+      → has_met s motion old.index s.index ≡ false → HasMetStop s taker stop new later
+      → HasTravelled took old motion sink (AtStop stop) new later
+  underway-stopped s new taker later stop under early unmet stopped =
+      let setting = ap (λ (t : SessionValue). t.setting) under.session in
+      let open_yet : is_late old.setting s.index ≡ false = ap (λ run. is_late run s.index) (sym setting) ∙ early in
+      let met : stop_at old.setting s.index ≡ Some stop = ap (λ run. stop_at run s.index) (sym setting) ∙ stopped.stop_is in
+      let done =
+      underway-rests s taker (AtStop stop) under (rests-stopped old motion old.index s.index stop open_yet met)
+      (record { early = open_yet; unmet = met-there s s.index false under.session unmet; stop_is = met }) in
+      subst (λ (t : SessionValue). HasTravelled took old motion sink (AtStop stop) t later) (sym stopped.session)
+      (subst (λ taken. HasTravelled took old motion sink (AtStop stop) s taken) (sym stopped.sink_is) done)
+
+  pub underway-refused : (refused : S → Output → S → Type 0) (s new : SessionValue) (taker later : S) → IsUnderway s taker
+      → has_met s motion old.index s.index ≡ false → IsSessionStepRefused took refused s taker new later
+      → IsTravelRefused took refused old motion sink new later
+  underway-refused refused s new taker later under unmet step =
+      let after = under.after in
+      let setting = ap (λ (t : SessionValue). t.setting) under.session in
+      let session : new ≡ record (moved_to old (s.index + 1)) { due = new.due }
+      = step.session ∙ ap (λ (t : SessionValue). record t { due = new.due }) (moved-on s under.session after) in
+      let index : new.index ≡ s.index + 1 = ap (λ (t : SessionValue). t.index) session in
+      let first : s.furthest ≡ max old.furthest s.index = ap (λ (t : SessionValue). t.furthest) under.session in
+      let second : new.furthest ≡ max old.furthest (s.index + 1) = ap (λ (t : SessionValue). t.furthest) session in
+      let fresh = step.fresh in
+      let before = outputs_between old.setting old.furthest s.furthest in
+      let last : outputs_between old.setting s.furthest new.furthest ≡ step.taken ++ session_due_outputs new
+      = ap (λ run. outputs_between run s.furthest new.furthest) (sym setting) ∙ step.parts in
+      let far : new.furthest ≡ new.index = omega arith in
+      record {
+        last = s.index;
+        index = index;
+        fresh = omega arith;
+        restless = restless-on s taker under unmet step.goes;
+        session = session ∙ ap (λ n. record (moved_to old n) { due = new.due }) (sym index);
+        taken = before ++ step.taken;
+        parts =
+            ap (outputs_between old.setting old.furthest) (sym far)
+            ∙ sym (between-joined old.setting old.furthest s.furthest new.furthest (omega arith) (omega arith))
+            ∙ ap (λ xs. before ++ xs) last ∙ sym (append_assoc before step.taken (session_due_outputs new));
+        of_last =
+            subst (λ n. IsPrefix (outputs_between old.setting old.furthest n) (before ++ step.taken)) (sym fresh)
+            (prefix-append before step.taken);
+        refuses = refuses-after took refused before step.taken (session_due_outputs new) sink taker later under.sink_is step.refuses;
+      }
+
+  -- up to where it is the run goes on
+  unrested : (index : ℕ) → rests old motion old.index index ≡ false → goes_at old.setting index ≡ true
+  unrested index e = choose (has_met old motion old.index index) (goes_at old.setting index) e
+    where
+      choose : (met goes : Bool) → (met || not goes) ≡ false → goes ≡ true
+      choose true goes h = not-both h
+      choose false true h = refl
+      choose false false h = not-both h
+
+  open-so-far : (s : SessionValue) (taker : S) → IsSession old → IsUnderway s taker → IsOpen old.setting s.index
+  open-so-far s taker facts under = open-up-to old.setting s.index (λ earlier less. choose earlier less (nat_lt earlier old.index) refl)
+    where
+      choose : (earlier : ℕ) → earlier < s.index → (b : Bool) → nat_lt earlier old.index ≡ b → goes_at old.setting earlier ≡ true
+      choose earlier less true e =
+          let before : earlier < old.index = grind (arith, nat_tests) in
+          let within = facts.within in
+          facts.goes earlier (omega arith)
+      choose earlier less false e =
+          let from : old.index ≤ earlier = grind (arith, nat_tests) in
+          unrested earlier (under.restless earlier from less)
+
+  -- each step takes of the time that is left
+  pub time-falls : (s new : SessionValue) (taker later : S) → IsSession old → IsUnderway s taker → is_late s.setting s.index ≡ false
+      → HasStepped took s taker new later
+      → limit new.setting - (now_at new.setting new.index).time < limit s.setting - (now_at s.setting s.index).time
+  time-falls s new taker later facts under early one =
+      let setting : s.setting ≡ old.setting = ap (λ (t : SessionValue). t.setting) under.session in
+      let same : new.setting ≡ s.setting = ap (λ (t : SessionValue). t.setting) one.session in
+      let index : new.index ≡ s.index + 1 = ap (λ (t : SessionValue). t.index) one.session in
+      let next : s.index + 1 ≡ suc s.index = omega arith in
+      let goes : goes_at old.setting s.index ≡ true = ap (λ run. goes_at run s.index) (sym setting) ∙ one.goes in
+      let open_yet : is_late old.setting s.index ≡ false = ap (λ run. is_late run s.index) (sym setting) ∙ early in
+      let before = early-time old.setting s.index open_yet in
+      let on = goes-on old.setting s.index goes in
+      let more = one-more old.setting s.index on.now on.outputs on.kind (open-so-far s taker facts under) open_yet on.is in
+      let longer = more.later in
+      let falls : limit old.setting - (now_at old.setting (suc s.index)).time < limit old.setting - (now_at old.setting s.index).time
+      = omega arith in
+      subst (λ (run : Setting). limit new.setting - (now_at new.setting new.index).time < limit run - (now_at run s.index).time)
+      (sym setting)
+      (subst (λ (run : Setting). limit run - (now_at run new.index).time < limit old.setting - (now_at old.setting s.index).time)
+      (sym (same ∙ setting))
+      (subst (λ n. limit old.setting - (now_at old.setting n).time < limit old.setting - (now_at old.setting s.index).time)
+      (sym (index ∙ next)) falls))
+
+-- ---- the end of a run
+
+pub record IsWhole (s : SessionValue) (index : ℕ) (stop : Option Stop) : Type 0 where
+  pub now : (whole_run s.setting).now ≡ now_at s.setting index
+  pub outputs : (whole_run s.setting).outputs ≡ (run s.setting index).outputs
+  pub stop_is : (whole_run s.setting).stop ≡ stop
+
+-- where it goes no further it is whole
+whole-at : (setting : Setting) (index : ℕ) → has_ended (limit setting) (run setting index) ≡ true → run setting index ≡ whole_run setting
+whole-at setting index ended =
+    (runs-end (by_view setting.set) (play_of setting.script) (power_on_board_view setting.switches) index).1 ended
+
+pub whole-late : (s : SessionValue) → IsSession s → is_late s.setting s.index ≡ true → IsWhole s s.index None
+whole-late s facts late =
+    let setting = s.setting in
+    let open_yet = open-up-to setting s.index (λ earlier less. let within = facts.within in facts.goes earlier (omega arith)) in
+    let over : limit setting ≤ (now_at setting s.index).time = grind (arith, nat_tests) in
+    let whole = whole-at setting s.index (late-has-ended (limit setting) (run setting s.index) over) in
+    record {
+      now = ap (λ (w : Walk BoardView). w.now) (sym whole);
+      outputs = ap (λ (w : Walk BoardView). w.outputs) (sym whole);
+      stop_is = ap (λ (w : Walk BoardView). w.stop) (sym whole) ∙ open_yet.open_yet;
+    }
+
+after-stop : (w : Walk BoardView) (h : Next BoardView) (stop : Stop) → stop_in h ≡ Some stop
+    → ((walk_after_step w h).now ≡ w.now) × ((walk_after_step w h).outputs ≡ w.outputs) × ((walk_after_step w h).stop ≡ Some stop)
+after-stop w (Goes now outputs kind) stop e = absurd (cc)
+after-stop w (Ends other) stop e = (refl, refl, e)
+
+pub whole-stopped : (s : SessionValue) (stop : Stop) → IsSession s → is_late s.setting s.index ≡ false
+    → stop_at s.setting s.index ≡ Some stop → IsWhole s s.index (Some stop)
+whole-stopped s stop facts early met =
+    let setting = s.setting in
+    let open_yet = open-up-to setting s.index (λ earlier less. let within = facts.within in facts.goes earlier (omega arith)) in
+    let step = next-index setting s.index open_yet.open_yet early in
+    let after = after-stop (run setting s.index) (next_at setting s.index) stop met in
+    let stopped : (run setting (suc s.index)).stop ≡ Some stop = ap (λ (w : Walk BoardView). w.stop) step ∙ after.2 in
+    let whole = whole-at setting (suc s.index) (stopped-has-ended (limit setting) (run setting (suc s.index)) stop stopped) in
+    record {
+      now = ap (λ (w : Walk BoardView). w.now) (sym whole ∙ step) ∙ after.0;
+      outputs = ap (λ (w : Walk BoardView). w.outputs) (sym whole ∙ step) ∙ after.1;
+      stop_is = ap (λ (w : Walk BoardView). w.stop) (sym whole) ∙ stopped;
+    }
+
+-- the end as a motion to it finds it
+pub whole-there : (s : SessionValue) (from : ℕ) (why : MotionEnd) → IsSession s → RestsBy s ToEnd from s.index why
+    → IsWhole s s.index (stop_of why)
+whole-there s from AtEnd facts rest = whole-late s facts rest
+whole-there s from (AtStop stop) facts rest = whole-stopped s stop facts rest.early rest.stop_is
+whole-there s from AtBreakpoint facts rest = never-met s from s.index rest.met
+whole-there s from AtFrame facts rest = never-met s from s.index rest.met
+whole-there s from AtStep facts rest = never-met s from s.index rest.met
+
+-- no run is longer than its frames by a step
+pub time-near : (setting : Setting) (index : ℕ) → (now_at setting index).time < limit setting + most_ticks
+time-near setting index =
+    walk-near (next_from setting) (limit setting) (timely setting)
+    (power_on_moment (board_after setting.set (power_on_board_view setting.switches) (Hold (held setting.script 1)))) index (omega arith)

@@ -1,0 +1,30 @@
+-- To the end of the run.
+use Rattle.std.proofs.Common.{inl, inr}
+use Rattle.std.proofs.lemmas.Result.{err_from_is_err_and}
+use Rattle.pac_debug_session.proofs.Finished.{finished, finish-refused, rests-there}
+use Rattle.pac_debug_session.proofs.session.Session.finish.Goals as goal
+
+pub outcome-requires : goal.outcome-requires
+outcome-requires g c = (
+  c.offer.new.self.index,
+  rests-there c.offer.new.self c.travel.new.self c.offer.new.self.index c.travel.new.self.index c.in_ok-ending.ending
+      c.in_ok-ending.ensures.session c.in_ok-ending.ensures.why_is,
+)
+
+pub returns : goal.returns
+returns g c =
+    finished g.S.Sink.took g.S.Sink.refused c.args.self.now c.args.sink.now c.offer.new.sink c.in_ok-offer.ensures.1 c.offer.new.self
+    c.travel.new.self c.travel.new.sink c.in_ok-ending.ending c.outcome.result c.in_ok-offer.ensures.0 c.in_ok-ending.ensures
+    c.outcome.ensures c.facts.ensures
+
+pub returns-in_err-offer : goal.returns-in_err-offer
+returns-in_err-offer g c =
+    let told = err_from_is_err_and c.from_residual.result c.from_residual.ensures.1 in
+    rw told.1 (inl c.in_err-offer.ensures)
+
+pub returns-in_err-ending : goal.returns-in_err-ending
+returns-in_err-ending g c =
+    let told = err_from_is_err_and c.from_residual-in_err-ending.result c.from_residual-in_err-ending.ensures.1 in
+    rw told.1
+    (inr (finish-refused g.S.Sink.took g.S.Sink.refused c.args.self.now c.args.sink.now c.offer.new.sink c.in_ok-offer.ensures.1
+    c.offer.new.self c.travel.new.self c.travel.new.sink c.in_ok-offer.ensures.0 c.in_err-ending.ensures))

@@ -1,0 +1,64 @@
+-- The session stands at what the slot keeps.
+use Rattle.std.proofs.Common.{◌≡◌, ℕ, ◌<◌, true, None, Some, Option, Ok, length, map, get_or, refl, ap, subst, sym, ◌∙◌, arith}
+use Rattle.pac_board.specs.State.{nothing_due}
+use Rattle.pac_debug_session.specs.declared.session.Empty.{Empty}
+use Rattle.pac_debug_session.specs.Inside.{session_setting}
+use Rattle.pac_debug_session.specs.Keeping.{mark_of}
+use Rattle.pac_debug_session.specs.Motions.{ReturnsTo}
+use Rattle.pac_debug_session.specs.Session.{SessionValue}
+use Rattle.pac_debug_session.proofs.Slots.{filled-at, mark-at, stands-at, standing-there, right-there, value-there}
+use Rattle.pac_debug_session.proofs.Steppings.{with_board}
+use Rattle.pac_debug_session.proofs.session.Session.go_to.Goals as goal
+
+pub invariant_of-self : goal.invariant_of-self
+invariant_of-self c =
+    let inside = c.self.inside in
+    let slot = c.index-slot.result.now in
+    let count = c.self.invariant.slots.count in
+    let within = c.requires.slot in
+    let less : c.args.slot < length inside.slots.items = omega arith in
+    let at : slot ≡ get_or inside.slots.items c.args.slot slot = c.index-slot.ensures in
+    let filled : slot.filled ≡ true = c.if-not-slot.false in
+    let full = filled-at (session_setting inside) inside.furthest inside.slots.items c.args.slot slot less at c.self.invariant.slots
+    filled in
+    let there =
+    stands-at (session_setting inside) inside.furthest inside.board.state.now inside.history inside.checkpoints
+    slot.kept.snapshot.now.steps slot.kept c.self.invariant.standing full.kept full.seen in
+    record {
+      limit = c.self.invariant.limit;
+      short = c.self.invariant.short;
+      standing =
+          standing-there inside.switches inside.script inside.board c.put_back.new.board c.put_back.new.history slot.kept inside.furthest
+          c.put_back.ensures.board c.put_back.ensures.history inside.checkpoints there.0;
+      slots =
+          right-there inside.switches inside.script inside.board c.put_back.new.board c.put_back.new.history slot.kept inside.furthest
+          c.put_back.ensures.board c.put_back.ensures.history inside.slots.items c.self.invariant.slots;
+      breakpoints = c.self.invariant.breakpoints;
+    }
+
+pub returns : goal.returns
+returns c =
+    let inside = c.self.inside in
+    let slot = c.index-slot.result.now in
+    let count = c.self.invariant.slots.count in
+    let within = c.requires.slot in
+    let less : c.args.slot < length inside.slots.items = omega arith in
+    let at : slot ≡ get_or inside.slots.items c.args.slot slot = c.index-slot.ensures in
+    let filled : slot.filled ≡ true = c.if-not-slot.false in
+    let full = filled-at (session_setting inside) inside.furthest inside.slots.items c.args.slot slot less at c.self.invariant.slots
+    filled in
+    let index = slot.kept.snapshot.now.steps in
+    let marks = map mark_of inside.slots.items in
+    let old = c.args.self.now in
+    let found : get_or old.slots c.args.slot None ≡ Some index
+    = ap (λ (s : SessionValue). get_or s.slots c.args.slot None) (sym c.self.view_is)
+    ∙ mark-at (session_setting inside) inside.furthest inside.slots.items c.args.slot slot less at ∙ full.mark in
+    let value : with_board inside.switches inside.script c.put_back.new.board inside.furthest inside.breakpoints.items marks inside.replayed
+    ≡ record old { index = index }
+    = value-there inside.switches inside.script inside.board c.put_back.new.board c.put_back.new.history slot.kept inside.furthest
+    c.put_back.ensures.board c.put_back.ensures.history inside.breakpoints.items marks inside.replayed index refl full.kept.nothing
+    ∙ ap (λ (s : SessionValue). record s { index = index; due = nothing_due }) c.self.view_is
+    ∙ ap (λ due. record old { index = index; due = due }) (sym c.requires.nothing) in
+    subst (λ (mark : Option ℕ). ReturnsTo {E = Empty} old mark (Ok tt)
+    (with_board inside.switches inside.script c.put_back.new.board inside.furthest inside.breakpoints.items marks inside.replayed))
+    (sym found) value

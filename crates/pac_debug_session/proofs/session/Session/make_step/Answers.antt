@@ -1,0 +1,89 @@
+-- One step of the run: what stood before it stands after it.
+use Rattle.std.proofs.Common.{◌≡◌, ℕ, max, List, map, refl, ap, sym, subst, ◌∙◌, arith}
+use Rattle.pac_cpu.specs.declared.once.Once.{Once}
+use Rattle.pac_exec.specs.declared.regs.Regs.{Regs}
+use Rattle.pac_roms.specs.Parts.{Parts}
+use Rattle.pac_board_model.specs.BoardView.{BoardView}
+use Rattle.pac_board_model.specs.Step.{Moment}
+use Rattle.pac_board.specs.State.{due_outputs_in, nothing_due}
+use Rattle.pac_debug_session.specs.declared.history.PastStep.{PastStep}
+use Rattle.pac_debug_session.specs.Inside.{IsStanding, AreSlotsRight}
+use Rattle.pac_debug_session.specs.Keeping.{Ring, kept_of, ring_after_index, mark_of}
+use Rattle.pac_debug_session.specs.Motions.{MakesStep}
+use Rattle.pac_debug_session.specs.Running.{is_late}
+use Rattle.pac_debug_session.specs.Session.{SessionValue}
+use Rattle.pac_debug_session.specs.Steps.{told_after}
+use Rattle.pac_debug_session.proofs.Steppings.{made-step, made-once, made-outputs, right-later, with_board}
+use Rattle.pac_debug_session.proofs.session.Session.make_step.Goals as goal
+
+-- what was told, at the board's own index and PC
+told-is : (history new : List PastStep) (index steps pc : ℕ) (regs board : Regs) (once : Once) → new ≡ told_after history index pc once
+    → index ≡ steps → regs ≡ board → pc ≡ regs.pc → new ≡ told_after history steps board.pc once
+told-is history new index steps pc regs board once told at same here =
+    told ∙ ap (λ n. told_after history n pc once) at
+    ∙ ap (λ n. told_after history steps n once) (here ∙ ap (λ (r : Regs). r.pc) same)
+
+pub invariant_of-self : goal.invariant_of-self
+invariant_of-self c =
+    let inside = c.self.inside in
+    let board = inside.board in
+    let new = c.play_step-once.new.board in
+    let nothing : board.state.due ≡ nothing_due = ap (λ (s : SessionValue). s.due) c.self.view_is ∙ c.requires.nothing in
+    let early = ap (λ (s : SessionValue). is_late s.setting s.index) c.self.view_is ∙ c.requires.early in
+    let told =
+    told-is inside.history c.tell.new.history c.steps-index.result board.state.now.steps c.regs-pc.result.pc c.regs-pc.result
+    board.state.now.regs c.play_step-once.result c.tell.ensures c.steps-index.ensures c.regs-pc.ensures refl in
+    let made =
+    made-step board inside.switches inside.script inside.history inside.furthest inside.checkpoints c.play_step-once.result new
+    c.tell.new.history c.self.invariant.standing nothing early c.play_step-once.ensures told in
+    let far : max inside.furthest new.state.now.steps ≡ c.max-self-inside.result
+    = sym (c.max-self-inside.ensures ∙ ap (λ n. max inside.furthest n) c.steps.ensures) in
+    let ring : ring_after_index board.state.now.steps inside.checkpoints (kept_of board inside.history) ≡ c.take_at.new.checkpoints
+    = ap (λ n. ring_after_index n inside.checkpoints (kept_of board inside.history)) (sym c.steps-index.ensures) ∙ sym c.take_at.ensures in
+    record {
+      limit = c.self.invariant.limit;
+      short = c.self.invariant.short;
+      standing =
+          subst (λ n. IsStanding (record { set = new.set; switches = inside.switches; script = inside.script }) new.state.now
+          c.tell.new.history n c.take_at.new.checkpoints) far
+          (subst (λ (after : Ring). IsStanding (record { set = new.set; switches = inside.switches; script = inside.script }) new.state.now
+          c.tell.new.history (max inside.furthest new.state.now.steps) after) ring made.standing);
+      slots =
+          subst (λ (set : Parts). AreSlotsRight (record { set = set; switches = inside.switches; script = inside.script })
+          c.max-self-inside.result inside.slots.items) (sym made.set)
+          (right-later (record { set = board.set; switches = inside.switches; script = inside.script }) inside.furthest
+          c.max-self-inside.result inside.slots.items (omega arith) c.self.invariant.slots);
+      breakpoints = c.self.invariant.breakpoints;
+    }
+
+pub returns : goal.returns
+returns c =
+    let inside = c.self.inside in
+    let board = inside.board in
+    let new = c.play_step-once.new.board in
+    let once = c.play_step-once.result in
+    let marks = map mark_of inside.slots.items in
+    let nothing : board.state.due ≡ nothing_due = ap (λ (s : SessionValue). s.due) c.self.view_is ∙ c.requires.nothing in
+    let early = ap (λ (s : SessionValue). is_late s.setting s.index) c.self.view_is ∙ c.requires.early in
+    let told =
+    told-is inside.history c.tell.new.history c.steps-index.result board.state.now.steps c.regs-pc.result.pc c.regs-pc.result
+    board.state.now.regs c.play_step-once.result c.tell.ensures c.steps-index.ensures c.regs-pc.ensures refl in
+    let made =
+    made-step board inside.switches inside.script inside.history inside.furthest inside.checkpoints c.play_step-once.result new
+    c.tell.new.history c.self.invariant.standing nothing early c.play_step-once.ensures told in
+    let far : max inside.furthest new.state.now.steps ≡ c.max-self-inside.result
+    = sym (c.max-self-inside.ensures ∙ ap (λ n. max inside.furthest n) c.steps.ensures) in
+    subst (λ (s : SessionValue). MakesStep s once
+    (with_board inside.switches inside.script new c.max-self-inside.result inside.breakpoints.items marks inside.replayed)) c.self.view_is
+    (record {
+      session =
+          ap (λ n. with_board inside.switches inside.script new n inside.breakpoints.items marks inside.replayed) (sym far)
+          ∙ made.value inside.breakpoints.items marks inside.replayed;
+      outputs =
+          ap (λ (now : Moment BoardView). due_outputs_in new.set now.board new.state.due) (sym made.standing.now_is)
+          ∙ made-outputs board inside.switches inside.script inside.history inside.furthest inside.checkpoints once new
+          c.self.invariant.standing c.play_step-once.ensures;
+      once_is =
+          made-once board inside.switches inside.script inside.history inside.furthest inside.checkpoints once new
+          c.self.invariant.standing c.play_step-once.ensures;
+    })

@@ -1,0 +1,42 @@
+-- The session stands at the beginning of its run.
+use Rattle.std.proofs.Common.{◌≡◌, ◌*◌, [], length, map, ap, ◌∙◌, arith}
+use Rattle.pac_inputs.specs.Stretches.{held}
+use Rattle.pac_board.specs.State.{board_with_inputs}
+use Rattle.pac_debug_session.specs.Keeping.{mark_of}
+use Rattle.pac_debug_session.proofs.Begun.{stands-first, right-empty, value-first}
+use Rattle.pac_debug_session.proofs.Steppings.{with_board}
+use Rattle.pac_debug_session.proofs.session.Session.new.Goals as goal
+
+pub invariant_of-result : goal.invariant_of-result
+invariant_of-result c =
+    let board = c.args.board in
+    let switches : c.peek-switches.result ≡ board.state.now.board.memory.switches = c.peek-switches.ensures in
+    let hold : c.hold.new.board ≡ board_with_inputs board (held c.args.script 1) = c.hold.ensures
+    ∙ ap (board_with_inputs board) c.held.ensures in
+    let count = c.frames.ensures.count in
+    let within = c.frames.ensures.within in
+    let frames = c.from-limit.ensures in
+    let none : c.new.result.items ≡ [] = c.new.ensures in
+    record {
+      limit = ap (λ n. 50688 * n) (frames ∙ count);
+      short = omega arith;
+      standing =
+          stands-first board c.hold.new.board c.args.script c.peek-switches.result switches c.requires hold c.in-Ok.history
+          c.in-Ok.checkpoints c.in-Ok.ensures.0 c.in-Ok.ensures.1 c.in-Ok.ensures.2;
+      slots =
+          right-empty (record { set = c.hold.new.board.set; switches = c.peek-switches.result; script = c.args.script })
+          c.in-Ok.slots.items c.in-Ok.ensures.3 c.in-Ok.ensures.4;
+      breakpoints = omega (arith, ap length none);
+    }
+
+pub returns-clause-session : goal.returns-clause-session
+returns-clause-session c =
+    let board = c.args.board in
+    let switches : c.peek-switches.result ≡ board.state.now.board.memory.switches = c.peek-switches.ensures in
+    let hold : c.hold.new.board ≡ board_with_inputs board (held c.args.script 1) = c.hold.ensures
+    ∙ ap (board_with_inputs board) c.held.ensures in
+    let none : c.new.result.items ≡ [] = c.new.ensures in
+    ap (λ breakpoints. with_board c.peek-switches.result c.args.script c.hold.new.board 0 breakpoints (map mark_of c.in-Ok.slots.items) 0)
+    none
+    ∙ value-first board c.hold.new.board c.args.script c.peek-switches.result switches c.requires hold c.in-Ok.slots.items
+    c.in-Ok.ensures.3 c.in-Ok.ensures.4

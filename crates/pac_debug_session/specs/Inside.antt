@@ -1,0 +1,55 @@
+-- For proofs: what a session's fields say, and what holds of them.
+use Rattle.std.specs.Prelude.{◌≡◌, ◌<◌, ◌≤◌, ℕ, ◌+◌, ◌*◌, true, List, length, map}
+use Rattle.pac_inputs.specs.Stretches.{total_frames, most_frames}
+use Rattle.pac_board_model.specs.BoardView.{BoardView}
+use Rattle.pac_board_model.specs.Step.{Moment}
+use Rattle.pac_debug_session.specs.declared.history.PastStep.{PastStep}
+use Rattle.pac_debug_session.specs.declared.kept.SlotContents.{SlotContents}
+use Rattle.pac_debug_session.specs.declared.session.Session.TheInside.{Inside}
+use Rattle.pac_debug_session.specs.Keeping.{Ring, AreCheckpoints, AreSlots, mark_of}
+use Rattle.pac_debug_session.specs.Motions.{checkpoint_steps, checkpoint_count}
+use Rattle.pac_debug_session.specs.Past.{told_at}
+use Rattle.pac_debug_session.specs.Running.{Setting, now_at, limit, goes_at}
+use Rattle.pac_debug_session.specs.Session.{SessionValue, AreSeen, slot_count, most_breakpoints}
+
+abbrev pub session_setting : Inside → Setting
+session_setting inside = record { set = inside.board.set; switches = inside.switches; script = inside.script }
+
+abbrev pub session_view : Inside → SessionValue
+session_view inside = record {
+  setting = session_setting inside;
+  index = inside.board.state.now.steps;
+  furthest = inside.furthest;
+  breakpoints = inside.breakpoints.items;
+  slots = map mark_of inside.slots.items;
+  due = inside.board.state.due;
+  made = inside.board.made;
+  replayed = inside.replayed;
+}
+
+-- where a session stands, over plain values
+pub record IsStanding (setting : Setting) (now : Moment BoardView) (history : List PastStep) (furthest : ℕ) (ring : Ring) : Type 0 where
+  -- the board is that of its index, which was seen, and the steps before it are told
+  pub now_is : now ≡ now_at setting now.steps
+  pub within : now.steps ≤ furthest
+  pub history_is : history ≡ told_at setting now.steps
+  -- up to the furthest index the run goes on
+  pub goes : (earlier : ℕ) → earlier < furthest → goes_at setting earlier ≡ true
+  -- a checkpoint was taken as the session left each 4,096th index
+  pub few : checkpoint_steps * ring.taken ≤ furthest + checkpoint_steps
+  pub enough : furthest ≤ checkpoint_steps * ring.taken
+  pub all : length ring.kept ≡ checkpoint_count
+  pub checkpoints : AreCheckpoints setting ring.taken ring.kept
+
+-- what its slots keep was seen
+pub record AreSlotsRight (setting : Setting) (furthest : ℕ) (slots : List SlotContents) : Type 0 where
+  pub count : length slots ≡ slot_count
+  pub kept : AreSlots setting slots
+  pub seen : AreSeen furthest (map mark_of slots)
+
+pub record IsInsideRight (inside : Inside) : Type 0 where
+  pub limit : inside.limit ≡ limit (session_setting inside)
+  pub short : total_frames inside.script ≤ most_frames
+  pub standing : IsStanding (session_setting inside) inside.board.state.now inside.history inside.furthest inside.checkpoints
+  pub slots : AreSlotsRight (session_setting inside) inside.furthest inside.slots.items
+  pub breakpoints : length inside.breakpoints.items ≤ most_breakpoints

@@ -1,0 +1,18 @@
+//! A debugger's session without its texts: an index into the one trace of a run, with breakpoints, checkpoints to go back by, and
+//! slots that keep an index. What it does changes nothing of what the run gives out.
+#![tactic(auto)]
+
+mod back;
+mod checkpoints;
+mod course;
+mod history;
+mod kept;
+pub mod laws;
+mod motion;
+mod session;
+mod silent;
+mod travel;
+
+pub use history::PastStep;
+pub use motion::{Motion, MotionEnd, RunTotals};
+pub use session::{Empty, Full, Session, SessionRefused};

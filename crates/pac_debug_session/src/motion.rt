@@ -1,0 +1,74 @@
+//! How a session moves forwards, and why it rests.
+
+ghost use Rattle.std.specs.Prelude.{◌≡◌};
+ghost use Rattle.pac_debug_session.specs.Motions.{motion_ending, stop_of};
+
+use pac_cpu::Stop;
+
+/// A motion forwards.
+#[derive(Clone, Copy)]
+pub enum Motion {
+    /// So many steps, one at least; breakpoints aren't heeded.
+    Steps(u32),
+    /// Up to a breakpoint, one step at least.
+    Continue,
+    /// Up to a breakpoint, or until so many more frames have ended; one step at least.
+    Frames(u32),
+    /// To the end of the run.
+    ToEnd,
+}
+
+impl Motion {
+    /// Why a motion rests that has done what it is for; `breaks` says whether the processor stands on a breakpoint.
+    pub(crate) fn word(self, breaks: bool) -> MotionEnd
+        ensures { result ≡ motion_ending self breaks }
+    {
+        match self {
+            Motion::Steps(_) => MotionEnd::AtStep,
+            Motion::Continue => MotionEnd::AtBreakpoint,
+            Motion::Frames(_) if breaks => MotionEnd::AtBreakpoint,
+            Motion::Frames(_) => MotionEnd::AtFrame,
+            Motion::ToEnd => MotionEnd::AtEnd,
+        }
+    }
+}
+
+/// Why a motion rests.
+#[derive(Clone, Copy)]
+pub enum MotionEnd {
+    /// A step was tried, and met this stop.
+    AtStop(Stop),
+    /// The run is over: the last frame has ended.
+    AtEnd,
+    /// The processor stands on a breakpoint.
+    AtBreakpoint,
+    /// The frames have ended.
+    AtFrame,
+    /// The steps are done.
+    AtStep,
+}
+
+impl MotionEnd {
+    /// The stop that was met, if one was.
+    pub fn stop(self) -> Option<Stop>
+        ensures { result ≡ stop_of self }
+    {
+        match self {
+            MotionEnd::AtStop(stop) => Some(stop),
+            _ => None,
+        }
+    }
+}
+
+/// What a run came to.
+#[derive(Clone, Copy)]
+pub struct RunTotals {
+    /// The frames that ended.
+    pub frames: u32,
+    /// The steps.
+    pub steps: u64,
+    /// The time, in T-states.
+    pub ticks: u64,
+    /// The stop that the run met, if it met one.
+    pub stop: Option<Stop>,
+}

@@ -1,0 +1,28 @@
+//! The sink of steps that are done again.
+
+ghost use Rattle.pac_debug_session.specs.Silent.{Swallows, NeverRefuses};
+
+use pac_board::{Refused, Sink};
+use pac_picture::Picture;
+
+/// Takes all, and does nothing with it.
+#[derive(Drop)]
+pub struct Silent;
+
+impl Sink for Silent {
+    ghost took = { Swallows };
+
+    ghost refused = { NeverRefuses };
+
+    /// Takes a sample.
+    #[inline]
+    fn sample(&mut self, _sample: i16) -> Result<(), Refused> {
+        Ok(())
+    }
+
+    /// Takes a picture.
+    #[inline]
+    fn picture(&mut self, _picture: &Picture) -> Result<(), Refused> {
+        Ok(())
+    }
+}

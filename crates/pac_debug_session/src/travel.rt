@@ -1,0 +1,189 @@
+//! The motions of a session.
+
+ghost use Rattle.std.specs.Prelude.{◌≡◌, ℕ, ◌+◌, ◌<◌, ◌≤◌, ◌^◌, false};
+ghost use Rattle.pac_board.specs.State as state;
+ghost use Rattle.pac_debug_session.specs.declared.motion.Motion.TheVariants.{ToEnd};
+ghost use Rattle.pac_debug_session.specs.Running.{is_late, blanks_at};
+ghost use Rattle.pac_debug_session.specs.Keeping.{kept_of, ring_after_index};
+ghost use Rattle.pac_debug_session.specs.Session.{SessionOffers, breaks_at};
+ghost use Rattle.pac_debug_session.specs.Motions.{has_met, Travels, MakesStep, GivesDue, PassesOn, StepsOn, FinishesRun, RestsBy, IsOutcome};
+
+use crate::checkpoints::Checkpoints;
+use crate::course::{FRAME_TICKS, play_step, tell};
+use crate::history::History;
+use crate::motion::{Motion, MotionEnd, RunTotals};
+use crate::session::Session;
+use crate::silent::Silent;
+use pac_board::{Board, Refused, Sink};
+use pac_cpu::{Once, Stop};
+
+/// The steps from one checkpoint to the next (this profile).
+pub const CHECKPOINT_STEPS: u64 = 4096;
+
+/// Takes a checkpoint where this index is that of the next one.
+fn take_at(checkpoints: &mut Checkpoints, index: u64, board: &Board, history: &History)
+    requires { checkpoints.old.taken + 1 < 2 ^ 64 }
+    ensures { checkpoints.new ≡ ring_after_index index checkpoints.old (kept_of board.now history.now) }
+{
+    if index % CHECKPOINT_STEPS == 0 && index / CHECKPOINT_STEPS == checkpoints.taken() {
+        checkpoints.take(board, history);
+    }
+}
+
+impl Session {
+    /// Begins a command: offers what is due. What the sink refuses stays due, with what comes after it.
+    pub fn offer<S: Sink>(&mut self, sink: &mut S) -> Result<(), Refused>
+        ensures { SessionOffers S.took S.refused self.old sink.old result self.new sink.new }
+    {
+        self.replayed = 0;
+        self.board.offer(sink)
+    }
+
+    /// Whether the run is over.
+    #[inline]
+    fn is_late(&self) -> bool
+        ensures { result ≡ is_late self.now.setting self.now.index }
+    {
+        self.board.time() >= self.limit
+    }
+
+    /// The frames that have ended.
+    #[inline]
+    fn blanks(&self) -> u64
+        ensures count { result ≡ blanks_at self.now.setting self.now.index }
+        ensures bound { result < 2 ^ 40 }
+    {
+        self.board.time() / FRAME_TICKS
+    }
+
+    /// Whether the processor stands on a breakpoint.
+    #[inline]
+    fn breaks(&self) -> bool
+        ensures { result ≡ breaks_at self.now self.now.index }
+    {
+        self.has_breakpoint(self.board.regs().pc)
+    }
+
+    /// Whether a motion that began at an index has done what it is for at the session's, one step at least, and rests.
+    fn has_met(&self, motion: Motion, from: u64, blanks: u64) -> bool
+        requires before { from ≤ self.now.index }
+        requires blanks { blanks ≡ blanks_at self.now.setting from }
+        requires bound { blanks < 2 ^ 40 }
+        ensures { result ≡ has_met self.now motion from self.now.index }
+    {
+        let index = self.index();
+        if index == from {
+            return false;
+        }
+        match motion {
+            Motion::Steps(count) => index - from >= u64::from(count),
+            Motion::Continue => self.breaks(),
+            Motion::Frames(count) => self.breaks() || self.blanks() >= blanks + u64::from(count),
+            Motion::ToEnd => false,
+        }
+    }
+
+    /// One step of the run, whose outputs are due then; a checkpoint is taken where the session leaves its index for the first time.
+    pub(crate) fn make_step(&mut self) -> Once
+        requires nothing { self.old.due ≡ state.nothing_due }
+        requires early { is_late self.old.setting self.old.index ≡ false }
+        ensures { MakesStep self.old result self.new }
+    {
+        let index = self.board.steps();
+        let pc = self.board.regs().pc;
+        take_at(&mut self.checkpoints, index, &self.board, &self.history);
+        let once = play_step(&mut self.board, &self.script);
+        tell(&mut self.history, index, pc, &once);
+        self.furthest = self.furthest.max(self.board.steps());
+        once
+    }
+
+    /// Offers what is due to a sink.
+    fn give<S: Sink>(&mut self, sink: &mut S) -> Result<(), Refused>
+        ensures { GivesDue S.took S.refused self.old sink.old result self.new sink.new }
+    {
+        self.board.offer(sink)
+    }
+
+    /// Lets go of what is due: it was taken before.
+    pub(crate) fn let_go(&mut self)
+        ensures { self.new ≡ record self.old { due = state.nothing_due } }
+    {
+        let Ok(()) = self.board.offer(&mut Silent) else {
+            unreachable!();
+        };
+    }
+
+    /// Offers what is due to a sink where it is fresh, and lets go of it where it isn't.
+    fn pass_on<S: Sink>(&mut self, fresh: bool, sink: &mut S) -> Result<(), Refused>
+        ensures { PassesOn S.took S.refused fresh self.old sink.old result self.new sink.new }
+    {
+        if fresh {
+            return self.give(sink);
+        }
+        self.let_go();
+        Ok(())
+    }
+
+    /// Does one step, offers what it gives unless it was offered before, and answers the stop that the run met, if any.
+    fn step_on<S: Sink>(&mut self, sink: &mut S) -> Result<Option<Stop>, Refused>
+        requires nothing { self.old.due ≡ state.nothing_due }
+        requires early { is_late self.old.setting self.old.index ≡ false }
+        ensures { StepsOn S.took S.refused self.old sink.old result self.new sink.new }
+    {
+        self.facts();
+        let fresh = self.index() == self.furthest();
+        let once = self.make_step();
+        self.pass_on(fresh, sink)?;
+        match once {
+            Once::Stepped { .. } => Ok(None),
+            Once::Stopped(stop) => Ok(Some(stop)),
+        }
+    }
+
+    /// Goes forwards to where a motion rests, and says why it rests there. What the steps past the furthest index give is offered;
+    /// a refusal ends the motion after the step that gave the refused output.
+    pub fn travel<S: Sink>(&mut self, motion: Motion, sink: &mut S) -> Result<MotionEnd, Refused>
+        requires nothing { self.old.due ≡ state.nothing_due }
+        ensures { Travels S.took S.refused self.old motion sink.old result self.new sink.new }
+    {
+        self.facts();
+        let from = self.index();
+        let blanks = self.blanks();
+        'onwards: loop {
+            if self.is_late() {
+                return Ok(MotionEnd::AtEnd);
+            }
+            if self.has_met(motion, from, blanks) {
+                return Ok(motion.word(self.breaks()));
+            }
+            if let Some(stop) = self.step_on(sink)? {
+                return Ok(MotionEnd::AtStop(stop));
+            }
+        }
+    }
+
+    /// Offers what is due, goes to the end of the run, and says what the run came to.
+    pub fn finish<S: Sink>(&mut self, sink: &mut S) -> Result<RunTotals, Refused>
+        ensures { FinishesRun S.took S.refused self.old sink.old result self.new sink.new }
+    {
+        self.offer(sink)?;
+        let ending = self.travel(Motion::ToEnd, sink)?;
+        self.facts();
+        Ok(self.outcome(ending))
+    }
+
+    /// What the run came to, at its end.
+    fn outcome(&self, ending: MotionEnd) -> RunTotals
+        requires { (from : ℕ) × RestsBy self.now ToEnd from self.now.index ending }
+        ensures { IsOutcome self.now result }
+    {
+        self.facts();
+        RunTotals {
+            frames: self.blanks() as u32,
+            steps: self.index(),
+            ticks: self.board.time(),
+            stop: ending.stop(),
+        }
+    }
+}

@@ -1,0 +1,208 @@
+//! Sessions whose program is given as bytes, with a sink that keeps what they give, moved by calls with small answers. Before each
+//! move what is due is offered.
+
+ghost use Rattle.std.specs.Prelude.{◌≡◌, IfOk};
+ghost use Rattle.pac_debug_session.specs.Session.{IsNew};
+
+use pac_board::Board;
+use pac_board::kept::Kept;
+use pac_debug_session::{Motion, MotionEnd, Session};
+use pac_inputs::read_script;
+use pac_roms::{Raw, RomSet};
+use std::alloc::{AllocError, Global};
+use std::marker::Model;
+
+/// LD A,42H / LD (4040H),A / HALT.
+pub const CELL: [u8; 6] = [0x3E, 0x42, 0x32, 0x40, 0x40, 0x76];
+
+/// A board at power-on whose program begins with these bytes.
+pub fn board(alloc: Global, bytes: &[u8]) -> Result<Board, AllocError>
+    ensures { IfOk result (λ board. IsNew board) }
+{
+    let mut program = [0u8; 16384];
+    for (place, byte) in program.iter_mut().zip(bytes.iter()) {
+        *place = *byte;
+    }
+    let raw = Raw {
+        tiles: &[0; 4096],
+        sprites: &[0; 4096],
+        colours: &[0; 32],
+        lookup: &[0; 256],
+        wave: &[0; 256],
+    };
+    match Board::init(alloc, RomSet::of(alloc, &program, &raw)?, 0xC9) {
+        Ok(board) => Ok(board),
+        Err(_) => Err(AllocError),
+    }
+}
+
+/// A session on it, with a script.
+fn session(alloc: Global, bytes: &[u8], script: &[u8]) -> Result<Session, AllocError> {
+    let board = board(alloc, bytes)?;
+    let Ok(script) = read_script(alloc, script) else {
+        return Err(AllocError);
+    };
+    match Session::new(alloc, board, script) {
+        Ok(session) => Ok(session),
+        Err(_) => Err(AllocError),
+    }
+}
+
+/// A session and the sink that keeps what it gives. Clauses see nothing of either, and it is dropped by a function of its own: so a
+/// test that owns one has a single value without parts for its proof to carry from step to step, and one call at its end.
+pub struct Rig {
+    session: Session,
+    kept: Kept,
+}
+
+impl Model for Rig {
+    ghost Value = { Unit {0} };
+
+    ghost view = { λ _. tt };
+}
+
+impl Drop for Rig {
+    /// Drops both parts.
+    fn drop(self) {
+        let Rig {
+            session: _,
+            kept: _,
+        } = self;
+    }
+}
+
+impl Rig {
+    /// A session on a board whose program begins with these bytes, with a script.
+    pub fn new(alloc: Global, bytes: &[u8], script: &[u8]) -> Result<Rig, AllocError> {
+        let kept = Kept::new(alloc, 0);
+        let session = session(alloc, bytes, script)?;
+        Ok(Rig { session, kept })
+    }
+
+    /// Has a new sink from now on, which refuses the offer of this number.
+    pub fn refuse(&mut self, alloc: Global, refusal: u64) {
+        self.kept = Kept::new(alloc, refusal);
+    }
+
+    /// Goes forwards, and tells why it rests; nothing where the sink refused.
+    fn go(&mut self, motion: Motion) -> Option<MotionEnd> {
+        self.session.offer(&mut self.kept).ok()?;
+        self.session.travel(motion, &mut self.kept).ok()
+    }
+
+    /// Goes forwards, and tells whether it came to the end of the run.
+    pub fn ends(&mut self, motion: Motion) -> bool {
+        matches!(self.go(motion), Some(MotionEnd::AtEnd))
+    }
+
+    /// Goes on, and tells whether it came to a breakpoint.
+    pub fn breaks(&mut self) -> bool {
+        matches!(self.go(Motion::Continue), Some(MotionEnd::AtBreakpoint))
+    }
+
+    /// Goes so many steps, and tells whether it did.
+    pub fn steps(&mut self, count: u32) -> bool {
+        matches!(self.go(Motion::Steps(count)), Some(MotionEnd::AtStep))
+    }
+
+    /// Goes forwards, and tells whether the sink refused.
+    pub fn is_refused(&mut self, motion: Motion) -> bool {
+        self.go(motion).is_none()
+    }
+
+    /// Goes back by so many steps; where it can't, the oldest index.
+    fn go_back(&mut self, count: u32) -> Result<(), u64> {
+        if self.session.offer(&mut self.kept).is_err() || count == 0 {
+            return Err(0);
+        }
+        self.session.back(count)
+    }
+
+    /// Goes back by so many steps, and tells whether it did.
+    pub fn goes_back(&mut self, count: u32) -> bool {
+        self.go_back(count).is_ok()
+    }
+
+    /// Tries to go back by so many steps, and tells whether it couldn't, and told this as the oldest index.
+    pub fn stays(&mut self, count: u32, oldest: u64) -> bool {
+        self.go_back(count) == Err(oldest)
+    }
+
+    /// Keeps the index in slot 1.
+    pub fn keep(&mut self) -> bool {
+        let is_given = self.session.offer(&mut self.kept).is_ok();
+        if is_given {
+            self.session.keep(1);
+        }
+        is_given
+    }
+
+    /// Goes to the index of slot 1.
+    pub fn go_to_kept(&mut self) -> bool {
+        self.session.offer(&mut self.kept).is_ok() && self.session.go_to(1).is_ok()
+    }
+
+    /// Whether a breakpoint could be set.
+    pub fn break_at(&mut self, address: u16) -> bool {
+        self.session.break_at(address).is_ok()
+    }
+
+    /// Takes a breakpoint away.
+    pub fn unbreak(&mut self, address: u16) {
+        self.session.unbreak(address);
+    }
+
+    /// Whether an address is a breakpoint.
+    pub fn has_breakpoint(&self, address: u16) -> bool {
+        self.session.has_breakpoint(address)
+    }
+
+    /// Whether it stands at this index, time and PC.
+    pub fn is_at(&self, index: u64, time: u64, pc: u16) -> bool {
+        let board = self.session.board();
+        self.session.index() == index && board.time() == time && board.regs().pc == pc
+    }
+
+    /// The index.
+    pub fn index(&self) -> u64 {
+        self.session.index()
+    }
+
+    /// The oldest index that it can go back to.
+    pub fn oldest(&self) -> u64 {
+        self.session.oldest()
+    }
+
+    /// The furthest index that it was at.
+    pub fn furthest(&self) -> u64 {
+        self.session.furthest()
+    }
+
+    /// The steps that the last move did again.
+    pub fn replayed(&self) -> u32 {
+        self.session.replayed()
+    }
+
+    /// How many outputs the sink took.
+    pub fn outputs(&self) -> usize {
+        self.kept.taken().len()
+    }
+
+    /// How many steps are told.
+    pub fn told(&self) -> usize {
+        self.session.history_len()
+    }
+
+    /// Whether the step told at a place has this index and PC; the oldest is at place 0.
+    pub fn tells(&self, place: usize, index: u64, pc: u16) -> bool {
+        match self.session.history(place) {
+            Some(past) => past.index == index && past.pc == pc,
+            None => false,
+        }
+    }
+
+    /// Whether no step is told at a place.
+    pub fn tells_none(&self, place: usize) -> bool {
+        self.session.history(place).is_none()
+    }
+}

@@ -1,8 +1,0 @@
-use Rattle.std.proofs.Common.{◌≡◌, drop}
-use Rattle.pac_manifest.specs.Parts.{in_order}
-use Rattle.pac_manifest.specs.Sets.{first_answer, broken}
-use Rattle.pac_manifest.proofs.loading.check_files.Given as goal
-
-abbrev pub invariant-loop-part : goal.invariant-loop-part
-invariant-loop-part l =
-    first_answer (broken l.manifest l.files) (drop l.part-index in_order) ≡ first_answer (broken l.manifest l.files) in_order

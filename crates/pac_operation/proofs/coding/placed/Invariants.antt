@@ -1,9 +1,0 @@
-use Rattle.std.proofs.Common.{◌≡◌, find, drop}
-use Rattle.pac_operation.specs.Views.{pair}
-use Rattle.pac_operation.specs.Kept.{suits_row}
-use Rattle.pac_operation.proofs.coding.placed.Given as goal
-
-abbrev pub invariant-loop-row : goal.invariant-loop-row
-invariant-loop-row l =
-    find (suits_row l.family l.size l.next (pair l.first l.second)) (drop l.row-index l.rows) ≡
-    find (suits_row l.family l.size l.next (pair l.first l.second)) l.rows

@@ -1,8 +1,0 @@
-use Rattle.std.proofs.Common.{◌∙◌}
-use Rattle.pac_program.proofs.Seen.{lookup-seen}
-use Rattle.pac_program.proofs.symbols.SymbolsSymbols.symbol.Goals as goal
-
-pub returns : goal.returns
-returns c =
-    rw (← c.self.view_is)
-    (c.copied.ensures ∙ c.get.ensures.value ∙ lookup-seen (λ key. key.items) c.args.name.now c.self.inside.names.entries)

@@ -1,0 +1,72 @@
+-- Searches over all parts: what they say of each, and how far a loop over them has come.
+use Rattle.std.proofs.Common.{◌≡◌, ℕ, ◌+◌, ◌<◌, Bool, false, List, [], ◌∷◌, ◌++◌, length, get_or, drop, take, zero, suc}
+use Rattle.std.proofs.Common.{Option, Some, None, Bor, map, refl, ap, sym, ◌∙◌, arith}
+use Rattle.std.specs.Prelude.{filter_map, option_copied}
+use Rattle.std.specs.List.{cons_option}
+use Rattle.std.specs.Option.{option_or}
+use Rattle.std.proofs.lemmas.List.{at_drop_more, take_more, map-append, append-nil}
+use Rattle.std.proofs.lemmas.List.Elements.{filter_map-append}
+use Rattle.pac_roms_manifest.specs.Manifests.{entry_of_part}
+use Rattle.pac_roms_manifest.specs.Parts.{parts_in_order}
+use Rattle.pac_roms_manifest.specs.Sets.{first_answer, is_unnamed, unnamed_fault}
+use Rattle.pac_roms_manifest.specs.declared.manifest.Manifest.{Manifest}
+use Rattle.pac_roms_manifest.specs.declared.part.PartName.{PartName}
+use Rattle.pac_roms_manifest.specs.declared.part.PartName.TheVariants.{Program1, Program2, Program3, Program4, Tiles, Sprites}
+use Rattle.pac_roms_manifest.specs.declared.part.PartName.TheVariants.{Colours, Lookup, Wave, Timing}
+
+neither : {A : Type 0} (a b : Option A) → option_or a b ≡ None → (a ≡ None) × (b ≡ None)
+neither None b h = (refl, h)
+neither (Some x) b h = cc h
+
+-- a question without an answer has none at any element
+nowhere : {A B : Type 0} (question : A → Option B) (xs : List A) (n : ℕ) (d : A) → n < length xs → first_answer question xs ≡ None
+    → question (get_or xs n d) ≡ None
+nowhere question [] n d within none = absurd (omega arith)
+nowhere question (x ∷ xs) zero d within none = (neither (question x) (first_answer question xs) none).0
+nowhere question (x ∷ xs) (suc n) d within none =
+    nowhere question xs n d (omega arith) (neither (question x) (first_answer question xs) none).1
+
+-- so it has none at any part
+pub nothing_at : {A : Type 0} (question : PartName → Option A) (part : PartName)
+    → first_answer question parts_in_order ≡ None → question part ≡ None
+nothing_at question Program1 none = nowhere question parts_in_order 0 Program1 (omega arith) none
+nothing_at question Program2 none = nowhere question parts_in_order 1 Program1 (omega arith) none
+nothing_at question Program3 none = nowhere question parts_in_order 2 Program1 (omega arith) none
+nothing_at question Program4 none = nowhere question parts_in_order 3 Program1 (omega arith) none
+nothing_at question Tiles none = nowhere question parts_in_order 4 Program1 (omega arith) none
+nothing_at question Sprites none = nowhere question parts_in_order 5 Program1 (omega arith) none
+nothing_at question Colours none = nowhere question parts_in_order 6 Program1 (omega arith) none
+nothing_at question Lookup none = nowhere question parts_in_order 7 Program1 (omega arith) none
+nothing_at question Wave none = nowhere question parts_in_order 8 Program1 (omega arith) none
+nothing_at question Timing none = nowhere question parts_in_order 9 Program1 (omega arith) none
+
+-- a question that had no answer so far has none at the next element
+pub passed : {A B : Type 0} (question : A → Option B) (xs : List A) (i : ℕ) (d : A) → i < length xs → question (get_or xs i d) ≡ None
+    → first_answer question (drop i xs) ≡ first_answer question xs → first_answer question (drop (i + 1) xs) ≡ first_answer question xs
+passed question xs i d within none so_far =
+    sym (ap (λ answer. option_or answer (first_answer question (drop (i + 1) xs))) none)
+    ∙ sym (at_drop_more (first_answer question) xs i d within) ∙ so_far
+
+-- a part whose file is named has no fault of that kind
+pub named_part : (manifest : Manifest) (assembled : Bool) (part : PartName) (test : Bool)
+    → test ≡ is_unnamed assembled part (entry_of_part manifest part) → test ≡ false → unnamed_fault manifest assembled part ≡ None
+named_part manifest assembled part test same not_so = rw (← same, not_so) refl
+
+-- the answers at the elements so far, and at one more
+pub one_more : {A B : Type 0} (question : A → Option B) (xs : List A) (i : ℕ) (d : A) (answer : Option B) → i < length xs
+    → answer ≡ question (get_or xs i d)
+    → filter_map question (take (i + 1) xs) ≡ filter_map question (take i xs) ++ cons_option answer []
+one_more question xs i d answer within same =
+    rw (take_more xs i d within, filter_map-append question (take i xs) (get_or xs i d ∷ []), same) refl
+
+-- names that are lent, with the answer at one more element
+pub pushed : (names : List (Bor (List ℕ))) (so_far more : List (List ℕ)) (found : Option (Bor (List ℕ))) (name : Bor (List ℕ))
+    → found ≡ Some name → map (λ lent. lent.now) names ≡ so_far → more ≡ so_far ++ cons_option (option_copied found) []
+    → map (λ lent. lent.now) (names ++ name ∷ []) ≡ more
+pushed names so_far more found name is before after = map-append (λ lent. lent.now) names (name ∷ []) ∙ rw (after, is, before) refl
+
+-- and with none
+pub skipped : (names : List (Bor (List ℕ))) (so_far more : List (List ℕ)) (found : Option (Bor (List ℕ))) → found ≡ None
+    → map (λ lent. lent.now) names ≡ so_far → more ≡ so_far ++ cons_option (option_copied found) []
+    → map (λ lent. lent.now) names ≡ more
+skipped names so_far more found is before after = rw (after, is, before, append-nil so_far) refl

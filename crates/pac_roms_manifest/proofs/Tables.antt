@@ -1,0 +1,25 @@
+-- The tables of the program's ROMs, by how many there are.
+use Rattle.std.proofs.Common.{◌≡◌, ◌≤◌, ◌<◌, ◌⊎◌, List, [], ◌∷◌, length, get_or, None, refl, inl, inr, arith}
+use Rattle.toml.specs.Data.{array}
+use Rattle.toml.specs.View.{view, items_view}
+use Rattle.toml.specs.declared.value.Value.{Value}
+use Rattle.pac_roms_manifest.specs.Manifests.{four_forms, program_form}
+
+pub four_tables : (vs : List Value) (a b c d : Value) → 4 ≤ length vs → length vs < 5
+    → a ≡ get_or vs 0 a → b ≡ get_or vs 1 b → c ≡ get_or vs 2 c → d ≡ get_or vs 3 d
+    → program_form (array (items_view vs)) ≡ four_forms (view a) (view b) (view c) (view d)
+four_tables [] a b c d low high ha hb hc hd = absurd (omega arith)
+four_tables (v ∷ []) a b c d low high ha hb hc hd = absurd (omega arith)
+four_tables (v ∷ w ∷ []) a b c d low high ha hb hc hd = absurd (omega arith)
+four_tables (v ∷ w ∷ x ∷ []) a b c d low high ha hb hc hd = absurd (omega arith)
+four_tables (v ∷ w ∷ x ∷ y ∷ []) a b c d low high ha hb hc hd = rw (ha, hb, hc, hd) refl
+four_tables (v ∷ w ∷ x ∷ y ∷ z ∷ vs) a b c d low high ha hb hc hd = absurd (omega arith)
+
+pub other_count : (vs : List Value) → (length vs < 4) ⊎ (5 ≤ length vs) → program_form (array (items_view vs)) ≡ None
+other_count [] other = refl
+other_count (v ∷ []) other = refl
+other_count (v ∷ w ∷ []) other = refl
+other_count (v ∷ w ∷ x ∷ []) other = refl
+other_count (v ∷ w ∷ x ∷ y ∷ []) (inl low) = absurd (omega arith)
+other_count (v ∷ w ∷ x ∷ y ∷ []) (inr high) = absurd (omega arith)
+other_count (v ∷ w ∷ x ∷ y ∷ z ∷ vs) other = refl

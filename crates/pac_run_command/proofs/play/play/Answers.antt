@@ -1,0 +1,44 @@
+use Rattle.std.proofs.Common.{inl, inr, refl, Vec, Global}
+use Rattle.pac_run_options.specs.CommandLine.{told_run}
+use Rattle.pac_run_files.specs.Read.{HasParts, manifest_part_names}
+use Rattle.pac_run_files.specs.declared.parts.NamedFile.{NamedFile}
+use Rattle.pac_run_command.specs.declared.failure.Failure.TheVariants.{Memory}
+use Rattle.pac_run_command.proofs.Reading.{unread-reason, part-unread, all-read}
+use Rattle.pac_run_command.proofs.play.play.Goals as goal
+
+pub returns-in-Err-read_parts-clause-plays : goal.returns-in-Err-read_parts-clause-plays
+returns-in-Err-read_parts-clause-plays g c =
+    let finds = g.D.FileSystem.finds c.args.disk.now in
+    let unread = part-unread finds (told_run c.args.files.now) c.in-Ok.given c.in-Ok.ensures c.deref.result.now
+    c.in-Ok-manifest_in.manifest c.deref.ensures.value c.in-Ok-manifest_in.ensures in
+    inl (record {
+      failure = c.read_failure-in-Err-read_parts.result;
+      reason = unread-reason {A = Vec NamedFile Global}
+          (λ parts. HasParts finds c.args.files.now.set.now (manifest_part_names c.in-Ok-manifest_in.manifest) parts.items) _ _
+          c.in-Err-read_parts.fault c.read_failure-in-Err-read_parts.result (λ name first. inr (unread name first))
+          c.in-Err-read_parts.ensures c.read_failure-in-Err-read_parts.ensures;
+      fails = c.tell-in-Err-read_parts.ensures.fails;
+      unchanged = refl;
+      is_silent = refl;
+    })
+
+pub returns-in_default-clause-plays : goal.returns-in_default-clause-plays
+returns-in_default-clause-plays g c = inl (record {
+  failure = Memory;
+  reason = tt;
+  fails = c.tell-in_default.ensures.fails;
+  unchanged = refl;
+  is_silent = refl;
+})
+
+pub returns-clause-plays : goal.returns-clause-plays
+returns-clause-plays g c = inr (record {
+  given = c.in-Ok.given;
+  parts = c.deref-2.result.now;
+  read = all-read (g.D.FileSystem.finds c.args.disk.now) (told_run c.args.files.now) c.in-Ok.given c.in-Ok.ensures c.deref.result.now
+      c.in-Ok-manifest_in.manifest c.deref.ensures.value c.in-Ok-manifest_in.ensures c.deref-2.result.now c.in-Ok-read_parts.named.items
+      c.deref-2.ensures.value c.in-Ok-read_parts.ensures;
+  answer = c.record.result;
+  records = c.record.ensures;
+  ends = c.end.ensures.ends;
+})

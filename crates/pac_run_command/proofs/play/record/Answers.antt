@@ -1,0 +1,18 @@
+use Rattle.std.proofs.Common.{inl, rules}
+use Rattle.pac_run_command.proofs.play.record.Goals as goal
+
+pub returns : goal.returns
+returns g c = inl (record {
+  inputs = c.inputs_of-inputs.result;
+  inputs_are = c.inputs_of-inputs.ensures.inputs c.args.named.now (search rules);
+  created = c.in-Ok-create_outputs.outputs;
+  during = c.create_outputs.new.disk;
+  all_created = c.in-Ok-create_outputs.ensures;
+  left = record {
+    frames = c.run_inputs-ran.new.frames;
+    wave = c.run_inputs-ran.new.wave;
+    listing = c.run_inputs-ran.new.listing;
+  };
+  performed = c.run_inputs-ran.ensures;
+  all_closed = c.close_outputs.ensures;
+})

@@ -1,0 +1,11 @@
+use Rattle.std.proofs.Common.{inr}
+use Rattle.pac_run_command.proofs.program.run_heard.Goals as goal
+
+pub returns-in_default-clause-hears : goal.returns-in_default-clause-hears
+returns-in_default-clause-hears g c = inr (record {
+  disk = record { rt = c.args.rt };
+  disk_left = c.work_unkept.new.disk;
+  console = record { console = c.args.rt };
+  console_left = c.work_unkept.new.console;
+  works = c.work_unkept.ensures.works;
+})

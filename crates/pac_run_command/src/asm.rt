@@ -1,0 +1,125 @@
+//! `asm`: a source becomes a ROM file and a listing.
+
+ghost use Rattle.std.specs.Prelude.{◌≡◌};
+ghost use Rattle.pac_listing.specs.Listing as texts;
+ghost use Rattle.pac_run.specs.Recorded.{WritesWholeText};
+ghost use Rattle.pac_run_options.specs.CommandLine.{told_asm};
+ghost use Rattle.pac_run_command.specs.Failures.{Opens};
+ghost use Rattle.pac_run_files.specs.Files.{AllClosed, AllCreated, FirstUncreated};
+ghost use Rattle.pac_run_command.specs.Making.{Makes, asm_outputs, asm_paths, asm_output_files};
+ghost use Rattle.pac_run_command.specs.Programs.{Assembles};
+
+use crate::failure::{Failure, Target, read_failure};
+use pac_asm::{AsmError, assemble};
+use pac_asm_program::Program;
+use pac_listing::write_listing;
+use pac_out::counted::Counted;
+use pac_out::{Out, WriteFault};
+use pac_run::Output;
+use pac_run_files::{FileSystem, read_file};
+use pac_run_options::AsmFiles;
+use std::alloc::Global;
+
+/// Writes the ROM of a program.
+fn put_rom<R: Out>(rom: &mut R, program: &Program) -> Result<(), WriteFault>
+    ensures { WritesWholeText (record { took = R.took; refused = R.refused; old = rom.old; new = rom.new }) program.now.rom result }
+{
+    let mut file = Counted::new(rom);
+    file.put(program.rom())
+}
+
+/// Writes the listing of a program.
+fn put_listing<L: Out>(listing: &mut L, program: &Program, source: &[u8]) -> Result<(), WriteFault>
+    ensures { WritesWholeText (record { took = L.took; refused = L.refused; old = listing.old; new = listing.new })
+        (texts.listing program.now source.now) result }
+{
+    let mut file = Counted::new(listing);
+    write_listing(&mut file, program, source)
+}
+
+/// Assembles a source, and writes the 16,384 bytes of its ROM, and then its listing. The source is judged and all
+/// memory is found before anything is written.
+pub fn write_program<R: Out, L: Out>(
+    alloc: Global,
+    source: &[u8],
+    rom: &mut R,
+    listing: &mut L,
+) -> Result<(), Failure<'static>>
+    ensures { Assembles source.now (record { took = R.took; refused = R.refused; old = rom.old; new = rom.new })
+        (record { took = L.took; refused = L.refused; old = listing.old; new = listing.new }) result }
+{
+    let program = match assemble(alloc, source) {
+        Ok(program) => program,
+        Err(AsmError::Fault(fault)) => return Err(Failure::Source(fault)),
+        Err(AsmError::Memory) => return Err(Failure::Memory),
+    };
+    if let Err(fault) = put_rom(rom, &program) {
+        return Err(Failure::Write(Target::Rom, fault.count));
+    }
+    match put_listing(listing, &program, source) {
+        Ok(()) => Ok(()),
+        Err(fault) => Err(Failure::Write(Target::Of(Output::Listing), fault.count)),
+    }
+}
+
+/// The files of a ROM and of a listing.
+#[derive(Drop)]
+pub struct AsmOutputs<F> {
+    /// The file of the ROM.
+    pub rom: F,
+    /// The file of the listing.
+    pub listing: F,
+}
+
+/// Creates the files of ROM and listing, in this order.
+pub fn create_pair<D: FileSystem>(
+    disk: &mut D,
+    files: &AsmFiles,
+) -> Result<AsmOutputs<D::File>, Failure<'static>>
+    ensures { Opens
+        (λ outputs. AllCreated (record { creates = D.creates; closes = D.closes }) disk.old (asm_paths (told_asm files.now))
+        (asm_output_files outputs) disk.new)
+        (λ output. FirstUncreated (record { creates = D.creates; closes = D.closes }) disk.old (asm_outputs (told_asm files.now))
+        output disk.new) result }
+{
+    let Some(rom) = disk.create(files.rom) else {
+        return Err(Failure::Write(Target::Rom, 0));
+    };
+    let Some(listing) = disk.create(files.listing) else {
+        disk.close(rom);
+        return Err(Failure::Write(Target::Of(Output::Listing), 0));
+    };
+    Ok(AsmOutputs { rom, listing })
+}
+
+/// Closes the files of ROM and listing, in this order.
+fn close_pair<D: FileSystem>(disk: &mut D, outputs: AsmOutputs<D::File>)
+    ensures { AllClosed (record { creates = D.creates; closes = D.closes }) disk.old (asm_output_files outputs) disk.new }
+{
+    disk.close(outputs.rom);
+    disk.close(outputs.listing);
+}
+
+/// Assembles a file into two: the source is read, then both are created, and then the source is judged.
+pub fn asm<'a, D: FileSystem>(
+    alloc: Global,
+    disk: &mut D,
+    files: &AsmFiles<'a>,
+) -> Result<(), Failure<'a>>
+    ensures { Makes (D.finds disk.old) (record { creates = D.creates; closes = D.closes }) (λ source answer created left. Assembles source
+        (record { took = D.File.took; refused = D.File.refused; old = created.rom; new = left.rom })
+        (record { took = D.File.took; refused = D.File.refused; old = created.listing; new = left.listing }) answer)
+        (told_asm files.now) disk.old result disk.new }
+{
+    let source = match read_file(alloc, disk, files.source) {
+        Ok(source) => source,
+        Err(fault) => return Err(read_failure(fault)),
+    };
+    let mut outputs = match create_pair(disk, files) {
+        Ok(outputs) => outputs,
+        Err(failure) => return Err(failure),
+    };
+    let done = write_program(alloc, &source, &mut outputs.rom, &mut outputs.listing);
+    close_pair(disk, outputs);
+    done
+}

@@ -1,0 +1,125 @@
+//! `debug`: a run under a debugger, whose commands a file has.
+
+ghost use Rattle.std.specs.Prelude.{◌≡◌, ◌≤◌};
+ghost use Rattle.pac_run_options.specs.CommandLine.{told_debug, told_run};
+ghost use Rattle.pac_run_command.specs.Failures as told;
+ghost use Rattle.pac_run_command.specs.Outputs.{RecordsRun, WatchesRun};
+ghost use Rattle.pac_run_command.specs.Programs.{PerformsWatched};
+
+use crate::failure::{Failure, failure_of, read_failure};
+use crate::given::inputs_of;
+use crate::play::{close_outputs, create_outputs, end};
+use crate::program::tell;
+use crate::teller::Teller;
+use pac_out::Out;
+use pac_run::{Outcome, RunInputs, debug_all};
+use pac_run_files::{
+    FileSystem, Given, NamedFile, manifest_in, parts_of, read_parts, read_watched,
+};
+use pac_run_options::DebugFiles;
+use std::alloc::Global;
+
+/// A run of the program under a debugger: that of `debug_all`, its fault told as a failure.
+pub fn debug_inputs<F: Out, W: Out, L: Out, R: Out, T: Out>(
+    alloc: Global,
+    inputs: &RunInputs,
+    commands: &[u8],
+    frames: &mut F,
+    wave: &mut W,
+    listing: &mut L,
+    report: &mut R,
+    text: &mut T,
+) -> Result<Outcome, Failure<'static>>
+    ensures { PerformsWatched inputs.now commands.now (record {
+      frames = record { took = F.took; refused = F.refused; old = frames.old; new = frames.new };
+      wave = record { took = W.took; refused = W.refused; old = wave.old; new = wave.new };
+      listing = record { took = L.took; refused = L.refused; old = listing.old; new = listing.new };
+      report = record { took = R.took; refused = R.refused; old = report.old; new = report.new };
+    }) (record { took = T.took; refused = T.refused; old = text.old; new = text.new }) result }
+{
+    match debug_all(alloc, inputs, commands, frames, wave, listing, report, text) {
+        Ok(outcome) => Ok(outcome),
+        Err(fault) => Err(failure_of(fault)),
+    }
+}
+
+/// Creates the outputs, runs what was read under the debugger, and closes them.
+pub fn record_watched<D: FileSystem, R: Out, T: Out>(
+    alloc: Global,
+    disk: &mut D,
+    report: &mut R,
+    text: &mut T,
+    files: &DebugFiles,
+    given: &Given,
+    commands: &[u8],
+    named: &[NamedFile],
+) -> Result<Outcome, Failure<'static>>
+    ensures { RecordsRun (record { creates = D.creates; closes = D.closes })
+        (λ answer inputs created left. PerformsWatched inputs commands.now (record {
+          frames = record { took = D.File.took; refused = D.File.refused; old = created.frames; new = left.frames };
+          wave = record { took = D.File.took; refused = D.File.refused; old = created.wave; new = left.wave };
+          listing = record { took = D.File.took; refused = D.File.refused; old = created.listing; new = left.listing };
+          report = record { took = R.took; refused = R.refused; old = report.old; new = report.new };
+        }) (record { took = T.took; refused = T.refused; old = text.old; new = text.new }) answer)
+        ((report.new ≡ report.old) × (text.new ≡ text.old)) (told_run files.now.run) given.now named.now disk.old result disk.new }
+{
+    let Ok(parts) = parts_of(alloc, named) else {
+        return Err(Failure::Memory);
+    };
+    let inputs = inputs_of(&files.run, given, &parts);
+    let mut outputs = match create_outputs(disk, &files.run) {
+        Ok(outputs) => outputs,
+        Err(failure) => return Err(failure),
+    };
+    let ran = debug_inputs(
+        alloc,
+        &inputs,
+        commands,
+        &mut outputs.frames,
+        &mut outputs.wave,
+        &mut outputs.listing,
+        report,
+        text,
+    );
+    close_outputs(disk, outputs);
+    ran
+}
+
+/// Runs what the files of a command line hold under a debugger, and answers the exit status. All is read before an output is
+/// created: source, manifest, script, commands, and the files that the manifest names.
+pub fn debug<D: FileSystem, R: Out, T: Out, C: Teller>(
+    alloc: Global,
+    disk: &mut D,
+    report: &mut R,
+    text: &mut T,
+    console: &mut C,
+    files: &DebugFiles,
+) -> u8
+    ensures watches { WatchesRun (D.finds disk.old) (record { creates = D.creates; closes = D.closes })
+        (λ commands answer inputs created left. PerformsWatched inputs commands (record {
+          frames = record { took = D.File.took; refused = D.File.refused; old = created.frames; new = left.frames };
+          wave = record { took = D.File.took; refused = D.File.refused; old = created.wave; new = left.wave };
+          listing = record { took = D.File.took; refused = D.File.refused; old = created.listing; new = left.listing };
+          report = record { took = R.took; refused = R.refused; old = report.old; new = report.new };
+        }) (record { took = T.took; refused = T.refused; old = text.old; new = text.new }) answer)
+        ((report.new ≡ report.old) × (text.new ≡ text.old))
+        (record { tells = C.tells; explains = C.explains; old = console.old; new = console.new; status = result })
+        (told_debug files.now) disk.old disk.new }
+    ensures most { result ≤ told.most_status }
+{
+    let (given, commands) = match read_watched(alloc, disk, files) {
+        Ok(read) => read,
+        Err(fault) => return tell(console, read_failure(fault)),
+    };
+    let Ok(manifest) = manifest_in(alloc, &given.manifest) else {
+        return tell(console, Failure::Memory);
+    };
+    let named = match read_parts(alloc, disk, files.run.set, &manifest) {
+        Ok(named) => named,
+        Err(fault) => return tell(console, read_failure(fault)),
+    };
+    end(
+        console,
+        record_watched(alloc, disk, report, text, files, &given, &commands, &named),
+    )
+}

@@ -1,0 +1,268 @@
+//! The program: its words are read, its work is done, and a failure is told.
+
+ghost use Rattle.std.specs.Prelude.{◌≡◌, ◌≢◌, ◌≤◌, [], map, string_bytes};
+ghost use Rattle.clap.specs.Words.{fault_of, kind_of};
+ghost use Rattle.pac_run_options.specs.CommandLine.{pacboard, request_of};
+ghost use Rattle.pac_run_command.specs.Endings.{FailureEnds, WordsEnd, WorkEnds};
+ghost use Rattle.pac_run_command.specs.Failures as told;
+ghost use Rattle.pac_run_command.specs.Machine.{Hears, IsUnheard, RunsOn, WorksOn};
+ghost use Rattle.pac_run_command.specs.Programs.{Assembles, PerformsRun, PerformsWatched};
+ghost use Rattle.pac_run_command.specs.Texts.{WritesDisassembly};
+ghost use Rattle.pac_run_command.specs.Works.{Works, WorksUnkept, without_output};
+ghost use Rattle.pac_run_command.specs.declared.failure.Failure.TheVariants.{Write};
+ghost use Rattle.pac_run_command.specs.declared.failure.Target.TheVariants.{Of};
+
+use crate::asm::asm;
+use crate::debug::debug;
+use crate::dis::dis;
+use crate::failure::{Failure, Target};
+use crate::play::play;
+use crate::teller::{HostConsole, Teller};
+use clap::error::ErrorKind;
+use pac_out::Out;
+use pac_out::through::Through;
+use pac_run::Output;
+use pac_run_files::{FileSystem, HostFiles, keep_standard};
+use pac_run_options::{Request, options};
+use std::alloc::Global;
+use std::rt::{Env, Files};
+use std::{env, io};
+
+/// Does what the words of the program's command line ask, and answers the exit status: 0 done, 1 refused input,
+/// 2 command line, 3 read or write fault, 4 memory, 5 board stopped. A failure is told in one line on standard error,
+/// and words that are no command line are told in the words of the library that reads them.
+pub fn run<R: Env + Files + Print + Eprint + AllocGlobal>(rt: &R) -> u8
+    ensures status { result ≤ told.most_status }
+    ensures runs { RunsOn (record {
+      finds = ⟦<HostFiles<'static, R> as FileSystem>⟧.finds;
+      handling = record {
+        creates = ⟦<HostFiles<'static, R> as FileSystem>⟧.creates;
+        closes = ⟦<HostFiles<'static, R> as FileSystem>⟧.closes;
+      };
+      file_took = ⟦<Through<R::File> as Out>⟧.took;
+      file_refused = ⟦<Through<R::File> as Out>⟧.refused;
+      stream_took = ⟦<Through<io::Printer<'static, R>> as Out>⟧.took;
+      stream_refused = ⟦<Through<io::Printer<'static, R>> as Out>⟧.refused;
+      tells = ⟦<HostConsole<'static, R> as Teller>⟧.tells;
+      explains = ⟦<HostConsole<'static, R> as Teller>⟧.explains;
+    }) result }
+{
+    match words_of(rt) {
+        Ok(words) => run_heard(rt, &words),
+        Err(error) => tell_words(&mut HostConsole { console: rt }, error.kind()),
+    }
+}
+
+/// The words of the command line, the program's name first.
+fn words_of<R: Env + AllocGlobal>(rt: &R) -> io::Result<Vec<String>> {
+    let mut words = Vec::new(rt.alloc());
+    for word in env::args(rt)? {
+        words.push(word)?;
+    }
+    Ok(words)
+}
+
+/// Tells that the words can't be had, and answers the status.
+fn tell_words<C: Teller>(console: &mut C, kind: io::ErrorKind) -> u8
+    ensures unheard { IsUnheard
+        (record { tells = C.tells; explains = C.explains; old = console.old; new = console.new; status = result }) }
+    ensures most { result ≤ told.most_status }
+{
+    if kind == io::ErrorKind::OutOfMemory {
+        return tell(console, Failure::Memory);
+    }
+    tell(console, Failure::Words)
+}
+
+/// Does what these words ask, over the files of `rt`, with no file in the place of a standard stream.
+fn run_heard<R: Files + Print + Eprint + AllocGlobal>(rt: &R, words: &[String]) -> u8
+    ensures status { result ≤ told.most_status }
+    ensures hears { Hears (record {
+      finds = ⟦<HostFiles<'static, R> as FileSystem>⟧.finds;
+      handling = record {
+        creates = ⟦<HostFiles<'static, R> as FileSystem>⟧.creates;
+        closes = ⟦<HostFiles<'static, R> as FileSystem>⟧.closes;
+      };
+      file_took = ⟦<Through<R::File> as Out>⟧.took;
+      file_refused = ⟦<Through<R::File> as Out>⟧.refused;
+      stream_took = ⟦<Through<io::Printer<'static, R>> as Out>⟧.took;
+      stream_refused = ⟦<Through<io::Printer<'static, R>> as Out>⟧.refused;
+      tells = ⟦<HostConsole<'static, R> as Teller>⟧.tells;
+      explains = ⟦<HostConsole<'static, R> as Teller>⟧.explains;
+    }) (map string_bytes words.now) result }
+{
+    let Ok(places) = keep_standard(rt) else {
+        return work_unkept(
+            rt.alloc(),
+            &mut HostFiles { rt },
+            &mut HostConsole { console: rt },
+            words,
+        );
+    };
+    let status = run_words(rt, rt, words);
+    drop(places);
+    status
+}
+
+/// Does what words ask where a file that is created might stand in the place of a standard stream: work that writes to standard
+/// output isn't begun, and its report or text is told as refused.
+fn work_unkept<D: FileSystem, C: Teller>(
+    alloc: Global,
+    disk: &mut D,
+    console: &mut C,
+    words: &[String],
+) -> u8
+    ensures status { result ≤ told.most_status }
+    ensures works { WorksUnkept (without_output (D.finds disk.old) (record { creates = D.creates; closes = D.closes })
+        (λ source answer created left. Assembles source
+        (record { took = D.File.took; refused = D.File.refused; old = created.rom; new = left.rom })
+        (record { took = D.File.took; refused = D.File.refused; old = created.listing; new = left.listing }) answer)
+        (record { tells = C.tells; explains = C.explains; old = console.old; new = console.new; status = result }))
+        (fault_of pacboard (map string_bytes words.now)) (request_of (map string_bytes words.now)) disk.old disk.new }
+{
+    match options(alloc, words) {
+        Ok(Request::Asm(files)) => end(console, asm(alloc, disk, &files)),
+        Ok(Request::Run(_)) => refuse(console, Output::Report, 0),
+        Ok(Request::Debug(_)) => refuse(console, Output::Report, 0),
+        Ok(Request::Dis(_)) => refuse(console, Output::Text, 0),
+        Err(error) => explain(console, &error),
+    }
+}
+
+/// Does what these words ask, over the files of `rt`; texts for standard output and standard error go to `console`.
+pub fn run_words<R: Files + AllocGlobal, C: Print + Eprint>(
+    rt: &R,
+    console: &C,
+    words: &[String],
+) -> u8
+    ensures status { result ≤ told.most_status }
+    ensures words { fault_of pacboard (map string_bytes words.now) ≢ []
+        → told.IsWordsStatus (fault_of pacboard (map string_bytes words.now)) result }
+    ensures works { WorksOn (record {
+      finds = ⟦<HostFiles<'static, R> as FileSystem>⟧.finds;
+      handling = record {
+        creates = ⟦<HostFiles<'static, R> as FileSystem>⟧.creates;
+        closes = ⟦<HostFiles<'static, R> as FileSystem>⟧.closes;
+      };
+      file_took = ⟦<Through<R::File> as Out>⟧.took;
+      file_refused = ⟦<Through<R::File> as Out>⟧.refused;
+      stream_took = ⟦<Through<io::Printer<'static, C>> as Out>⟧.took;
+      stream_refused = ⟦<Through<io::Printer<'static, C>> as Out>⟧.refused;
+      tells = ⟦<HostConsole<'static, C> as Teller>⟧.tells;
+      explains = ⟦<HostConsole<'static, C> as Teller>⟧.explains;
+    }) (fault_of pacboard (map string_bytes words.now)) (request_of (map string_bytes words.now)) result }
+{
+    let mut disk = HostFiles { rt };
+    let mut report = Through {
+        inner: io::writer(console),
+    };
+    let mut text = Through {
+        inner: io::writer(console),
+    };
+    work(
+        rt.alloc(),
+        &mut disk,
+        &mut report,
+        &mut text,
+        &mut HostConsole { console },
+        words,
+    )
+}
+
+/// Does what words ask for over files, with a writer for the report and one for the text of a session or a disassembly, which
+/// both are standard output, and a console where a failure is told.
+pub fn work<D: FileSystem, R: Out, T: Out, C: Teller>(
+    alloc: Global,
+    disk: &mut D,
+    report: &mut R,
+    text: &mut T,
+    console: &mut C,
+    words: &[String],
+) -> u8
+    ensures status { result ≤ told.most_status }
+    ensures words { fault_of pacboard (map string_bytes words.now) ≢ []
+        → told.IsWordsStatus (fault_of pacboard (map string_bytes words.now)) result }
+    ensures works { Works (record {
+      finds = D.finds disk.old;
+      handling = record { creates = D.creates; closes = D.closes };
+      assembles = λ source answer created left. Assembles source
+          (record { took = D.File.took; refused = D.File.refused; old = created.rom; new = left.rom })
+          (record { took = D.File.took; refused = D.File.refused; old = created.listing; new = left.listing }) answer;
+      performs = λ answer inputs created left. PerformsRun inputs (record {
+        frames = record { took = D.File.took; refused = D.File.refused; old = created.frames; new = left.frames };
+        wave = record { took = D.File.took; refused = D.File.refused; old = created.wave; new = left.wave };
+        listing = record { took = D.File.took; refused = D.File.refused; old = created.listing; new = left.listing };
+        report = record { took = R.took; refused = R.refused; old = report.old; new = report.new };
+      }) answer;
+      watches = λ commands answer inputs created left. PerformsWatched inputs commands (record {
+        frames = record { took = D.File.took; refused = D.File.refused; old = created.frames; new = left.frames };
+        wave = record { took = D.File.took; refused = D.File.refused; old = created.wave; new = left.wave };
+        listing = record { took = D.File.took; refused = D.File.refused; old = created.listing; new = left.listing };
+        report = record { took = R.took; refused = R.refused; old = report.old; new = report.new };
+      }) (record { took = T.took; refused = T.refused; old = text.old; new = text.new }) answer;
+      disassembles = λ bytes answer. WritesDisassembly bytes
+          (record { took = T.took; refused = T.refused; old = text.old; new = text.new }) answer;
+      silent = report.new ≡ report.old;
+      untold = text.new ≡ text.old;
+      ending = record { tells = C.tells; explains = C.explains; old = console.old; new = console.new; status = result };
+    }) (fault_of pacboard (map string_bytes words.now)) (request_of (map string_bytes words.now)) disk.old disk.new }
+{
+    match options(alloc, words) {
+        Ok(Request::Asm(files)) => end(console, asm(alloc, disk, &files)),
+        Ok(Request::Run(files)) => play(alloc, disk, report, console, &files),
+        Ok(Request::Debug(files)) => debug(alloc, disk, report, text, console, &files),
+        Ok(Request::Dis(name)) => end(console, dis(alloc, disk, text, name)),
+        Err(error) => explain(console, &error),
+    }
+}
+
+/// Tells a failure, and answers its status.
+pub(crate) fn tell<C: Teller>(console: &mut C, failure: Failure) -> u8
+    ensures fails { FailureEnds (record { tells = C.tells; explains = C.explains; old = console.old; new = console.new; status = result })
+        failure.entry }
+    ensures most { result ≤ told.most_status }
+{
+    console.tell(&failure);
+    failure.status()
+}
+
+/// Tells that an output refused after so many bytes, and answers the status.
+fn refuse<C: Teller>(console: &mut C, output: Output, count: u64) -> u8
+    ensures fails { FailureEnds (record { tells = C.tells; explains = C.explains; old = console.old; new = console.new; status = result })
+        (Write (Of output) count) }
+    ensures most { result ≤ told.most_status }
+{
+    tell(console, Failure::Write(Target::Of(output), count))
+}
+
+/// The status of work that is done or that failed; a failure is told.
+fn end<C: Teller>(console: &mut C, done: Result<(), Failure>) -> u8
+    ensures ends { WorkEnds (record { tells = C.tells; explains = C.explains; old = console.old; new = console.new; status = result })
+        done.entry }
+    ensures most { result ≤ told.most_status }
+{
+    match done {
+        Ok(()) => 0,
+        Err(failure) => tell(console, failure),
+    }
+}
+
+/// Tells why the words are no command line, or what they ask to be told of it; where that can't be written to standard output,
+/// this is told as a failure.
+fn explain<C: Teller>(console: &mut C, error: &clap::Error) -> u8
+    ensures ends { WordsEnd (record { tells = C.tells; explains = C.explains; old = console.old; new = console.new; status = result })
+        (kind_of error.now) }
+    ensures status { told.IsLineStatus (kind_of error.now) result }
+{
+    if error.kind() == ErrorKind::OutOfMemory {
+        return tell(console, Failure::Memory);
+    }
+    let written = console.explain(error);
+    if error.use_stderr() {
+        return 2;
+    }
+    match written {
+        Ok(()) => 0,
+        Err(fault) => refuse(console, Output::Text, fault.count),
+    }
+}

@@ -1,0 +1,33 @@
+-- The parts of a name.
+use Rattle.std.proofs.Common.{◌≡◌, ◌≢◌, ℕ, ◌+◌, ◌<◌, Bool, true, false, ◌||◌, if◌then◌else◌, eqb, List, [], ◌∷◌, ◌++◌, length, get_or, suc, codes}
+use Rattle.std.proofs.Common.{refl, ap, ◌∙◌, arith}
+use Rattle.std.proofs.lemmas.Bool.Decides.{nat_tests}
+use Rattle.std.specs.Str.{bytes_eq}
+use Rattle.std.specs.List.{list_any}
+use Rattle.pac_run_files.specs.Names.{slash, lengthen, name_parts, climbs}
+use Rattle.pac_run_files.proofs.Folders.{HasNone}
+
+-- a byte that is no slash
+skip : {X : Type 0} (byte : ℕ) (one other : X) → byte ≢ slash → (if eqb byte slash then one else other) ≡ other
+skip byte one other differs = grind (arith, nat_tests, differs)
+
+pub parts-none : (name : List ℕ) → HasNone name → name_parts name ≡ name ∷ []
+parts-none [] none = refl
+parts-none (byte ∷ name) none =
+    skip byte _ _ (none 0 (omega arith)) ∙ ap (lengthen byte) (parts-none name (λ i below. none (suc i) (omega (arith, below))))
+
+pub parts-split : (part more : List ℕ) → HasNone part → name_parts (part ++ slash ∷ more) ≡ part ∷ name_parts more
+parts-split [] more none = refl
+parts-split (byte ∷ part) more none =
+    skip byte _ _ (none 0 (omega arith)) ∙ ap (lengthen byte) (parts-split part more (λ i below. none (suc i) (omega (arith, below))))
+
+-- the name climbs where its first part does, or what follows does
+pub climbs-split : (part more : List ℕ) → HasNone part → climbs (part ++ slash ∷ more) ≡ (bytes_eq part (codes "..") || climbs more)
+climbs-split part more none = ap (list_any (λ one. bytes_eq one (codes ".."))) (parts-split part more none)
+
+or-false : (fact : Bool) → (fact || false) ≡ fact
+or-false true = refl
+or-false false = refl
+
+pub climbs-none : (name : List ℕ) → HasNone name → climbs name ≡ bytes_eq name (codes "..")
+climbs-none name none = ap (list_any (λ one. bytes_eq one (codes ".."))) (parts-none name none) ∙ or-false (bytes_eq name (codes ".."))

@@ -1,0 +1,198 @@
+-- To be believed: the command line of the program as `clap` knows it, and what its words ask for.
+use Rattle.std.specs.Prelude.{ℕ, Bool, true, false, pos, List, [], ◌∷◌, ◌++◌, Option, Some, None}
+use Rattle.std.specs.Prelude.{if◌then◌else◌, codes, fold, option_map, option_and_then}
+use Rattle.std.specs.Str.{bytes_eq}
+use Rattle.std.specs.Str.Parse.{digits_value, without_leading_plus}
+use Rattle.clap.specs.Words.{App, Row, Rule, Shape, Text, first_of, new_rule, one_of, subcommand_of, with_rule}
+use Rattle.clap.specs.Simple.{new_shape}
+use Rattle.clap.specs.ValueTests.{is_unsigned_in}
+use Rattle.clap.specs.declared.builder.value_parser.ValueParser.TheVariants as parser
+use Rattle.pac_run_options.specs.declared.request.AsmFiles.{AsmFiles}
+use Rattle.pac_run_options.specs.declared.request.DebugFiles.{DebugFiles}
+use Rattle.pac_run_options.specs.declared.request.RunFiles.{RunFiles}
+use Rattle.pac_run_options.specs.declared.request.Request.{Request}
+use Rattle.pac_run_options.specs.declared.request.Request.TheVariants as request
+
+-- ---- what may be said
+
+-- an argument with one value, whose name in the help is one word
+abbrev pub argument : Text → Rule
+argument name = record (new_rule name) { value_names = 1 }
+
+-- `--name VALUE`, which may be left out
+abbrev pub option : Text → Rule
+option name = record (argument name) { long = Some name }
+
+abbrev pub required_option : Text → Rule
+required_option name = record (option name) { required = true }
+
+-- `--name FILE`, by whether it has to be given
+abbrev pub file_option : Text → Bool → Rule
+file_option name required = record (option name) { required = required }
+
+-- a word that stands by itself, and has to be there
+abbrev pub required_place : Text → Rule
+required_place name = record (argument name) { required = true }
+
+-- the byte of the DIP switches, C9H where it is not given
+abbrev pub dip_option : Rule
+dip_option = record (option (codes "dip")) {
+  parser = Some (parser.Signed (pos 0) (pos 255));
+  defaults = codes "201" ∷ [];
+}
+
+abbrev pub run_rules : List Rule
+run_rules = required_option (codes "set") ∷ required_option (codes "script") ∷ required_option (codes "frames")
+    ∷ required_option (codes "wave") ∷ required_option (codes "listing") ∷ option (codes "source") ∷ dip_option ∷ []
+
+abbrev pub debug_rules : List Rule
+debug_rules = run_rules ++ required_option (codes "commands") ∷ []
+
+abbrev pub asm_rules : List Rule
+asm_rules = required_place (codes "source") ∷ required_option (codes "rom") ∷ required_option (codes "listing") ∷ []
+
+abbrev pub dis_rules : List Rule
+dis_rules = required_place (codes "file") ∷ []
+
+abbrev pub command : Text → List Rule → Shape
+command name rules = record (new_shape name) { rules = rules }
+
+abbrev pub asm_command : Shape
+asm_command = command (codes "asm") asm_rules
+
+abbrev pub run_command : Shape
+run_command = command (codes "run") run_rules
+
+abbrev pub debug_command : Shape
+debug_command = command (codes "debug") debug_rules
+
+abbrev pub dis_command : Shape
+dis_command = command (codes "dis") dis_rules
+
+-- a command with no subcommand
+abbrev pub app_of_command : Shape → App
+app_of_command shape = record { top = shape; subs = [] }
+
+abbrev pub with_rules : List Rule → App → App
+with_rules rules app = fold with_rule app rules
+
+-- the program: one of four subcommands has to be there
+unfoldable pub pacboard : App
+pacboard = record {
+  top = record (new_shape (codes "pacboard")) {
+    is_leaf = false;
+    has_version = true;
+    subcommand_required = true;
+    disable_help_subcommand = true;
+  };
+  subs = asm_command ∷ run_command ∷ debug_command ∷ dis_command ∷ [];
+}
+
+-- ---- what was said
+
+pub record AskedAsm : Type 0 where
+  pub source : Text
+  pub rom : Text
+  pub listing : Text
+
+pub record AskedRun : Type 0 where
+  pub set : Text
+  pub script : Text
+  pub frames : Text
+  pub wave : Text
+  pub listing : Text
+  pub source : Option Text
+  pub dip : ℕ
+
+pub record AskedDebug : Type 0 where
+  pub run : AskedRun
+  pub commands : Text
+
+pub data Asked : Type 0 where
+  asm : AskedAsm → Asked
+  run : AskedRun → Asked
+  debug : AskedDebug → Asked
+  dis : Text → Asked
+
+-- the number from 0 to 255 that a text spells in decimal, where it spells one
+abbrev pub byte_of_text : Text → Option ℕ
+byte_of_text text = if is_unsigned_in 0 255 text then Some (digits_value 10 (without_leading_plus text)) else None
+
+abbrev pub asked_asm : List Row → Option AskedAsm
+asked_asm rows =
+    option_and_then (λ source.
+    option_and_then (λ rom.
+    option_map (λ listing. record { source = source; rom = rom; listing = listing })
+    (first_of (codes "listing") rows))
+    (first_of (codes "rom") rows))
+    (first_of (codes "source") rows)
+
+abbrev pub asked_run : List Row → Option AskedRun
+asked_run rows =
+    option_and_then (λ set.
+    option_and_then (λ script.
+    option_and_then (λ frames.
+    option_and_then (λ wave.
+    option_and_then (λ listing.
+    option_map (λ dip. record {
+      set = set;
+      script = script;
+      frames = frames;
+      wave = wave;
+      listing = listing;
+      source = first_of (codes "source") rows;
+      dip = dip;
+    })
+    (option_and_then byte_of_text (one_of (codes "dip") rows)))
+    (first_of (codes "listing") rows))
+    (first_of (codes "wave") rows))
+    (first_of (codes "frames") rows))
+    (first_of (codes "script") rows))
+    (first_of (codes "set") rows)
+
+abbrev pub asked_debug : List Row → Option AskedDebug
+asked_debug rows =
+    option_and_then (λ run.
+    option_map (λ commands. record { run = run; commands = commands })
+    (first_of (codes "commands") rows))
+    (asked_run rows)
+
+abbrev pub asked_dis : List Row → Option Text
+asked_dis rows = first_of (codes "file") rows
+
+-- what a subcommand asks for with the values of its words
+abbrev pub asked_command : Text × List Row → Option Asked
+asked_command p =
+    if bytes_eq p.0 (codes "asm") then option_map asm (asked_asm p.1)
+    else (if bytes_eq p.0 (codes "run") then option_map run (asked_run p.1)
+    else (if bytes_eq p.0 (codes "debug") then option_map debug (asked_debug p.1)
+    else (if bytes_eq p.0 (codes "dis") then option_map dis (asked_dis p.1) else None)))
+
+-- what the words of a command line ask for, the program's name first
+abbrev pub request_of : List Text → Option Asked
+request_of words = option_and_then asked_command (subcommand_of pacboard words)
+
+-- ---- what the code tells
+
+abbrev pub told_asm : AsmFiles → AskedAsm
+told_asm files = record { source = files.source.now; rom = files.rom.now; listing = files.listing.now }
+
+abbrev pub told_run : RunFiles → AskedRun
+told_run files = record {
+  set = files.set.now;
+  script = files.script.now;
+  frames = files.frames.now;
+  wave = files.wave.now;
+  listing = files.listing.now;
+  source = option_map (λ s. s.now) files.source;
+  dip = files.dip;
+}
+
+abbrev pub told_debug : DebugFiles → AskedDebug
+told_debug files = record { run = told_run files.run; commands = files.commands.now }
+
+abbrev pub told_request : Request → Asked
+told_request (request.Asm files) = asm (told_asm files)
+told_request (request.Run files) = run (told_run files)
+told_request (request.Debug files) = debug (told_debug files)
+told_request (request.Dis file) = dis file.now

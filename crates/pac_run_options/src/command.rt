@@ -1,0 +1,179 @@
+//! The command line as `clap` knows it: the subcommands, and what each takes.
+
+ghost use Rattle.std.specs.Prelude.{◌≡◌, IfOk, false, map};
+ghost use Rattle.clap.specs.Words.{app_of, rule_of};
+ghost use Rattle.clap.specs.declared.builder.command.Command.TheViews.{out-Command as fields_of};
+ghost use Rattle.pac_run_options.specs.CommandLine as line;
+
+use clap::{Arg, Command};
+use std::alloc::{AllocError, Global};
+
+/// The whole command line. A subcommand is required, and there is one level of them.
+pub fn pacboard<'a>(alloc: Global) -> Result<Command<'a>, AllocError>
+    ensures { IfOk result (λ command. app_of command ≡ line.pacboard) }
+{
+    Command::new(alloc, "pacboard")
+        .version("0.1")
+        .about("Assembles and runs programs for Namco's Pac-Man main board")
+        .subcommand_required(true)
+        .disable_help_subcommand(true)
+        .subcommand(asm_command(alloc)?)?
+        .subcommand(run_command(alloc)?)?
+        .subcommand(debug_command(alloc)?)?
+        .subcommand(dis_command(alloc)?)
+}
+
+/// `asm SOURCE --rom FILE --listing FILE`.
+fn asm_command<'a>(alloc: Global) -> Result<Command<'a>, AllocError>
+    ensures shape { IfOk result (λ command. app_of command ≡ line.app_of_command line.asm_command) }
+    ensures local { IfOk result (λ command. (fields_of command).has_globals ≡ false) }
+{
+    let command = Command::new(alloc, "asm")
+        .about("Assembles a source into a ROM and its listing")
+        .arg(required_place(alloc, "source", "SOURCE", "The source"))?;
+    with_files(
+        alloc,
+        command,
+        &[
+            ("rom", "Gets the 16,384 bytes of the ROM", REQUIRED),
+            ("listing", "Gets the listing", REQUIRED),
+        ],
+    )
+}
+
+/// `run` with its options.
+fn run_command<'a>(alloc: Global) -> Result<Command<'a>, AllocError>
+    ensures shape { IfOk result (λ command. app_of command ≡ line.app_of_command line.run_command) }
+    ensures local { IfOk result (λ command. (fields_of command).has_globals ≡ false) }
+{
+    let command = Command::new(alloc, "run").about(
+        "Runs a ROM set by a script, and writes its pictures and its sound",
+    );
+    with_run_options(alloc, command)
+}
+
+/// `debug` with the options of a run and `--commands FILE`.
+fn debug_command<'a>(alloc: Global) -> Result<Command<'a>, AllocError>
+    ensures shape { IfOk result (λ command. app_of command ≡ line.app_of_command line.debug_command) }
+    ensures local { IfOk result (λ command. (fields_of command).has_globals ≡ false) }
+{
+    let command = Command::new(alloc, "debug").about(
+        "Runs a ROM set as run does, and does a debugger's commands on the run",
+    );
+    with_run_options(alloc, command)?.arg(required_option(
+        alloc,
+        "commands",
+        "The debugger's commands, a line each",
+    ))
+}
+
+/// A command with the options of a run added: `--set FILE --script FILE --frames FILE --wave FILE --listing FILE
+/// [--source FILE] [--dip N]`.
+fn with_run_options<'a>(alloc: Global, command: Command<'a>) -> Result<Command<'a>, AllocError>
+    ensures shape { IfOk result (λ r. app_of r ≡ line.with_rules line.run_rules (app_of command.entry)) }
+    ensures local { IfOk result (λ r. (fields_of r).has_globals ≡ (fields_of command.entry).has_globals) }
+{
+    let command = with_files(
+        alloc,
+        command,
+        &[
+            ("set", "The manifest of the ROM set", REQUIRED),
+            ("script", "The script of inputs", REQUIRED),
+            ("frames", "Gets the pictures, as PPM", REQUIRED),
+            ("wave", "Gets the sound, as WAV", REQUIRED),
+            ("listing", "Gets the listing", REQUIRED),
+            (
+                "source",
+                "The source that stands for the set's program",
+                OPTIONAL,
+            ),
+        ],
+    )?;
+    command.arg(dip_option(alloc))
+}
+
+/// An option that names a file: its name, what the help says of it, and whether it has to be given.
+type FileOption<'a> = (&'a str, &'a str, bool);
+
+const REQUIRED: bool = true;
+
+const OPTIONAL: bool = false;
+
+/// A command with these options added, in a loop: a long chain of steps that may fail costs far more to check.
+fn with_files<'a>(
+    alloc: Global,
+    command: Command<'a>,
+    options: &[FileOption<'a>],
+) -> Result<Command<'a>, AllocError>
+    ensures shape { IfOk result (λ r.
+        app_of r ≡ line.with_rules (map (λ o. line.file_option o.0.now o.2) options.now) (app_of command.entry)) }
+    ensures local { IfOk result (λ r. (fields_of r).has_globals ≡ (fields_of command.entry).has_globals) }
+{
+    let mut command = command;
+    for file in options {
+        command = command.arg(file_option(alloc, file))?;
+    }
+    Ok(command)
+}
+
+/// `dis FILE`.
+fn dis_command<'a>(alloc: Global) -> Result<Command<'a>, AllocError>
+    ensures shape { IfOk result (λ command. app_of command ≡ line.app_of_command line.dis_command) }
+    ensures local { IfOk result (λ command. (fields_of command).has_globals ≡ false) }
+{
+    Command::new(alloc, "dis").about("Disassembles a file").arg(required_place(
+        alloc,
+        "file",
+        "FILE",
+        "The file, of 1 to 65,536 bytes",
+    ))
+}
+
+/// A word that stands by itself, which has to be given.
+fn required_place<'a>(alloc: Global, name: &'a str, value: &'a str, help: &'a str) -> Arg<'a>
+    ensures rule { rule_of result ≡ line.required_place name.entry.now }
+    ensures local { result.global ≡ false }
+{
+    Arg::new(alloc, name)
+        .value_name(value)
+        .help(help)
+        .required(true)
+}
+
+/// `--name FILE`, which has to be given.
+fn required_option<'a>(alloc: Global, name: &'a str, help: &'a str) -> Arg<'a>
+    ensures rule { rule_of result ≡ line.required_option name.entry.now }
+    ensures local { result.global ≡ false }
+{
+    option(alloc, name, "FILE", help).required(true)
+}
+
+/// `--name FILE`, as an entry of a table says it.
+fn file_option<'a>(alloc: Global, file: &FileOption<'a>) -> Arg<'a>
+    ensures rule { rule_of result ≡ line.file_option file.now.0.now file.now.2 }
+    ensures local { result.global ≡ false }
+{
+    let (name, help, required) = *file;
+    option(alloc, name, "FILE", help).required(required)
+}
+
+/// `--name VALUE`, which may be given.
+fn option<'a>(alloc: Global, name: &'a str, value: &'a str, help: &'a str) -> Arg<'a>
+    ensures rule { rule_of result ≡ line.option name.entry.now }
+    ensures local { result.global ≡ false }
+{
+    Arg::new(alloc, name)
+        .long(name)
+        .value_name(value)
+        .help(help)
+}
+
+/// `--dip N`, a byte, 201 where it isn't given.
+fn dip_option<'a>(alloc: Global) -> Arg<'a>
+    ensures rule { rule_of result ≡ line.dip_option }
+    ensures local { result.global ≡ false }
+{
+    option(alloc, "dip", "N", "The DIP switches, a byte from 0 to 255")
+        .value_parser(clap::value_parser!(u8))
+        .default_value("201")
+}

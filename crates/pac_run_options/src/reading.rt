@@ -1,0 +1,75 @@
+//! From the words of a command line to what they ask for.
+
+ghost use Rattle.std.specs.Prelude.{◌≡◌, IfOk, Some, map, option_and_then, option_map};
+ghost use Rattle.clap.specs.Words.{FailsBy, fault_of, found_of, rows_of, subcommand_rows_of};
+ghost use Rattle.pac_run_options.specs.CommandLine as line;
+
+use crate::command::pacboard;
+use crate::request::{AsmFiles, DebugFiles, Request, RunFiles};
+use clap::{ArgMatches, Error};
+use std::alloc::Global;
+use std::convert::AsStr;
+
+/// Reads the words of a command line, the program's name first.
+///
+/// An error is `clap`'s own, whose text says what is wrong or is the help or version that was asked for.
+pub fn options<'a, S: AsStr>(alloc: Global, words: &'a [S]) -> Result<Request<'a>, Error>
+    ensures asked { IfOk result (λ request. line.request_of (map S.text words.entry.now) ≡ Some (line.told_request request)) }
+    ensures refused { FailsBy (fault_of line.pacboard (map S.text words.entry.now)) result }
+{
+    let matches = pacboard(alloc)?.try_get_matches_from(words)?;
+    match request(&matches) {
+        Some(request) => Ok(request),
+        None => unreachable!(),
+    }
+}
+
+/// What the matches of a command line ask for.
+fn request<'a>(matches: &ArgMatches<'a>) -> Option<Request<'a>>
+    ensures { option_map line.told_request result ≡ option_and_then line.asked_command (subcommand_rows_of matches.now) }
+{
+    let (name, values) = matches.subcommand()?;
+    match name {
+        "asm" => Some(Request::Asm(asm_files(values)?)),
+        "run" => Some(Request::Run(run_files(values)?)),
+        "debug" => Some(Request::Debug(debug_files(values)?)),
+        "dis" => Some(Request::Dis(values.get_str("file")?)),
+        _ => None,
+    }
+}
+
+/// The files of `asm`, where all are there.
+fn asm_files<'a>(values: &ArgMatches<'a>) -> Option<AsmFiles<'a>>
+    ensures { option_map line.told_asm result ≡ line.asked_asm (rows_of (found_of values.now)) }
+{
+    Some(AsmFiles {
+        source: values.get_str("source")?,
+        rom: values.get_str("rom")?,
+        listing: values.get_str("listing")?,
+    })
+}
+
+/// The files and switches of `run`, where all are there.
+fn run_files<'a>(values: &ArgMatches<'a>) -> Option<RunFiles<'a>>
+    ensures { option_map line.told_run result ≡ line.asked_run (rows_of (found_of values.now)) }
+{
+    Some(RunFiles {
+        set: values.get_str("set")?,
+        script: values.get_str("script")?,
+        frames: values.get_str("frames")?,
+        wave: values.get_str("wave")?,
+        listing: values.get_str("listing")?,
+        source: values.get_str("source"),
+        dip: values.get_one::<u8>("dip")?,
+    })
+}
+
+/// The files of `debug`, where all are there.
+fn debug_files<'a>(values: &ArgMatches<'a>) -> Option<DebugFiles<'a>>
+    ensures { option_map line.told_debug result ≡ line.asked_debug (rows_of (found_of values.now)) }
+{
+    Some(DebugFiles {
+        run: run_files(values)?,
+        commands: values.get_str("commands")?,
+    })
+}

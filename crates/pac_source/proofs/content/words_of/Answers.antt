@@ -1,6 +1,0 @@
-use Rattle.std.proofs.Common.{arith}
-use Rattle.pac_source.proofs.Joins.{joined-assoc}
-use Rattle.pac_source.proofs.content.words_of.Goals as goal
-
-pub loop-rest-preserved : goal.loop-rest-preserved
-loop-rest-preserved g c = grind (arith, joined-assoc, c.put_word.ensures, c.next_part.ensures, c.loop-rest.invariant)

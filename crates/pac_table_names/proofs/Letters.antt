@@ -1,0 +1,37 @@
+-- The names of registers, pairs and conditions are found by their first letter.
+use Rattle.std.proofs.Common.{◌≡◌, ℕ, true, ◌==◌, List, [], ◌∷◌, find, slice_index, slice_get, refl, sym, ◌∙◌, ap}
+use Rattle.std.specs.Prelude.{Some, None}
+use Rattle.std.specs.List.{filter}
+use Rattle.std.specs.Char.{to_ascii_lowercase}
+use Rattle.std.specs.Str.{bytes_eq, str_to_ascii_lowercase}
+use Rattle.std.proofs.lemmas.Bool.{and_parts, eqb-true, eq-eqb, false≢true}
+use Rattle.pac_table_names.specs.declared.names.Name.{Name}
+use Rattle.pac_table_names.specs.Names.{is_written, text_of_name, every_name, name_of}
+use Rattle.pac_table_names.specs.Words.{begins_name}
+use Rattle.pac_table_names.proofs.Index.{find-filter}
+
+starts : (b : ℕ) (rest letters : List ℕ) → bytes_eq (str_to_ascii_lowercase (b ∷ rest)) (str_to_ascii_lowercase letters) ≡ true →
+    (to_ascii_lowercase (slice_index letters 0) == to_ascii_lowercase b) ≡ true
+starts b rest [] is = absurd (false≢true is)
+starts b rest (letter ∷ letters) is =
+    eq-eqb (to_ascii_lowercase letter) (to_ascii_lowercase b)
+    (sym (eqb-true (to_ascii_lowercase b) (to_ascii_lowercase letter) (and_parts _ _ is).0))
+
+written-begins : (b : ℕ) (rest : List ℕ) (some : Name) → is_written (b ∷ rest) (text_of_name some) ≡ true → begins_name b some ≡ true
+written-begins b rest some is = starts b rest (text_of_name some) is
+
+-- no word at all is no name
+pub no-letter : (word : List ℕ) → None ≡ slice_get word 0 → None ≡ name_of word
+unfolding name_of
+no-letter [] is = refl
+no-letter (b ∷ rest) is = absurd (cc)
+
+-- a word is one of the names that begin with its letter, or none
+pub with-letter : (word : List ℕ) (b : ℕ) → Some b ≡ slice_get word 0 →
+    find (λ some. is_written word (text_of_name some)) (filter (begins_name b) every_name) ≡ name_of word
+unfolding name_of
+with-letter [] b is = absurd (cc)
+with-letter (x ∷ rest) b is =
+    let same : b ≡ x = cc in
+    ap (λ (y : ℕ). find (λ some. is_written (x ∷ rest) (text_of_name some)) (filter (begins_name y) every_name)) same ∙
+    find-filter (λ some. is_written (x ∷ rest) (text_of_name some)) (begins_name x) every_name (written-begins x rest)

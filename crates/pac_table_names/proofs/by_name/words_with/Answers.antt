@@ -1,0 +1,46 @@
+use Rattle.std.proofs.Common.{ℕ, ◌<◌, ◌-◌, ◌+◌, List, length, get_or, slice_range, sym, ◌∙◌, ap, arith}
+use Rattle.std.specs.Char.{is_ascii_uppercase}
+use Rattle.pac_table_names.specs.declared.by_name.Word.{Word}
+use Rattle.pac_table_names.specs.Words.{letter_list}
+use Rattle.pac_table_names.proofs.Index.{no-letter, at-letter, letter-bounds, letter-count}
+use Rattle.pac_table_names.proofs.by_name.words_with.Goals as goal
+
+pub returns-then-not-is_ascii_uppercase : goal.returns-then-not-is_ascii_uppercase
+returns-then-not-is_ascii_uppercase c =
+    no-letter c.args.first c.ranges.first.fits
+    (ap is_ascii_uppercase (sym c.to_ascii_uppercase-letter.ensures.value) ∙ sym c.if-not-is_ascii_uppercase.ensures.value)
+
+pub bounds-places-letter : goal.bounds-places-letter
+bounds-places-letter c =
+    omega (arith, letter-count, ap length c.letter_list-places.ensures, c.if-not-is_ascii_uppercase.ensures.cases, c.from-letter.ensures)
+
+pub bounds-places-letter-2 : goal.bounds-places-letter-2
+bounds-places-letter-2 c =
+    omega (arith, letter-count, ap length c.letter_list-places.ensures, c.if-not-is_ascii_uppercase.ensures.cases, c.from-letter.ensures)
+
+pub part-requires-clause-order : goal.part-requires-clause-order
+part-requires-clause-order c = λ _.
+    let below : c.from-letter.result < 26 = omega (arith, c.if-not-is_ascii_uppercase.ensures.cases, c.from-letter.ensures) in
+    (letter-bounds c.from-letter.result c.from-from.result c.from-to.result below
+    (c.from-from.ensures ∙ ap (λ (xs : List ℕ). get_or xs c.from-letter.result 0) c.letter_list-places.ensures)
+    (c.from-to.ensures ∙ ap (λ (xs : List ℕ). get_or xs (c.from-letter.result + 1) 0) c.letter_list-places.ensures)).0
+
+pub part-requires-clause-within : goal.part-requires-clause-within
+part-requires-clause-within c = λ _.
+    let below : c.from-letter.result < 26 = omega (arith, c.if-not-is_ascii_uppercase.ensures.cases, c.from-letter.ensures) in
+    let bounds =
+    letter-bounds c.from-letter.result c.from-from.result c.from-to.result below
+    (c.from-from.ensures ∙ ap (λ (xs : List ℕ). get_or xs c.from-letter.result 0) c.letter_list-places.ensures)
+    (c.from-to.ensures ∙ ap (λ (xs : List ℕ). get_or xs (c.from-letter.result + 1) 0) c.letter_list-places.ensures) in
+    omega (arith, bounds.1, ap length c.words.ensures)
+
+pub returns : goal.returns
+returns c =
+    let at = c.from-letter.ensures ∙ ap (λ n. n - 65) c.to_ascii_uppercase-letter.ensures.value in
+    c.part.ensures ∙ ap (λ (xs : List Word). slice_range xs c.from-from.result c.from-to.result) c.words.ensures ∙
+    at-letter c.args.first c.from-from.result c.from-to.result c.ranges.first.fits
+    (ap is_ascii_uppercase (sym c.to_ascii_uppercase-letter.ensures.value) ∙ sym c.if-not-is_ascii_uppercase.ensures.value)
+    (c.from-from.ensures ∙ ap (λ (xs : List ℕ). get_or xs c.from-letter.result 0) c.letter_list-places.ensures ∙
+    ap (λ k. get_or letter_list k 0) at)
+    (c.from-to.ensures ∙ ap (λ (xs : List ℕ). get_or xs (c.from-letter.result + 1) 0) c.letter_list-places.ensures ∙
+    ap (λ k. get_or letter_list (k + 1) 0) at)

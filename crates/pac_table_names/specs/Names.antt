@@ -1,0 +1,243 @@
+-- To be believed: how instructions are written: the names of the operations, of registers, pairs and conditions, and what is
+-- written for each shape of an operand (Zilog Z80 CPU User Manual UM0080, "Z80 Instruction Description"). The same lists serve
+-- to read a source and to print an instruction. Names are read in either case and printed in capitals.
+use Rattle.std.specs.Prelude.{ℕ, ◌==◌, Bool, false, ◌||◌, if◌then◌else◌, List, [], ◌∷◌, get_or, codes}
+use Rattle.std.specs.Prelude.{Option, Some, None, is_some, position, find}
+use Rattle.std.specs.List.{list_any}
+use Rattle.std.specs.Str.{str_eq_ignore_ascii_case}
+use Rattle.pac_table.specs.declared.operands.Mnemonic.{Mnemonic}
+use Rattle.pac_table.specs.declared.operands.Mnemonic.TheVariants as mnemonic
+use Rattle.pac_table.specs.declared.operands.Shape.{Shape}
+use Rattle.pac_table.specs.declared.operands.Shape.TheVariants as shape
+use Rattle.pac_table.specs.declared.operands.Operands.{Operands}
+use Rattle.pac_table_names.specs.declared.names.Name.{Name}
+use Rattle.pac_table_names.specs.declared.names.Name.TheVariants as name
+use Rattle.pac_table_names.specs.declared.names.NameList.{NameList}
+use Rattle.pac_table_names.specs.declared.names.NameList.TheVariants as list
+use Rattle.pac_table_names.specs.declared.writing.NumberKind.TheVariants as kind
+use Rattle.pac_table_names.specs.declared.writing.Writing.{Writing}
+use Rattle.pac_table_names.specs.declared.writing.Writing.TheVariants.{Nothing, Named, AlternateAf, AtName, FirstField, SecondField, Indexed}
+use Rattle.pac_table_names.specs.declared.writing.Writing.TheVariants.{Number, AtNumber}
+use Rattle.pac_table.specs.Forms.{is_family}
+use Rattle.pac_table.specs.Table.{table}
+
+-- whether a word is a name, in either case
+abbrev pub is_written : List ℕ → List ℕ → Bool
+is_written word text_of_name = str_eq_ignore_ascii_case word text_of_name
+
+-- the names of the eight operations with A and an operand, and those of the seven shifts, by the value of the first field
+abbrev pub alu_names : List (Option (List ℕ))
+alu_names =
+    Some (codes "ADD") ∷ Some (codes "ADC") ∷ Some (codes "SUB") ∷ Some (codes "SBC") ∷
+    Some (codes "AND") ∷ Some (codes "XOR") ∷ Some (codes "OR") ∷ Some (codes "CP") ∷ []
+
+abbrev pub shift_names : List (Option (List ℕ))
+shift_names =
+    Some (codes "RLC") ∷ Some (codes "RRC") ∷ Some (codes "RL") ∷ Some (codes "RR") ∷
+    Some (codes "SLA") ∷ Some (codes "SRA") ∷ None ∷ Some (codes "SRL") ∷ []
+
+-- the one name of an operation whose first field tells no name
+abbrev pub single_name : List ℕ → List (Option (List ℕ))
+single_name text_of_name = Some text_of_name ∷ []
+
+-- the names of an operation: a family's by the value of its first field, and the one name of each other
+abbrev pub names_of : Mnemonic → List (Option (List ℕ))
+names_of mnemonic.Adc = single_name (codes "ADC")
+names_of mnemonic.Add = single_name (codes "ADD")
+names_of mnemonic.Alu = alu_names
+names_of mnemonic.Bit = single_name (codes "BIT")
+names_of mnemonic.Call = single_name (codes "CALL")
+names_of mnemonic.Ccf = single_name (codes "CCF")
+names_of mnemonic.Cpd = single_name (codes "CPD")
+names_of mnemonic.Cpdr = single_name (codes "CPDR")
+names_of mnemonic.Cpi = single_name (codes "CPI")
+names_of mnemonic.Cpir = single_name (codes "CPIR")
+names_of mnemonic.Cpl = single_name (codes "CPL")
+names_of mnemonic.Daa = single_name (codes "DAA")
+names_of mnemonic.Dec = single_name (codes "DEC")
+names_of mnemonic.Di = single_name (codes "DI")
+names_of mnemonic.Djnz = single_name (codes "DJNZ")
+names_of mnemonic.Ei = single_name (codes "EI")
+names_of mnemonic.Ex = single_name (codes "EX")
+names_of mnemonic.Exx = single_name (codes "EXX")
+names_of mnemonic.Halt = single_name (codes "HALT")
+names_of mnemonic.Im = single_name (codes "IM")
+names_of mnemonic.In = single_name (codes "IN")
+names_of mnemonic.Inc = single_name (codes "INC")
+names_of mnemonic.Ind = single_name (codes "IND")
+names_of mnemonic.Indr = single_name (codes "INDR")
+names_of mnemonic.Ini = single_name (codes "INI")
+names_of mnemonic.Inir = single_name (codes "INIR")
+names_of mnemonic.Jp = single_name (codes "JP")
+names_of mnemonic.Jr = single_name (codes "JR")
+names_of mnemonic.Ld = single_name (codes "LD")
+names_of mnemonic.Ldd = single_name (codes "LDD")
+names_of mnemonic.Lddr = single_name (codes "LDDR")
+names_of mnemonic.Ldi = single_name (codes "LDI")
+names_of mnemonic.Ldir = single_name (codes "LDIR")
+names_of mnemonic.Neg = single_name (codes "NEG")
+names_of mnemonic.Nop = single_name (codes "NOP")
+names_of mnemonic.Otdr = single_name (codes "OTDR")
+names_of mnemonic.Otir = single_name (codes "OTIR")
+names_of mnemonic.Out = single_name (codes "OUT")
+names_of mnemonic.Outd = single_name (codes "OUTD")
+names_of mnemonic.Outi = single_name (codes "OUTI")
+names_of mnemonic.Pop = single_name (codes "POP")
+names_of mnemonic.Push = single_name (codes "PUSH")
+names_of mnemonic.Res = single_name (codes "RES")
+names_of mnemonic.Ret = single_name (codes "RET")
+names_of mnemonic.Reti = single_name (codes "RETI")
+names_of mnemonic.Retn = single_name (codes "RETN")
+names_of mnemonic.Rla = single_name (codes "RLA")
+names_of mnemonic.Rlca = single_name (codes "RLCA")
+names_of mnemonic.Rld = single_name (codes "RLD")
+names_of mnemonic.Rra = single_name (codes "RRA")
+names_of mnemonic.Rrca = single_name (codes "RRCA")
+names_of mnemonic.Rrd = single_name (codes "RRD")
+names_of mnemonic.Rst = single_name (codes "RST")
+names_of mnemonic.Sbc = single_name (codes "SBC")
+names_of mnemonic.Scf = single_name (codes "SCF")
+names_of mnemonic.Set = single_name (codes "SET")
+names_of mnemonic.Shift = shift_names
+
+-- the name of an operation whose first field holds this value
+abbrev pub operation_name : Mnemonic → ℕ → Option (List ℕ)
+operation_name mnemonic value = get_or (names_of mnemonic) (if is_family mnemonic then value else 0) None
+
+-- whether a word is the name that stands at a value
+abbrev pub is_name_at : List ℕ → Option (List ℕ) → Bool
+is_name_at word None = false
+is_name_at word (Some text_of_name) = is_written word text_of_name
+
+-- the value for which an operation has this word as its name, if it has: 0 where it is no family
+abbrev pub value_named : Mnemonic → List ℕ → Option ℕ
+value_named mnemonic word = position (is_name_at word) (names_of mnemonic)
+
+-- whether a word is the name of an operation: of one in the table
+unfoldable pub is_operation : List ℕ → Bool
+is_operation word = list_any (λ row. is_some (value_named row.operands.mnemonic word)) table
+
+-- how registers, pairs and conditions are written
+abbrev pub text_of_name : Name → List ℕ
+text_of_name name.A = codes "A"
+text_of_name name.B = codes "B"
+text_of_name name.C = codes "C"
+text_of_name name.D = codes "D"
+text_of_name name.E = codes "E"
+text_of_name name.H = codes "H"
+text_of_name name.L = codes "L"
+text_of_name name.I = codes "I"
+text_of_name name.R = codes "R"
+text_of_name name.Af = codes "AF"
+text_of_name name.Bc = codes "BC"
+text_of_name name.De = codes "DE"
+text_of_name name.Hl = codes "HL"
+text_of_name name.Sp = codes "SP"
+text_of_name name.Ix = codes "IX"
+text_of_name name.Iy = codes "IY"
+text_of_name name.Nz = codes "NZ"
+text_of_name name.Z = codes "Z"
+text_of_name name.Nc = codes "NC"
+text_of_name name.Po = codes "PO"
+text_of_name name.Pe = codes "PE"
+text_of_name name.P = codes "P"
+text_of_name name.M = codes "M"
+
+-- all of these names
+abbrev pub every_name : List Name
+every_name =
+    name.A ∷ name.B ∷ name.C ∷ name.D ∷ name.E ∷ name.H ∷ name.L ∷ name.I ∷ name.R ∷
+    name.Af ∷ name.Bc ∷ name.De ∷ name.Hl ∷ name.Sp ∷ name.Ix ∷ name.Iy ∷
+    name.Nz ∷ name.Z ∷ name.Nc ∷ name.Po ∷ name.Pe ∷ name.P ∷ name.M ∷ []
+
+-- the register, pair or condition that a word names, if it names one; C is both a register and a condition
+unfoldable pub name_of : List ℕ → Option Name
+name_of word = find (λ some. is_written word (text_of_name some)) every_name
+
+-- what the values of a field name; among the registers 6 is none
+abbrev pub names_in : NameList → List (Option Name)
+names_in list.Registers =
+    Some name.B ∷ Some name.C ∷ Some name.D ∷ Some name.E ∷ Some name.H ∷ Some name.L ∷ None ∷ Some name.A ∷ []
+names_in list.Pairs = Some name.Bc ∷ Some name.De ∷ Some name.Hl ∷ Some name.Sp ∷ []
+names_in list.StackPairs = Some name.Bc ∷ Some name.De ∷ Some name.Hl ∷ Some name.Af ∷ []
+names_in list.PairsWithIx = Some name.Bc ∷ Some name.De ∷ Some name.Ix ∷ Some name.Sp ∷ []
+names_in list.PairsWithIy = Some name.Bc ∷ Some name.De ∷ Some name.Iy ∷ Some name.Sp ∷ []
+names_in list.Conditions =
+    Some name.Nz ∷ Some name.Z ∷ Some name.Nc ∷ Some name.C ∷ Some name.Po ∷ Some name.Pe ∷ Some name.P ∷ Some name.M ∷ []
+names_in list.RelativeConditions = Some name.Nz ∷ Some name.Z ∷ Some name.Nc ∷ Some name.C ∷ []
+
+-- the name of a field's value
+abbrev pub name_at : NameList → ℕ → Option Name
+name_at names value = get_or (names_in names) value None
+
+-- two names are one
+abbrev pub is_same_name : Name → Name → Bool
+is_same_name one other = is_written (text_of_name one) (text_of_name other)
+
+abbrev pub is_entry_name : Name → Option Name → Bool
+is_entry_name one None = false
+is_entry_name one (Some other) = is_same_name one other
+
+-- the value of a field that has this name, if one has
+abbrev pub value_of_name : NameList → Name → Option ℕ
+value_of_name names one = position (is_entry_name one) (names_in names)
+
+-- what is written for an operand of a shape
+abbrev pub writing_of : Shape → Writing
+writing_of shape.Absent = Nothing
+writing_of shape.Accumulator = Named name.A
+writing_of shape.FirstRegister = FirstField list.Registers
+writing_of shape.SecondRegister = SecondField list.Registers
+writing_of shape.Byte = Number kind.Byte
+writing_of shape.Word = Number kind.Word
+writing_of shape.Relative = Number kind.Target
+writing_of shape.AtByte = AtNumber kind.Byte
+writing_of shape.AtWord = AtNumber kind.Word
+writing_of shape.AtBc = AtName name.Bc
+writing_of shape.AtDe = AtName name.De
+writing_of shape.AtHl = AtName name.Hl
+writing_of shape.AtSp = AtName name.Sp
+writing_of shape.AtC = AtName name.C
+writing_of shape.AtIx = AtName name.Ix
+writing_of shape.AtIy = AtName name.Iy
+writing_of shape.IndexedIx = Indexed name.Ix
+writing_of shape.IndexedIy = Indexed name.Iy
+writing_of shape.De = Named name.De
+writing_of shape.Hl = Named name.Hl
+writing_of shape.Sp = Named name.Sp
+writing_of shape.Ix = Named name.Ix
+writing_of shape.Iy = Named name.Iy
+writing_of shape.Af = Named name.Af
+writing_of shape.AlternateAf = AlternateAf
+writing_of shape.Pair = FirstField list.Pairs
+writing_of shape.StackPair = FirstField list.StackPairs
+writing_of shape.PairWithIx = FirstField list.PairsWithIx
+writing_of shape.PairWithIy = FirstField list.PairsWithIy
+writing_of shape.InterruptRegister = Named name.I
+writing_of shape.RefreshRegister = Named name.R
+writing_of shape.Condition = FirstField list.Conditions
+writing_of shape.RelativeCondition = FirstField list.RelativeConditions
+writing_of shape.BitNumber = Number kind.Bit
+writing_of shape.RestartAddress = Number kind.Restart
+writing_of shape.ModeZero = Number (kind.Mode 0)
+writing_of shape.ModeOne = Number (kind.Mode 1)
+writing_of shape.ModeTwo = Number (kind.Mode 2)
+
+-- whether an operation is written with A before its operand: ADD, ADC and SBC of the eight
+abbrev pub has_accumulator : Mnemonic → ℕ → Bool
+has_accumulator mnemonic.Alu value = value == 0 || value == 1 || value == 3
+has_accumulator _ value = false
+
+abbrev pub present_shape : Shape → List Shape
+present_shape shape.Absent = []
+present_shape some = some ∷ []
+
+-- one operand after another; after one that isn't there there is none
+abbrev pub listed_shapes : Shape → Shape → List Shape
+listed_shapes shape.Absent second = []
+listed_shapes first second = first ∷ present_shape second
+
+-- the operands of a form as they are written
+abbrev pub written_operands : Operands → ℕ → List Shape
+written_operands form value =
+    if has_accumulator form.mnemonic value then listed_shapes shape.Accumulator form.first else listed_shapes form.first form.second
