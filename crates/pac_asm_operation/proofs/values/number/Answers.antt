@@ -16,5 +16,5 @@ returns-in-Some g c =
 pub returns-in-None : goal.returns-in-None
 returns-in-None g c =
     absurd (answer-stands (expressions.tree_value (g.S.SymbolLookup.lookup c.args.symbols.now) c.args.here) _
-        (tree_within c.args.tokens.now)
+    (tree_within c.args.tokens.now)
     c.in-None.ensures.exact (known-tree c.args.tokens.now c.requires))

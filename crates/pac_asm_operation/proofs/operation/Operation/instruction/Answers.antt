@@ -13,7 +13,7 @@ use Rattle.pac_asm_operation.proofs.operation.Operation.instruction.Goals as goa
 pub returns-in-Err-clause-exact : goal.returns-in-Err-clause-exact
 returns-in-Err-clause-exact g c =
     instruction-fault (g.S.SymbolLookup.lookup c.args.symbols.now) c.args.here c.self.inside.word.now c.self.inside.first
-        c.self.inside.second
+    c.self.inside.second
     c.in-Err.fault c.in-Err.ensures ∙
     ap (λ (k : KeptOperation). instruction_of (g.S.SymbolLookup.lookup c.args.symbols.now) c.args.here (seen_operation k)) c.self.view_is
 
