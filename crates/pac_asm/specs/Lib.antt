@@ -15,3 +15,5 @@ pub mod Programs
 pub mod Counting
 pub mod Assignments
 pub mod Entries
+pub use Rattle.pac_code.specs.Items as PlacedItems
+pub use Rattle.pac_asm_program.specs.Programs as Assembled

@@ -15,3 +15,4 @@ mod steps;
 
 pub use assembly::assemble;
 pub use fault::{AsmCode, AsmError, AsmFault};
+pub use pac_asm_program::Program;

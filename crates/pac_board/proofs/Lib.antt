@@ -8,3 +8,10 @@ pub mod Turns
 pub mod Pieces
 pub mod Parts
 pub mod Hosts
+pub use Rattle.pac_picture.proofs.Tabulated
+pub use Rattle.pac_map.proofs.LatchBits
+pub use Rattle.pac_board_model.proofs.Agreed
+pub use Rattle.pac_board_model.proofs.HostCarried
+pub use Rattle.pac_board_model.proofs.Outputs
+pub use Rattle.pac_board_model.proofs.Runs
+pub use Rattle.pac_board_model.proofs.Walks

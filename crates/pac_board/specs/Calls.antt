@@ -15,7 +15,7 @@ use Rattle.pac_board.specs.declared.fault.Idle.{Idle}
 use Rattle.pac_board.specs.declared.fault.Idle.TheVariants.{OutputsDue, TimeIsOver}
 use Rattle.pac_board.specs.declared.exec.Ran.{Ran}
 use Rattle.pac_board.specs.Sinks.{TookAll, RefusesAt}
-use Rattle.pac_roms.specs.Parts.{Parts}
+use Rattle.pac_map.specs.RomParts.{Parts}
 use Rattle.pac_board.specs.State.{BoardValue, BoardStanding, due_outputs_in, due_with, due_outputs, nothing_due, latest, most_asked, time_of, steps_counted}
 
 -- ---- one step

@@ -1,13 +1,13 @@
 -- To be believed: a board by its fields, as a save file has them.
 use Rattle.std.specs.Prelude.{◌≡◌, ◌*◌, ◌≤◌, ◌<◌}
-use Rattle.pac_latch.specs.Latched.{watchdog_limit}
+use Rattle.pac_map.specs.Latched.{watchdog_limit}
 use Rattle.pac_map.specs.Fields.{view_of_fields}
 use Rattle.pac_map.specs.View.{View, HoldWhatTheyCan}
 use Rattle.pac_picture.specs.Layer.{AreStale}
 use Rattle.pac_picture.specs.State.{palette_of}
 use Rattle.pac_picture.specs.State as picture
-use Rattle.pac_roms.specs.Parts.{Parts}
-use Rattle.pac_table.specs.Instructions.{least_ticks}
+use Rattle.pac_map.specs.RomParts.{Parts}
+use Rattle.pac_cpu.specs.Instructions.{least_ticks}
 use Rattle.pac_wave.specs.Wave.{Fit20Bits, accumulators_of_list}
 use Rattle.pac_board_model.specs.BoardView.{BoardView, video_roms}
 use Rattle.pac_board_model.specs.Step.{Moment}

@@ -2,11 +2,11 @@
 -- its contract says. Over the history they are acts, and the board stands where these acts bring it.
 use Rattle.std.specs.Prelude.{◌≡◌, ◌-◌, ℕ, Bool, true, false, List, [], ◌∷◌, ◌++◌, map, replicate, slice_index_or, Result, Ok, Err, ◌⊎◌}
 use Rattle.std.proofs.Common.{inl, inr}
-use Rattle.pac_code.specs.Items.{Item, AllLie}
+use Rattle.pac_cpu.specs.PlacedItems.{Item, AllLie}
 use Rattle.pac_cpu.specs.declared.once.Once.{Once}
 use Rattle.pac_map.specs.Entry.{Entry}
 use Rattle.pac_map.specs.View.{held_with, held_without}
-use Rattle.pac_roms.specs.Parts.{IsWhole}
+use Rattle.pac_map.specs.RomParts.{IsWhole}
 use Rattle.pac_board_model.specs.BoardView.{IsBoard}
 use Rattle.pac_board_model.specs.Carried.{moment_view}
 use Rattle.pac_board_model.specs.History.{board_after_entries}

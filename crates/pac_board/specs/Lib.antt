@@ -7,3 +7,35 @@ pub mod Laws
 pub mod Fields
 pub mod Kept
 pub mod Hosts
+pub use Rattle.pac_cpu.specs.Instructions
+pub use Rattle.pac_cpu.specs.InterruptMode
+pub use Rattle.pac_cpu.specs.InterruptModeVariants
+pub use Rattle.pac_cpu.specs.Regs
+pub use Rattle.pac_cpu.specs.declared.once.Cause
+pub use Rattle.pac_cpu.specs.declared.once.Cause.TheVariants as CauseVariants
+pub use Rattle.pac_cpu.specs.declared.once.Once
+pub use Rattle.pac_cpu.specs.declared.once.Once.TheVariants as OnceVariants
+pub use Rattle.pac_cpu.specs.declared.once.StepKind
+pub use Rattle.pac_cpu.specs.declared.once.StepKind.TheVariants as StepKindVariants
+pub use Rattle.pac_cpu.specs.declared.once.Stop
+pub use Rattle.pac_picture.specs.Colours
+pub use Rattle.pac_picture.specs.State as PictureState
+pub use Rattle.pac_picture.specs.Tabulate
+pub use Rattle.pac_picture.specs.Tiles
+pub use Rattle.pac_wave.specs.Wave
+pub use Rattle.pac_map.specs.Contents as MemoryContents
+pub use Rattle.pac_map.specs.Entry
+pub use Rattle.pac_map.specs.Fields as MemoryFields
+pub use Rattle.pac_map.specs.Inputs
+pub use Rattle.pac_map.specs.Latched
+pub use Rattle.pac_map.specs.RomParts
+pub use Rattle.pac_map.specs.View as MemoryView
+pub use Rattle.pac_board_model.specs.BoardView
+pub use Rattle.pac_board_model.specs.Carried
+pub use Rattle.pac_board_model.specs.History
+pub use Rattle.pac_board_model.specs.Laws as ModelLaws
+pub use Rattle.pac_board_model.specs.Output
+pub use Rattle.pac_board_model.specs.Shown
+pub use Rattle.pac_board_model.specs.Step
+pub use Rattle.pac_board_model.specs.Trace
+pub use Rattle.pac_board_model.specs.Walk

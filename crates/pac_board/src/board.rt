@@ -1,7 +1,7 @@
 //! The board and the calls that make no step.
 
 ghost use Rattle.std.specs.Prelude.{◌≡◌, ◌≤◌, IfOk, IfErr};
-ghost use Rattle.pac_inputs.specs.Inputs.{mask};
+ghost use Rattle.pac_map.specs.Inputs.{mask};
 ghost use Rattle.pac_map.specs.Contents.{read_of};
 ghost use Rattle.pac_map.specs.View.{held_with, held_without};
 ghost use Rattle.pac_picture.specs.State.{palette_of};
@@ -11,11 +11,9 @@ ghost use Rattle.pac_board.specs.Events.{IsFresh};
 use crate::due::Due;
 use crate::fault::InitRefused;
 use crate::machine::Machine;
-use pac_exec::Regs;
-use pac_inputs::Inputs;
-use pac_map::Memory;
+use pac_cpu::Regs;
+use pac_map::{Inputs, Memory, RomSet};
 use pac_picture::{Graphics, Picture};
-use pac_roms::RomSet;
 use std::alloc::{AllocError, Global};
 use std::marker::Model;
 

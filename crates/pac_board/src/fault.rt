@@ -1,6 +1,6 @@
 //! Why a call of the board did less than it was asked.
 
-use pac_roms::RomSet;
+use pac_map::RomSet;
 use thiserror::Error;
 
 /// Why a call that makes steps ended early.

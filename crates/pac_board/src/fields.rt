@@ -10,11 +10,9 @@ use crate::due::Due;
 use crate::exec::MOST_ASKED;
 use crate::fault::InitRefused;
 use crate::machine::Machine;
-use pac_cpu::Cpu;
-use pac_exec::Regs;
-use pac_map::{Map, Memory};
+use pac_cpu::{Cpu, Regs};
+use pac_map::{Map, Memory, RomSet};
 use pac_picture::{Graphics, Lines, Picture};
-use pac_roms::RomSet;
 use pac_wave::Wave;
 use std::alloc::{AllocError, Global};
 

@@ -26,8 +26,8 @@ pub struct Frozen {
 
 impl Model for Frozen {
     ghost use Rattle.std.specs.Prelude.{◌≤◌, ◌<◌, ◌*◌};
-    ghost use Rattle.pac_latch.specs.Latched.{watchdog_limit};
-    ghost use Rattle.pac_table.specs.Instructions.{least_ticks};
+    ghost use Rattle.pac_map.specs.Latched.{watchdog_limit};
+    ghost use Rattle.pac_cpu.specs.Instructions.{least_ticks};
     ghost use Rattle.pac_board_model.specs.Step.{Moment};
     ghost use Rattle.pac_board_model.specs.BoardView.{BoardView};
     ghost use Rattle.pac_board.specs.State.{latest_end};

@@ -19,5 +19,8 @@ pub use due::Due;
 pub use exec::Ran;
 pub use fault::{Fault, Idle, InitRefused};
 pub use fields::Fields;
+pub use pac_cpu::{Alternate, Cause, InterruptMode, Once, Regs, StepKind, Stop};
+pub use pac_map::{Flags, Inputs, MemoryFields, RomSet};
+pub use pac_picture::{Lines, Picture};
 pub use sink::{Refused, Sink};
 pub use snapshot::Snapshot;

@@ -1,7 +1,7 @@
 -- A run told by the source's items and the history is the run told by the bytes and the view.
 use Rattle.std.proofs.Common.{ℕ, [], refl, arith}
-use Rattle.pac_table.proofs.Lengths.{length-code}
-use Rattle.pac_code.proofs.RoundTrip.{decodes-prefix}
+use Rattle.pac_cpu.proofs.CodeLengths.{length-code}
+use Rattle.pac_cpu.proofs.RoundTrip.{decodes-prefix}
 use Rattle.pac_map.proofs.WellFormed.{power-on-well-formed}
 use Rattle.pac_picture.specs.State.{black}
 use Rattle.pac_picture.proofs.Composed.{black-picture}

@@ -1,8 +1,8 @@
 -- A step and a run over one account of the board are those over the other, seen through the view.
 use Rattle.std.proofs.Common.{◌≡◌, ℕ, zero, suc, List, [], ◌∷◌, ◌++◌, ◌+◌, ◌-◌, ◌*◌, ◌/◌, ◌%◌, ◌==◌, ◌&&◌, nat_le, Option, None, Some}
 use Rattle.std.proofs.Common.{Bool, true, false, cond, refl, ap, ◌∙◌}
-use Rattle.pac_bus.specs.Action.{Action}
-use Rattle.pac_exec.specs.declared.regs.Regs.{Regs}
+use Rattle.pac_cpu.specs.Action.{Action}
+use Rattle.pac_cpu.specs.Regs.{Regs}
 use Rattle.pac_cpu.specs.declared.once.Stop.{Stop}
 use Rattle.pac_cpu.specs.declared.once.StepKind.{StepKind}
 use Rattle.pac_cpu.specs.declared.once.StepKind.TheVariants.{Accepted}

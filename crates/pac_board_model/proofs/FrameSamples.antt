@@ -1,7 +1,7 @@
 -- When a frame's blank comes, each frame so far has had its samples.
 use Rattle.std.proofs.Common.{◌≡◌, ℕ, suc, ◌*◌, ◌/◌, ◌%◌, true, List, [], ◌∷◌, ◌++◌, sym, subst, ◌∙◌, arith}
-use Rattle.pac_code.specs.Items.{Item}
-use Rattle.pac_roms.specs.Parts.{Parts}
+use Rattle.pac_cpu.specs.PlacedItems.{Item}
+use Rattle.pac_map.specs.RomParts.{Parts}
 use Rattle.pac_map.specs.Entry.{Entry, Blank}
 use Rattle.pac_board_model.specs.BoardView.{BoardView, power_on_board_view}
 use Rattle.pac_board_model.specs.Laws.{FramesHaveTheirSamples, frame_samples}

@@ -3,8 +3,8 @@ use Rattle.std.proofs.Common.{◌≡◌, ℕ, zero, suc, List, [], ◌∷◌, �
 use Rattle.pac_cpu.specs.Power.{reset_regs}
 use Rattle.pac_map.specs.Entry.{Entry, Reset, Hold}
 use Rattle.pac_map.specs.View.{held_with, held_without}
-use Rattle.pac_table.proofs.Lengths.{length-code}
-use Rattle.pac_code.proofs.RoundTrip.{decodes-prefix}
+use Rattle.pac_cpu.proofs.CodeLengths.{length-code}
+use Rattle.pac_cpu.proofs.RoundTrip.{decodes-prefix}
 use Rattle.pac_board_model.specs.Carried.{Carries, moment_view, next_view}
 use Rattle.pac_board_model.specs.History.{board_after_entries}
 use Rattle.pac_board_model.specs.Host.{Act, StepOn, ResetBoard, HoldToo, LetGo, Keep, GoBack, Account, Host, with_step, put_now}

@@ -3,7 +3,7 @@
 use Rattle.std.proofs.Common.{◌≡◌, ℕ, zero, suc, ◌+◌, ◌<◌, ◌≤◌, true, List, [], ◌∷◌, ◌++◌, slice_index_or, refl, sym, subst, ◌∙◌, arith}
 use Rattle.pac_map.specs.Entry.{Entry, Reset, Hold}
 use Rattle.pac_map.specs.View.{held_with, held_without}
-use Rattle.pac_tiles.specs.Tiles.{height}
+use Rattle.pac_picture.specs.Tiles.{height}
 use Rattle.pac_board_model.specs.Host.{Act, StepOn, ResetBoard, HoldToo, LetGo, Keep, GoBack, Account, Host, with_step, after_act, after_acts}
 use Rattle.pac_board_model.specs.Host.{host_at, account_by_history}
 use Rattle.pac_board_model.specs.Laws.{HostsAreLineExact, line_moment}

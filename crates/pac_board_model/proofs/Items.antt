@@ -9,14 +9,14 @@ use Rattle.std.proofs.lemmas.List.{get_or-take, get_or-drop, length-take}
 use Rattle.std.proofs.lemmas.List.Elements.{recursion_from_All}
 use Rattle.std.specs.List.{AllByRecursion}
 use Rattle.std.specs.Option.{option_or}
-use Rattle.pac_table.specs.Instructions.{Instruction, IsInstruction, code, decoded_instruction}
-use Rattle.pac_code.specs.Codes.{DecodesPrefix}
-use Rattle.pac_code.specs.Items.{Item, Content, Code, Data, IsValid, bytes_in, instruction_in, instruction_at, Lies, AllLie}
+use Rattle.pac_cpu.specs.Instructions.{Instruction, IsInstruction, code, decoded_instruction}
+use Rattle.pac_cpu.specs.Encoding.{DecodesPrefix}
+use Rattle.pac_cpu.specs.PlacedItems.{Item, Content, Code, Data, IsValid, bytes_in, instruction_in, instruction_at, Lies, AllLie}
 use Rattle.pac_cpu.specs.Step.{four_bytes}
 use Rattle.pac_map.specs.declared.bus_table.BusPlace.{BusPlace}
 use Rattle.pac_map.specs.declared.bus_table.BusPlace.TheVariants.{Program, Tile, Colour, Work, Nothing, Inputs0, Inputs1, Switches, Kick}
 use Rattle.pac_map.specs.Place.{read_place, read_port, ram_place}
-use Rattle.pac_roms.specs.Parts.{Parts, IsWhole, program_size}
+use Rattle.pac_map.specs.RomParts.{Parts, IsWhole, program_size}
 use Rattle.pac_map.specs.Lookups.{answer}
 use Rattle.pac_map.specs.Entry.{Entry}
 use Rattle.pac_map.specs.View.{View}

@@ -3,7 +3,7 @@ use Rattle.std.proofs.Common.{◌≡◌, ℕ, ◌+◌, ◌-◌, ◌*◌, ◌/◌
 use Rattle.std.proofs.Common.{nat_le, List, [], ◌∷◌, ◌++◌, refl, sym, ap, subst, ◌∙◌, arith}
 use Rattle.std.proofs.lemmas.Bool.Decides.{nat_tests}
 use Rattle.pac_map.specs.Entry.{Entry, Sample, Line}
-use Rattle.pac_tiles.specs.Tiles.{height}
+use Rattle.pac_picture.specs.Tiles.{height}
 use Rattle.pac_board_model.specs.Laws.{IsLineInTime, LinesHaveNoOtherMoments, line_moment}
 use Rattle.pac_board_model.specs.Step.{Questions, StepProgress, sample_event, scan_line, scan_frame, sample_ticks, line_ticks, hidden_lines}
 use Rattle.pac_board_model.proofs.RunsKeep.{is_quiet, ends_line, with_sample, with_line}

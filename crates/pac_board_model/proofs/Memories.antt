@@ -1,6 +1,6 @@
 -- The memory of the board that a history leaves is the view that it leaves: samples and lines change nothing of it.
 use Rattle.std.proofs.Common.{◌≡◌, List, [], ◌∷◌, refl, ap, ◌∙◌}
-use Rattle.pac_roms.specs.Parts.{Parts}
+use Rattle.pac_map.specs.RomParts.{Parts}
 use Rattle.pac_map.specs.Entry.{Entry, Sample, Line, view_after}
 use Rattle.pac_map.specs.View.{IsWellFormed}
 use Rattle.pac_board_model.specs.BoardView.{BoardView, video_memory}

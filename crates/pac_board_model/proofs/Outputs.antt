@@ -1,8 +1,8 @@
 -- What a run gives out is what its history says: each sample, each picture, and how many of them by when.
 use Rattle.std.proofs.Common.{◌≡◌, ◌≢◌, ℕ, suc, ◌/◌, ◌%◌, true}
 use Rattle.std.proofs.Common.{List, [], ◌∷◌, ◌++◌, refl, sym, ap, ◌∙◌, append_assoc, arith}
-use Rattle.pac_code.specs.Items.{Item}
-use Rattle.pac_roms.specs.Parts.{Parts}
+use Rattle.pac_cpu.specs.PlacedItems.{Item}
+use Rattle.pac_map.specs.RomParts.{Parts}
 use Rattle.pac_map.specs.Entry.{Entry, Sample, Line, Blank}
 use Rattle.pac_board_model.specs.BoardView.{BoardView, power_on_board_view}
 use Rattle.pac_board_model.specs.Laws.{OutputsAreOfTheHistory, OutputsAreTimed}

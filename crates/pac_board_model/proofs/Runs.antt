@@ -3,7 +3,7 @@ use Rattle.std.proofs.Common.{◌≡◌, ℕ, zero, suc, ◌+◌, ◌*◌, ◌/�
 use Rattle.std.proofs.Common.{is_some, ◌||◌, nat_le, ◌++◌, refl, sym, ap, ◌∙◌, arith}
 use Rattle.std.proofs.lemmas.Bool.Decides.{nat_tests}
 use Rattle.pac_cpu.specs.declared.once.Stop.{Stop}
-use Rattle.pac_table.specs.Instructions.{most_ticks}
+use Rattle.pac_cpu.specs.Instructions.{most_ticks}
 use Rattle.pac_map.specs.Entry.{Hold}
 use Rattle.pac_board_model.specs.Laws.{IsTimely, RunsEnd, RunsAreJoined, RunsGoByFrames, with_frame, next_frame}
 use Rattle.pac_board_model.specs.Step.{Questions, Moment, Next, Goes, Ends, frame_ticks, step}

@@ -4,7 +4,7 @@ use Rattle.std.proofs.Common.{◌≡◌, ◌≢◌, ℕ, zero, suc, ◌+◌, ◌
 use Rattle.std.proofs.Common.{nat_le, ◌&&◌, List, [], ◌∷◌, ◌++◌, refl, sym, subst, arith}
 use Rattle.std.proofs.lemmas.Bool.Decides.{nat_tests}
 use Rattle.std.proofs.lemmas.List.{append-nil}
-use Rattle.pac_bus.specs.Action.{Action, Write as Written, Output as Sent}
+use Rattle.pac_cpu.specs.Action.{Action, Write as Written, Output as Sent}
 use Rattle.pac_cpu.specs.declared.once.StepKind.{StepKind}
 use Rattle.pac_cpu.specs.declared.once.StepKind.TheVariants.{Ran, Halted, Accepted}
 use Rattle.pac_cpu.specs.declared.once.Stop.{Stop}

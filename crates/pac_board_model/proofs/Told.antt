@@ -1,7 +1,7 @@
 -- The board that a history leaves tells all that the history does.
 use Rattle.std.proofs.Common.{sym, ap, ◌∙◌, slice_index}
-use Rattle.pac_latch.specs.Latched.{is_latch_bit_set, interrupt_request}
-use Rattle.pac_latch.specs.Latched as latch
+use Rattle.pac_map.specs.Latched.{is_latch_bit_set, interrupt_request}
+use Rattle.pac_map.specs.Latched as latch
 use Rattle.pac_map.specs.Contents.{read_of}
 use Rattle.pac_map.specs.View as view
 use Rattle.pac_board_model.specs.Laws.{ViewAnswers, ViewTells}

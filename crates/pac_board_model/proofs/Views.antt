@@ -11,7 +11,7 @@ use Rattle.pac_map.specs.declared.bus_table.BusPlace.TheVariants.{Wave, Coordina
 use Rattle.pac_map.specs.Place.{read_place, ram_place, read_port, IsPlaceInRange, ram_size, coordinates_size, registers_size}
 use Rattle.pac_map.specs.Lookups.{answer}
 use Rattle.pac_map.specs.Entry.{Entry, Write, Vector, Blank, Accept, Reset, Hold, view_after_write}
-use Rattle.pac_latch.specs.Latched.{Latched, latched_after_vector, latched_after_blank, latched_after_accept, latched_after_reset}
+use Rattle.pac_map.specs.Latched.{Latched, latched_after_vector, latched_after_blank, latched_after_accept, latched_after_reset}
 use Rattle.pac_map.specs.View.{View, IsWellFormed, kept_nibble}
 use Rattle.pac_map.specs.Contents.{lookups_of, read_of}
 use Rattle.pac_map.proofs.WellFormed.{view-after-well-formed}

@@ -1,6 +1,6 @@
 -- The voices of the board that a history leaves stand where the sums over its samples say.
 use Rattle.std.proofs.Common.{◌≡◌, ℕ, ◌+◌, ◌%◌, ◌^◌, ◌<◌, Bool, true, false, cond, List, [], ◌∷◌, refl, ◌∙◌, arith}
-use Rattle.pac_roms.specs.Parts.{Parts}
+use Rattle.pac_map.specs.RomParts.{Parts}
 use Rattle.pac_wave.specs.declared.Voice.{Voice}
 use Rattle.pac_wave.specs.declared.Voice.TheVariants.{First, Second, Third}
 use Rattle.pac_wave.specs.Wave.{Accumulators, Fit20Bits, accumulator, frequency, accumulators_after}

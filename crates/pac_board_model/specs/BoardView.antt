@@ -2,7 +2,7 @@
 -- stand, and the lines of the picture as they were last composed (Namco Pac-Man service schematics; what this profile adds is
 -- named).
 use Rattle.std.specs.Prelude.{ℕ, List, slice_set}
-use Rattle.pac_roms.specs.Parts.{Parts}
+use Rattle.pac_map.specs.RomParts.{Parts}
 use Rattle.pac_map.specs.View.{View, IsWellFormed, sprite_attributes}
 use Rattle.pac_map.specs.View as memory
 use Rattle.pac_map.specs.Entry.{Entry, Sample, Line, view_after}

@@ -1,11 +1,11 @@
 -- To be believed: what a host does to a board, one act after another: steps, resets, inputs held and let go, and moments kept
 -- and gone back to. Like the step it is told over whatever stands for the board, by its history or by its view.
 use Rattle.std.specs.Prelude.{ℕ, List, [], ◌∷◌, ◌++◌, map, slice_index_or}
-use Rattle.pac_code.specs.Items.{Item}
+use Rattle.pac_cpu.specs.PlacedItems.{Item}
 use Rattle.pac_cpu.specs.Power.{reset_regs}
 use Rattle.pac_map.specs.Entry.{Entry, Reset, Hold}
 use Rattle.pac_map.specs.View.{held_with, held_without}
-use Rattle.pac_roms.specs.Parts.{Parts}
+use Rattle.pac_map.specs.RomParts.{Parts}
 use Rattle.pac_board_model.specs.BoardView.{BoardView}
 use Rattle.pac_board_model.specs.Carried.{moment_view}
 use Rattle.pac_board_model.specs.History.{history_inputs}

@@ -2,14 +2,14 @@
 use Rattle.std.specs.Prelude.{◌≡◌, ◌≢◌, ◌<◌, ◌≤◌, ℕ, zero, suc, ◌+◌, ◌-◌, ◌*◌, ◌/◌, Option, None, Some, true, min}
 use Rattle.std.specs.Prelude.{List, [], ◌++◌, ◌∷◌, slice_index, slice_index_or}
 use mathlib.Core.List.{IsPrefix}
-use Rattle.pac_code.specs.Items.{Item, AllLie}
+use Rattle.pac_cpu.specs.PlacedItems.{Item, AllLie}
 use Rattle.pac_cpu.specs.declared.once.Stop.{Stop}
-use Rattle.pac_exec.specs.declared.regs.Regs.{Regs}
-use Rattle.pac_table.specs.Instructions.{least_ticks, most_ticks}
-use Rattle.pac_roms.specs.Parts.{Parts, IsWhole}
-use Rattle.pac_latch.specs.Latched.{is_latch_bit_set, interrupt_request, watchdog_limit}
-use Rattle.pac_latch.specs.Latched as latch
-use Rattle.pac_tiles.specs.Tiles.{height}
+use Rattle.pac_cpu.specs.Regs.{Regs}
+use Rattle.pac_cpu.specs.Instructions.{least_ticks, most_ticks}
+use Rattle.pac_map.specs.RomParts.{Parts, IsWhole}
+use Rattle.pac_map.specs.Latched.{is_latch_bit_set, interrupt_request, watchdog_limit}
+use Rattle.pac_map.specs.Latched as latch
+use Rattle.pac_picture.specs.Tiles.{height}
 use Rattle.pac_map.specs.Contents.{read_of}
 use Rattle.pac_map.specs.Entry.{Entry, Sample, Line, Blank, Hold}
 use Rattle.pac_map.specs.Place.{ram_size}

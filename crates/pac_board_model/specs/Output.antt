@@ -1,6 +1,6 @@
 -- To be believed: what a board gives out: sound samples and pictures.
 use Rattle.std.specs.Prelude.{ℕ, ℤ, List}
-use Rattle.pac_roms.specs.Parts.{Parts}
+use Rattle.pac_map.specs.RomParts.{Parts}
 use Rattle.pac_picture.specs.State.{palette_of}
 
 -- a picture as it is shown: 224 lines of 288 colour numbers, and red, green and blue of each of the 16 numbers

@@ -1,7 +1,7 @@
 -- To be believed: what a history says of the output latch, the interrupt request and the watchdog (Namco Pac-Man service
 -- schematics; the order at a blank and what a reset leaves are this profile's).
 use Rattle.std.specs.Prelude.{ℕ, suc, ◌%◌, List, [], ◌∷◌, ◌==◌, Bool, false, ◌||◌, nat_le, Option, Some, None, unwrap_or, if◌then◌else◌}
-use Rattle.pac_latch.specs.Latched.{is_latch_bit_set, latch_place, withdraws, watchdog_limit}
+use Rattle.pac_map.specs.Latched.{is_latch_bit_set, latch_place, withdraws, watchdog_limit}
 use Rattle.pac_map.specs.declared.bus_table.BusPlace.{BusPlace}
 use Rattle.pac_map.specs.declared.bus_table.BusPlace.TheVariants.{Latch, Kick}
 use Rattle.pac_map.specs.View.{View}

@@ -8,6 +8,7 @@ mod encoder;
 
 pub use decoder::{decode, decode_row};
 pub use encoder::{Code, encode};
+pub use pac_table::Instr;
 
 /// Bytes whose prefix is the code of an instruction hold that instruction.
 pub fn decodes_prefix()

@@ -1,2 +1,4 @@
 pub mod CpuSteps
 pub mod Views
+pub use Rattle.pac_table.proofs.Lengths as CodeLengths
+pub use Rattle.pac_code.proofs.RoundTrip

@@ -1,2 +1,9 @@
 pub mod Power
 pub mod Step
+pub use Rattle.pac_table.specs.Instructions
+pub use Rattle.pac_table.specs.declared.effects.InterruptMode
+pub use Rattle.pac_table.specs.declared.effects.InterruptMode.TheVariants as InterruptModeVariants
+pub use Rattle.pac_code.specs.Codes as Encoding
+pub use Rattle.pac_code.specs.Items as PlacedItems
+pub use Rattle.pac_bus.specs.Action
+pub use Rattle.pac_exec.specs.declared.regs.Regs

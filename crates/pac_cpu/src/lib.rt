@@ -9,3 +9,6 @@ mod step;
 
 pub use cpu::Cpu;
 pub use once::{Cause, Once, StepKind, Stop};
+pub use pac_bus::Bus;
+pub use pac_exec::{Alternate, Regs};
+pub use pac_table::InterruptMode;

@@ -3,8 +3,8 @@ use Rattle.std.proofs.Common.{◌≡◌, ℕ, ◌+◌, ◌<◌, ◌≤◌, nat_l
 use Rattle.std.proofs.Common.{append-nil, length, ◌⊎◌, refl, sym, ap, subst, ◌∙◌, length-append, arith}
 use Rattle.std.proofs.lemmas.Bool.Decides.{nat_tests}
 use mathlib.Core.Logic.{inl, inr}
-use Rattle.pac_board_model.specs.Output.{Output}
-use Rattle.pac_board_model.proofs.Walks.{not-both}
+use Rattle.pac_board.specs.Output.{Output}
+use Rattle.pac_board.proofs.Walks.{not-both}
 use Rattle.pac_board.specs.State.{nothing_due}
 use Rattle.pac_out.specs.declared.WriteFault.{WriteFault}
 use Rattle.pac_debug_text.specs.declared.command.NoCommand.{NoCommand}

@@ -2,7 +2,7 @@
 use Rattle.std.proofs.Common.{◌≡◌, ◌∙◌, ℕ, zero, suc, ◌+◌, ◌*◌, ◌/◌, ◌%◌, ◌^◌, ◌<◌, ◌==◌, refl, sym, ap, arith}
 use Rattle.std.proofs.Math.Nat.{div-div-eq-div-mul}
 use Rattle.pac_num.specs.Numbers.{bit}
-use Rattle.pac_latch.specs.Latched.{binary_digit, byte_of_latch, bits_of}
+use Rattle.pac_board.specs.Latched.{binary_digit, byte_of_latch, bits_of}
 
 digit-of : (rest : ℕ) → rest < 2 → binary_digit (rest == 1) ≡ rest
 digit-of zero below = refl

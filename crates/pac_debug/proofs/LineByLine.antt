@@ -2,7 +2,7 @@
 use Rattle.std.proofs.Common.{◌≡◌, ℕ, List, [], ◌∷◌, refl, sym, subst}
 use Rattle.std.specs.Prelude.{Result, Ok, Err}
 use mathlib.Core.Logic.{inl, inr}
-use Rattle.pac_board_model.specs.Output.{Output}
+use Rattle.pac_board.specs.Output.{Output}
 use Rattle.pac_debug.specs.declared.line.CommandFault.{CommandFault}
 use Rattle.pac_debug.specs.Obeying.{Scene, Commands, IsLineAnswered, ObeysLines}
 

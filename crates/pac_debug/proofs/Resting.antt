@@ -5,14 +5,14 @@ use Rattle.std.proofs.Common.{length-append, arith}
 use Rattle.std.proofs.lemmas.Bool.Decides.{nat_tests}
 use Rattle.std.proofs.lemmas.List.Filters.{length-filter_both}
 use mathlib.Core.Logic.{inl, inr}
-use Rattle.pac_cpu.specs.declared.once.Stop.{Stop}
-use Rattle.pac_board_model.specs.BoardView.{BoardView, power_on_board_view}
-use Rattle.pac_board_model.specs.Step.{Next, Goes, Ends}
-use Rattle.pac_board_model.specs.Trace.{by_view, frame_steps}
-use Rattle.pac_board_model.specs.Walk.{Walk, walk_after_step, onward_if, has_ended}
-use Rattle.pac_board_model.proofs.Runs.{runs-end}
-use Rattle.pac_board_model.proofs.Walks.{ended-for-good, not-both}
-use Rattle.pac_inputs.specs.Stretches.{total_frames}
+use Rattle.pac_board.specs.Stop.{Stop}
+use Rattle.pac_board.specs.BoardView.{BoardView, power_on_board_view}
+use Rattle.pac_board.specs.Step.{Next, Goes, Ends}
+use Rattle.pac_board.specs.Trace.{by_view, frame_steps}
+use Rattle.pac_board.specs.Walk.{Walk, walk_after_step, onward_if, has_ended}
+use Rattle.pac_board.proofs.Runs.{runs-end}
+use Rattle.pac_board.proofs.Walks.{ended-for-good, not-both}
+use Rattle.pac_debug_session.specs.Stretches.{total_frames}
 use Rattle.pac_debug_text.specs.declared.command.Command.{Command}
 use Rattle.pac_debug_text.specs.declared.command.Command.TheVariants as commands
 use Rattle.pac_debug_text.specs.declared.command.NoCommand.{NoCommand}

@@ -3,9 +3,9 @@ use Rattle.std.proofs.Common.{◌≡◌, ℕ, ◌-◌, ◌<◌, nat_lt, Bool, tr
 use Rattle.std.proofs.Common.{◌⊎◌, refl, sym, ap, subst, ◌∙◌, arith}
 use Rattle.std.proofs.lemmas.Bool.Decides.{nat_tests}
 use mathlib.Core.Logic.{inl, inr}
-use Rattle.pac_cpu.specs.declared.once.Stop.{Stop}
-use Rattle.pac_board_model.specs.Output.{Output}
-use Rattle.pac_board_model.proofs.Walks.{not-both}
+use Rattle.pac_board.specs.Stop.{Stop}
+use Rattle.pac_board.specs.Output.{Output}
+use Rattle.pac_board.proofs.Walks.{not-both}
 use Rattle.pac_debug_text.specs.declared.command.Command.{Command}
 use Rattle.pac_debug_text.specs.declared.command.Command.TheVariants as commands
 use Rattle.pac_debug_text.specs.declared.command.NoCommand.{NoCommand}

@@ -1,8 +1,8 @@
 -- A whole session: its lines, and then the run's end.
 use Rattle.std.proofs.Common.{◌≡◌, ℕ, ◌/◌, not, Ok, Err, List, [], ◌++◌, ◌⊎◌, refl, sym, subst, ◌∙◌, append_assoc, append-nil}
 use mathlib.Core.List.{IsPrefix}
-use Rattle.pac_board_model.specs.Output.{Output}
-use Rattle.pac_board_model.specs.Step.{frame_ticks}
+use Rattle.pac_board.specs.Output.{Output}
+use Rattle.pac_board.specs.Step.{frame_ticks}
 use Rattle.pac_board.specs.Sinks.{TookAll}
 use Rattle.pac_board.proofs.Sinks.{took-both}
 use Rattle.pac_out.specs.declared.counted.Counted.{Counted}

@@ -1,12 +1,12 @@
 -- To be believed: what a command is answered with, as a text of the session as the command left it.
 use Rattle.std.specs.Prelude.{ℕ, ◌-◌, List, [], ◌∷◌, ◌++◌, length, drop, map}
-use Rattle.pac_cpu.specs.declared.once.StepKind.{StepKind}
-use Rattle.pac_cpu.specs.declared.once.StepKind.TheVariants as kinds
-use Rattle.pac_latch.specs.Latched.{Latched, byte_of_latch}
-use Rattle.pac_map.specs.Contents.{read_of}
-use Rattle.pac_table.specs.Instructions.{code}
-use Rattle.pac_board_model.specs.BoardView.{BoardView}
-use Rattle.pac_board_model.specs.Step.{Moment}
+use Rattle.pac_board.specs.StepKind.{StepKind}
+use Rattle.pac_board.specs.StepKindVariants as kinds
+use Rattle.pac_board.specs.Latched.{Latched, byte_of_latch}
+use Rattle.pac_board.specs.MemoryContents.{read_of}
+use Rattle.pac_code.specs.Instructions.{code}
+use Rattle.pac_board.specs.BoardView.{BoardView}
+use Rattle.pac_board.specs.Step.{Moment}
 use Rattle.pac_debug_text.specs.declared.history.Done.{Done}
 use Rattle.pac_debug_text.specs.declared.history.Done.TheVariants as done
 use Rattle.pac_debug_text.specs.declared.history.HistoryLine.{HistoryLine}

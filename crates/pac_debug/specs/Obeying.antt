@@ -1,6 +1,6 @@
 -- To be believed: what a command line does to a session, and what it is answered with.
 use Rattle.std.specs.Prelude.{◌≡◌, ◌<◌, ℕ, Bool, true, false, List, [], ◌∷◌, ◌++◌, length, Option, None, Some, Result, Ok, Err, ◌⊎◌, slice_index_or}
-use Rattle.pac_board_model.specs.Output.{Output}
+use Rattle.pac_board.specs.Output.{Output}
 use Rattle.pac_board.specs.Sinks.{TookAll, Then}
 use Rattle.pac_board.specs.State.{nothing_due}
 use Rattle.pac_out.specs.declared.counted.Counted.{Counted}

@@ -4,7 +4,7 @@
 use Rattle.std.specs.Prelude.{◌≡◌, ◌<◌, ◌≤◌, ℕ, not, true, List, [], ◌∷◌, ◌++◌, length, All, Option, None, Some, Result, Ok, Err}
 use Rattle.std.specs.Prelude.{◌⊎◌}
 use mathlib.Core.List.{IsPrefix}
-use Rattle.pac_board_model.specs.Output.{Output}
+use Rattle.pac_board.specs.Output.{Output}
 use Rattle.pac_board.specs.Sinks.{TookAll, RefusesAt}
 use Rattle.pac_board.specs.State.{nothing_due}
 use Rattle.pac_out.specs.declared.counted.Counted.{Counted}

@@ -7,7 +7,7 @@ ghost use Rattle.pac_debug.specs.Watched.{LinesGive};
 use crate::line::{CommandFault, command};
 use pac_board::Sink;
 use pac_debug_session::Session;
-use pac_lex::first_line;
+use pac_debug_text::first_line;
 use pac_out::Out;
 use pac_out::counted::Counted;
 

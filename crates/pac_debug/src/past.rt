@@ -1,15 +1,14 @@
 //! The steps before a session's index, as they are told.
 
 ghost use Rattle.std.specs.Prelude.{◌≡◌, ◌<◌, ◌≤◌, length, slice_get, Some, take};
-ghost use Rattle.pac_table.specs.Instructions.{code};
+ghost use Rattle.pac_code.specs.Instructions.{code};
 ghost use Rattle.pac_debug_session.specs.Past.{told_at};
 ghost use Rattle.pac_debug.specs.Answers.{padded_bytes, done_of, told_lines, last_steps};
 
-use pac_code::encode;
-use pac_cpu::StepKind;
+use pac_board::StepKind;
+use pac_code::{Instr, encode};
 use pac_debug_session::Session;
 use pac_debug_text::{Done, HistoryLine};
-use pac_table::Instr;
 
 /// The most steps that are told (this profile).
 pub(crate) const MOST_STEPS: usize = 256;

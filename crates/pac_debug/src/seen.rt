@@ -17,7 +17,7 @@ pub(crate) struct Reader<'a> {
 }
 
 impl<'a> Peek for Reader<'a> {
-    ghost use Rattle.pac_map.specs.Contents.{read_of};
+    ghost use Rattle.pac_board.specs.MemoryContents.{read_of};
 
     ghost byte_at = { λ reader. read_of reader.board.now.set.program reader.board.now.state.now.board.memory };
 

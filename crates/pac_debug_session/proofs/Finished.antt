@@ -2,9 +2,9 @@
 use Rattle.std.proofs.Common.{◌≡◌, ℕ, ◌/◌, Bool, true, false, not, ◌&&◌, ◌||◌, nat_lt, ◌<◌, length, drop, ◌++◌, refl, sym, ap, subst}
 use Rattle.std.proofs.Common.{◌∙◌, append_assoc, arith}
 use Rattle.std.proofs.lemmas.Bool.Decides.{nat_tests}
-use Rattle.pac_board_model.specs.Output.{Output}
-use Rattle.pac_board_model.specs.Step.{frame_ticks}
-use Rattle.pac_board_model.proofs.Walks.{not-both}
+use Rattle.pac_board.specs.Output.{Output}
+use Rattle.pac_board.specs.Step.{frame_ticks}
+use Rattle.pac_board.proofs.Walks.{not-both}
 use Rattle.pac_board.proofs.Sinks.{took-both, refuses-after}
 use Rattle.pac_board.specs.Sinks.{TookAll}
 use Rattle.pac_board.specs.State.{nothing_due}

@@ -5,18 +5,18 @@ use Rattle.std.proofs.lemmas.Bool.Decides.{nat_tests}
 use Rattle.std.proofs.lemmas.List.{append-nil}
 use Rattle.std.proofs.Math.Seq.{drop-length, drop-append_seam}
 use mathlib.Core.List.{IsPrefix}
-use Rattle.pac_cpu.specs.declared.once.StepKind.{StepKind}
-use Rattle.pac_cpu.specs.declared.once.Once.{Once}
-use Rattle.pac_cpu.specs.declared.once.Once.TheVariants.{Stepped, Stopped}
-use Rattle.pac_cpu.specs.declared.once.Stop.{Stop}
+use Rattle.pac_board.specs.StepKind.{StepKind}
+use Rattle.pac_board.specs.Once.{Once}
+use Rattle.pac_board.specs.OnceVariants.{Stepped, Stopped}
+use Rattle.pac_board.specs.Stop.{Stop}
 use Rattle.pac_inputs.specs.Stretches.{total_frames}
-use Rattle.pac_board_model.specs.BoardView.{BoardView, power_on_board_view}
-use Rattle.pac_board_model.specs.Output.{Output}
-use Rattle.pac_board_model.specs.Step.{Moment, Next, Goes, Ends}
-use Rattle.pac_board_model.specs.Trace.{by_view, frame_steps}
-use Rattle.pac_board_model.specs.Walk.{Walk}
-use Rattle.pac_board_model.proofs.Runs.{runs-are-joined, runs-end}
-use Rattle.pac_board_model.proofs.Walks.{ended-for-good}
+use Rattle.pac_board.specs.BoardView.{BoardView, power_on_board_view}
+use Rattle.pac_board.specs.Output.{Output}
+use Rattle.pac_board.specs.Step.{Moment, Next, Goes, Ends}
+use Rattle.pac_board.specs.Trace.{by_view, frame_steps}
+use Rattle.pac_board.specs.Walk.{Walk}
+use Rattle.pac_board.proofs.Runs.{runs-are-joined, runs-end}
+use Rattle.pac_board.proofs.Walks.{ended-for-good}
 use Rattle.pac_board.specs.Calls.{once_at, outputs_in}
 use Rattle.pac_board.specs.Sinks.{TookAll}
 use Rattle.pac_board.specs.State.{nothing_due, steps_counted}

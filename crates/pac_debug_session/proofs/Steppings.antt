@@ -5,12 +5,12 @@ use Rattle.std.proofs.Common.{arith}
 use Rattle.std.proofs.lemmas.Bool.Decides.{nat_tests}
 use Rattle.std.proofs.lemmas.List.{length-append, length-drop, drop-drop, drop-append-le}
 use Rattle.circular_buffer.specs.Buffer.{keep_last}
-use Rattle.pac_cpu.specs.declared.once.Once.{Once}
-use Rattle.pac_cpu.specs.declared.once.StepKind.{StepKind}
+use Rattle.pac_board.specs.Once.{Once}
+use Rattle.pac_board.specs.StepKind.{StepKind}
 use Rattle.pac_inputs.specs.declared.line.Stretch.{Stretch}
-use Rattle.pac_board_model.specs.BoardView.{BoardView}
-use Rattle.pac_board_model.specs.Output.{Output}
-use Rattle.pac_board_model.specs.Step.{Moment, Next, Goes, Ends}
+use Rattle.pac_board.specs.BoardView.{BoardView}
+use Rattle.pac_board.specs.Output.{Output}
+use Rattle.pac_board.specs.Step.{Moment, Next, Goes, Ends}
 use Rattle.pac_board.specs.declared.due.Due.{Due}
 use Rattle.pac_board.specs.State.{BoardValue, nothing_due, steps_counted, due_outputs_in}
 use Rattle.pac_board.specs.Calls.{board_after_step, once_at, outputs_in}

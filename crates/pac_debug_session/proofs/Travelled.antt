@@ -3,17 +3,17 @@ use Rattle.std.proofs.Common.{◌≡◌, ℕ, suc, ◌+◌, ◌-◌, ◌^◌, �
 use Rattle.std.proofs.Common.{Option, None, Some, ◌++◌, refl, sym, ap, subst, ◌∙◌, append_assoc, arith}
 use Rattle.std.proofs.lemmas.Bool.Decides.{nat_tests}
 use mathlib.Core.List.{IsPrefix, prefix-append}
-use Rattle.pac_cpu.specs.declared.once.Stop.{Stop}
+use Rattle.pac_board.specs.Stop.{Stop}
 use Rattle.pac_inputs.specs.Stretches.{held}
-use Rattle.pac_map.specs.Entry.{Hold}
-use Rattle.pac_table.specs.Instructions.{most_ticks}
-use Rattle.pac_board_model.specs.Output.{Output}
-use Rattle.pac_board_model.specs.BoardView.{BoardView, power_on_board_view, board_after}
-use Rattle.pac_board_model.specs.Step.{Next, Goes, Ends}
-use Rattle.pac_board_model.specs.Trace.{by_view, power_on_moment}
-use Rattle.pac_board_model.specs.Walk.{Walk, walk_after_step, has_ended}
-use Rattle.pac_board_model.proofs.Runs.{runs-end, walk-near}
-use Rattle.pac_board_model.proofs.Walks.{not-both, late-has-ended, stopped-has-ended}
+use Rattle.pac_board.specs.Entry.{Hold}
+use Rattle.pac_board.specs.Instructions.{most_ticks}
+use Rattle.pac_board.specs.Output.{Output}
+use Rattle.pac_board.specs.BoardView.{BoardView, power_on_board_view, board_after}
+use Rattle.pac_board.specs.Step.{Next, Goes, Ends}
+use Rattle.pac_board.specs.Trace.{by_view, power_on_moment}
+use Rattle.pac_board.specs.Walk.{Walk, walk_after_step, has_ended}
+use Rattle.pac_board.proofs.Runs.{runs-end, walk-near}
+use Rattle.pac_board.proofs.Walks.{not-both, late-has-ended, stopped-has-ended}
 use Rattle.pac_board.proofs.Sinks.{took-both, refuses-after}
 use Rattle.pac_board.specs.Sinks.{TookAll}
 use Rattle.pac_board.specs.State.{nothing_due, steps_counted}

@@ -7,3 +7,4 @@ pub mod Steps
 pub mod Inside
 pub mod Silent
 pub mod Laws
+pub use Rattle.pac_inputs.specs.Stretches

@@ -3,11 +3,11 @@ use Rattle.std.specs.Prelude.{◌≡◌, ◌<◌, ◌≤◌, ℕ, ◌+◌, ◌-�
 use Rattle.std.specs.Prelude.{if◌then◌else◌}
 use Rattle.std.specs.Prelude.{List, ◌++◌, Option, None, Some, Result, Ok, Err, ◌⊎◌, slice_set}
 use mathlib.Core.List.{IsPrefix}
-use Rattle.pac_cpu.specs.declared.once.Once.{Once}
-use Rattle.pac_cpu.specs.declared.once.Stop.{Stop}
-use Rattle.pac_board_model.specs.Output.{Output}
-use Rattle.pac_board_model.specs.BoardView.{BoardView}
-use Rattle.pac_board_model.specs.Step.{Next, Goes, Ends, frame_ticks}
+use Rattle.pac_board.specs.Once.{Once}
+use Rattle.pac_board.specs.Stop.{Stop}
+use Rattle.pac_board.specs.Output.{Output}
+use Rattle.pac_board.specs.BoardView.{BoardView}
+use Rattle.pac_board.specs.Step.{Next, Goes, Ends, frame_ticks}
 use Rattle.pac_board.specs.declared.due.Due.{Due}
 use Rattle.pac_board.specs.Calls.{once_at, outputs_in}
 use Rattle.pac_board.specs.Sinks.{TookAll, RefusesAt}

@@ -4,7 +4,7 @@ use Rattle.std.specs.Prelude.{◌≡◌, ◌<◌, ◌≤◌, ◌^◌, ℕ, ◌==
 use Rattle.std.specs.Prelude.{List, [], ◌∷◌, ◌++◌, length, Option, None, Some, Result, Ok, Err}
 use Rattle.std.specs.List.{list_any}
 use Rattle.pac_inputs.specs.Stretches.{total_frames, most_frames}
-use Rattle.pac_board_model.specs.Output.{Output}
+use Rattle.pac_board.specs.Output.{Output}
 use Rattle.pac_board.specs.declared.due.Due.{Due}
 use Rattle.pac_board.specs.Sinks.{TookAll, RefusesAt}
 use Rattle.pac_board.specs.State.{BoardValue, power_on_board, board_with_inputs, due_outputs_in, nothing_due}

@@ -1,13 +1,13 @@
 -- For proofs: one step of a run, on a board: the board's step, and after a blank the inputs of the next frame.
 use Rattle.std.specs.Prelude.{◌≡◌, ℕ, List, [], ◌∷◌, ◌++◌}
 use Rattle.circular_buffer.specs.Buffer.{keep_last}
-use Rattle.pac_cpu.specs.declared.once.Once.{Once}
-use Rattle.pac_cpu.specs.declared.once.Once.TheVariants.{Stepped, Stopped}
+use Rattle.pac_board.specs.Once.{Once}
+use Rattle.pac_board.specs.OnceVariants.{Stepped, Stopped}
 use Rattle.pac_inputs.specs.Stretches.{held}
 use Rattle.pac_inputs.specs.declared.line.Stretch.{Stretch}
-use Rattle.pac_board_model.specs.BoardView.{BoardView}
-use Rattle.pac_board_model.specs.Step.{Next}
-use Rattle.pac_board_model.specs.Trace.{by_view, play_step}
+use Rattle.pac_board.specs.BoardView.{BoardView}
+use Rattle.pac_board.specs.Step.{Next}
+use Rattle.pac_board.specs.Trace.{by_view, play_step}
 use Rattle.pac_board.specs.State.{BoardValue, due_outputs}
 use Rattle.pac_board.specs.Calls.{board_after_step, once_at, outputs_in}
 use Rattle.pac_debug_session.specs.declared.history.PastStep.{PastStep}

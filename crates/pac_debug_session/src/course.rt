@@ -4,14 +4,12 @@ ghost use Rattle.std.specs.Prelude.{◌≡◌, ◌<◌, ◌≤◌, ◌*◌, []};
 ghost use Rattle.pac_board.specs.State as state;
 ghost use Rattle.pac_inputs.specs.Inputs.{mask};
 ghost use Rattle.pac_inputs.specs.Stretches.{total_frames, most_frames};
-ghost use Rattle.pac_board_model.specs.Step.{frame_ticks};
+ghost use Rattle.pac_board.specs.Step.{frame_ticks};
 ghost use Rattle.pac_debug_session.specs.Steps.{PlaysStep, told_after};
 
 use crate::history::{History, PastStep};
-use bitflags::Flags;
-use pac_board::Board;
-use pac_cpu::Once;
-use pac_inputs::{Inputs, Script};
+use pac_board::{Board, Once};
+use pac_inputs::{Flags, Inputs, Script};
 
 /// The T-states of a frame.
 pub const FRAME_TICKS: u64 = 50_688;

@@ -5,7 +5,7 @@ ghost use Rattle.circular_buffer.specs.Buffer.{keep_last};
 ghost use Rattle.pac_debug_session.specs.Past.{told_step_count};
 
 use circular_buffer::HeapCircularBuffer;
-use pac_cpu::StepKind;
+use pac_board::StepKind;
 use std::alloc::{AllocError, Global};
 use std::marker::Model;
 

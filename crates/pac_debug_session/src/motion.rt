@@ -3,7 +3,7 @@
 ghost use Rattle.std.specs.Prelude.{◌≡◌};
 ghost use Rattle.pac_debug_session.specs.Motions.{motion_ending, stop_of};
 
-use pac_cpu::Stop;
+use pac_board::Stop;
 
 /// A motion forwards.
 #[derive(Clone, Copy)]

@@ -2,12 +2,12 @@
 use Rattle.std.specs.Prelude.{ℕ, Bool, true, false, List, [], ◌∷◌, codes, decimal}
 use Rattle.std.specs.List.{flat_map}
 use Rattle.pac_num.specs.Hexadecimal.{hex_byte, hex_word}
-use Rattle.pac_table.specs.declared.effects.InterruptMode.{InterruptMode}
-use Rattle.pac_table.specs.declared.effects.InterruptMode.TheVariants.{Zero, One, Two}
+use Rattle.pac_exec.specs.InterruptMode.{InterruptMode}
+use Rattle.pac_exec.specs.InterruptModeVariants.{Zero, One, Two}
 use Rattle.pac_exec.specs.declared.regs.Regs.{Regs}
 use Rattle.pac_exec.specs.declared.regs.Alternate.{Alternate}
 use Rattle.pac_dis.specs.Texts.{text_at}
-use Rattle.pac_listing.specs.Listing.{joined_pieces}
+use Rattle.pac_dis_text.specs.Listing.{joined_pieces}
 use Rattle.pac_debug_text.specs.declared.history.Done.{Done}
 use Rattle.pac_debug_text.specs.declared.history.Done.TheVariants as done
 use Rattle.pac_debug_text.specs.declared.history.HistoryLine.{HistoryLine}

@@ -14,6 +14,7 @@ mod verb;
 
 pub use command::{Command, NoCommand, read_command};
 pub use history::{Done, HistoryLine, put_history};
+pub use pac_lex::first_line;
 pub use peek::{Peek, put_instructions, put_memory};
 pub use place::{Ending, Place, put_place};
 pub use refusal::{Refusal, put_ok, put_refusal};

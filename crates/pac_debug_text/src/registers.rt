@@ -6,12 +6,11 @@ ghost use Rattle.pac_out.specs.Pending.{Gathers};
 ghost use Rattle.pac_debug_text.specs.Texts as text;
 
 use itoa::Buffer;
-use pac_exec::{Alternate, Regs};
+use pac_exec::{Alternate, InterruptMode, Regs};
 use pac_num::{hex_byte, hex_word};
 use pac_out::counted::Counted;
 use pac_out::pending::Pending;
 use pac_out::{Out, WriteFault};
-use pac_table::InterruptMode;
 
 /// What the board keeps in its latches.
 #[derive(Clone, Copy, Debug, PartialEq, Eq)]

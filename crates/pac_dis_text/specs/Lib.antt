@@ -1,1 +1,2 @@
 pub mod Lines
+pub use Rattle.pac_listing.specs.Listing

@@ -16,3 +16,5 @@ pub mod Ports
 pub mod SpecialLoads
 pub mod Blocks
 pub mod Effect
+pub use Rattle.pac_table.specs.declared.effects.InterruptMode
+pub use Rattle.pac_table.specs.declared.effects.InterruptMode.TheVariants as InterruptModeVariants

@@ -21,5 +21,6 @@ mod word_arithmetic;
 mod word_loads;
 
 pub use instructions::{perform, perform_arithmetic_row, perform_row};
+pub use pac_table::InterruptMode;
 pub use pairs::push_word;
 pub use regs::{Alternate, Regs};

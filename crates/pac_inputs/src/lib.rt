@@ -8,6 +8,7 @@ mod ports;
 mod reading;
 mod script;
 
+pub use bitflags::Flags;
 pub use fault::{ScriptCode, ScriptError, ScriptFault};
 pub use inputs::Inputs;
 pub use line::{FRAME_LIMIT, Stretch};

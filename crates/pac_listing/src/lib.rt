@@ -7,3 +7,4 @@ mod rows;
 
 pub use digits::byte_columns;
 pub use listing::write_listing;
+pub use pac_num::{hex_byte, hex_word};

@@ -8,3 +8,5 @@ mod memory;
 pub use board_bus::Map;
 pub use bus_table::{BusPlace, read_place, write_place};
 pub use memory::{Memory, MemoryFields};
+pub use pac_inputs::{Flags, Inputs};
+pub use pac_roms::RomSet;

@@ -16,9 +16,8 @@ mod fields;
 mod reading;
 
 use crate::BusPlace;
-use bitflags::Flags;
 pub use fields::MemoryFields;
-use pac_inputs::Inputs;
+use pac_inputs::{Flags, Inputs};
 use pac_latch::Latch;
 use std::alloc::{AllocError, Global};
 use std::marker::Model;

@@ -7,4 +7,7 @@ mod wave_file;
 
 pub use frames::Frames;
 pub use image::Image;
+pub use pac_out::counted::Counted;
+pub use pac_out::through::Through;
+pub use pac_out::{Out, WriteFault};
 pub use wave_file::WaveFile;

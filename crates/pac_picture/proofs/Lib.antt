@@ -8,3 +8,4 @@ pub mod Counts
 pub mod Layers
 pub mod Composed
 pub mod Stale
+pub use Rattle.pac_tiles.proofs.Tabulated

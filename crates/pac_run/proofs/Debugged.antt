@@ -2,13 +2,13 @@
 use Rattle.std.proofs.Common.{◌≡◌, ℕ, List, Option, Ok, Err, refl, sym, ap, subst, ◌∙◌}
 use Rattle.std.specs.Str.Lines.{lines}
 use Rattle.pac_inputs.specs.Stretches.{total_frames}
-use Rattle.pac_asm_program.specs.Programs.{Assembled}
-use Rattle.pac_board_model.specs.Output.{Output}
+use Rattle.pac_asm.specs.Assembled.{Assembled}
+use Rattle.pac_board.specs.Output.{Output}
 use Rattle.pac_board.specs.State.{BoardValue}
-use Rattle.pac_debug_session.specs.Motions.{IsOutcome}
-use Rattle.pac_debug_session.specs.Running.{whole_run}
-use Rattle.pac_debug_session.specs.Session.{SessionValue, session_at_start}
-use Rattle.pac_debug_session.specs.declared.motion.RunTotals as told
+use Rattle.pac_debug.specs.Motions.{IsOutcome}
+use Rattle.pac_debug.specs.Running.{whole_run}
+use Rattle.pac_debug.specs.Session.{SessionValue, session_at_start}
+use Rattle.pac_debug.specs.RunTotals as told
 use Rattle.pac_run.specs.declared.fault.Output.{Output as Which}
 use Rattle.pac_run.specs.declared.fault.Output.TheVariants as which
 use Rattle.pac_run.specs.declared.fault.RunFault.{RunFault}

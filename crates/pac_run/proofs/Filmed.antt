@@ -5,15 +5,15 @@ use Rattle.std.proofs.lemmas.Grind.{flat_map-append}
 use Rattle.std.specs.List.{flat_map}
 use Rattle.std.specs.Prelude.{IfSome}
 use mathlib.Core.List.{IsPrefix}
-use Rattle.pac_out.specs.Counted.{HasTaken, Takes, Refuses}
-use Rattle.pac_out.specs.declared.WriteFault.{WriteFault}
-use Rattle.pac_out.proofs.Files.{takes-nothing, takes-joined, refuses-after, refuses-within}
+use Rattle.pac_media.specs.Counted.{HasTaken, Takes, Refuses}
+use Rattle.pac_media.specs.WriteFault.{WriteFault}
+use Rattle.pac_media.proofs.Files.{takes-nothing, takes-joined, refuses-after, refuses-within}
 use Rattle.pac_media.specs.Images.{ppm_of}
 use Rattle.pac_media.specs.Samples.{sample_text, samples_text}
 use Rattle.pac_media.specs.Sound.{HasText, Gains, Delivers, SoundFails, FinishesSound}
 use Rattle.pac_media.specs.Sound as media
 use Rattle.pac_media.proofs.Gathered.{fails-within, finishes-after}
-use Rattle.pac_board_model.specs.Output.{Output, Image, Sound, Show}
+use Rattle.pac_board.specs.Output.{Output, Image, Sound, Show}
 use Rattle.pac_board.specs.Sinks.{TookAll, RefusesAt}
 use Rattle.pac_run.specs.declared.fault.Output.{Output as Which}
 use Rattle.pac_run.specs.declared.fault.Output.TheVariants as which

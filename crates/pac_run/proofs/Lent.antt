@@ -2,18 +2,18 @@
 use Rattle.std.proofs.Common.{◌≡◌, ℕ, ◌*◌, ◌-◌, ◌<◌, ◌≤◌, pos, List, length, replicate, [], ◌∷◌, ◌++◌, Result, Ok, Err}
 use Rattle.std.proofs.Common.{inl, inr, refl, sym, ap, subst, ◌∙◌, append_assoc, append-nil, arith}
 use Rattle.std.specs.Borrow.{MutBor}
-use Rattle.pac_out.specs.declared.counted.Counted.{Counted}
-use Rattle.pac_out.specs.declared.WriteFault.{WriteFault}
-use Rattle.pac_out.specs.Counted.{HasTaken, HasStopped, Takes, Puts}
-use Rattle.pac_out.specs.Writes.{lent_took, lent_refused}
-use Rattle.pac_out.proofs.Files.{stops-within}
-use Rattle.pac_debug_session.specs.Running.{Setting, whole_run}
+use Rattle.pac_media.specs.CountedFile.{Counted}
+use Rattle.pac_media.specs.WriteFault.{WriteFault}
+use Rattle.pac_media.specs.Counted.{HasTaken, HasStopped, Takes, Puts}
+use Rattle.pac_media.specs.Writes.{lent_took, lent_refused}
+use Rattle.pac_media.proofs.Files.{stops-within}
+use Rattle.pac_debug.specs.Running.{Setting, whole_run}
 use Rattle.pac_debug.specs.Watched.{given_by}
 use Rattle.pac_media.specs.Samples.{wav_header, samples_text, header_size}
 use Rattle.pac_media.specs.Sound.{HasText, Delivers, SoundFails, FinishesSound}
 use Rattle.pac_media.specs.Sound as media
-use Rattle.pac_board_model.specs.Laws.{frame_samples}
-use Rattle.pac_board_model.specs.Output.{Output, Sound, Show}
+use Rattle.pac_board.specs.ModelLaws.{frame_samples}
+use Rattle.pac_board.specs.Output.{Output, Sound, Show}
 use Rattle.pac_run.specs.declared.fault.Output.{Output as Which}
 use Rattle.pac_run.specs.declared.fault.Output.TheVariants as which
 use Rattle.pac_run.specs.declared.film.Film.{Film}

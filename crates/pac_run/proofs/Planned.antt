@@ -4,7 +4,7 @@ use Rattle.std.proofs.lemmas.Bool.{false≢true}
 use Rattle.std.specs.Prelude.{is_ok}
 use Rattle.std.proofs.lemmas.Result.{IfOk-at_ok}
 use Rattle.std.proofs.lemmas.List.Elements.{All-nil}
-use Rattle.pac_code.specs.Items.{AllLie, Lies}
+use Rattle.pac_asm.specs.PlacedItems.{AllLie, Lies}
 use Rattle.pac_roms_manifest.specs.Manifests.{manifest_of}
 use Rattle.pac_roms_manifest.specs.Sets.{set_of, unless_fault, fault_of_set, parts_of_set}
 use Rattle.pac_roms_manifest.specs.Results.{SetGives}
@@ -13,13 +13,13 @@ use Rattle.pac_roms_manifest.specs.declared.fault.SetError.{SetError}
 use Rattle.pac_roms_manifest.specs.declared.fault.SetError.TheVariants as reading
 use Rattle.pac_roms_manifest.specs.declared.manifest.Manifest.{Manifest}
 use Rattle.pac_roms_manifest.specs.declared.part.Part.{Part}
-use Rattle.pac_asm_program.specs.Programs.{Assembled, items_of}
-use Rattle.pac_roms.specs.Parts.{Parts}
+use Rattle.pac_asm.specs.Assembled.{Assembled, items_of}
+use Rattle.pac_board.specs.RomParts.{Parts}
 use Rattle.pac_run.specs.declared.fault.RunFault.{RunFault}
 use Rattle.pac_run.specs.declared.fault.RunFault.TheVariants as fault
 use Rattle.pac_inputs.specs.Script.{script_of}
 use Rattle.pac_inputs.specs.declared.line.Stretch.{Stretch}
-use Rattle.pac_roms.specs.Parts.{IsWhole}
+use Rattle.pac_board.specs.RomParts.{IsWhole}
 use Rattle.pac_board.specs.State.{BoardValue, power_on_board}
 use Rattle.pac_run.specs.declared.inputs.RunInputs.{RunInputs}
 use Rattle.pac_run.specs.Plan.{◌>>=◌, set_told, set_in, fault_told, script_told, program_items, LieIn, Judges, IsPrepared}

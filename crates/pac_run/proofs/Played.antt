@@ -2,18 +2,18 @@
 use Rattle.std.proofs.Common.{◌≡◌, ℕ, zero, suc, ◌+◌, ◌-◌, ◌*◌, ◌/◌, ◌<◌, ◌≤◌, List, [], ◌++◌, Option, None, Some, Err}
 use Rattle.std.proofs.Common.{true, false, is_some, refl, sym, ap, subst, ◌∙◌, append_assoc, arith}
 use Rattle.std.proofs.lemmas.List.{append-nil}
-use Rattle.pac_cpu.specs.declared.once.Stop.{Stop}
+use Rattle.pac_board.specs.Stop.{Stop}
 use Rattle.pac_inputs.specs.Stretches.{total_frames, held}
 use Rattle.pac_inputs.specs.declared.line.Stretch.{Stretch}
-use Rattle.pac_map.specs.Entry.{Hold}
-use Rattle.pac_board_model.specs.BoardView.{BoardView, board_after}
-use Rattle.pac_board_model.specs.Laws.{by_frames, next_frame, with_frame}
-use Rattle.pac_board_model.specs.Output.{Output}
-use Rattle.pac_board_model.specs.Step.{Questions, step, frame_ticks}
-use Rattle.pac_board_model.specs.Trace.{by_view}
-use Rattle.pac_board_model.specs.Walk.{Walk, walk_to}
-use Rattle.pac_board_model.proofs.Runs.{runs-go-by-frames, walk-near}
-use Rattle.pac_board_model.proofs.Walks.{goes-on, open-is-late, step-timely, walk-to-ends}
+use Rattle.pac_board.specs.Entry.{Hold}
+use Rattle.pac_board.specs.BoardView.{BoardView, board_after}
+use Rattle.pac_board.specs.ModelLaws.{by_frames, next_frame, with_frame}
+use Rattle.pac_board.specs.Output.{Output}
+use Rattle.pac_board.specs.Step.{Questions, step, frame_ticks}
+use Rattle.pac_board.specs.Trace.{by_view}
+use Rattle.pac_board.specs.Walk.{Walk, walk_to}
+use Rattle.pac_board.proofs.Runs.{runs-go-by-frames, walk-near}
+use Rattle.pac_board.proofs.Walks.{goes-on, open-is-late, step-timely, walk-to-ends}
 use Rattle.pac_board.specs.declared.fault.Fault.{Fault}
 use Rattle.pac_board.specs.declared.fault.Fault.TheVariants.{TooFar, Refused}
 use Rattle.pac_board.specs.Calls.{course_at, course, outputs_given, IsRunRefused, Executes}

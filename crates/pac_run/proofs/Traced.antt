@@ -1,27 +1,27 @@
 -- A board that plays a plan, and the plan's trace.
 use Rattle.std.proofs.Common.{◌≡◌, ℕ, ◌*◌, ◌/◌, ◌^◌, ◌<◌, ◌≤◌, List, [], Option, refl, sym, ap, subst, ◌∙◌, arith}
-use Rattle.pac_cpu.specs.declared.once.Stop.{Stop}
+use Rattle.pac_board.specs.Stop.{Stop}
 use Rattle.pac_inputs.specs.Stretches.{total_frames, held, most_frames}
 use Rattle.pac_inputs.specs.declared.line.Stretch.{Stretch}
-use Rattle.pac_map.specs.Entry.{Hold}
-use Rattle.pac_asm_program.specs.Programs.{Assembled}
-use Rattle.pac_roms.specs.Parts.{Parts, IsWhole}
-use Rattle.pac_board_model.specs.BoardView.{BoardView, power_on_board_view}
-use Rattle.pac_board_model.specs.Carried.{walk_view}
-use Rattle.pac_board_model.specs.History.{board_after_entries}
-use Rattle.pac_board_model.specs.Step.{Moment, frame_ticks}
-use Rattle.pac_board_model.specs.Trace.{by_history, by_view, play_step, power_on_moment, run_at, trace, frame_steps}
-use Rattle.pac_board_model.specs.Walk.{Walk}
-use Rattle.pac_board_model.proofs.Agreed.{runs-agree, power-on-board}
-use Rattle.pac_board_model.proofs.HostCarried.{steps-agree}
-use Rattle.pac_board_model.proofs.Outputs.{outputs-timed}
-use Rattle.pac_board_model.proofs.Runs.{walk-near}
-use Rattle.pac_board_model.proofs.Walks.{play-timely}
+use Rattle.pac_board.specs.Entry.{Hold}
+use Rattle.pac_asm.specs.Assembled.{Assembled}
+use Rattle.pac_board.specs.RomParts.{Parts, IsWhole}
+use Rattle.pac_board.specs.BoardView.{BoardView, power_on_board_view}
+use Rattle.pac_board.specs.Carried.{walk_view}
+use Rattle.pac_board.specs.History.{board_after_entries}
+use Rattle.pac_board.specs.Step.{Moment, frame_ticks}
+use Rattle.pac_board.specs.Trace.{by_history, by_view, play_step, power_on_moment, run_at, trace, frame_steps}
+use Rattle.pac_board.specs.Walk.{Walk}
+use Rattle.pac_board.proofs.Agreed.{runs-agree, power-on-board}
+use Rattle.pac_board.proofs.HostCarried.{steps-agree}
+use Rattle.pac_board.proofs.Outputs.{outputs-timed}
+use Rattle.pac_board.proofs.Runs.{walk-near}
+use Rattle.pac_board.proofs.Walks.{play-timely}
 use Rattle.pac_board.specs.State.{BoardValue}
-use Rattle.pac_debug_session.specs.Motions.{IsOutcome}
-use Rattle.pac_debug_session.specs.Running.{play_of, whole_run}
-use Rattle.pac_debug_session.specs.Session.{SessionValue}
-use Rattle.pac_debug_session.specs.declared.motion.RunTotals as told
+use Rattle.pac_debug.specs.Motions.{IsOutcome}
+use Rattle.pac_debug.specs.Running.{play_of, whole_run}
+use Rattle.pac_debug.specs.Session.{SessionValue}
+use Rattle.pac_debug.specs.RunTotals as told
 use Rattle.pac_run.specs.declared.inputs.RunInputs.{RunInputs}
 use Rattle.pac_run.specs.declared.plan.Prepared.{Prepared}
 use Rattle.pac_run.specs.Debugs.{IsReady, IsSeenThrough, setting_of_plan}

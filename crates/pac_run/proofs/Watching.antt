@@ -1,15 +1,15 @@
 -- What film, wave file and text have after a session that was watched, by its answer.
 use Rattle.std.proofs.Common.{◌≡◌, ℕ, List, [], ◌∷◌, ◌++◌, Result, Err, refl, sym, ap, subst, ◌∙◌}
-use Rattle.pac_out.specs.declared.WriteFault.{WriteFault}
-use Rattle.pac_out.specs.declared.counted.Counted.{Counted}
-use Rattle.pac_out.specs.Counted.{Takes}
+use Rattle.pac_media.specs.WriteFault.{WriteFault}
+use Rattle.pac_media.specs.CountedFile.{Counted}
+use Rattle.pac_media.specs.Counted.{Takes}
 use Rattle.pac_media.specs.Sound.{FinishesSound}
 use Rattle.pac_media.proofs.Gathered.{finishes-after}
-use Rattle.pac_board_model.specs.Output.{Output, Sound, Show}
+use Rattle.pac_board.specs.Output.{Output, Sound, Show}
 use Rattle.pac_board.specs.Sinks.{TookAll}
-use Rattle.pac_debug_session.specs.Running.{Setting, whole_run}
-use Rattle.pac_debug_session.specs.Session.{SessionValue, session_at_start}
-use Rattle.pac_debug_session.specs.declared.motion.RunTotals as told
+use Rattle.pac_debug.specs.Running.{Setting, whole_run}
+use Rattle.pac_debug.specs.Session.{SessionValue, session_at_start}
+use Rattle.pac_debug.specs.RunTotals as told
 use Rattle.pac_debug.specs.declared.line.CommandFault.{CommandFault}
 use Rattle.pac_debug.specs.declared.line.CommandFault.TheVariants as faults
 use Rattle.pac_debug.specs.Obeying.{Scene}

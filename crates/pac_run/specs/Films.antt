@@ -1,11 +1,11 @@
 -- For proofs: what the film and the wave file of a run, side by side, make of an output of the board.
 use Rattle.std.specs.Prelude.{◌≡◌, ℕ, ℤ, ◌-◌, List, Some}
-use Rattle.pac_out.specs.Counted.{Takes, Refuses}
-use Rattle.pac_out.specs.declared.WriteFault.{WriteFault}
+use Rattle.pac_media.specs.Counted.{Takes, Refuses}
+use Rattle.pac_media.specs.WriteFault.{WriteFault}
 use Rattle.pac_media.specs.Images.{ppm_of}
 use Rattle.pac_media.specs.Samples.{sample_text}
 use Rattle.pac_media.specs.Sound.{Gains, SoundFails}
-use Rattle.pac_board_model.specs.Output.{Output, Image, Sound, Show}
+use Rattle.pac_board.specs.Output.{Output, Image, Sound, Show}
 use Rattle.pac_run.specs.declared.fault.Output.TheVariants as which
 use Rattle.pac_run.specs.declared.film.Film.{Film}
 

@@ -7,3 +7,11 @@ pub mod Run
 pub mod Recorded
 pub mod Watched
 pub mod Debugs
+pub use Rattle.pac_inputs.specs.Codes as ScriptCodes
+pub use Rattle.pac_roms_manifest.specs.Codes as SetCodes
+pub use Rattle.pac_roms_manifest.specs.Manifests
+pub use Rattle.pac_roms_manifest.specs.declared.manifest.Manifest
+pub use Rattle.pac_board.specs.Stop
+pub use Rattle.pac_media.specs.Counted
+pub use Rattle.pac_media.specs.WriteFault
+pub use Rattle.pac_media.specs.Writes

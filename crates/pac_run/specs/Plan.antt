@@ -1,6 +1,6 @@
 -- To be believed: what a run plays: the program of the source, the ROM set and the script; or the first of their faults.
 use Rattle.std.specs.Prelude.{◌≡◌, ℕ, List, [], Option, None, Some, option_map, Result, Ok, Err}
-use Rattle.pac_code.specs.Items.{Item, AllLie}
+use Rattle.pac_asm.specs.PlacedItems.{Item, AllLie}
 use Rattle.pac_asm.specs.Programs.{program_of}
 use Rattle.pac_asm.specs.declared.fault.AsmFault.{AsmFault}
 use Rattle.pac_inputs.specs.Script.{script_of}
@@ -13,8 +13,8 @@ use Rattle.pac_roms_manifest.specs.declared.fault.SetFault.{SetFault}
 use Rattle.pac_roms_manifest.specs.declared.fault.SetError.{SetError}
 use Rattle.pac_roms_manifest.specs.declared.fault.SetError.TheVariants as reading
 use Rattle.pac_roms_manifest.specs.declared.part.Part.{Part}
-use Rattle.pac_asm_program.specs.Programs.{Assembled, items_of}
-use Rattle.pac_roms.specs.Parts.{Parts, IsWhole}
+use Rattle.pac_asm.specs.Assembled.{Assembled, items_of}
+use Rattle.pac_board.specs.RomParts.{Parts, IsWhole}
 use Rattle.pac_board.specs.State.{power_on_board}
 use Rattle.pac_run.specs.declared.inputs.RunInputs.{RunInputs}
 use Rattle.pac_run.specs.declared.plan.Prepared.{Prepared}

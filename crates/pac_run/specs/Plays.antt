@@ -1,16 +1,16 @@
 -- For proofs: what playing a script on a board comes to: its trace, each output of which is offered to a sink.
 use Rattle.std.specs.Prelude.{◌≡◌, ℕ, List, ◌++◌, Option, None, Some, Result, Ok, Err}
 use mathlib.Core.List.{IsPrefix}
-use Rattle.pac_cpu.specs.declared.once.Stop.{Stop}
+use Rattle.pac_board.specs.Stop.{Stop}
 use Rattle.pac_inputs.specs.declared.line.Stretch.{Stretch}
-use Rattle.pac_board_model.specs.BoardView.{BoardView}
-use Rattle.pac_board_model.specs.Output.{Output}
-use Rattle.pac_board_model.specs.Trace.{by_view, power_on_moment, trace}
-use Rattle.pac_board_model.specs.Walk.{Walk}
+use Rattle.pac_board.specs.BoardView.{BoardView}
+use Rattle.pac_board.specs.Output.{Output}
+use Rattle.pac_board.specs.Trace.{by_view, power_on_moment, trace}
+use Rattle.pac_board.specs.Walk.{Walk}
 use Rattle.pac_board.specs.Sinks.{TookAll, RefusesAt}
 use Rattle.pac_board.specs.State.{BoardValue, BoardState, nothing_due, board_with_inputs}
 use Rattle.pac_board.specs.Calls.{course, outputs_given, board_after_run}
-use Rattle.pac_debug_session.specs.Running.{play_of}
+use Rattle.pac_debug.specs.Running.{play_of}
 
 -- a board on which nothing happened yet: no time went by, nothing was asked of it, and nothing is due
 abbrev pub untouched_state : BoardView → BoardState

@@ -1,15 +1,15 @@
 -- For proofs: what recording a board's outputs leaves of the film and the wave file, side by side.
 use Rattle.std.specs.Prelude.{◌≡◌, ℕ, ◌/◌, ◌≤◌, List, [], ◌∷◌, ◌++◌, length, Option, Result, Ok, Err}
-use Rattle.pac_cpu.specs.declared.once.Stop.{Stop}
+use Rattle.pac_board.specs.Stop.{Stop}
 use Rattle.pac_inputs.specs.declared.line.Stretch.{Stretch}
-use Rattle.pac_out.specs.Counted.{HasTaken, Takes, Refuses, file_count}
-use Rattle.pac_out.specs.declared.WriteFault.{WriteFault}
+use Rattle.pac_media.specs.Counted.{HasTaken, Takes, Refuses, file_count}
+use Rattle.pac_media.specs.WriteFault.{WriteFault}
 use Rattle.pac_media.specs.Samples.{samples_text}
 use Rattle.pac_media.specs.Sound.{Delivers, SoundFails, FinishesSound}
 use Rattle.pac_media.specs.Sound as media
-use Rattle.pac_board_model.specs.BoardView.{BoardView}
-use Rattle.pac_board_model.specs.Output.{Output, Image, Sound, Show}
-use Rattle.pac_board_model.specs.Step.{Moment, frame_ticks}
+use Rattle.pac_board.specs.BoardView.{BoardView}
+use Rattle.pac_board.specs.Output.{Output, Image, Sound, Show}
+use Rattle.pac_board.specs.Step.{Moment, frame_ticks}
 use Rattle.pac_board.specs.State.{BoardValue}
 use Rattle.pac_run.specs.declared.fault.Output.{Output as Which}
 use Rattle.pac_run.specs.declared.fault.Output.TheVariants as which

@@ -1,16 +1,16 @@
 -- To be believed: what a run writes and answers.
 use Rattle.std.specs.Prelude.{◌≡◌, ℕ, ◌<◌, ◌≤◌, List, [], ◌∷◌, ◌++◌, length, Result, Ok, Err, ◌⊎◌}
-use Rattle.pac_out.specs.Counted.{file_count}
-use Rattle.pac_out.specs.Writes.{StopsAfter}
+use Rattle.pac_media.specs.Counted.{file_count}
+use Rattle.pac_media.specs.Writes.{StopsAfter}
 use Rattle.pac_inputs.specs.Stretches.{total_frames}
-use Rattle.pac_map.specs.Entry.{Entry}
+use Rattle.pac_board.specs.Entry.{Entry}
 use Rattle.pac_media.specs.Samples.{header_size}
-use Rattle.pac_board_model.specs.BoardView.{power_on_board_view}
-use Rattle.pac_board_model.specs.Output.{Output, Image, Sound, Show}
-use Rattle.pac_board_model.specs.Shown.{blank_count}
-use Rattle.pac_board_model.specs.Trace.{by_history, trace}
-use Rattle.pac_board_model.specs.Walk.{Walk}
-use Rattle.pac_debug_session.specs.Running.{play_of}
+use Rattle.pac_board.specs.BoardView.{power_on_board_view}
+use Rattle.pac_board.specs.Output.{Output, Image, Sound, Show}
+use Rattle.pac_board.specs.Shown.{blank_count}
+use Rattle.pac_board.specs.Trace.{by_history, trace}
+use Rattle.pac_board.specs.Walk.{Walk}
+use Rattle.pac_debug.specs.Running.{play_of}
 use Rattle.pac_run.specs.declared.fault.Output.{Output as Which}
 use Rattle.pac_run.specs.declared.fault.Output.TheVariants.{Frames, Wave, Listing, Report, Text}
 use Rattle.pac_run.specs.declared.fault.RunFault.{RunFault}

@@ -1,14 +1,14 @@
 -- To be believed: what a debugger's session tells while its outputs are watched, and what film and wave file have where its
 -- text is refused. What is said of these three as files side by side is for proofs.
 use Rattle.std.specs.Prelude.{◌≡◌, ℕ, ◌<◌, ◌≤◌, List, ◌∷◌, ◌++◌, length, Result, Ok, Err}
-use Rattle.pac_out.specs.declared.counted.Counted.{Counted}
-use Rattle.pac_out.specs.declared.WriteFault.{WriteFault}
-use Rattle.pac_out.specs.Counted.{Takes, Refuses, file_count}
+use Rattle.pac_media.specs.CountedFile.{Counted}
+use Rattle.pac_media.specs.WriteFault.{WriteFault}
+use Rattle.pac_media.specs.Counted.{Takes, Refuses, file_count}
 use Rattle.pac_media.specs.Samples.{header_size, samples_text}
-use Rattle.pac_debug_session.specs.Running.{Setting, whole_run}
-use Rattle.pac_debug_session.specs.Session.{SessionValue, session_at_start}
+use Rattle.pac_debug.specs.Running.{Setting, whole_run}
+use Rattle.pac_debug.specs.Session.{SessionValue, session_at_start}
 use Rattle.pac_debug.specs.Watched.{TellsOfLine, TellsAll, ToldUpTo, given_by}
-use Rattle.pac_board_model.specs.Output.{Output}
+use Rattle.pac_board.specs.Output.{Output}
 use Rattle.pac_run.specs.declared.fault.Output.{Output as Which}
 use Rattle.pac_run.specs.declared.fault.Output.TheVariants as which
 use Rattle.pac_run.specs.declared.film.Film.{Film}

@@ -1,7 +1,7 @@
 //! A run under a debugger as one call.
 
 ghost use Rattle.std.specs.Prelude.{◌≡◌, IfOk, IfErr, Err};
-ghost use Rattle.pac_debug_session.specs.Session.{IsNew, session_at_start};
+ghost use Rattle.pac_debug.specs.Session.{IsNew, session_at_start};
 ghost use Rattle.pac_run.specs.declared.fault.RunFault.TheVariants.{NoMemory};
 ghost use Rattle.pac_run.specs.Plan.{Prepares};
 ghost use Rattle.pac_run.specs.Debugs.{Debugs, IsReady};
@@ -12,16 +12,15 @@ use crate::outcome::Outcome;
 use crate::plan::{Prepared, prepare};
 use crate::run::{list, report_on};
 use crate::watch::watch_run;
-use pac_asm_program::Program;
+use pac_asm::Program;
 use pac_board::Board;
-use pac_debug_session::Session;
+use pac_debug::Session;
 use pac_inputs::Script;
-use pac_media::Image;
-use pac_out::Out;
+use pac_media::{Image, Out};
 use std::alloc::Global;
 
 /// What a session's run came to, as a run tells it.
-fn outcome_of(outcome: pac_debug_session::RunTotals) -> Outcome
+fn outcome_of(outcome: pac_debug::RunTotals) -> Outcome
     ensures { result ≡ record { frames = outcome.frames; steps = outcome.steps; ticks = outcome.ticks; stop = outcome.stop } }
 {
     Outcome {

@@ -8,12 +8,9 @@ ghost use Rattle.pac_run.specs.Recorded.{GivesUp, HasPlayed, PerformsFilm, Recor
 
 use crate::fault::Output;
 use crate::play::play;
-use pac_board::{Board, Refused, Sink};
-use pac_cpu::Stop;
+use pac_board::{Board, Picture, Refused, Sink, Stop};
 use pac_inputs::Script;
-use pac_media::{Frames, Image, WaveFile};
-use pac_out::Out;
-use pac_picture::Picture;
+use pac_media::{Frames, Image, Out, WaveFile};
 
 /// The film and the wave file of a run, and which of them refused, after how many bytes, if one did.
 #[derive(Drop)]

@@ -17,4 +17,8 @@ pub use debug::debug_all;
 pub use fault::{Output, RunFault};
 pub use inputs::RunInputs;
 pub use outcome::Outcome;
+pub use pac_board::Stop;
+pub use pac_inputs::ScriptFault;
+pub use pac_media::{Counted, Out, Through, WriteFault};
+pub use pac_roms_manifest::{Part, SetFault};
 pub use run::run_all;

@@ -1,10 +1,9 @@
 //! A text that is written in pieces.
 
 ghost use Rattle.std.specs.List.{flat_map};
-ghost use Rattle.pac_out.specs.Counted.{Puts};
+ghost use Rattle.pac_media.specs.Counted.{Puts};
 
-use pac_out::counted::Counted;
-use pac_out::{Out, WriteFault};
+use pac_media::{Counted, Out, WriteFault};
 
 /// Writes pieces one after another, and no bytes at the end, so that a file that has failed tells its fault also where there are no
 /// pieces.

@@ -3,19 +3,17 @@
 ghost use Rattle.std.specs.Prelude.{◌≡◌, length, option_map, option_copied, IfOk, IfErr, IfSome};
 ghost use Rattle.pac_board.specs.State.{power_on_board};
 ghost use Rattle.pac_inputs.specs.Script.{script_of};
-ghost use Rattle.pac_asm_program.specs.Programs.{Assembled};
-ghost use Rattle.pac_roms.specs.Parts.{IsWhole, program_size};
+ghost use Rattle.pac_asm.specs.Assembled.{Assembled};
+ghost use Rattle.pac_board.specs.RomParts.{IsWhole, program_size};
 ghost use Rattle.pac_run.specs.declared.fault.RunFault.TheVariants.{NoMemory};
 ghost use Rattle.pac_run.specs.Plan.{program_in, set_in, script_told, fault_told, Judges, LieIn, Prepares};
 
 use crate::fault::RunFault;
 use crate::inputs::RunInputs;
-use pac_asm::{AsmError, assemble};
-use pac_asm_program::Program;
-use pac_board::Board;
+use pac_asm::{AsmError, Program, assemble};
+use pac_board::{Board, RomSet};
 use pac_inputs::{Script, ScriptError, read_script};
 use pac_media::Image;
-use pac_roms::RomSet;
 use pac_roms_manifest::{Part, SetError, load_set, read_manifest};
 use std::alloc::Global;
 

@@ -5,10 +5,8 @@ ghost use Rattle.pac_board.specs.State as state;
 ghost use Rattle.pac_inputs.specs.Inputs.{mask};
 ghost use Rattle.pac_run.specs.Plays.{IsUntouched, PlaysScript, PlaysFrame, frame_microseconds};
 
-use bitflags::Flags;
-use pac_board::{Board, Fault, Sink};
-use pac_cpu::Stop;
-use pac_inputs::{Inputs, Script};
+use pac_board::{Board, Fault, Sink, Stop};
+use pac_inputs::{Flags, Inputs, Script};
 
 /// The microseconds of a frame: 16,500 of them are its 50,688 T-states.
 const FRAME_MICROSECONDS: u32 = 16_500;

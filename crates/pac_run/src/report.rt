@@ -1,17 +1,16 @@
 //! The report of a run, three lines.
 
 ghost use Rattle.std.specs.Prelude.{◌≡◌, ◌<◌, ℕ, List};
-ghost use Rattle.pac_cpu.specs.declared.once.Cause.TheVariants.{Opcode, Vector};
-ghost use Rattle.pac_out.specs.Counted.{Puts};
+ghost use Rattle.pac_board.specs.CauseVariants.{Opcode, Vector};
+ghost use Rattle.pac_media.specs.Counted.{Puts};
 ghost use Rattle.pac_run.specs.Texts as text;
 
 use crate::outcome::Outcome;
 use crate::pieces::put_pieces;
 use itoa::Buffer;
-use pac_cpu::{Cause, Stop};
-use pac_num::{hex_byte, hex_word};
-use pac_out::counted::Counted;
-use pac_out::{Out, WriteFault};
+use pac_board::{Cause, Stop};
+use pac_listing::{hex_byte, hex_word};
+use pac_media::{Counted, Out, WriteFault};
 
 /// The frames that were shown of those asked for, the steps and the T-states: two lines.
 fn put_counts<W: Out>(

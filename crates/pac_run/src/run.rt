@@ -1,8 +1,8 @@
 //! The run as one call.
 
 ghost use Rattle.std.specs.Prelude.{◌≡◌, ◌/◌, ◌^◌, ◌<◌, option_copied};
-ghost use Rattle.pac_out.specs.Counted.{Puts};
-ghost use Rattle.pac_board_model.specs.Step.{frame_ticks};
+ghost use Rattle.pac_media.specs.Counted.{Puts};
+ghost use Rattle.pac_board.specs.Step.{frame_ticks};
 ghost use Rattle.pac_run.specs.Plan.{listing_in, IsPrepared};
 ghost use Rattle.pac_run.specs.Recorded.{WritesWholeText, outcome_at};
 ghost use Rattle.pac_run.specs.Run.{Runs};
@@ -14,14 +14,11 @@ use crate::inputs::RunInputs;
 use crate::outcome::Outcome;
 use crate::plan::{Prepared, prepare};
 use crate::report::put_report;
-use pac_asm_program::Program;
-use pac_board::Board;
-use pac_cpu::Stop;
+use pac_asm::Program;
+use pac_board::{Board, Stop};
 use pac_inputs::Script;
 use pac_listing::write_listing;
-use pac_media::Image;
-use pac_out::counted::Counted;
-use pac_out::{Out, WriteFault};
+use pac_media::{Counted, Image, Out, WriteFault};
 use std::alloc::Global;
 
 /// The T-states of a frame.

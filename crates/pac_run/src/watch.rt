@@ -3,18 +3,15 @@
 ghost use Rattle.std.specs.Prelude.{◌≡◌, IfOk};
 ghost use Rattle.std.specs.Str.Lines.{lines};
 ghost use Rattle.pac_inputs.specs.Stretches.{total_frames};
-ghost use Rattle.pac_debug_session.specs.Motions.{IsOutcome};
-ghost use Rattle.pac_debug_session.specs.Running.{whole_run};
-ghost use Rattle.pac_debug_session.specs.Session.{session_at_start};
+ghost use Rattle.pac_debug.specs.Motions.{IsOutcome};
+ghost use Rattle.pac_debug.specs.Running.{whole_run};
+ghost use Rattle.pac_debug.specs.Session.{session_at_start};
 ghost use Rattle.pac_run.specs.Watched.{Films, WatchesOutputs};
 
 use crate::fault::Output;
 use crate::film::{FRAME_SAMPLES, Film};
-use pac_debug::{CommandFault, watch};
-use pac_debug_session::{RunTotals, Session};
-use pac_media::{Frames, Image, WaveFile};
-use pac_out::Out;
-use pac_out::counted::Counted;
+use pac_debug::{CommandFault, RunTotals, Session, watch};
+use pac_media::{Counted, Frames, Image, Out, WaveFile};
 
 impl<F: Out, W: Out> Film<F, W> {
     /// Does a session's commands and goes on to the end of its run. All that the run gives out is written, whatever the commands

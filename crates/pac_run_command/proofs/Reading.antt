@@ -1,8 +1,8 @@
 -- What was read of a run's files, with the manifest as the program reads it.
 use Rattle.std.proofs.Common.{◌≡◌, ℕ, List, Option, Err, subst, ap, sym, ◌∙◌}
 use Rattle.std.specs.Result.{result_ok}
-use Rattle.pac_roms_manifest.specs.Manifests.{manifest_of}
-use Rattle.pac_roms_manifest.specs.declared.manifest.Manifest.{Manifest}
+use Rattle.pac_run.specs.Manifests.{manifest_of}
+use Rattle.pac_run.specs.Manifest.{Manifest}
 use Rattle.pac_run_options.specs.CommandLine.{AskedRun}
 use Rattle.pac_run_files.specs.Files.{FindsFile, FirstUnread}
 use Rattle.pac_run_files.specs.Read.{ReadsFiles, HasGivenFiles, HasParts, HasRead, PartUnread, manifest_part_names, part_files}

@@ -2,7 +2,7 @@
 use Rattle.std.specs.Prelude.{◌≡◌, ⊤, ℕ, List, Result, Ok, Err}
 use Rattle.clap.specs.declared.error.kind.ErrorKind.{ErrorKind}
 use Rattle.clap.specs.declared.error.kind.ErrorKind.TheVariants as kind
-use Rattle.pac_out.specs.declared.WriteFault.{WriteFault}
+use Rattle.pac_run.specs.WriteFault.{WriteFault}
 use Rattle.pac_run.specs.declared.fault.Output.TheVariants.{Text}
 use Rattle.pac_run.specs.declared.outcome.Outcome.{Outcome}
 use Rattle.pac_run_command.specs.declared.failure.Failure.{Failure}

@@ -5,9 +5,9 @@ use Rattle.clap.specs.Words.{IsAmong, Kinds}
 use Rattle.clap.specs.declared.error.kind.ErrorKind.{ErrorKind}
 use Rattle.clap.specs.declared.error.kind.ErrorKind.TheVariants as kind
 use Rattle.pac_asm.specs.Codes as asm
-use Rattle.pac_cpu.specs.declared.once.Stop.{Stop}
-use Rattle.pac_inputs.specs.Codes as inputs
-use Rattle.pac_roms_manifest.specs.Codes as manifest
+use Rattle.pac_run.specs.Stop.{Stop}
+use Rattle.pac_run.specs.ScriptCodes as inputs
+use Rattle.pac_run.specs.SetCodes as manifest
 use Rattle.pac_run_files.specs.Names.{told_name}
 use Rattle.pac_run_files.specs.declared.given.ReadFault.{ReadFault}
 use Rattle.pac_run_files.specs.declared.given.ReadFault.TheVariants as reading

@@ -5,7 +5,7 @@ use Rattle.clap.specs.Words.{Kinds, fault_of}
 use Rattle.clap.specs.declared.error.kind.ErrorKind.{ErrorKind}
 use Rattle.pac_run_files.specs.Files.{FindsFile, Handling}
 use Rattle.pac_run_options.specs.CommandLine.{Asked, pacboard, request_of}
-use Rattle.pac_out.specs.declared.WriteFault.{WriteFault}
+use Rattle.pac_run.specs.WriteFault.{WriteFault}
 use Rattle.pac_run.specs.Run.{Writing, Writers}
 use Rattle.pac_run_command.specs.declared.failure.Failure.TheVariants.{Memory, Words}
 use Rattle.pac_run_command.specs.declared.play.Outputs.{Outputs}

@@ -2,7 +2,7 @@
 use Rattle.std.specs.Prelude.{◌≡◌, ℕ, List, Result, Ok, Err}
 use Rattle.pac_asm.specs.Programs.{program_of}
 use Rattle.pac_listing.specs.Listing.{listing}
-use Rattle.pac_asm_program.specs.Programs.{Assembled}
+use Rattle.pac_asm.specs.Assembled.{Assembled}
 use Rattle.pac_run.specs.Debugs.{Debugs}
 use Rattle.pac_run.specs.Run.{Writing, Writers, TakesText, StopsInText, IsUnwritten, Runs}
 use Rattle.pac_run.specs.declared.fault.Output.TheVariants.{Listing}

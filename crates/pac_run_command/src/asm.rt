@@ -10,12 +10,9 @@ ghost use Rattle.pac_run_command.specs.Making.{Makes, asm_outputs, asm_paths, as
 ghost use Rattle.pac_run_command.specs.Programs.{Assembles};
 
 use crate::failure::{Failure, Target, read_failure};
-use pac_asm::{AsmError, assemble};
-use pac_asm_program::Program;
+use pac_asm::{AsmError, Program, assemble};
 use pac_listing::write_listing;
-use pac_out::counted::Counted;
-use pac_out::{Out, WriteFault};
-use pac_run::Output;
+use pac_run::{Counted, Out, Output, WriteFault};
 use pac_run_files::{FileSystem, read_file};
 use pac_run_options::AsmFiles;
 use std::alloc::Global;

@@ -11,8 +11,7 @@ use crate::given::inputs_of;
 use crate::play::{close_outputs, create_outputs, end};
 use crate::program::tell;
 use crate::teller::Teller;
-use pac_out::Out;
-use pac_run::{Outcome, RunInputs, debug_all};
+use pac_run::{Out, Outcome, RunInputs, debug_all};
 use pac_run_files::{
     FileSystem, Given, NamedFile, manifest_in, parts_of, read_parts, read_watched,
 };

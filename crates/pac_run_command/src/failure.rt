@@ -4,10 +4,7 @@ ghost use Rattle.std.specs.Prelude.{◌≡◌, ◌≤◌, Some};
 ghost use Rattle.pac_run_command.specs.Failures as told;
 
 use pac_asm::AsmFault;
-use pac_cpu::Stop;
-use pac_inputs::ScriptFault;
-use pac_roms_manifest::SetFault;
-use pac_run::{Output, RunFault};
+use pac_run::{Output, RunFault, ScriptFault, SetFault, Stop};
 use pac_run_files::{ReadFault, Told};
 use std::fmt;
 

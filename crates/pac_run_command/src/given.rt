@@ -6,8 +6,7 @@ ghost use Rattle.pac_run_files.specs.declared.parts.NamedFile.{NamedFile};
 ghost use Rattle.pac_run_options.specs.CommandLine.{told_run};
 ghost use Rattle.pac_run_command.specs.Outputs.{IsInputs};
 
-use pac_roms_manifest::Part;
-use pac_run::RunInputs;
+use pac_run::{Part, RunInputs};
 use pac_run_files::Given;
 use pac_run_options::RunFiles;
 

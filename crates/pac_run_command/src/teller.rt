@@ -3,13 +3,11 @@
 ghost use Rattle.std.specs.Prelude.{ℕ, List, Result, ⊤};
 ghost use Rattle.clap.specs.Words.{kind_of};
 ghost use Rattle.clap.specs.declared.error.kind.ErrorKind.{ErrorKind};
-ghost use Rattle.pac_out.specs.declared.WriteFault.{WriteFault};
+ghost use Rattle.pac_run.specs.WriteFault.{WriteFault};
 ghost use Rattle.pac_run_command.specs.Failures.{message};
 
 use crate::failure::Failure;
-use pac_out::counted::Counted;
-use pac_out::through::Through;
-use pac_out::{Out, WriteFault};
+use pac_run::{Counted, Out, Through, WriteFault};
 use std::fmt::Write;
 use std::{fmt, io};
 

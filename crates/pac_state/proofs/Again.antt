@@ -5,13 +5,13 @@ use Rattle.std.proofs.Math.Facts.{Fits-of_z}
 use Rattle.std.proofs.lemmas.Int.{to_z-of_z}
 use Rattle.std.proofs.lemmas.Nat.{from_le_bytes-to_le_bytes_2, from_le_bytes-to_le_bytes_4, from_le_bytes-to_le_bytes_8}
 use Rattle.std.specs.Int.{w16, w32, w64, from_le_bytes, cast_signed, cast_unsigned}
-use Rattle.pac_table.specs.declared.effects.InterruptMode.{InterruptMode}
-use Rattle.pac_table.specs.declared.effects.InterruptMode.TheVariants.{Zero, One, Two}
-use Rattle.pac_exec.specs.declared.regs.Regs.{Regs}
-use Rattle.pac_latch.specs.Latched.{Bits, binary_digit}
-use Rattle.pac_latch.proofs.Bits.{bits_of-byte_of}
-use Rattle.pac_map.specs.View.{View}
-use Rattle.pac_roms.specs.Parts.{Parts}
+use Rattle.pac_board.specs.InterruptMode.{InterruptMode}
+use Rattle.pac_board.specs.InterruptModeVariants.{Zero, One, Two}
+use Rattle.pac_board.specs.Regs.{Regs}
+use Rattle.pac_board.specs.Latched.{Bits, binary_digit}
+use Rattle.pac_board.proofs.LatchBits.{bits_of-byte_of}
+use Rattle.pac_board.specs.MemoryView.{View}
+use Rattle.pac_board.specs.RomParts.{Parts}
 use Rattle.pac_roms_manifest.specs.Sets.{digest_of}
 use Rattle.pac_board.specs.declared.due.Due.{Due}
 use Rattle.pac_board.specs.State.{BoardState}

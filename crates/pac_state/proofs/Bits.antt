@@ -1,7 +1,7 @@
 -- The latch's byte.
 use Rattle.std.proofs.Common.{◌≡◌, ℕ, zero, suc, ◌<◌, ◌==◌, arith, refl}
 use Rattle.pac_num.specs.Numbers.{bit}
-use Rattle.pac_latch.specs.Latched.{binary_digit, byte_of_latch, bits_of}
+use Rattle.pac_board.specs.Latched.{binary_digit, byte_of_latch, bits_of}
 
 -- a bit, tested and written again
 digit-test : (n : ℕ) → n < 2 → binary_digit (n == 1) ≡ n

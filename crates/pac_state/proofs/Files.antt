@@ -9,8 +9,8 @@ use Rattle.std.proofs.lemmas.Nat.{from_le_bytes-to_le_bytes_2}
 use Rattle.std.proofs.lemmas.Slice.Eq.{bytes_eq-Decides}
 use Rattle.std.specs.Int.{w16, from_le_bytes}
 use Rattle.sha1.specs.Sha1.{sha1}
-use Rattle.pac_map.specs.View.{IsWellFormed}
-use Rattle.pac_roms.specs.Parts.{Parts}
+use Rattle.pac_board.specs.MemoryView.{IsWellFormed}
+use Rattle.pac_board.specs.RomParts.{Parts}
 use Rattle.pac_roms_manifest.specs.Sets.{digest_of}
 use Rattle.pac_board.specs.State.{BoardState, BoardValue}
 use Rattle.pac_state.specs.declared.fault.LoadFault.{LoadFault}

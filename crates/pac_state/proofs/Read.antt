@@ -1,7 +1,7 @@
 -- A state that is put together of its parts.
 use Rattle.std.proofs.Common.{◌≡◌, ℕ, List, refl}
-use Rattle.pac_exec.specs.declared.regs.Regs.{Regs}
-use Rattle.pac_map.specs.View.{View}
+use Rattle.pac_board.specs.Regs.{Regs}
+use Rattle.pac_board.specs.MemoryView.{View}
 use Rattle.pac_board.specs.declared.due.Due.{Due}
 use Rattle.pac_board.specs.State.{BoardState}
 

@@ -9,8 +9,8 @@ use Rattle.std.proofs.lemmas.Nat.{le_bytes_2, le_bytes_4, le_bytes_8}
 use Rattle.std.proofs.lemmas.Slice.Eq.{bytes_eq-Decides}
 use Rattle.std.specs.Int.{w16, w32, w64, from_le_bytes}
 use Rattle.sha1.specs.Sha1.{sha1}
-use Rattle.pac_tiles.specs.Tabulate.{tabulate}
-use Rattle.pac_roms.specs.Parts.{Parts}
+use Rattle.pac_board.specs.Tabulate.{tabulate}
+use Rattle.pac_board.specs.RomParts.{Parts}
 use Rattle.pac_roms_manifest.specs.Sets.{digest_of}
 use Rattle.pac_state.specs.declared.fault.LoadFault.TheVariants.{NoState, OtherVersion, Size, Damaged, OtherSet}
 use Rattle.pac_state.specs.Text.{bytes_of_pieces, magic, saved_word, saved_double_word, saved_long_word, head, ram, devices, file_front, body, save_text}

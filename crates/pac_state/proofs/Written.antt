@@ -5,8 +5,8 @@ use Rattle.std.proofs.Math.Seq.{take-append_seam, drop-append_seam}
 use Rattle.std.proofs.lemmas.List.{length-append, take_all}
 use Rattle.std.proofs.lemmas.Grind.{flat_map-append}
 use Rattle.sha1.specs.Sha1.{sha1, digest_bytes}
-use Rattle.pac_map.specs.View.{IsWellFormed}
-use Rattle.pac_picture.specs.State.{IsPicture}
+use Rattle.pac_board.specs.MemoryView.{IsWellFormed}
+use Rattle.pac_board.specs.PictureState.{IsPicture}
 use Rattle.pac_board.specs.State.{BoardState}
 use Rattle.pac_state.specs.Text.{bytes_of_pieces, magic, saved_word, saved_double_word, saved_long_word, head, ram}
 use Rattle.pac_state.specs.Text.{devices, processor_bytes, control_bytes, due_bytes, file_front, body, sealed_file}

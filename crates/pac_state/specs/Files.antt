@@ -2,9 +2,9 @@
 -- state.
 use Rattle.std.specs.Prelude.{◌≡◌, ℕ, ℤ, ◌<◌, ◌^◌, true, ⊤, List, Option, Some, None, Result, Ok, Err, FitsSigned}
 use Rattle.std.specs.Int.{w16}
-use Rattle.pac_exec.specs.declared.regs.Regs.{Regs}
-use Rattle.pac_map.specs.View.{IsWellFormed}
-use Rattle.pac_roms.specs.Parts.{Parts}
+use Rattle.pac_board.specs.Regs.{Regs}
+use Rattle.pac_board.specs.MemoryView.{IsWellFormed}
+use Rattle.pac_board.specs.RomParts.{Parts}
 use Rattle.pac_board.specs.State.{BoardState, BoardValue}
 use Rattle.pac_state.specs.declared.fault.LoadFault.TheVariants.{NoMemory}
 use Rattle.pac_state.specs.declared.fault.LoadRefused.{LoadRefused}

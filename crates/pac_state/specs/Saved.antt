@@ -2,14 +2,14 @@
 use Rattle.std.specs.Prelude.{◌≡◌, ℕ, ◌*◌, ◌<◌, ◌≤◌, ◌==◌, min, nat_le, Bool, not, ◌&&◌, ◌||◌, if◌then◌else◌, ⊤, ◌⊎◌}
 use Rattle.std.specs.Prelude.{List, length, take, drop, slice_index, EachIndex, bytes_eq, Option, Some, None, Result, Ok, Err}
 use Rattle.sha1.specs.Sha1.{sha1}
-use Rattle.pac_latch.specs.Latched.{watchdog_limit}
-use Rattle.pac_map.specs.View.{HoldWhatTheyCan}
-use Rattle.pac_colour.specs.Colours.{numbers}
-use Rattle.pac_picture.specs.State.{IsPicture}
-use Rattle.pac_roms.specs.Parts.{Parts}
+use Rattle.pac_board.specs.Latched.{watchdog_limit}
+use Rattle.pac_board.specs.MemoryView.{HoldWhatTheyCan}
+use Rattle.pac_board.specs.Colours.{numbers}
+use Rattle.pac_board.specs.PictureState.{IsPicture}
+use Rattle.pac_board.specs.RomParts.{Parts}
 use Rattle.pac_roms_manifest.specs.Sets.{digest_of}
-use Rattle.pac_table.specs.Instructions.{least_ticks}
-use Rattle.pac_wave.specs.Wave.{Fit20Bits}
+use Rattle.pac_board.specs.Instructions.{least_ticks}
+use Rattle.pac_board.specs.Wave.{Fit20Bits}
 use Rattle.pac_board.specs.State.{BoardState, BoardValue, latest_end, most_asked, passed_lines, recomposed_view, with_view}
 use Rattle.pac_state.specs.declared.fault.LoadFault.{LoadFault}
 use Rattle.pac_state.specs.declared.fault.LoadFault.TheVariants.{NoState, OtherVersion, Size, OutOfRange, Damaged, OtherSet, NoMemory}

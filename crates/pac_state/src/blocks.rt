@@ -1,16 +1,12 @@
 //! The small fields of a state as bytes.
 
 ghost use Rattle.std.specs.Prelude.{◌≡◌, ◌≤◌};
-ghost use Rattle.pac_inputs.specs.Inputs as inputs;
-ghost use Rattle.pac_latch.specs.Latched as latched;
-ghost use Rattle.pac_map.specs.Fields.{view_of_fields};
+ghost use Rattle.pac_board.specs.Inputs as inputs;
+ghost use Rattle.pac_board.specs.Latched as latched;
+ghost use Rattle.pac_board.specs.MemoryFields.{view_of_fields};
 ghost use Rattle.pac_state.specs.Text as text;
 
-use bitflags::Flags;
-use pac_board::Due;
-use pac_exec::Regs;
-use pac_inputs::Inputs;
-use pac_table::InterruptMode;
+use pac_board::{Due, Flags, Inputs, InterruptMode, Regs};
 
 /// A bit as a number.
 fn digit(bit: bool) -> u8
@@ -96,7 +92,7 @@ fn latch_byte(latch: u8) -> u8
 
 /// The 7 bytes of latch, vector, request and count, the inputs held, and the switches.
 #[tactic(auto, unfolding(crate::specs::Text::control_bytes))]
-pub(crate) fn controls(memory: &pac_map::MemoryFields) -> [u8; 7]
+pub(crate) fn controls(memory: &pac_board::MemoryFields) -> [u8; 7]
     ensures { result ≡ text.control_bytes (view_of_fields memory.now) }
 {
     let [held, held_high] = mask(memory.held).to_le_bytes();

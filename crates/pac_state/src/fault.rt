@@ -1,6 +1,6 @@
 //! Why a state file was not loaded.
 
-use pac_roms::RomSet;
+use pac_board::RomSet;
 use thiserror::Error;
 
 /// Why a state file gives no board.

@@ -11,9 +11,8 @@ use crate::fault::LoadRefused;
 use crate::loading::load;
 use crate::ranges::in_range;
 use crate::saving::save;
-use pac_board::Board;
+use pac_board::{Board, RomSet};
 use pac_out::{Out, WriteFault};
-use pac_roms::RomSet;
 use std::alloc::Global;
 
 /// A file of version 2 that loads is, to the byte, what is saved of its board.

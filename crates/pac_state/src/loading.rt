@@ -8,9 +8,7 @@ ghost use Rattle.pac_roms_manifest.specs.Sets.{digest_of};
 use crate::fault::{LoadFault, LoadRefused};
 use crate::header::{fault_of, part, word};
 use crate::reading::{fields, is_taken, take_lines};
-use pac_board::Board;
-use pac_picture::Lines;
-use pac_roms::RomSet;
+use pac_board::{Board, Lines, RomSet};
 use pac_roms_manifest::digest;
 use std::alloc::Global;
 

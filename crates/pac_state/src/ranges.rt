@@ -1,14 +1,12 @@
 //! What holds of a board's fields by their types.
 
 ghost use Rattle.std.specs.Prelude.{◌≡◌, ◌<◌, ◌^◌, length};
-ghost use Rattle.pac_inputs.specs.Inputs as inputs;
+ghost use Rattle.pac_board.specs.Inputs as inputs;
 ghost use Rattle.pac_state.specs.Files.{AreWords, FitsSample, IsState};
 ghost use Rattle.pac_board.specs.Fields.{state_of, AreBoardFields};
 
 use crate::blocks::mask;
-use pac_board::{Due, Fields};
-use pac_exec::Regs;
-use pac_inputs::Inputs;
+use pac_board::{Due, Fields, Inputs, Regs};
 
 /// A word has 16 bits.
 fn word(word: u16)
@@ -48,7 +46,7 @@ fn sample(due: Due)
 }
 
 /// Memories have their sizes.
-fn sizes(memory: &pac_map::MemoryFields)
+fn sizes(memory: &pac_board::MemoryFields)
     ensures tile { length memory.now.tile.now ≡ 1024 }
     ensures colour { length memory.now.colour.now ≡ 1024 }
     ensures work { length memory.now.work.now ≡ 1024 }

@@ -2,22 +2,17 @@
 
 ghost use Rattle.std.specs.Prelude.{◌≡◌, ◌↔◌, ◌<◌, ◌≤◌, ◌*◌, ◌+◌, true, length, slice_index};
 ghost use Rattle.pac_board.specs.Fields.{state_of, AreBoardFields};
-ghost use Rattle.pac_inputs.specs.Inputs as inputs;
-ghost use Rattle.pac_map.specs.Fields.{view_of_fields};
-ghost use Rattle.pac_picture.specs.State.{IsPicture};
+ghost use Rattle.pac_board.specs.Inputs as inputs;
+ghost use Rattle.pac_board.specs.MemoryFields.{view_of_fields};
+ghost use Rattle.pac_board.specs.PictureState.{IsPicture};
 ghost use Rattle.pac_state.specs.Reading as read;
 ghost use Rattle.pac_state.specs.Saved as saved;
 ghost use Rattle.pac_state.specs.Text as text;
 
 use crate::blocks::{controls, due, processor};
 use crate::header::{double_word, long_word, part, word};
-use bitflags::Flags;
-use pac_board::{Due, Fields};
-use pac_exec::{Alternate, Regs};
-use pac_inputs::Inputs;
+use pac_board::{Alternate, Due, Fields, Flags, Inputs, InterruptMode, Lines, Regs};
 use pac_num::bit;
-use pac_picture::Lines;
-use pac_table::InterruptMode;
 
 /// Whether a bit of a byte is set.
 fn is_set(byte: u8, place: u8) -> bool
@@ -106,12 +101,12 @@ fn inputs_of(mask: u16) -> Inputs
 }
 
 /// The memory in a file.
-fn memory(bytes: &[u8]) -> pac_map::MemoryFields<'_>
+fn memory(bytes: &[u8]) -> pac_board::MemoryFields<'_>
     requires { length bytes.now ≡ saved.file_size }
     ensures { view_of_fields result ≡ read.memory_of (read.controls_in bytes.now) bytes.now }
 {
     let controls: &[u8; 7] = part(bytes, 3214);
-    pac_map::MemoryFields {
+    pac_board::MemoryFields {
         tile: part(bytes, 82),
         colour: part(bytes, 1106),
         work: part(bytes, 2130),

@@ -1,5 +1,5 @@
 use Rattle.std.proofs.Common.{◌≡◌, ℕ, ◌+◌, refl, ap, ◌∙◌}
-use Rattle.pac_map.specs.Contents.{read_of}
+use Rattle.pac_board.specs.MemoryContents.{read_of}
 use Rattle.pac_num.specs.Numbers.{wrapped_address}
 use Rattle.pac_debug_text.specs.Peeks.{bytes_from}
 use Rattle.pac_debug.specs.Answers.{session_byte_at}

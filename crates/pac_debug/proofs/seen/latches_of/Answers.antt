@@ -1,6 +1,6 @@
 use Rattle.std.proofs.Common.{◌≡◌, ◌∙◌, ◌<◌, ℕ, ap, sym, arith}
-use Rattle.pac_board_model.specs.BoardView.{BoardView}
-use Rattle.pac_board_model.specs.Step.{Moment}
+use Rattle.pac_board.specs.BoardView.{BoardView}
+use Rattle.pac_board.specs.Step.{Moment}
 use Rattle.pac_board.specs.Fields.{moment_of}
 use Rattle.pac_board.specs.State.{BoardState}
 use Rattle.pac_debug_text.specs.declared.registers.Latches.{Latches}

@@ -1,11 +1,11 @@
 -- The board makes its step, and the frame after it is one of the script's.
 use Rattle.std.proofs.Common.{◌≡◌, ℕ, ◌+◌, ◌*◌, ◌<◌, ◌≤◌, [], ap, arith}
 use Rattle.pac_inputs.specs.Stretches.{total_frames, most_frames}
-use Rattle.pac_board_model.specs.BoardView.{BoardView}
-use Rattle.pac_board_model.specs.Laws.{IsTimely}
-use Rattle.pac_board_model.specs.Step.{Next, Goes, Ends, frame_ticks}
-use Rattle.pac_board_model.specs.Trace.{by_view}
-use Rattle.pac_board_model.proofs.Walks.{step-timely}
+use Rattle.pac_board.specs.BoardView.{BoardView}
+use Rattle.pac_board.specs.ModelLaws.{IsTimely}
+use Rattle.pac_board.specs.Step.{Next, Goes, Ends, frame_ticks}
+use Rattle.pac_board.specs.Trace.{by_view}
+use Rattle.pac_board.proofs.Walks.{step-timely}
 use Rattle.pac_board.specs.declared.due.Due.{Due}
 use Rattle.pac_board.specs.declared.fault.Idle.{Idle}
 use Rattle.pac_board.specs.declared.fault.Idle.TheVariants.{OutputsDue, TimeIsOver}

@@ -1,8 +1,8 @@
 use Rattle.std.proofs.Common.{◌+◌, List, ℕ, [], drop, subst}
 use Rattle.std.proofs.lemmas.Result.{err_from_is_err_and}
 use Rattle.std.specs.List.{flat_map}
-use Rattle.pac_out.specs.Counted.{Refuses}
-use Rattle.pac_out.proofs.Files.{refuses-after, refuses-within}
+use Rattle.pac_media.specs.Counted.{Refuses}
+use Rattle.pac_media.proofs.Files.{refuses-after, refuses-within}
 use Rattle.pac_run.proofs.Parts.{pieces-split}
 use Rattle.pac_run.proofs.pieces.put_pieces.Goals as goal
 

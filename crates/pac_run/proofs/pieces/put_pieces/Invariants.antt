@@ -1,6 +1,6 @@
 use Rattle.std.proofs.Common.{take}
 use Rattle.std.specs.List.{flat_map}
-use Rattle.pac_out.specs.Counted.{Takes}
+use Rattle.pac_media.specs.Counted.{Takes}
 use Rattle.pac_run.proofs.pieces.put_pieces.Given as goal
 
 abbrev pub invariant-loop-piece : goal.invariant-loop-piece

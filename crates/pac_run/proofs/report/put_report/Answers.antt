@@ -1,5 +1,5 @@
 use Rattle.std.proofs.lemmas.Result.{err_from_is_err_and}
-use Rattle.pac_out.proofs.Files.{refuses-within}
+use Rattle.pac_media.proofs.Files.{refuses-within}
 use Rattle.pac_run.specs.Texts as text
 use Rattle.pac_run.proofs.report.put_report.Goals as goal
 

@@ -1,5 +1,5 @@
 use Rattle.std.proofs.Common.{◌≡◌, List, ℕ, refl, sym, ap, ◌∙◌, Result, Ok, Err}
-use Rattle.pac_roms.specs.Parts.{Parts}
+use Rattle.pac_board.specs.RomParts.{Parts}
 use Rattle.pac_board.specs.State.{BoardValue}
 use Rattle.pac_state.specs.declared.fault.LoadRefused.{LoadRefused}
 use Rattle.pac_state.specs.Text.{sealed_file, body, written_version}

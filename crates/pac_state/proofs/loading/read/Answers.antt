@@ -1,5 +1,5 @@
 use Rattle.std.proofs.Common.{◌≡◌, ℕ, List, true, false, refl, sym, ap, subst, ◌∙◌, arith}
-use Rattle.pac_picture.specs.State.{IsPicture}
+use Rattle.pac_board.specs.PictureState.{IsPicture}
 use Rattle.pac_board.specs.Fields.{state_of}
 use Rattle.pac_board.specs.State.{BoardState}
 use Rattle.pac_state.specs.Reading.{lines_of, picture_in, state_in}

@@ -1,6 +1,6 @@
 use Rattle.std.proofs.Common.{◌≡◌, get_or}
 use Rattle.std.specs.Int.{w32, to_le_bytes}
-use Rattle.pac_map.specs.Fields.{view_of_fields}
+use Rattle.pac_board.specs.MemoryFields.{view_of_fields}
 use Rattle.pac_state.specs.Text.{devices, control_bytes, due_bytes}
 use Rattle.pac_state.proofs.saving.put_devices.Goals as goal
 

@@ -1,10 +1,10 @@
 -- One step of the run: what stood before it stands after it.
 use Rattle.std.proofs.Common.{◌≡◌, ℕ, max, List, map, refl, ap, sym, subst, ◌∙◌, arith}
-use Rattle.pac_cpu.specs.declared.once.Once.{Once}
-use Rattle.pac_exec.specs.declared.regs.Regs.{Regs}
-use Rattle.pac_roms.specs.Parts.{Parts}
-use Rattle.pac_board_model.specs.BoardView.{BoardView}
-use Rattle.pac_board_model.specs.Step.{Moment}
+use Rattle.pac_board.specs.Once.{Once}
+use Rattle.pac_board.specs.Regs.{Regs}
+use Rattle.pac_board.specs.RomParts.{Parts}
+use Rattle.pac_board.specs.BoardView.{BoardView}
+use Rattle.pac_board.specs.Step.{Moment}
 use Rattle.pac_board.specs.State.{due_outputs_in, nothing_due}
 use Rattle.pac_debug_session.specs.declared.history.PastStep.{PastStep}
 use Rattle.pac_debug_session.specs.Inside.{IsStanding, AreSlotsRight}

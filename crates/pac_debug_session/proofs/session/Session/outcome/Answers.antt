@@ -1,7 +1,7 @@
 -- Where a run goes no further it is the whole run.
 use Rattle.std.proofs.Common.{◌/◌, ap, sym, ◌∙◌, arith}
-use Rattle.pac_board_model.specs.BoardView.{BoardView}
-use Rattle.pac_board_model.specs.Step.{Moment, frame_ticks}
+use Rattle.pac_board.specs.BoardView.{BoardView}
+use Rattle.pac_board.specs.Step.{Moment, frame_ticks}
 use Rattle.pac_debug_session.specs.Running.{now_at}
 use Rattle.pac_debug_session.specs.Session.{SessionValue}
 use Rattle.pac_debug_session.proofs.Indices.{open-up-to}

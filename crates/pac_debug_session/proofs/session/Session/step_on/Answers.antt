@@ -1,7 +1,7 @@
 -- One step forwards.
 use Rattle.std.proofs.Common.{◌≡◌, ◌==◌, refl, ap, sym, ◌∙◌}
 use Rattle.std.proofs.lemmas.Result.{err_from_is_err_and}
-use Rattle.pac_cpu.specs.declared.once.Once.TheVariants.{Stepped, Stopped}
+use Rattle.pac_board.specs.OnceVariants.{Stepped, Stopped}
 use Rattle.pac_board.specs.declared.sink.Refused.{Refused}
 use Rattle.pac_debug_session.specs.Running.{next_at}
 use Rattle.pac_debug_session.proofs.Forwards.{steps-on, stops-there, step-refused}

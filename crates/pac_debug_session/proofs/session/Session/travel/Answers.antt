@@ -1,7 +1,7 @@
 -- From step to step.
 use Rattle.std.proofs.Common.{◌≡◌, false, true, Option, Ok, ap, sym, subst, ◌∙◌}
 use Rattle.std.proofs.lemmas.Result.{err_from_is_err_and}
-use Rattle.pac_cpu.specs.declared.once.Stop.{Stop}
+use Rattle.pac_board.specs.Stop.{Stop}
 use Rattle.pac_board.specs.declared.sink.Refused.{Refused}
 use Rattle.pac_debug_session.specs.declared.motion.MotionEnd.{MotionEnd}
 use Rattle.pac_debug_session.specs.Motions.{has_met, HasTravelled, StepsOn, motion_ending}

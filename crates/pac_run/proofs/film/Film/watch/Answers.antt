@@ -2,7 +2,7 @@ use Rattle.std.proofs.Common.{◌++◌, refl, subst}
 use mathlib.Core.List.{IsPrefix}
 use Rattle.std.specs.Str.Lines.{lines}
 use Rattle.pac_board.specs.Sinks.{TookAll}
-use Rattle.pac_debug_session.specs.Running.{whole_run}
+use Rattle.pac_debug.specs.Running.{whole_run}
 use Rattle.pac_run.specs.Films.{film_took, film_refused}
 use Rattle.pac_run.proofs.Filmed.{recorded, stops-among, stops-at-zeros}
 use Rattle.pac_run.proofs.Watching.{all-to-give, tells-of, held-up, untold, films-till, cut-short, told-off}
