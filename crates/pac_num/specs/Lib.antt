@@ -1,3 +1,4 @@
 pub mod Numbers
 pub mod Pixels
 pub mod Hexadecimal
+pub mod Tabulate

@@ -6,7 +6,7 @@ use Rattle.pac_latch.specs.Latched.{latched_of}
 use Rattle.pac_table.specs.declared.effects.InterruptMode.{InterruptMode}
 use Rattle.pac_table.specs.declared.effects.InterruptMode.TheVariants.{Zero, One, Two}
 use Rattle.pac_exec.specs.declared.regs.Regs.{Regs}
-use Rattle.pac_tiles.specs.Tabulate.{tabulate}
+use Rattle.pac_num.specs.Tabulate.{tabulate}
 use Rattle.pac_tiles.specs.Tiles.{width, height}
 use Rattle.pac_map.specs.View.{View}
 use Rattle.pac_board.specs.declared.due.Due.{Due}
