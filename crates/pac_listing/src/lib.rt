@@ -5,5 +5,4 @@ mod digits;
 mod listing;
 mod rows;
 
-pub use digits::byte_columns;
 pub use listing::write_listing;
