@@ -1,13 +1,12 @@
 //! Numbers as bytes and words.
 
 ghost use Rattle.std.specs.Prelude.{◌≡◌};
-ghost use Rattle.pac_asm_operation.specs.Operations.{fault_of_error};
 ghost use Rattle.pac_asm_line.specs.Contents.{byte_of_number, byte_value, word_of_number, word_value};
 ghost use Rattle.pac_asm_line.specs.Views.{expression_tree};
 
 use crate::expression::Expression;
 use pac_asm_operation::OperationFault;
-use pac_expr::{SymbolLookup, ValueError};
+use pac_expr::SymbolLookup;
 
 /// The value of an expression as a byte: -128 to 255, a negative one in two's complement.
 pub(crate) fn byte_value<S: SymbolLookup>(
@@ -19,7 +18,7 @@ pub(crate) fn byte_value<S: SymbolLookup>(
 {
     match expression.value(symbols, here) {
         Ok(number) => byte_of(number),
-        Err(fault) => Err(fault_of(fault)),
+        Err(fault) => Err(OperationFault::of(fault)),
     }
 }
 
@@ -33,7 +32,7 @@ pub(crate) fn word_value<S: SymbolLookup>(
 {
     match expression.value(symbols, here) {
         Ok(number) => word_of(number),
-        Err(fault) => Err(fault_of(fault)),
+        Err(fault) => Err(OperationFault::of(fault)),
     }
 }
 
@@ -60,15 +59,5 @@ fn word_of(number: i32) -> Result<u16, OperationFault>
         Ok(number as u16)
     } else {
         Ok((number + 65_536) as u16)
-    }
-}
-
-/// The fault of a line whose expression has no value.
-fn fault_of(fault: ValueError) -> OperationFault
-    ensures { result ≡ fault_of_error fault }
-{
-    match fault {
-        ValueError::Undefined => OperationFault::Undefined,
-        ValueError::OutOfRange | ValueError::DivisionByZero => OperationFault::Arithmetic,
     }
 }

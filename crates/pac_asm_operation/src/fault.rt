@@ -1,7 +1,9 @@
 //! Why an operation is no instruction.
 
 ghost use Rattle.std.specs.Prelude.{◌≡◌};
-ghost use Rattle.pac_asm_operation.specs.Operations.{first_operation_fault};
+ghost use Rattle.pac_asm_operation.specs.Operations.{fault_of_error, first_operation_fault};
+
+use pac_expr::ValueError;
 
 /// Why an operation is no instruction at an address; the first in this order is told.
 #[derive(Clone, Copy, Debug, PartialEq, Eq)]
@@ -15,6 +17,16 @@ pub enum OperationFault {
 }
 
 impl OperationFault {
+    /// Why an expression has no value, to an operation and to a line.
+    pub fn of(fault: ValueError) -> OperationFault
+        ensures { result ≡ fault_of_error fault }
+    {
+        match fault {
+            ValueError::Undefined => OperationFault::Undefined,
+            ValueError::OutOfRange | ValueError::DivisionByZero => OperationFault::Arithmetic,
+        }
+    }
+
     /// The first of two faults of a line: an undefined name, then arithmetic, then a range.
     pub fn first(self, other: OperationFault) -> OperationFault
         ensures { result ≡ first_operation_fault self other }

@@ -2,7 +2,7 @@
 
 ghost use Rattle.std.specs.Prelude.{◌≡◌};
 ghost use Rattle.pac_expr.specs.Values as expressions;
-ghost use Rattle.pac_asm_operation.specs.Operations.{valued_operands, fault_of_error, valued_operand};
+ghost use Rattle.pac_asm_operation.specs.Operations.{valued_operands, valued_operand};
 ghost use Rattle.pac_asm_operation.specs.Views.{IsKnown, IsKnownIf, IsTree, seen_operands, seen_operand, tree_within};
 ghost use Rattle.pac_asm_operation.specs.Kept.{number_or_fault, pair_of};
 
@@ -84,16 +84,6 @@ fn number_of(answer: Result<i32, ValueError>) -> Result<i32, OperationFault>
 {
     match answer {
         Ok(number) => Ok(number),
-        Err(fault) => Err(fault_of(fault)),
-    }
-}
-
-/// Why an expression has no value, to an operation.
-fn fault_of(fault: ValueError) -> OperationFault
-    ensures { result ≡ fault_of_error fault }
-{
-    match fault {
-        ValueError::Undefined => OperationFault::Undefined,
-        ValueError::OutOfRange | ValueError::DivisionByZero => OperationFault::Arithmetic,
+        Err(fault) => Err(OperationFault::of(fault)),
     }
 }

@@ -3,7 +3,7 @@
 ghost use Rattle.std.specs.Prelude.{◌≡◌, ◌<◌, ◌≤◌, []};
 ghost use Rattle.std.specs.Prelude.{slice_get, length, IfOk, IfErr, slice_index_or, None, Some};
 ghost use Rattle.pac_board.specs.State as state;
-ghost use Rattle.pac_inputs.specs.Stretches.{total_frames};
+ghost use Rattle.pac_inputs.specs.Stretches.{most_frames, total_frames};
 ghost use Rattle.pac_debug_session.specs.Keeping.{AreEmpty};
 ghost use Rattle.pac_debug_session.specs.Running.{now_at};
 ghost use Rattle.pac_debug_session.specs.Past.{told_at, told_step_count};
@@ -119,7 +119,7 @@ impl Session {
     }
 
     /// What holds of every session.
-    pub fn facts(&self)
+    pub(crate) fn facts(&self)
         ensures { IsSession self.now }
     {
         self.board.made();
@@ -151,9 +151,10 @@ impl Session {
         &self.board
     }
 
-    /// The frames of the session's run.
+    /// The frames of the session's run, 0 to 36,000.
     pub fn frames(&self) -> u32
-        ensures { result ≡ total_frames self.now.setting.script }
+        ensures count { result ≡ total_frames self.now.setting.script }
+        ensures within { result ≤ most_frames }
     {
         self.script.frames()
     }

@@ -5,8 +5,8 @@ use Rattle.std.specs.List.{flat_map}
 use Rattle.pac_num.specs.Numbers.{wrapped_address}
 use Rattle.pac_num.specs.Hexadecimal.{hex_byte, hex_word}
 use Rattle.pac_dis.specs.Texts.{size_at}
-use Rattle.pac_dis_text.specs.Listing.{joined_pieces}
-use Rattle.pac_dis_text.specs.Lines.{line_text}
+use Rattle.pac_out.specs.Pieces.{joined_pieces}
+use Rattle.pac_dis.specs.Lines.{line_text}
 
 -- so many bytes from an address on
 unfoldable pub bytes_from : (ℕ → ℕ) → ℕ → ℕ → List ℕ

@@ -7,7 +7,7 @@ use Rattle.pac_exec.specs.InterruptModeVariants.{Zero, One, Two}
 use Rattle.pac_exec.specs.declared.regs.Regs.{Regs}
 use Rattle.pac_exec.specs.declared.regs.Alternate.{Alternate}
 use Rattle.pac_dis.specs.Texts.{text_at}
-use Rattle.pac_dis_text.specs.Listing.{joined_pieces}
+use Rattle.pac_out.specs.Pieces.{joined_pieces}
 use Rattle.pac_debug_text.specs.declared.history.Done.{Done}
 use Rattle.pac_debug_text.specs.declared.history.Done.TheVariants as done
 use Rattle.pac_debug_text.specs.declared.history.HistoryLine.{HistoryLine}

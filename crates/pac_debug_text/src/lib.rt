@@ -5,7 +5,6 @@ mod command;
 mod history;
 mod numbers;
 mod peek;
-mod pieces;
 mod place;
 mod refusal;
 mod registers;

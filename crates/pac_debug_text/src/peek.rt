@@ -7,7 +7,7 @@ ghost use Rattle.pac_out.specs.Counted.{Puts};
 ghost use Rattle.pac_out.specs.Pending.{Gathers};
 ghost use Rattle.pac_debug_text.specs.Peeks as text;
 
-use pac_dis_text::put_line;
+use pac_dis::put_line;
 use pac_num::{hex_byte, hex_word, offset};
 use pac_out::counted::Counted;
 use pac_out::pending::Pending;

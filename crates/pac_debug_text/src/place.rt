@@ -5,7 +5,6 @@ ghost use Rattle.pac_dis.specs.Texts.{text_at};
 ghost use Rattle.pac_out.specs.Counted.{Puts};
 ghost use Rattle.pac_debug_text.specs.Texts as text;
 
-use crate::pieces::put_pieces;
 use itoa::Buffer;
 use pac_dis::{Text, disassemble};
 use pac_num::hex_word;
@@ -115,5 +114,5 @@ pub fn put_place<W: Out>(
         next.as_bytes(),
         b"\n",
     ];
-    put_pieces(output, &pieces)
+    output.put_pieces(&pieces)
 }

@@ -3,7 +3,6 @@
 ghost use Rattle.pac_out.specs.Counted.{Puts};
 ghost use Rattle.pac_debug_text.specs.Texts as text;
 
-use crate::pieces::put_pieces;
 use itoa::Buffer;
 use pac_out::counted::Counted;
 use pac_out::{Out, WriteFault};
@@ -38,7 +37,7 @@ fn put_too_far_back<W: Out>(output: &mut Counted<W>, oldest: u64) -> Result<(), 
         digits.format(oldest).as_bytes(),
         b"\n",
     ];
-    put_pieces(output, &pieces)
+    output.put_pieces(&pieces)
 }
 
 /// Writes why a command did nothing: `refused G1`, or `refused G2 oldest 4096`.

@@ -2,3 +2,4 @@ pub mod Fronts
 pub mod Lengths
 pub mod Writings
 pub mod Showings
+mod LineLemmas

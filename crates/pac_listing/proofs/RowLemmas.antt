@@ -6,7 +6,7 @@ use Rattle.std.proofs.lemmas.Option.{get_or_from_slice_get, slice_get_within}
 use Rattle.std.specs.List.{flat_map}
 use Rattle.pac_asm_program.specs.Names.{Symbol}
 use Rattle.pac_asm_program.specs.declared.line.Line.{Line}
-use Rattle.pac_listing.specs.Texts.{row_bytes, byte_columns}
+use Rattle.pac_num.specs.Columns.{row_bytes, byte_columns}
 use Rattle.pac_num.specs.Hexadecimal.{hex_word}
 use Rattle.pac_listing.specs.Listing.{first_row, item_rows, further_row, further_rows, next_row_address, number_of_rows, all_rows}
 use Rattle.pac_listing.specs.Listing.{line_rows, lines_from, symbol_row}

@@ -9,11 +9,9 @@ use Rattle.pac_asm_program.specs.declared.line.Line.TheVariants.{Blank, Skipped,
 use Rattle.pac_asm_program.specs.Names.{Symbol}
 use Rattle.pac_asm_program.specs.Programs.{Assembled}
 use Rattle.pac_num.specs.Hexadecimal.{hex_word}
-use Rattle.pac_listing.specs.Texts.{five_digits, byte_columns, row_bytes}
-
--- a text is the join of its pieces
-abbrev pub joined_pieces : List (List ℕ) → List ℕ
-joined_pieces pieces = flat_map (λ piece. piece) pieces
+use Rattle.pac_num.specs.Columns.{byte_columns, row_bytes}
+use Rattle.pac_out.specs.Pieces.{joined_pieces}
+use Rattle.pac_listing.specs.Texts.{five_digits}
 
 -- The first row of a line: its number, four places for the address, eight for bytes, and the line's text.
 abbrev pub first_row : ℕ → List ℕ → List ℕ → List ℕ → List ℕ

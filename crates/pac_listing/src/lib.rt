@@ -5,6 +5,5 @@ mod digits;
 mod listing;
 mod rows;
 
-pub use digits::byte_columns;
 pub use listing::write_listing;
 pub use pac_num::{hex_byte, hex_word};

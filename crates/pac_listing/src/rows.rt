@@ -1,13 +1,14 @@
 //! The rows of a line.
 
 ghost use Rattle.std.specs.Prelude.{◌≡◌, ◌-◌, [], ◌∷◌, length, drop, codes};
+ghost use Rattle.pac_num.specs.Columns.{row_bytes};
 ghost use Rattle.pac_out.specs.Pending.{Gathers};
-ghost use Rattle.pac_listing.specs.Texts.{row_bytes};
-ghost use Rattle.pac_listing.specs.Listing.{joined_pieces, first_row, further_row, all_rows, item_rows, line_rows};
+ghost use Rattle.pac_out.specs.Pieces.{joined_pieces};
+ghost use Rattle.pac_listing.specs.Listing.{first_row, further_row, all_rows, item_rows, line_rows};
 
-use crate::digits::{byte_columns, five_digits};
+use crate::digits::five_digits;
 use pac_asm_program::Line;
-use pac_num::hex_word;
+use pac_num::{byte_columns, hex_word};
 use pac_out::counted::Counted;
 use pac_out::pending::Pending;
 use pac_out::{Out, WriteFault};

@@ -7,7 +7,7 @@ use Rattle.std.proofs.lemmas.List.{take_more, take_all, take-take, length-take-l
 use Rattle.std.proofs.lemmas.Slice.{take-put_mid}
 use borrow.Rule.Slice.PartMut.{put_mid}
 use Rattle.std.specs.List.{flat_map}
-use Rattle.pac_tiles.specs.Tabulate.{tabulate}
+use Rattle.pac_num.specs.Tabulate.{tabulate}
 use Rattle.pac_media.specs.Images.{palette_colour, header, pair_number, pair_in}
 
 -- what is made of a palette: the pair of each number, and perhaps bytes after it

@@ -3,6 +3,7 @@
 use Rattle.std.specs.Prelude.{ℕ, ℤ, ◌+◌, ◌*◌, List, [], ◌∷◌, codes}
 use Rattle.std.specs.List.{flat_map}
 use Rattle.std.specs.Int.{w16, w32, to_le_bytes, cast_unsigned}
+use Rattle.pac_out.specs.Pieces.{joined_pieces}
 
 -- the samples of a second, and the bytes of a sample
 abbrev pub rate : ℕ
@@ -24,7 +25,7 @@ header_size = 44
 
 unfoldable pub wav_header : ℕ → List ℕ
 wav_header samples =
-    flat_map (λ field. field)
+    joined_pieces
     (codes "RIFF" ∷ to_le_bytes w32 (riff_size samples) ∷ codes "WAVE"
     -- 16 bytes of the format: PCM, which is 1, and one channel; samples and bytes a second; bytes and bits of a sample
     ∷ codes "fmt " ∷ to_le_bytes w32 16

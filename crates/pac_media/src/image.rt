@@ -3,7 +3,7 @@
 ghost use Rattle.std.specs.Prelude.{◌≡◌, ◌<◌, ◌≤◌, ◌++◌, ◌+◌, ◌*◌, ℕ, [], length, slice_index, slice_index_or, take};
 ghost use Rattle.std.specs.Prelude.{vec_len, vec_capacity, EachIndex, IfOk};
 ghost use Rattle.std.specs.List.{flat_map};
-ghost use Rattle.pac_tiles.specs.Tabulate.{tabulate};
+ghost use Rattle.pac_num.specs.Tabulate.{tabulate};
 ghost use Rattle.pac_tiles.specs.Tiles as tile;
 ghost use Rattle.pac_colour.specs.Colours.{numbers as colours};
 ghost use Rattle.pac_media.specs.Images.{image_size, pair_number, pair_in, ppm_of};

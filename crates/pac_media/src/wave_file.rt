@@ -1,7 +1,7 @@
 //! The sound of a run.
 
 ghost use Rattle.std.specs.Prelude.{◌≡◌, ◌<◌, ◌-◌, ◌^◌, [], true, false, pos, replicate, IfErr, IsErr, OnOk, OnErr};
-ghost use Rattle.std.specs.List.{flat_map};
+ghost use Rattle.pac_out.specs.Pieces.{joined_pieces};
 ghost use Rattle.pac_media.specs.Samples.{riff_size, wav_header, sample_text, samples_text};
 ghost use Rattle.pac_media.specs.Sound.{HasText, GivesSound, FinishesSound};
 
@@ -19,7 +19,7 @@ const SAMPLE_SIZE: u32 = 2;
 /// The header of a file of so many samples, four bytes at a time.
 fn header(samples: u32) -> [[u8; 4]; 11]
     requires { riff_size samples < 2 ^ 32 }
-    ensures { flat_map (λ field. field) result ≡ wav_header samples }
+    ensures { joined_pieces result ≡ wav_header samples }
 {
     let size = SAMPLE_SIZE * samples;
     [

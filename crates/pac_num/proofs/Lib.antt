@@ -1,1 +1,2 @@
 pub mod Pixels
+pub mod Tabulated

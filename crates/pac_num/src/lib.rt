@@ -6,8 +6,10 @@ ghost use Rattle.std.specs.Prelude.{◌≡◌, ◌<◌, ◌+◌};
 ghost use Rattle.pac_num.specs.Numbers as number;
 ghost use Rattle.pac_num.specs.Pixels as pixels;
 
+mod columns;
 mod hexadecimal;
 
+pub use columns::byte_columns;
 pub use hexadecimal::{hex_byte, hex_word};
 
 /// Bit `place` of a byte, 0 or 1; bit 0 is the lowest.

@@ -3,4 +3,5 @@ pub mod Faulty
 pub mod Laws
 pub mod Memory
 pub mod Pending
+pub mod Pieces
 pub mod Writes

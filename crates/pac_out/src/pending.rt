@@ -101,3 +101,14 @@ impl Pending {
         Ok(())
     }
 }
+
+impl<W: Out> Counted<W> {
+    /// Writes pieces one after another, in large writes.
+    pub fn put_pieces(&mut self, pieces: &[&[u8]]) -> Result<(), WriteFault>
+        ensures { Puts W.took W.refused self.old (flat_map (λ piece. piece.now) pieces.now) result self.new }
+    {
+        let mut pending = Pending::new();
+        pending.put_pieces(self, pieces)?;
+        pending.flush(self)
+    }
+}

@@ -1,6 +1,6 @@
 -- Tiles and sprites as they are decoded: the high three bits of a colour are not wired.
 use Rattle.std.proofs.Common.{◌≡◌, ℕ, ◌+◌, ◌*◌, ◌/◌, ◌%◌, ◌<◌, ◌∙◌, List, get_or, arith}
-use Rattle.pac_tiles.specs.Tabulate.{tabulate}
+use Rattle.pac_num.specs.Tabulate.{tabulate}
 use Rattle.pac_picture.specs.Picture.{VideoRoms, tile_number, sprite_number}
 use Rattle.pac_picture.specs.Layer.{tile_pattern, sprite_image}
 use Rattle.pac_picture.proofs.Places.{read-tabulate}

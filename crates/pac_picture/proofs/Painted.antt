@@ -1,7 +1,7 @@
 -- Sprites painted one over another.
 use Rattle.std.proofs.Common.{◌≡◌, ℕ, zero, suc, ◌+◌, ◌-◌, Bool, true, false, if◌then◌else◌, List, [], ◌∷◌, refl, sym, ap, ◌∙◌, add-one}
 use Rattle.std.specs.Prelude.{Some, find, unwrap_or}
-use Rattle.pac_tiles.specs.Tabulate.{tabulate}
+use Rattle.pac_num.specs.Tabulate.{tabulate}
 use Rattle.pac_picture.specs.Picture.{is_opaque}
 use Rattle.pac_picture.specs.Painting.{painted_number}
 

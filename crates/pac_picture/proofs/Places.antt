@@ -2,8 +2,8 @@
 use Rattle.std.proofs.Common.{◌≡◌, ℕ, ◌+◌, ◌<◌, ◌≢◌, List, [], ◌∷◌, ◌++◌, add-one}
 use Rattle.std.proofs.Common.{length, get_or, set, refl, sym, ◌∙◌, below_more, get_or-set_other, get_or-set_same, arith}
 use Rattle.std.proofs.lemmas.List.{same_lists, get_or_default}
-use Rattle.pac_tiles.specs.Tabulate.{tabulate}
-use Rattle.pac_tiles.proofs.Tabulated.{length-tabulate, get_or-tabulate}
+use Rattle.pac_num.specs.Tabulate.{tabulate}
+use Rattle.pac_num.proofs.Tabulated.{length-tabulate, get_or-tabulate}
 
 -- one place more
 pub set-step : {A : Type 0} (xs : List A) (value : ℕ → A) (place : ℕ) (next other : A) → place < length xs → next ≡ value place →

@@ -2,7 +2,7 @@
 -- again.
 use Rattle.std.specs.Prelude.{◌≡◌, ℕ, ◌/◌, ◌%◌, ◌<◌, ◌==◌, Bool, true, false}
 use Rattle.std.specs.Prelude.{not, ◌||◌, List, [], slice_index, slice_index_or, length, replicate, count_by, sum}
-use Rattle.pac_tiles.specs.Tabulate.{tabulate}
+use Rattle.pac_num.specs.Tabulate.{tabulate}
 use Rattle.pac_tiles.specs.Tiles.{columns, rows, offset_of, tile_rom_size}
 use Rattle.pac_sprites.specs.Sprites.{sprite_rom_size}
 use Rattle.pac_colour.specs.Colours.{lookup_size}

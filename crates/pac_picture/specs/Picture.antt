@@ -2,7 +2,7 @@
 -- sprites and colours say so). It is 288 pixels wide and 224 high, not rotated; each of its pixels, from (0, 0) at the left of
 -- the top line on, is a colour number from 0 to 15.
 use Rattle.std.specs.Prelude.{ℕ, ◌+◌, ◌-◌, ◌*◌, ◌/◌, ◌%◌, ◌==◌, Bool, not, if◌then◌else◌, List, slice_index, find, unwrap_or}
-use Rattle.pac_tiles.specs.Tabulate.{tabulate}
+use Rattle.pac_num.specs.Tabulate.{tabulate}
 use Rattle.pac_tiles.specs.Tiles.{width, height, tile_side, offset_of}
 use Rattle.pac_tiles.specs.Tiles as tiles
 use Rattle.pac_sprites.specs.declared.Sprite.{Sprite}

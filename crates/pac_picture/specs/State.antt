@@ -1,6 +1,6 @@
 -- To be believed: what clauses see of a picture, and what composing it does.
 use Rattle.std.specs.Prelude.{◌≡◌, ℕ, ◌-◌, ◌/◌, ◌<◌, if◌then◌else◌, List, [], length, replicate, slice_index, slice_index_or, slice_set}
-use Rattle.pac_tiles.specs.Tabulate.{tabulate}
+use Rattle.pac_num.specs.Tabulate.{tabulate}
 use Rattle.pac_tiles.specs.Tiles.{width, height, rows, tile_side}
 use Rattle.pac_colour.specs.Colours.{rgb_of, numbers}
 use Rattle.pac_picture.specs.Picture.{VideoRoms, VideoMemory, picture_line, picture_of}

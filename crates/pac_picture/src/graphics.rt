@@ -2,7 +2,7 @@
 //! colour numbers.
 
 ghost use Rattle.std.specs.Prelude.{◌≡◌, ◌<◌, ℕ, ◌/◌, ◌%◌, IfOk, length, slice_index};
-ghost use Rattle.pac_tiles.specs.Tabulate.{tabulate};
+ghost use Rattle.pac_num.specs.Tabulate.{tabulate};
 ghost use Rattle.pac_tiles.specs.Tiles as tile;
 ghost use Rattle.pac_sprites.specs.Sprites as sprite;
 ghost use Rattle.pac_colour.specs.Colours as colour_of;
@@ -148,7 +148,7 @@ pub struct Graphics {
 
 impl Model for Graphics {
     ghost use Rattle.std.specs.Prelude.{◌≡◌, ◌/◌, ◌%◌};
-    ghost use Rattle.pac_tiles.specs.Tabulate.{tabulate};
+    ghost use Rattle.pac_num.specs.Tabulate.{tabulate};
     ghost use Rattle.pac_picture.specs.Picture.{VideoRoms};
     ghost use Rattle.pac_picture.specs.Layer.{tile_pattern, sprite_image};
 

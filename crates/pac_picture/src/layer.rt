@@ -2,7 +2,7 @@
 
 ghost use Rattle.std.specs.Prelude.{◌≡◌, ◌<◌, ◌≤◌, ◌/◌, ◌%◌, ◌||◌, ℕ, IfOk, true};
 ghost use Rattle.std.specs.Prelude.{false, if◌then◌else◌, [], length, map, count_by, slice_index, slice_index_or, slice_set};
-ghost use Rattle.pac_tiles.specs.Tabulate.{tabulate};
+ghost use Rattle.pac_num.specs.Tabulate.{tabulate};
 ghost use Rattle.pac_tiles.specs.Tiles as tile;
 ghost use Rattle.pac_picture.specs.Layer.{cells_of, cell_differs, differing_cells, differing_in, drawn_from, shadow_at, shadow_from, tile_pattern};
 ghost use Rattle.pac_picture.specs.Layer.{IsDrawn, all_differing, kept_dot, made_stale, stale_rows};

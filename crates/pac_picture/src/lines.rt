@@ -2,7 +2,7 @@
 
 ghost use Rattle.std.specs.Prelude.{◌≡◌, ◌<◌, ◌/◌, ◌-◌, ℕ, [], IfOk};
 ghost use Rattle.std.specs.Prelude.{length, reverse, if◌then◌else◌, slice_index, slice_index_or, slice_set, EachIndex};
-ghost use Rattle.pac_tiles.specs.Tabulate.{tabulate};
+ghost use Rattle.pac_num.specs.Tabulate.{tabulate};
 ghost use Rattle.pac_tiles.specs.Tiles as tile;
 ghost use Rattle.pac_colour.specs.Colours as colour;
 ghost use Rattle.pac_picture.specs.Picture.{picture_line, picture_of};

@@ -1,4 +1,3 @@
-pub mod Parts
 pub mod Planned
 pub mod Played
 pub mod Filmed

@@ -1,10 +1,11 @@
 -- To be believed: the four texts of a run: the images of its pictures, its sound, the listing and the report.
 use Rattle.std.specs.Prelude.{ℕ, ℤ, pos, ◌*◌, ◌-◌, length, replicate, Option, None, Some, slice_index, List, [], ◌∷◌, ◌++◌, codes, decimal}
 use Rattle.std.specs.List.{flat_map}
-use Rattle.pac_listing.specs.Hexadecimal.{hex_byte, hex_word}
-use Rattle.pac_board.specs.Stop.{Stop}
-use Rattle.pac_board.specs.Cause.{Cause}
-use Rattle.pac_board.specs.CauseVariants.{Opcode, Vector}
+use Rattle.pac_num.specs.Hexadecimal.{hex_byte, hex_word}
+use Rattle.pac_out.specs.Pieces.{joined_pieces}
+use Rattle.pac_cpu.specs.declared.once.Stop.{Stop}
+use Rattle.pac_cpu.specs.declared.once.Cause.{Cause}
+use Rattle.pac_cpu.specs.declared.once.Cause.TheVariants.{Opcode, Vector}
 use Rattle.pac_media.specs.Images.{ppm_of}
 use Rattle.pac_media.specs.Samples.{wav_header, samples_text}
 use Rattle.pac_board.specs.ModelLaws.{frame_samples}
@@ -38,18 +39,14 @@ wave_file_text frames outputs = wav_header (frame_samples * frames)
 abbrev pub wave_so_far : ℕ → List Output → List ℕ
 wave_so_far frames outputs = wav_header (frame_samples * frames) ++ samples_text (samples_in outputs)
 
--- how a run ended: done, or at a stop with its bytes, or with the vector byte that is no RST. A text is the join
--- of its pieces.
-abbrev pub report_of_pieces : List (List ℕ) → List ℕ
-report_of_pieces pieces = flat_map (λ piece. piece) pieces
-
+-- how a run ended: done, or at a stop with its bytes, or with the vector byte that is no RST
 abbrev pub cause_text : ℕ → List ℕ → Cause → List ℕ
 cause_text pc bytes Opcode =
-    report_of_pieces (codes "stop S1 at " ∷ hex_word pc ∷ codes " bytes " ∷ hex_byte (slice_index bytes 0) ∷ codes " "
+    joined_pieces (codes "stop S1 at " ∷ hex_word pc ∷ codes " bytes " ∷ hex_byte (slice_index bytes 0) ∷ codes " "
     ∷ hex_byte (slice_index bytes 1)
     ∷ codes " " ∷ hex_byte (slice_index bytes 2) ∷ codes " " ∷ hex_byte (slice_index bytes 3) ∷ codes "\n" ∷ [])
 cause_text pc bytes (Vector vector) =
-    report_of_pieces (codes "stop S2 at " ∷ hex_word pc ∷ codes " byte " ∷ hex_byte vector ∷ codes "\n" ∷ [])
+    joined_pieces (codes "stop S2 at " ∷ hex_word pc ∷ codes " byte " ∷ hex_byte vector ∷ codes "\n" ∷ [])
 
 abbrev pub end_text : Option Stop → List ℕ
 end_text None = codes "end done\n"
@@ -58,7 +55,7 @@ end_text (Some stop) = cause_text stop.pc stop.bytes stop.cause
 -- the frames shown of those asked for, the steps and the T-states
 abbrev pub counts_text : ℕ → ℕ → ℕ → ℕ → List ℕ
 counts_text shown total steps ticks =
-    report_of_pieces (codes "frames " ∷ decimal shown ∷ codes " of " ∷ decimal total ∷ codes "\nsteps " ∷ decimal steps ∷ codes " ticks "
+    joined_pieces (codes "frames " ∷ decimal shown ∷ codes " of " ∷ decimal total ∷ codes "\nsteps " ∷ decimal steps ∷ codes " ticks "
     ∷ decimal ticks ∷ codes "\n" ∷ [])
 
 -- the report of what a run of so many frames came to

@@ -57,7 +57,7 @@ fn write_watched<F: Out, W: Out, L: Out, R: Out, T: Out>(
     if let Err(fault) = list(listing, inputs.source, program) {
         return Err(RunFault::Write(Output::Listing, fault.count));
     }
-    let outcome = match watch_run(session, commands, total, image, frames, wave, text) {
+    let outcome = match watch_run(session, commands, image, frames, wave, text) {
         Ok(outcome) => outcome_of(outcome),
         Err((output, count)) => return Err(RunFault::Write(output, count)),
     };

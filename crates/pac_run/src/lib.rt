@@ -6,7 +6,6 @@ mod fault;
 mod film;
 mod inputs;
 mod outcome;
-mod pieces;
 mod plan;
 mod play;
 mod report;

@@ -6,7 +6,6 @@ ghost use Rattle.pac_media.specs.Counted.{Puts};
 ghost use Rattle.pac_run.specs.Texts as text;
 
 use crate::outcome::Outcome;
-use crate::pieces::put_pieces;
 use itoa::Buffer;
 use pac_board::{Cause, Stop};
 use pac_listing::{hex_byte, hex_word};
@@ -37,7 +36,7 @@ fn put_counts<W: Out>(
         tick_digits.format(ticks).as_bytes(),
         b"\n",
     ];
-    put_pieces(output, &pieces)
+    output.put_pieces(&pieces)
 }
 
 /// The line of a stop at bytes that are no instruction.
@@ -61,7 +60,7 @@ fn put_opcode_stop<W: Out>(
         &hex_byte(bytes[3]),
         b"\n",
     ];
-    put_pieces(output, &pieces)
+    output.put_pieces(&pieces)
 }
 
 /// The line of a stop at a vector byte that is no RST.
@@ -75,7 +74,7 @@ fn put_vector_stop<W: Out>(output: &mut Counted<W>, pc: u16, vector: u8) -> Resu
         &hex_byte(vector),
         b"\n",
     ];
-    put_pieces(output, &pieces)
+    output.put_pieces(&pieces)
 }
 
 /// What stopped the board, and where: one line.

@@ -41,19 +41,17 @@ impl<F: Out, W: Out> Film<F, W> {
     }
 }
 
-/// Writes the wave's header, then does a session's commands, goes on to the end of its run of so many frames, and writes frames,
-/// samples and text as they come. Where the header is refused no frame is begun, and nothing is told.
+/// Writes the wave's header, then does a session's commands, goes on to the end of its run, and writes frames, samples and text as
+/// they come. Where the header is refused no frame is begun, and nothing is told.
 pub fn watch_run<F: Out, W: Out, T: Out>(
     session: &mut Session,
     commands: &[u8],
-    frame_count: u32,
     image: Image,
     frames: &mut F,
     wave: &mut W,
     text: &mut T,
 ) -> Result<RunTotals, (Output, u64)>
-    requires begun { session.old ≡ session_at_start session.old.setting 0 }
-    requires count { frame_count ≡ total_frames session.old.setting.script }
+    requires { session.old ≡ session_at_start session.old.setting 0 }
     ensures outcome { IfOk result (IsOutcome session.old) }
     ensures texts { WatchesOutputs
         (record { took = F.took; refused = F.refused; old = frames.old; new = frames.new })
@@ -61,8 +59,7 @@ pub fn watch_run<F: Out, W: Out, T: Out>(
         (record { took = T.took; refused = T.refused; old = text.old; new = text.new })
         (total_frames session.old.setting.script) (whole_run session.old.setting).outputs session.old.setting (lines commands.now) result }
 {
-    session.facts();
-    let mut wave = WaveFile::begin(wave, FRAME_SAMPLES * frame_count);
+    let mut wave = WaveFile::begin(wave, FRAME_SAMPLES * session.frames());
     if let Err(fault) = wave.flush() {
         let _ = wave.into_writer();
         return Err((Output::Wave, fault.count));

@@ -1,6 +1,6 @@
 -- To be believed: what disassembling bytes leaves of the text's output, by the answer.
 use Rattle.std.specs.Prelude.{◌≡◌, ◌<◌, ◌≤◌, ◌⊎◌, ℕ, List, length, Result, Ok, Err}
-use Rattle.pac_dis_text.specs.Lines.{disassembly}
+use Rattle.pac_dis.specs.Lines.{disassembly}
 use Rattle.pac_run.specs.declared.fault.Output.TheVariants.{Text}
 use Rattle.pac_run.specs.Run.{Writing, TakesText, StopsInText, IsUnwritten}
 use Rattle.pac_run_command.specs.declared.failure.Failure.{Failure}

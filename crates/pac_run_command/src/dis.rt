@@ -1,14 +1,16 @@
 //! `dis`: a file's bytes become the text of their instructions.
 
 ghost use Rattle.std.specs.Prelude.{◌≡◌};
-ghost use Rattle.pac_dis_text.specs.Lines.{disassembly};
+ghost use Rattle.pac_dis.specs.Lines.{disassembly};
 ghost use Rattle.pac_run.specs.Recorded.{WritesWholeText};
 ghost use Rattle.pac_run_command.specs.Making.{TellsDisassembly};
 ghost use Rattle.pac_run_command.specs.Texts.{WritesDisassembly};
 
 use crate::failure::{Failure, Target, read_failure};
-use pac_dis_text::put_disassembly;
-use pac_run::{Counted, Out, Output, WriteFault};
+use pac_dis::put_disassembly;
+use pac_out::counted::Counted;
+use pac_out::{Out, WriteFault};
+use pac_run::Output;
 use pac_run_files::{FileSystem, read_file};
 use std::alloc::Global;
 

@@ -1,5 +1,5 @@
 -- To be believed: the command line of the program as `clap` knows it, and what its words ask for.
-use Rattle.std.specs.Prelude.{ℕ, Bool, true, false, pos, List, [], ◌∷◌, ◌++◌, Option, Some, None}
+use Rattle.std.specs.Prelude.{ℕ, true, false, pos, List, [], ◌∷◌, ◌++◌, Option, Some, None}
 use Rattle.std.specs.Prelude.{if◌then◌else◌, codes, fold, option_map, option_and_then}
 use Rattle.std.specs.Str.{bytes_eq}
 use Rattle.std.specs.Str.Parse.{digits_value, without_leading_plus}
@@ -25,10 +25,6 @@ option name = record (argument name) { long = Some name }
 
 abbrev pub required_option : Text → Rule
 required_option name = record (option name) { required = true }
-
--- `--name FILE`, by whether it has to be given
-abbrev pub file_option : Text → Bool → Rule
-file_option name required = record (option name) { required = required }
 
 -- a word that stands by itself, and has to be there
 abbrev pub required_place : Text → Rule

@@ -35,8 +35,8 @@ fn asm_command<'a>(alloc: Global) -> Result<Command<'a>, AllocError>
         alloc,
         command,
         &[
-            ("rom", "Gets the 16,384 bytes of the ROM", REQUIRED),
-            ("listing", "Gets the listing", REQUIRED),
+            ("rom", "Gets the 16,384 bytes of the ROM"),
+            ("listing", "Gets the listing"),
         ],
     )
 }
@@ -73,45 +73,41 @@ fn with_run_options<'a>(alloc: Global, command: Command<'a>) -> Result<Command<'
     ensures shape { IfOk result (λ r. app_of r ≡ line.with_rules line.run_rules (app_of command.entry)) }
     ensures local { IfOk result (λ r. (fields_of r).has_globals ≡ (fields_of command.entry).has_globals) }
 {
-    let command = with_files(
+    let required = with_files(
         alloc,
         command,
         &[
-            ("set", "The manifest of the ROM set", REQUIRED),
-            ("script", "The script of inputs", REQUIRED),
-            ("frames", "Gets the pictures, as PPM", REQUIRED),
-            ("wave", "Gets the sound, as WAV", REQUIRED),
-            ("listing", "Gets the listing", REQUIRED),
-            (
-                "source",
-                "The source that stands for the set's program",
-                OPTIONAL,
-            ),
+            ("set", "The manifest of the ROM set"),
+            ("script", "The script of inputs"),
+            ("frames", "Gets the pictures, as PPM"),
+            ("wave", "Gets the sound, as WAV"),
+            ("listing", "Gets the listing"),
         ],
     )?;
-    command.arg(dip_option(alloc))
+    let with_source = required.arg(option(
+        alloc,
+        "source",
+        "FILE",
+        "The source that stands for the set's program",
+    ))?;
+    with_source.arg(dip_option(alloc))
 }
 
-/// An option that names a file: its name, what the help says of it, and whether it has to be given.
-type FileOption<'a> = (&'a str, &'a str, bool);
-
-const REQUIRED: bool = true;
-
-const OPTIONAL: bool = false;
-
-/// A command with these options added, in a loop: a long chain of steps that may fail costs far more to check.
+/// A command with options added that name a file and have to be given, each by its name and what the help says of it. They are
+/// added in a loop: a long chain of steps that may fail costs far more to check.
 fn with_files<'a>(
     alloc: Global,
     command: Command<'a>,
-    options: &[FileOption<'a>],
+    options: &[(&'a str, &'a str)],
 ) -> Result<Command<'a>, AllocError>
     ensures shape { IfOk result (λ r.
-        app_of r ≡ line.with_rules (map (λ o. line.file_option o.0.now o.2) options.now) (app_of command.entry)) }
+        app_of r ≡ line.with_rules (map (λ o. line.required_option o.0.now) options.now) (app_of command.entry)) }
     ensures local { IfOk result (λ r. (fields_of r).has_globals ≡ (fields_of command.entry).has_globals) }
 {
     let mut command = command;
     for file in options {
-        command = command.arg(file_option(alloc, file))?;
+        let (name, help) = *file;
+        command = command.arg(required_option(alloc, name, help))?;
     }
     Ok(command)
 }
@@ -146,15 +142,6 @@ fn required_option<'a>(alloc: Global, name: &'a str, help: &'a str) -> Arg<'a>
     ensures local { result.global ≡ false }
 {
     option(alloc, name, "FILE", help).required(true)
-}
-
-/// `--name FILE`, as an entry of a table says it.
-fn file_option<'a>(alloc: Global, file: &FileOption<'a>) -> Arg<'a>
-    ensures rule { rule_of result ≡ line.file_option file.now.0.now file.now.2 }
-    ensures local { result.global ≡ false }
-{
-    let (name, help, required) = *file;
-    option(alloc, name, "FILE", help).required(required)
 }
 
 /// `--name VALUE`, which may be given.

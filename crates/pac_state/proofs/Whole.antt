@@ -9,11 +9,12 @@ use Rattle.std.proofs.lemmas.Nat.{le_bytes_2, le_bytes_4, le_bytes_8}
 use Rattle.std.proofs.lemmas.Slice.Eq.{bytes_eq-Decides}
 use Rattle.std.specs.Int.{w16, w32, w64, from_le_bytes}
 use Rattle.sha1.specs.Sha1.{sha1}
-use Rattle.pac_board.specs.Tabulate.{tabulate}
-use Rattle.pac_board.specs.RomParts.{Parts}
+use Rattle.pac_num.specs.Tabulate.{tabulate}
+use Rattle.pac_roms.specs.Parts.{Parts}
 use Rattle.pac_roms_manifest.specs.Sets.{digest_of}
 use Rattle.pac_state.specs.declared.fault.LoadFault.TheVariants.{NoState, OtherVersion, Size, Damaged, OtherSet}
-use Rattle.pac_state.specs.Text.{bytes_of_pieces, magic, saved_word, saved_double_word, saved_long_word, head, ram, devices, file_front, body, save_text}
+use Rattle.pac_out.specs.Pieces.{joined_pieces}
+use Rattle.pac_state.specs.Text.{magic, saved_word, saved_double_word, saved_long_word, head, ram, devices, file_front, body, save_text}
 use Rattle.pac_state.specs.Reading.{bytes_at_place, lines_of, picture_in, state_in}
 use Rattle.pac_state.specs.Saved.{begins_with_magic, is_of_another_version, is_sealed, is_of_set, load_fault, file_size, body_size, version_in, AreWritten}
 use Rattle.pac_state.proofs.Taken.{below, tested, size-of}
@@ -35,7 +36,7 @@ unfoldable pub total : List ℕ → ℕ
 total [] = 0
 total (width ∷ more) = width + total more
 
-joined-cut : (at : ℕ) (widths bytes : List ℕ) → bytes_of_pieces (cut at widths bytes) ≡ bytes_at_place at (total widths) bytes
+joined-cut : (at : ℕ) (widths bytes : List ℕ) → joined_pieces (cut at widths bytes) ≡ bytes_at_place at (total widths) bytes
 unfolding cut total
 joined-cut at [] bytes = refl
 joined-cut at (width ∷ more) bytes =
@@ -91,12 +92,12 @@ long-again at bytes fits inside = le_bytes_8 (bytes_at_place at 8 bytes) _ (leng
 -- ---- the groups of pieces
 
 same-seven : {a b c d e f g a' b' c' d' e' f' g' : List ℕ} → a ≡ a' → b ≡ b' → c ≡ c' → d ≡ d' → e ≡ e' → f ≡ f' → g ≡ g'
-    → bytes_of_pieces (a ∷ b ∷ c ∷ d ∷ e ∷ f ∷ g ∷ []) ≡ bytes_of_pieces (a' ∷ b' ∷ c' ∷ d' ∷ e' ∷ f' ∷ g' ∷ [])
+    → joined_pieces (a ∷ b ∷ c ∷ d ∷ e ∷ f ∷ g ∷ []) ≡ joined_pieces (a' ∷ b' ∷ c' ∷ d' ∷ e' ∷ f' ∷ g' ∷ [])
 same-seven a b c d e f g = rw (a, b, c, d, e, f, g) refl
 
 head-is : (set : Parts) (bytes : List ℕ) → AreBytes bytes → length bytes ≡ file_size → magic ≡ bytes_at_place 0 8 bytes
     → digest_of set ≡ bytes_at_place 10 20 bytes → AreWritten (state_in bytes) bytes
-    → bytes_of_pieces (head (version_in bytes) (digest_of set) (state_in bytes)) ≡ bytes_at_place 0 82 bytes
+    → joined_pieces (head (version_in bytes) (digest_of set) (state_in bytes)) ≡ bytes_at_place 0 82 bytes
 unfolding head cut total
 head-is set bytes fits size start digest written =
     same-seven start (word-again 8 bytes fits (omega (arith, size))) digest written.processor
@@ -104,12 +105,12 @@ head-is set bytes fits size start digest written =
     (long-again 74 bytes fits (omega (arith, size)))
     ∙ joined-cut 0 (8 ∷ 2 ∷ 20 ∷ 28 ∷ 8 ∷ 8 ∷ 8 ∷ []) bytes
 
-ram-is : (bytes : List ℕ) → bytes_of_pieces (ram (state_in bytes)) ≡ bytes_at_place 82 3072 bytes
+ram-is : (bytes : List ℕ) → joined_pieces (ram (state_in bytes)) ≡ bytes_at_place 82 3072 bytes
 unfolding ram cut total
 ram-is bytes = joined-cut 82 (1024 ∷ 1024 ∷ 1024 ∷ []) bytes
 
 devices-is : (bytes : List ℕ) → AreBytes bytes → length bytes ≡ file_size → AreWritten (state_in bytes) bytes
-    → bytes_of_pieces (devices (state_in bytes)) ≡ bytes_at_place 3154 70 bytes
+    → joined_pieces (devices (state_in bytes)) ≡ bytes_at_place 3154 70 bytes
 unfolding devices cut total
 devices-is bytes fits size written =
     same-seven {a = bytes_at_place 3154 16 bytes} {b = bytes_at_place 3170 32 bytes} refl refl
@@ -118,7 +119,7 @@ devices-is bytes fits size written =
     ∙ joined-cut 3154 (16 ∷ 32 ∷ 4 ∷ 4 ∷ 4 ∷ 7 ∷ 3 ∷ []) bytes
 
 lines-joined : (count : ℕ) (picture : List ℕ) →
-    bytes_of_pieces (tabulate count (λ y. bytes_at_place (288 * y) 288 picture)) ≡ bytes_at_place 0 (288 * count) picture
+    joined_pieces (tabulate count (λ y. bytes_at_place (288 * y) 288 picture)) ≡ bytes_at_place 0 (288 * count) picture
 unfolding tabulate
 lines-joined zero picture = refl
 lines-joined (suc count) picture =
@@ -126,13 +127,13 @@ lines-joined (suc count) picture =
     let next : 288 * count + 288 ≡ 288 * suc count = omega arith in
     flat_map-append (λ line. line) (tabulate count (λ y. bytes_at_place (288 * y) 288 picture))
     (bytes_at_place (288 * count) 288 picture ∷ [])
-    ∙ (ap (λ (last : List ℕ). bytes_of_pieces (tabulate count (λ y. bytes_at_place (288 * y) 288 picture)) ++ last)
+    ∙ (ap (λ (last : List ℕ). joined_pieces (tabulate count (λ y. bytes_at_place (288 * y) 288 picture)) ++ last)
     (append-nil (bytes_at_place (288 * count) 288 picture))
     ∙ (ap (λ (before : List ℕ). before ++ bytes_at_place (288 * count) 288 picture) (lines-joined count picture)
     ∙ (ap (λ at. bytes_at_place 0 (288 * count) picture ++ bytes_at_place at 288 picture) (sym here)
     ∙ (part-add 0 (288 * count) 288 picture ∙ ap (λ width. bytes_at_place 0 width picture) next))))
 
-lines-are : (bytes : List ℕ) → length bytes ≡ file_size → bytes_of_pieces (lines_of (picture_in bytes)) ≡ bytes_at_place 3224 64512 bytes
+lines-are : (bytes : List ℕ) → length bytes ≡ file_size → joined_pieces (lines_of (picture_in bytes)) ≡ bytes_at_place 3224 64512 bytes
 lines-are bytes size =
     let long : length (picture_in bytes) ≡ 64512 = length-part 3224 64512 bytes (omega (arith, size)) in
     lines-joined 224 (picture_in bytes) ∙ take_all 64512 (picture_in bytes) (omega (arith, long))
@@ -146,11 +147,11 @@ body-is set bytes fits size start digest written =
     let first = head-is set bytes fits size start digest written in
     let third = devices-is bytes fits size written in
     let before : file_front (version_in bytes) (digest_of set) (state_in bytes) ≡ bytes_at_place 0 3224 bytes =
-    ap (λ (text : List ℕ). (text ++ bytes_of_pieces (ram (state_in bytes))) ++ bytes_of_pieces (devices (state_in bytes))) first
-    ∙ (ap (λ (text : List ℕ). (bytes_at_place 0 82 bytes ++ text) ++ bytes_of_pieces (devices (state_in bytes))) (ram-is bytes)
+    ap (λ (text : List ℕ). (text ++ joined_pieces (ram (state_in bytes))) ++ joined_pieces (devices (state_in bytes))) first
+    ∙ (ap (λ (text : List ℕ). (bytes_at_place 0 82 bytes ++ text) ++ joined_pieces (devices (state_in bytes))) (ram-is bytes)
     ∙ (ap (λ (text : List ℕ). (bytes_at_place 0 82 bytes ++ bytes_at_place 82 3072 bytes) ++ text) third
     ∙ (ap (λ (text : List ℕ). text ++ bytes_at_place 3154 70 bytes) (part-add 0 82 3072 bytes) ∙ part-add 0 3154 70 bytes))) in
-    ap (λ (text : List ℕ). text ++ bytes_of_pieces (lines_of (picture_in bytes))) before
+    ap (λ (text : List ℕ). text ++ joined_pieces (lines_of (picture_in bytes))) before
     ∙ (ap (λ (text : List ℕ). bytes_at_place 0 3224 bytes ++ text) (lines-are bytes size) ∙ part-add 0 3224 64512 bytes)
 
 pub text-of : (set : Parts) (bytes : List ℕ) → ((i : ℕ) → get_or bytes i 0 < 256) → load_fault (digest_of set) bytes ≡ None

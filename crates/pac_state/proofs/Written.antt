@@ -8,7 +8,8 @@ use Rattle.sha1.specs.Sha1.{sha1, digest_bytes}
 use Rattle.pac_board.specs.MemoryView.{IsWellFormed}
 use Rattle.pac_board.specs.PictureState.{IsPicture}
 use Rattle.pac_board.specs.State.{BoardState}
-use Rattle.pac_state.specs.Text.{bytes_of_pieces, magic, saved_word, saved_double_word, saved_long_word, head, ram}
+use Rattle.pac_out.specs.Pieces.{joined_pieces}
+use Rattle.pac_state.specs.Text.{magic, saved_word, saved_double_word, saved_long_word, head, ram}
 use Rattle.pac_state.specs.Text.{devices, processor_bytes, control_bytes, due_bytes, file_front, body, sealed_file}
 use Rattle.pac_state.specs.Reading.{bytes_at_place, lines_of}
 use Rattle.pac_state.proofs.Pieces.{pieces-more, pieces-split}
@@ -32,27 +33,27 @@ widths [] = []
 widths (piece ∷ more) = length piece ∷ widths more
 
 cut-joined : (before : List ℕ) (pieces : List (List ℕ)) (after : List ℕ)
-    → cut (length before) (widths pieces) (before ++ (bytes_of_pieces pieces ++ after)) ≡ pieces
+    → cut (length before) (widths pieces) (before ++ (joined_pieces pieces ++ after)) ≡ pieces
 unfolding cut
 cut-joined before [] after = refl
 cut-joined before (piece ∷ more) after =
     let at : length before + length piece ≡ length (before ++ piece) = sym (length-append before piece) in
-    let one : before ++ ((piece ++ bytes_of_pieces more) ++ after) ≡ before ++ (piece ++ (bytes_of_pieces more ++ after)) =
-    ap (λ (rest : List ℕ). before ++ rest) (append_assoc piece (bytes_of_pieces more) after) in
-    let other : before ++ (piece ++ (bytes_of_pieces more ++ after)) ≡ (before ++ piece) ++ (bytes_of_pieces more ++ after) =
-    sym (append_assoc before piece (bytes_of_pieces more ++ after)) in
-    let first : bytes_at_place (length before) (length piece) (before ++ ((piece ++ bytes_of_pieces more) ++ after)) ≡ piece =
-    ap (bytes_at_place (length before) (length piece)) one ∙ part-here before piece (bytes_of_pieces more ++ after) in
-    let rest : cut (length before + length piece) (widths more) (before ++ ((piece ++ bytes_of_pieces more) ++ after)) ≡ more =
-    ap (λ at. cut at (widths more) (before ++ ((piece ++ bytes_of_pieces more) ++ after))) at
+    let one : before ++ ((piece ++ joined_pieces more) ++ after) ≡ before ++ (piece ++ (joined_pieces more ++ after)) =
+    ap (λ (rest : List ℕ). before ++ rest) (append_assoc piece (joined_pieces more) after) in
+    let other : before ++ (piece ++ (joined_pieces more ++ after)) ≡ (before ++ piece) ++ (joined_pieces more ++ after) =
+    sym (append_assoc before piece (joined_pieces more ++ after)) in
+    let first : bytes_at_place (length before) (length piece) (before ++ ((piece ++ joined_pieces more) ++ after)) ≡ piece =
+    ap (bytes_at_place (length before) (length piece)) one ∙ part-here before piece (joined_pieces more ++ after) in
+    let rest : cut (length before + length piece) (widths more) (before ++ ((piece ++ joined_pieces more) ++ after)) ≡ more =
+    ap (λ at. cut at (widths more) (before ++ ((piece ++ joined_pieces more) ++ after))) at
     ∙ (ap (cut (length (before ++ piece)) (widths more)) (one ∙ other) ∙ cut-joined (before ++ piece) more after) in
     rw (first, rest) refl
 
-length-joined : (pieces : List (List ℕ)) → length (bytes_of_pieces pieces) ≡ total (widths pieces)
+length-joined : (pieces : List (List ℕ)) → length (joined_pieces pieces) ≡ total (widths pieces)
 unfolding total
 length-joined [] = refl
 length-joined (piece ∷ more) =
-    length-append piece (bytes_of_pieces more) ∙ ap (λ rest. length piece + rest) (length-joined more)
+    length-append piece (joined_pieces more) ∙ ap (λ rest. length piece + rest) (length-joined more)
 
 -- ---- the pieces of a state
 
@@ -63,10 +64,10 @@ abbrev places : List ℕ
 places = 8 ∷ 2 ∷ 20 ∷ 28 ∷ 8 ∷ 8 ∷ 8 ∷ 1024 ∷ 1024 ∷ 1024 ∷ 16 ∷ 32 ∷ 4 ∷ 4 ∷ 4 ∷ 7 ∷ 3 ∷ []
 
 joined-pieces : (version : ℕ) (digest : List ℕ) (state : BoardState) →
-    bytes_of_pieces (pieces version digest state) ≡ file_front version digest state
+    joined_pieces (pieces version digest state) ≡ file_front version digest state
 joined-pieces version digest state =
     flat_map-append (λ (piece : List ℕ). piece) (head version digest state ++ ram state) (devices state)
-    ∙ ap (λ (text : List ℕ). text ++ bytes_of_pieces (devices state))
+    ∙ ap (λ (text : List ℕ). text ++ joined_pieces (devices state))
     (flat_map-append (λ (piece : List ℕ). piece) (head version digest state) (ram state))
 
 widths-are : (version : ℕ) (digest : List ℕ) (state : BoardState) → length digest ≡ 20 → IsWellFormed state.now.board.memory
@@ -141,39 +142,39 @@ length-front version digest state long sizes =
 -- ---- the lines of the picture
 
 lines-before : (lines : List (List ℕ)) → IsPicture lines → (count : ℕ) → count ≤ 224 →
-    length (bytes_of_pieces (take count lines)) ≡ 288 * count
+    length (joined_pieces (take count lines)) ≡ 288 * count
 lines-before lines picture zero within = refl
 lines-before lines picture (suc count) within =
     let high : length lines ≡ 224 = picture.high in
     let inside : count < length lines = omega (arith, high, within) in
     let wide : length (get_or lines count []) ≡ 288 = picture.wide count (omega (arith, within)) in
     let before = lines-before lines picture count (omega (arith, within)) in
-    let more : bytes_of_pieces (take count lines) ++ get_or lines count [] ≡ bytes_of_pieces (take (count + 1) lines) =
+    let more : joined_pieces (take count lines) ++ get_or lines count [] ≡ joined_pieces (take (count + 1) lines) =
     pieces-more (λ (piece : List ℕ). piece) lines count [] inside in
     let next : count + 1 ≡ suc count = omega arith in
-    ap (λ count. length (bytes_of_pieces (take count lines))) (sym next) ∙ (ap length (sym more)
-    ∙ (length-append (bytes_of_pieces (take count lines)) (get_or lines count []) ∙ omega (arith, wide, before)))
+    ap (λ count. length (joined_pieces (take count lines))) (sym next) ∙ (ap length (sym more)
+    ∙ (length-append (joined_pieces (take count lines)) (get_or lines count []) ∙ omega (arith, wide, before)))
 
-pub length-lines : (lines : List (List ℕ)) → IsPicture lines → length (bytes_of_pieces lines) ≡ 64512
+pub length-lines : (lines : List (List ℕ)) → IsPicture lines → length (joined_pieces lines) ≡ 64512
 length-lines lines picture =
     let all : take 224 lines ≡ lines = take_all 224 lines (let high : length lines ≡ 224 = picture.high in omega (arith, high)) in
-    ap (λ lines. length (bytes_of_pieces lines)) (sym all) ∙ lines-before lines picture 224 (omega arith)
+    ap (λ lines. length (joined_pieces lines)) (sym all) ∙ lines-before lines picture 224 (omega arith)
 
 line-at : (lines : List (List ℕ)) → IsPicture lines → (y : ℕ) → y < 224 →
-    bytes_at_place (288 * y) 288 (bytes_of_pieces lines) ≡ get_or lines y []
+    bytes_at_place (288 * y) 288 (joined_pieces lines) ≡ get_or lines y []
 line-at lines picture y inside =
     let high : length lines ≡ 224 = picture.high in
     let before = lines-before lines picture y (omega (arith, inside)) in
-    let split : (bytes_of_pieces (take y lines) ++ get_or lines y []) ++ bytes_of_pieces (drop (y + 1) lines) ≡ bytes_of_pieces lines =
+    let split : (joined_pieces (take y lines) ++ get_or lines y []) ++ joined_pieces (drop (y + 1) lines) ≡ joined_pieces lines =
     pieces-split (λ (piece : List ℕ). piece) lines y [] (omega (arith, high, inside)) in
     ap (bytes_at_place (288 * y) 288) (sym split
-    ∙ append_assoc (bytes_of_pieces (take y lines)) (get_or lines y []) (bytes_of_pieces (drop (y + 1) lines)))
-    ∙ part-at (288 * y) 288 (bytes_of_pieces (take y lines)) (get_or lines y []) (bytes_of_pieces (drop (y + 1) lines)) before
+    ∙ append_assoc (joined_pieces (take y lines)) (get_or lines y []) (joined_pieces (drop (y + 1) lines)))
+    ∙ part-at (288 * y) 288 (joined_pieces (take y lines)) (get_or lines y []) (joined_pieces (drop (y + 1) lines)) before
     (picture.wide y inside)
 
-pub lines-again : (lines : List (List ℕ)) → IsPicture lines → lines_of (bytes_of_pieces lines) ≡ lines
+pub lines-again : (lines : List (List ℕ)) → IsPicture lines → lines_of (joined_pieces lines) ≡ lines
 lines-again lines picture =
-    sym (tabulated lines 224 (λ y. bytes_at_place (288 * y) 288 (bytes_of_pieces lines)) [] picture.high
+    sym (tabulated lines 224 (λ y. bytes_at_place (288 * y) 288 (joined_pieces lines)) [] picture.high
     (λ y inside. sym (line-at lines picture y inside)))
 
 -- ---- the digests
@@ -189,16 +190,16 @@ pub has-pieces : (version : ℕ) (digest : List ℕ) (state : BoardState) → le
 has-pieces version digest state long sizes =
     let seal = sha1 (body version digest state) in
     subst (HasPieces version digest state)
-    (sym (append_assoc (file_front version digest state) (bytes_of_pieces state.now.board.lines) seal))
-    (front-pieces version digest state (bytes_of_pieces state.now.board.lines ++ seal) long sizes)
+    (sym (append_assoc (file_front version digest state) (joined_pieces state.now.board.lines) seal))
+    (front-pieces version digest state (joined_pieces state.now.board.lines ++ seal) long sizes)
 
 pub has-picture : (version : ℕ) (digest : List ℕ) (state : BoardState) → length digest ≡ 20 → IsWellFormed state.now.board.memory
     → IsPicture state.now.board.lines →
-    bytes_at_place 3224 64512 (sealed_file (body version digest state)) ≡ bytes_of_pieces state.now.board.lines
+    bytes_at_place 3224 64512 (sealed_file (body version digest state)) ≡ joined_pieces state.now.board.lines
 has-picture version digest state long sizes picture =
     let seal = sha1 (body version digest state) in
-    ap (bytes_at_place 3224 64512) (append_assoc (file_front version digest state) (bytes_of_pieces state.now.board.lines) seal)
-    ∙ part-at 3224 64512 (file_front version digest state) (bytes_of_pieces state.now.board.lines) seal
+    ap (bytes_at_place 3224 64512) (append_assoc (file_front version digest state) (joined_pieces state.now.board.lines) seal)
+    ∙ part-at 3224 64512 (file_front version digest state) (joined_pieces state.now.board.lines) seal
     (length-front version digest state long sizes)
     (length-lines state.now.board.lines picture)
 
@@ -207,4 +208,4 @@ pub length-body : (version : ℕ) (digest : List ℕ) (state : BoardState) → l
 length-body version digest state long sizes picture =
     let first = length-front version digest state long sizes in
     let second = length-lines state.now.board.lines picture in
-    length-append (file_front version digest state) (bytes_of_pieces state.now.board.lines) ∙ omega (arith, first, second)
+    length-append (file_front version digest state) (joined_pieces state.now.board.lines) ∙ omega (arith, first, second)

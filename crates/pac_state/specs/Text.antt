@@ -2,21 +2,17 @@
 -- first.
 use Rattle.std.specs.Prelude.{ℕ, pos, List, [], ◌∷◌, ◌++◌, is_some, unwrap_or, codes}
 use Rattle.std.specs.Int.{w16, w32, w64, to_le_bytes, cast_unsigned}
-use Rattle.std.specs.List.{flat_map}
 use Rattle.sha1.specs.Sha1.{sha1}
-use Rattle.pac_board.specs.Latched.{binary_digit, binary_number, byte_of_latch}
-use Rattle.pac_board.specs.InterruptMode.{InterruptMode}
-use Rattle.pac_board.specs.InterruptModeVariants.{Zero, One, Two}
-use Rattle.pac_board.specs.Regs.{Regs}
-use Rattle.pac_board.specs.MemoryView.{View}
-use Rattle.pac_board.specs.RomParts.{Parts}
+use Rattle.pac_out.specs.Pieces.{joined_pieces}
+use Rattle.pac_latch.specs.Latched.{binary_digit, binary_number, byte_of_latch}
+use Rattle.pac_table.specs.declared.effects.InterruptMode.{InterruptMode}
+use Rattle.pac_table.specs.declared.effects.InterruptMode.TheVariants.{Zero, One, Two}
+use Rattle.pac_exec.specs.declared.regs.Regs.{Regs}
+use Rattle.pac_map.specs.View.{View}
+use Rattle.pac_roms.specs.Parts.{Parts}
 use Rattle.pac_roms_manifest.specs.Sets.{digest_of}
 use Rattle.pac_board.specs.declared.due.Due.{Due}
 use Rattle.pac_board.specs.State.{BoardState}
-
--- pieces, one after another
-abbrev pub bytes_of_pieces : List (List ℕ) → List ℕ
-bytes_of_pieces = flat_map (λ piece. piece)
 
 -- numbers of 2, 4 and 8 bytes
 abbrev pub saved_word : ℕ → List ℕ
@@ -88,10 +84,10 @@ devices state =
 -- all that comes before the picture, with the picture's colour numbers, the rows from the top
 abbrev pub file_front : ℕ → List ℕ → BoardState → List ℕ
 file_front version digest state =
-    bytes_of_pieces (head version digest state) ++ bytes_of_pieces (ram state) ++ bytes_of_pieces (devices state)
+    joined_pieces (head version digest state) ++ joined_pieces (ram state) ++ joined_pieces (devices state)
 
 abbrev pub body : ℕ → List ℕ → BoardState → List ℕ
-body version digest state = file_front version digest state ++ bytes_of_pieces state.now.board.lines
+body version digest state = file_front version digest state ++ joined_pieces state.now.board.lines
 
 -- a text with its SHA-1 digest at the end
 abbrev pub sealed_file : List ℕ → List ℕ

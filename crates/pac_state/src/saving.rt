@@ -6,6 +6,7 @@ ghost use Rattle.sha1.specs.Sha1.{Holds};
 ghost use Rattle.pac_board.specs.Fields.{state_of};
 ghost use Rattle.pac_roms_manifest.specs.Sets.{digest_of};
 ghost use Rattle.pac_out.specs.Counted.{Puts};
+ghost use Rattle.pac_out.specs.Pieces.{joined_pieces};
 ghost use Rattle.pac_state.specs.Saves.{Saves};
 ghost use Rattle.pac_state.specs.Text as text;
 
@@ -52,10 +53,10 @@ fn put_head<W: Out>(
     digest: &[u8; 20],
     fields: &Fields,
 ) -> Result<(), WriteFault>
-    ensures put { Puts W.took W.refused file.old (text.bytes_of_pieces (text.head text.written_version digest.now (state_of fields.now)))
+    ensures put { Puts W.took W.refused file.old (joined_pieces (text.head text.written_version digest.now (state_of fields.now)))
         result file.new }
     ensures hashed { OnOk result ((m : List ℕ) → Holds hasher.old m
-        → Holds hasher.new (m ++ text.bytes_of_pieces (text.head text.written_version digest.now (state_of fields.now)))) }
+        → Holds hasher.new (m ++ joined_pieces (text.head text.written_version digest.now (state_of fields.now)))) }
 {
     let digest = *digest;
     let pieces: [&[u8]; 7] = [
@@ -77,9 +78,9 @@ fn put_ram<W: Out>(
     hasher: &mut Sha1,
     fields: &Fields,
 ) -> Result<(), WriteFault>
-    ensures put { Puts W.took W.refused file.old (text.bytes_of_pieces (text.ram (state_of fields.now))) result file.new }
+    ensures put { Puts W.took W.refused file.old (joined_pieces (text.ram (state_of fields.now))) result file.new }
     ensures hashed { OnOk result ((m : List ℕ) → Holds hasher.old m →
-        Holds hasher.new (m ++ text.bytes_of_pieces (text.ram (state_of fields.now)))) }
+        Holds hasher.new (m ++ joined_pieces (text.ram (state_of fields.now)))) }
 {
     let tile = fields.memory.tile;
     let colour = fields.memory.colour;
@@ -93,9 +94,9 @@ fn put_devices<W: Out>(
     hasher: &mut Sha1,
     fields: &Fields,
 ) -> Result<(), WriteFault>
-    ensures put { Puts W.took W.refused file.old (text.bytes_of_pieces (text.devices (state_of fields.now))) result file.new }
+    ensures put { Puts W.took W.refused file.old (joined_pieces (text.devices (state_of fields.now))) result file.new }
     ensures hashed { OnOk result ((m : List ℕ) → Holds hasher.old m →
-        Holds hasher.new (m ++ text.bytes_of_pieces (text.devices (state_of fields.now)))) }
+        Holds hasher.new (m ++ joined_pieces (text.devices (state_of fields.now)))) }
 {
     let memory = fields.memory;
     let coordinates = memory.coordinates;
@@ -135,8 +136,8 @@ fn put_lines<W: Out>(
     hasher: &mut Sha1,
     lines: &Lines,
 ) -> Result<(), WriteFault>
-    ensures put { Puts W.took W.refused file.old (text.bytes_of_pieces lines.now) result file.new }
-    ensures hashed { OnOk result ((m : List ℕ) → Holds hasher.old m → Holds hasher.new (m ++ text.bytes_of_pieces lines.now)) }
+    ensures put { Puts W.took W.refused file.old (joined_pieces lines.now) result file.new }
+    ensures hashed { OnOk result ((m : List ℕ) → Holds hasher.old m → Holds hasher.new (m ++ joined_pieces lines.now)) }
 {
     for y in 0..224u8 {
         put(file, hasher, lines.row(y))?;

@@ -1,2 +1,1 @@
-pub mod Tabulate
 pub mod Tiles

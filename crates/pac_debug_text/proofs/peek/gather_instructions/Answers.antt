@@ -3,7 +3,7 @@ use Rattle.std.proofs.lemmas.Result.{err_from_is_err_and}
 use Rattle.pac_num.specs.Numbers.{wrapped_address}
 use Rattle.pac_out.proofs.Gathering.{Leaves, leaves-less, leaves-refused, leaves-nothing}
 use Rattle.pac_dis.specs.Texts.{size_at}
-use Rattle.pac_dis_text.specs.Lines.{line_text}
+use Rattle.pac_dis.specs.Lines.{line_text}
 use Rattle.pac_debug_text.specs.Peeks.{instructions_text}
 use Rattle.pac_debug_text.proofs.PeekLemmas.{instructions-more, instructions-none}
 use Rattle.pac_debug_text.proofs.peek.gather_instructions.Goals as goal

@@ -3,7 +3,7 @@ use Rattle.std.proofs.lemmas.Bool.{eqb-false, eqb-true}
 use Rattle.std.proofs.lemmas.Result.{err_from_is_err_and}
 use Rattle.pac_out.proofs.Gathering.{Leaves, leaves-less, leaves-refused, leaves-nothing}
 use Rattle.pac_listing.specs.Listing.{further_row, all_rows, next_row_address}
-use Rattle.pac_listing.specs.Texts.{row_bytes}
+use Rattle.pac_num.specs.Columns.{row_bytes}
 use Rattle.pac_listing.proofs.RowLemmas.{rows-more, rows-none}
 use Rattle.pac_listing.proofs.rows.put_further_rows.Goals as goal
 

@@ -5,7 +5,7 @@ use Rattle.pac_out.specs.Counted.{Refuses}
 use Rattle.pac_out.specs.Pending.{Gathers}
 use Rattle.pac_out.proofs.Gathering.{gathers-both, gathers-within}
 use Rattle.pac_listing.specs.Listing.{first_row, all_rows, next_row_address}
-use Rattle.pac_listing.specs.Texts.{row_bytes}
+use Rattle.pac_num.specs.Columns.{row_bytes}
 use Rattle.pac_listing.proofs.RowLemmas.{item-more}
 use Rattle.pac_listing.proofs.rows.put_item.Goals as goal
 

@@ -1,6 +1,6 @@
 use Rattle.std.proofs.Common.{◌≡◌, ◌∙◌, refl, rules, arith}
 use Rattle.std.proofs.lemmas.List.{places}
-use Rattle.pac_tiles.specs.Tabulate.{tabulate}
+use Rattle.pac_num.specs.Tabulate.{tabulate}
 use Rattle.pac_media.proofs.ImageLines.{pixels-step}
 use Rattle.pac_media.proofs.image.colour_line.Goals as goal
 

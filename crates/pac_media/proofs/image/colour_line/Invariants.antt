@@ -1,6 +1,6 @@
 use Rattle.std.proofs.Common.{◌≡◌, ◌*◌, [], length, get_or, take}
 use Rattle.std.specs.List.{flat_map}
-use Rattle.pac_tiles.specs.Tabulate.{tabulate}
+use Rattle.pac_num.specs.Tabulate.{tabulate}
 use Rattle.pac_media.specs.Images.{pair_number}
 use Rattle.pac_media.proofs.image.colour_line.Given as goal
 

@@ -1,5 +1,5 @@
 use Rattle.std.proofs.Common.{◌≡◌}
-use Rattle.pac_tiles.specs.Tabulate.{tabulate}
+use Rattle.pac_num.specs.Tabulate.{tabulate}
 use Rattle.pac_picture.specs.Layer.{stale_row}
 use Rattle.pac_picture.proofs.layer.stale_shadows.Given as goal
 

@@ -1,6 +1,6 @@
 use Rattle.std.proofs.Common.{◌≡◌, ◌∙◌, rules, arith}
 use Rattle.std.proofs.lemmas.List.{places}
-use Rattle.pac_tiles.specs.Tabulate.{tabulate}
+use Rattle.pac_num.specs.Tabulate.{tabulate}
 use Rattle.pac_picture.proofs.Dots.{cells-step, cells-end}
 use Rattle.pac_picture.proofs.painting.lay_cells.Goals as goal
 

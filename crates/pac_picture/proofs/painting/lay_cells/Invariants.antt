@@ -1,5 +1,5 @@
 use Rattle.std.proofs.Common.{◌≡◌, ◌*◌, length, take}
-use Rattle.pac_tiles.specs.Tabulate.{tabulate}
+use Rattle.pac_num.specs.Tabulate.{tabulate}
 use Rattle.pac_picture.specs.Painting.{cell_dot}
 use Rattle.pac_picture.proofs.painting.lay_cells.Given as goal
 

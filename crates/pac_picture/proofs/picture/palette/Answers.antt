@@ -1,5 +1,5 @@
 use Rattle.std.proofs.Common.{◌≡◌, rules, arith}
-use Rattle.pac_tiles.specs.Tabulate.{tabulate}
+use Rattle.pac_num.specs.Tabulate.{tabulate}
 use Rattle.pac_picture.specs.State.{palette_of}
 use Rattle.pac_picture.proofs.Places.{push-step}
 use Rattle.pac_picture.proofs.picture.palette.Goals as goal

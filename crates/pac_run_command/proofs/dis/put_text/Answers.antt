@@ -1,4 +1,4 @@
-use Rattle.pac_dis_text.specs.Lines.{disassembly}
+use Rattle.pac_dis.specs.Lines.{disassembly}
 use Rattle.pac_run.proofs.Lent.{written}
 use Rattle.pac_run_command.proofs.dis.put_text.Goals as goal
 

@@ -1,4 +1,4 @@
-use Rattle.std.proofs.Common.{◌∙◌, ◌∷◌, [], ap, codes, true}
+use Rattle.std.proofs.Common.{◌∙◌, ◌∷◌, [], ap, codes}
 use Rattle.std.proofs.lemmas.Result.{IfOk-weaker}
 use Rattle.clap.specs.Simple.{app_of_fields}
 use Rattle.pac_run_options.specs.CommandLine as line
@@ -7,7 +7,7 @@ use Rattle.pac_run_options.proofs.command.asm_command.Goals as goal
 
 pub returns-clause-shape : goal.returns-clause-shape
 returns-clause-shape c = IfOk-weaker c.with_files.result _ _ (λ r h.
-    h ∙ ap (line.with_rules (line.file_option (codes "rom") true ∷ line.file_option (codes "listing") true ∷ []))
+    h ∙ ap (line.with_rules (line.required_option (codes "rom") ∷ line.required_option (codes "listing") ∷ []))
     (with_one _ _ _ _ _ c.in_ok-command.ensures c.required_place.ensures.local c.required_place.ensures.rule
     (ap app_of_fields c.about.ensures ∙ c.new.ensures.app))) c.with_files.ensures.shape
 

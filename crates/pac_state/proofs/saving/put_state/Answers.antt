@@ -4,13 +4,14 @@ use Rattle.sha1.specs.Sha1.{Holds, sha1}
 use Rattle.pac_out.specs.Counted.{Refuses, Puts}
 use Rattle.pac_out.proofs.Files.{refuses-after, refuses-within, takes-joined, puts-after}
 use Rattle.pac_board.specs.Fields.{state_of}
-use Rattle.pac_state.specs.Text.{bytes_of_pieces, file_front, body, written_version}
+use Rattle.pac_out.specs.Pieces.{joined_pieces}
+use Rattle.pac_state.specs.Text.{file_front, body, written_version}
 use Rattle.pac_state.proofs.saving.put_state.Goals as goal
 
 pub returns-in_err-put_front : goal.returns-in_err-put_front
 returns-in_err-put_front g c =
     let first = file_front written_version c.args.digest.now (state_of c.args.fields.now) in
-    let second = bytes_of_pieces c.args.fields.now.lines.now in
+    let second = joined_pieces c.args.fields.now.lines.now in
     let digest = sha1 (first ++ second) in
     let p = err_from_is_err_and c.from_residual.result c.from_residual.ensures.1 in
     rw (p.1, p.2)

@@ -1,5 +1,5 @@
 use Rattle.std.proofs.Common.{rules}
-use Rattle.pac_tiles.specs.Tabulate.{tabulate}
+use Rattle.pac_num.specs.Tabulate.{tabulate}
 use Rattle.pac_picture.proofs.Places.{push-step}
 use Rattle.pac_picture.proofs.graphics.Roms.images.Goals as goal
 

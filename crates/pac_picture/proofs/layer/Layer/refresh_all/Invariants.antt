@@ -1,6 +1,6 @@
 use Rattle.std.proofs.Common.{◌≡◌, ◌<◌, ◌≤◌, ◌*◌, ℕ, length}
 use Rattle.std.specs.Prelude.{sum}
-use Rattle.pac_tiles.specs.Tabulate.{tabulate}
+use Rattle.pac_num.specs.Tabulate.{tabulate}
 use Rattle.pac_picture.specs.Layer.{shadow_at, drawn_from, differing_in}
 use Rattle.pac_picture.proofs.layer.Layer.refresh_all.Given as goal
 

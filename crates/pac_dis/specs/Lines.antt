@@ -2,9 +2,9 @@
 use Rattle.std.specs.Prelude.{ℕ, zero, suc, ◌+◌, ◌-◌, List, [], ◌∷◌, ◌++◌, take, codes}
 use Rattle.pac_num.specs.Numbers.{wrapped_address}
 use Rattle.pac_num.specs.Hexadecimal.{hex_word}
+use Rattle.pac_num.specs.Columns.{byte_columns}
+use Rattle.pac_out.specs.Pieces.{joined_pieces}
 use Rattle.pac_dis.specs.Texts.{text_at, size_at}
-use Rattle.pac_listing.specs.Texts.{byte_columns}
-use Rattle.pac_listing.specs.Listing.{joined_pieces}
 
 -- the bytes of the instruction that bytes begin with, or the first of them alone
 abbrev pub code_at : List ℕ → List ℕ

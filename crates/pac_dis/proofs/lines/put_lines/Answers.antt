@@ -3,9 +3,9 @@ use Rattle.std.proofs.lemmas.Bool.{eqb-false, eqb-true}
 use Rattle.std.proofs.lemmas.Result.{err_from_is_err_and}
 use Rattle.pac_num.specs.Numbers.{wrapped_address}
 use Rattle.pac_out.proofs.Gathering.{Leaves, leaves-less, leaves-refused, leaves-nothing}
-use Rattle.pac_dis_text.specs.Lines.{line_text, lines_after, disassembly}
-use Rattle.pac_dis_text.proofs.LineLemmas.{later_lines, lines-more, lines-rest, lines-none}
-use Rattle.pac_dis_text.proofs.lines.put_lines.Goals as goal
+use Rattle.pac_dis.specs.Lines.{line_text, lines_after, disassembly}
+use Rattle.pac_dis.proofs.LineLemmas.{later_lines, lines-more, lines-rest, lines-none}
+use Rattle.pac_dis.proofs.lines.put_lines.Goals as goal
 
 pub returns-in_err-size : goal.returns-in_err-size
 returns-in_err-size g c =

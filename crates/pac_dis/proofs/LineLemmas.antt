@@ -2,7 +2,7 @@
 use Rattle.std.proofs.Common.{◌≡◌, ℕ, zero, suc, ◌+◌, ◌-◌, ◌<◌, ◌≤◌, List, [], ◌∷◌, ◌++◌, length, drop, refl, ap, ◌∙◌, arith}
 use Rattle.pac_num.specs.Numbers.{wrapped_address}
 use Rattle.pac_dis.specs.Texts.{size_at}
-use Rattle.pac_dis_text.specs.Lines.{line_text, lines_after}
+use Rattle.pac_dis.specs.Lines.{line_text, lines_after}
 
 address-same : (at : ℕ) → at < 65536 → at ≡ wrapped_address (at + 0)
 address-same at below = omega (arith, below)

@@ -1,14 +1,13 @@
 //! The lines of a disassembly.
 
 ghost use Rattle.std.specs.Prelude.{◌≡◌, ◌<◌, ◌≤◌, length, IfOk};
-ghost use Rattle.pac_dis.specs.Texts.{size_at};
 ghost use Rattle.pac_out.specs.Counted.{Puts};
 ghost use Rattle.pac_out.specs.Pending.{Gathers};
-ghost use Rattle.pac_dis_text.specs.Lines.{line_text, disassembly};
+ghost use Rattle.pac_dis.specs.Texts.{size_at};
+ghost use Rattle.pac_dis.specs.Lines.{line_text, disassembly};
 
-use pac_dis::disassemble;
-use pac_listing::byte_columns;
-use pac_num::{hex_word, offset};
+use crate::disassembly::disassemble;
+use pac_num::{byte_columns, hex_word, offset};
 use pac_out::counted::Counted;
 use pac_out::pending::Pending;
 use pac_out::{Out, WriteFault};

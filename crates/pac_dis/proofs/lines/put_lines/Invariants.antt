@@ -1,7 +1,7 @@
 use Rattle.std.proofs.Common.{◌<◌, length}
 use Rattle.pac_out.proofs.Gathering.{Leaves}
-use Rattle.pac_dis_text.specs.Lines.{disassembly, lines_after}
-use Rattle.pac_dis_text.proofs.lines.put_lines.Given as goal
+use Rattle.pac_dis.specs.Lines.{disassembly, lines_after}
+use Rattle.pac_dis.proofs.lines.put_lines.Given as goal
 
 abbrev pub invariant-loop-rest : goal.invariant-loop-rest
 invariant-loop-rest g l =

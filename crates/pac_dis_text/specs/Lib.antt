@@ -1,2 +1,0 @@
-pub mod Lines
-pub use Rattle.pac_listing.specs.Listing

@@ -1,8 +1,0 @@
-//! The lines of a disassembly: what stands at each address, in digits and as text.
-#![tactic(auto)]
-
-mod lines;
-#[cfg(test)]
-mod tests;
-
-pub use lines::{put_disassembly, put_line};
