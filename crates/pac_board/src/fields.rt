@@ -10,6 +10,7 @@ use crate::due::Due;
 use crate::exec::MOST_ASKED;
 use crate::fault::InitRefused;
 use crate::machine::Machine;
+use crate::timing::{FRAME_TICKS, HIDDEN_LINES, LINE_TICKS};
 use pac_cpu::Cpu;
 use pac_exec::Regs;
 use pac_map::{Map, Memory};
@@ -117,7 +118,7 @@ impl Machine {
     {
         // the contract of reading any row tells that all of them are there
         let _top = self.picture.row(0);
-        (self.clock % 50_688 / 192).saturating_sub(40) as u8
+        (self.clock % FRAME_TICKS / LINE_TICKS).saturating_sub(HIDDEN_LINES) as u8
     }
 
     /// Composes the lines that have passed since the last blank from what the memory keeps now.

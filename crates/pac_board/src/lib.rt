@@ -13,6 +13,7 @@ pub mod laws;
 mod machine;
 mod sink;
 mod snapshot;
+mod timing;
 
 pub use board::Board;
 pub use due::Due;
@@ -21,3 +22,4 @@ pub use fault::{Fault, Idle, InitRefused};
 pub use fields::Fields;
 pub use sink::{Refused, Sink};
 pub use snapshot::Snapshot;
+pub use timing::{FRAME_SAMPLES, FRAME_TICKS};
