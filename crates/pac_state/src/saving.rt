@@ -14,7 +14,7 @@ use crate::header::MAGIC;
 use pac_board::{Board, Fields};
 use pac_out::counted::Counted;
 use pac_out::{Out, WriteFault};
-use pac_picture::Lines;
+use pac_picture::{HEIGHT, Lines};
 use pac_roms_manifest::digest;
 use sha1::Sha1;
 
@@ -139,7 +139,7 @@ fn put_lines<W: Out>(
     ensures put { Puts W.took W.refused file.old (text.bytes_of_pieces lines.now) result file.new }
     ensures hashed { OnOk result ((m : List ℕ) → Holds hasher.old m → Holds hasher.new (m ++ text.bytes_of_pieces lines.now)) }
 {
-    for y in 0..224u8 {
+    for y in 0..HEIGHT {
         put(file, hasher, lines.row(y))?;
     }
     file.put(&[])
