@@ -9,12 +9,12 @@ ghost use Rattle.pac_debug_session.specs.Session.{SessionOffers, breaks_at};
 ghost use Rattle.pac_debug_session.specs.Motions.{has_met, Travels, MakesStep, GivesDue, PassesOn, StepsOn, FinishesRun, RestsBy, IsOutcome};
 
 use crate::checkpoints::Checkpoints;
-use crate::course::{FRAME_TICKS, play_step, tell};
+use crate::course::{play_step, tell};
 use crate::history::History;
 use crate::motion::{Motion, MotionEnd, RunTotals};
 use crate::session::Session;
 use crate::silent::Silent;
-use pac_board::{Board, Refused, Sink};
+use pac_board::{Board, FRAME_TICKS, Refused, Sink};
 use pac_cpu::{Once, Stop};
 
 /// The steps from one checkpoint to the next (this profile).
