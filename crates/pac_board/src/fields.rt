@@ -126,7 +126,8 @@ impl Machine {
         ensures { self.new ≡ record {
           set = self.old.set;
           now = record self.old.now {
-            board = recomposed_view self.old.set self.old.now.board (passed_lines self.old.now.time);
+            board = recomposed_view self.old.set self.old.now.board
+                (passed_lines self.old.now.time);
           };
         } }
     {
@@ -142,7 +143,8 @@ impl Board {
     /// comes back.
     pub fn of(alloc: Global, set: RomSet, fields: &Fields) -> Result<Board, InitRefused>
         requires { AreBoardFields fields.now }
-        ensures board { IfOk result (λ board. board ≡ record { set = set; state = state_of fields.now; made = 0 }) }
+        ensures board { IfOk result
+            (λ board. board ≡ record { set = set; state = state_of fields.now; made = 0 }) }
         ensures refused { IfErr result (λ refused. refused.set ≡ set) }
     {
         let Ok((picture, memory)) = parts(alloc, &set, fields) else {
@@ -168,7 +170,8 @@ impl Board {
     /// a state that was saved without them. Takes no memory.
     pub fn recompose(&mut self)
         ensures { self.new ≡ with_view self.old
-            (recomposed_view self.old.set self.old.state.now.board (passed_lines self.old.state.now.time)) }
+            (recomposed_view self.old.set self.old.state.now.board
+            (passed_lines self.old.state.now.time)) }
     {
         self.machine.recompose();
     }

@@ -23,7 +23,8 @@ pub const CHECKPOINT_STEPS: u64 = 4096;
 /// Takes a checkpoint where this index is that of the next one.
 fn take_at(checkpoints: &mut Checkpoints, index: u64, board: &Board, history: &History)
     requires { checkpoints.old.taken + 1 < 2 ^ 64 }
-    ensures { checkpoints.new ≡ ring_after_index index checkpoints.old (kept_of board.now history.now) }
+    ensures { checkpoints.new ≡ ring_after_index index checkpoints.old
+        (kept_of board.now history.now) }
 {
     if index % CHECKPOINT_STEPS == 0 && index / CHECKPOINT_STEPS == checkpoints.taken() {
         checkpoints.take(board, history);

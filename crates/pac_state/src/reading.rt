@@ -162,7 +162,8 @@ fn are_written(fields: &Fields, bytes: &[u8]) -> bool
 /// Whether fields that were read from a file are a state's, and stand there as they are written.
 pub(crate) fn is_taken(fields: &Fields, bytes: &[u8]) -> bool
     requires { length bytes.now ≡ saved.file_size }
-    ensures { (result ≡ true) ↔ (AreBoardFields fields.now × saved.AreWritten (state_of fields.now) bytes.now) }
+    ensures { (result ≡ true)
+        ↔ (AreBoardFields fields.now × saved.AreWritten (state_of fields.now) bytes.now) }
 {
     fields.are_in_range() && are_written(fields, bytes)
 }

@@ -37,8 +37,10 @@ fn put_pieces<W: Out>(
     hasher: &mut Sha1,
     pieces: &[&[u8]],
 ) -> Result<(), WriteFault>
-    ensures put { Puts W.took W.refused file.old (flat_map (λ piece. piece.now) pieces.now) result file.new }
-    ensures hashed { OnOk result ((m : List ℕ) → Holds hasher.old m → Holds hasher.new (m ++ flat_map (λ piece. piece.now) pieces.now)) }
+    ensures put { Puts W.took W.refused file.old
+        (flat_map (λ piece. piece.now) pieces.now) result file.new }
+    ensures hashed { OnOk result ((m : List ℕ) → Holds hasher.old m
+        → Holds hasher.new (m ++ flat_map (λ piece. piece.now) pieces.now)) }
 {
     for piece in pieces {
         put(file, hasher, piece)?;
@@ -53,10 +55,13 @@ fn put_head<W: Out>(
     digest: &[u8; 20],
     fields: &Fields,
 ) -> Result<(), WriteFault>
-    ensures put { Puts W.took W.refused file.old (text.bytes_of_pieces (text.head text.written_version digest.now (state_of fields.now)))
+    ensures put { Puts W.took W.refused file.old
+        (text.bytes_of_pieces (text.head text.written_version digest.now (state_of fields.now)))
         result file.new }
     ensures hashed { OnOk result ((m : List ℕ) → Holds hasher.old m
-        → Holds hasher.new (m ++ text.bytes_of_pieces (text.head text.written_version digest.now (state_of fields.now)))) }
+        → Holds hasher.new
+        (m ++ text.bytes_of_pieces
+        (text.head text.written_version digest.now (state_of fields.now)))) }
 {
     let digest = *digest;
     let pieces: [&[u8]; 7] = [
@@ -78,7 +83,8 @@ fn put_ram<W: Out>(
     hasher: &mut Sha1,
     fields: &Fields,
 ) -> Result<(), WriteFault>
-    ensures put { Puts W.took W.refused file.old (text.bytes_of_pieces (text.ram (state_of fields.now))) result file.new }
+    ensures put { Puts W.took W.refused file.old
+        (text.bytes_of_pieces (text.ram (state_of fields.now))) result file.new }
     ensures hashed { OnOk result ((m : List ℕ) → Holds hasher.old m →
         Holds hasher.new (m ++ text.bytes_of_pieces (text.ram (state_of fields.now)))) }
 {
@@ -94,7 +100,8 @@ fn put_devices<W: Out>(
     hasher: &mut Sha1,
     fields: &Fields,
 ) -> Result<(), WriteFault>
-    ensures put { Puts W.took W.refused file.old (text.bytes_of_pieces (text.devices (state_of fields.now))) result file.new }
+    ensures put { Puts W.took W.refused file.old
+        (text.bytes_of_pieces (text.devices (state_of fields.now))) result file.new }
     ensures hashed { OnOk result ((m : List ℕ) → Holds hasher.old m →
         Holds hasher.new (m ++ text.bytes_of_pieces (text.devices (state_of fields.now)))) }
 {
@@ -121,9 +128,11 @@ fn put_front<W: Out>(
     digest: &[u8; 20],
     fields: &Fields,
 ) -> Result<(), WriteFault>
-    ensures put { Puts W.took W.refused file.old (text.file_front text.written_version digest.now (state_of fields.now)) result file.new }
+    ensures put { Puts W.took W.refused file.old
+        (text.file_front text.written_version digest.now (state_of fields.now)) result file.new }
     ensures hashed { OnOk result ((m : List ℕ) → Holds hasher.old m
-        → Holds hasher.new (m ++ text.file_front text.written_version digest.now (state_of fields.now))) }
+        → Holds hasher.new
+        (m ++ text.file_front text.written_version digest.now (state_of fields.now))) }
 {
     put_head(file, hasher, digest, fields)?;
     put_ram(file, hasher, fields)?;
@@ -137,7 +146,8 @@ fn put_lines<W: Out>(
     lines: &Lines,
 ) -> Result<(), WriteFault>
     ensures put { Puts W.took W.refused file.old (text.bytes_of_pieces lines.now) result file.new }
-    ensures hashed { OnOk result ((m : List ℕ) → Holds hasher.old m → Holds hasher.new (m ++ text.bytes_of_pieces lines.now)) }
+    ensures hashed { OnOk result ((m : List ℕ) → Holds hasher.old m
+        → Holds hasher.new (m ++ text.bytes_of_pieces lines.now)) }
 {
     for y in 0..HEIGHT {
         put(file, hasher, lines.row(y))?;
@@ -151,7 +161,8 @@ fn put_state<W: Out>(
     digest: &[u8; 20],
     fields: &Fields,
 ) -> Result<(), WriteFault>
-    ensures { Puts W.took W.refused file.old (text.sealed_file (text.body text.written_version digest.now (state_of fields.now))) result
+    ensures { Puts W.took W.refused file.old
+        (text.sealed_file (text.body text.written_version digest.now (state_of fields.now))) result
         file.new }
 {
     let mut hasher = Sha1::new();
@@ -163,7 +174,8 @@ fn put_state<W: Out>(
 /// Writes a board's state to a writer: 67,756 bytes, a file of version 2. Takes no memory. The fault has the count of the
 /// bytes that the writer took before it refused.
 pub fn save<W: Out>(board: &Board, out: &mut W) -> Result<(), WriteFault>
-    ensures { Saves W.took W.refused out.old (text.save_text text.written_version board.now.set board.now.state) result out.new }
+    ensures { Saves W.took W.refused out.old
+        (text.save_text text.written_version board.now.set board.now.state) result out.new }
 {
     let mut file = Counted::new(out);
     put_state(&mut file, &digest(board.set()), &board.fields())
