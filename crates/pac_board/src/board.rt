@@ -80,14 +80,16 @@ impl Board {
 
     /// Holds these inputs too from now on.
     pub fn input_set(&mut self, inputs: Inputs)
-        ensures { self.new ≡ state.board_with_inputs self.old (held_with self.old.state.now.board.memory.held (mask inputs)) }
+        ensures { self.new ≡ state.board_with_inputs self.old
+            (held_with self.old.state.now.board.memory.held (mask inputs)) }
     {
         self.machine.input_set(inputs);
     }
 
     /// Lets these inputs go.
     pub fn input_clear(&mut self, inputs: Inputs)
-        ensures { self.new ≡ state.board_with_inputs self.old (held_without self.old.state.now.board.memory.held (mask inputs)) }
+        ensures { self.new ≡ state.board_with_inputs self.old
+            (held_without self.old.state.now.board.memory.held (mask inputs)) }
     {
         self.machine.input_clear(inputs);
     }

@@ -35,7 +35,8 @@ impl Due {
     /// Offers what is due to a sink, the sample before this picture, and keeps what it refuses, with what comes after it.
     #[inline]
     pub fn offer<S: Sink>(&mut self, picture: &Picture, sink: &mut S) -> Result<(), Refused>
-        ensures { OffersDue S.took S.refused (offered_image picture.now) self.old sink.old result self.new sink.new }
+        ensures { OffersDue S.took S.refused
+            (offered_image picture.now) self.old sink.old result self.new sink.new }
     {
         self.offer_sample(sink)?;
         self.offer_picture(picture, sink)
@@ -44,7 +45,8 @@ impl Due {
     /// Offers the sample, where one is due.
     #[inline]
     fn offer_sample<S: Sink>(&mut self, sink: &mut S) -> Result<(), Refused>
-        ensures { OffersPart S.took S.refused (sounds_of self.old.sample) self.old (record self.old { sample = None }) sink.old result
+        ensures { OffersPart S.took S.refused (sounds_of self.old.sample) self.old
+            (record self.old { sample = None }) sink.old result
             self.new sink.new }
     {
         if let Some(sample) = self.sample {
@@ -57,7 +59,8 @@ impl Due {
     /// Offers this picture, where it is due.
     #[inline]
     fn offer_picture<S: Sink>(&mut self, picture: &Picture, sink: &mut S) -> Result<(), Refused>
-        ensures { OffersPart S.took S.refused (shows_of (offered_image picture.now) self.old.picture) self.old
+        ensures { OffersPart S.took S.refused
+            (shows_of (offered_image picture.now) self.old.picture) self.old
             (record self.old { picture = false })
             sink.old result self.new sink.new }
     {

@@ -10,8 +10,10 @@ use crate::due::Due;
 use crate::exec::MOST_ASKED;
 use crate::fault::InitRefused;
 use crate::machine::Machine;
-use pac_cpu::{Cpu, Regs};
-use pac_map::{Map, Memory, RomSet};
+use crate::timing::{FRAME_TICKS, HIDDEN_LINES, LINE_TICKS};
+use pac_cpu::Cpu;
+use pac_exec::Regs;
+use pac_map::{Map, Memory};
 use pac_picture::{Graphics, Lines, Picture};
 use pac_wave::Wave;
 use std::alloc::{AllocError, Global};
@@ -115,7 +117,7 @@ impl Machine {
     {
         // the contract of reading any row tells that all of them are there
         let _top = self.picture.row(0);
-        (self.clock % 50_688 / 192).saturating_sub(40) as u8
+        (self.clock % FRAME_TICKS / LINE_TICKS).saturating_sub(HIDDEN_LINES) as u8
     }
 
     /// Composes the lines that have passed since the last blank from what the memory keeps now.
@@ -123,7 +125,8 @@ impl Machine {
         ensures { self.new ≡ record {
           set = self.old.set;
           now = record self.old.now {
-            board = recomposed_view self.old.set self.old.now.board (passed_lines self.old.now.time);
+            board = recomposed_view self.old.set self.old.now.board
+                (passed_lines self.old.now.time);
           };
         } }
     {
@@ -139,7 +142,8 @@ impl Board {
     /// comes back.
     pub fn of(alloc: Global, set: RomSet, fields: &Fields) -> Result<Board, InitRefused>
         requires { AreBoardFields fields.now }
-        ensures board { IfOk result (λ board. board ≡ record { set = set; state = state_of fields.now; made = 0 }) }
+        ensures board { IfOk result
+            (λ board. board ≡ record { set = set; state = state_of fields.now; made = 0 }) }
         ensures refused { IfErr result (λ refused. refused.set ≡ set) }
     {
         let Ok((picture, memory)) = parts(alloc, &set, fields) else {
@@ -165,7 +169,8 @@ impl Board {
     /// a state that was saved without them. Takes no memory.
     pub fn recompose(&mut self)
         ensures { self.new ≡ with_view self.old
-            (recomposed_view self.old.set self.old.state.now.board (passed_lines self.old.state.now.time)) }
+            (recomposed_view self.old.set self.old.state.now.board
+            (passed_lines self.old.state.now.time)) }
     {
         self.machine.recompose();
     }

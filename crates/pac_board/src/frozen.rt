@@ -66,7 +66,8 @@ impl Frozen {
 
 /// Takes the lines of a moment that was kept; every cell counts as differing then, so each is drawn again when it is first composed.
 fn bring_back(picture: &mut Picture, frozen: &Frozen)
-    ensures lines { picture.new ≡ record picture.old { lines = frozen.now.board.lines; shadows = picture.new.shadows } }
+    ensures lines { picture.new
+        ≡ record picture.old { lines = frozen.now.board.lines; shadows = picture.new.shadows } }
     ensures stale { AreStale picture.new.shadows }
 {
     picture.copy_from(&frozen.lines);

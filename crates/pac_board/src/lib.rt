@@ -13,6 +13,7 @@ pub mod laws;
 mod machine;
 mod sink;
 mod snapshot;
+mod timing;
 
 pub use board::Board;
 pub use due::Due;
@@ -24,3 +25,4 @@ pub use pac_map::{Flags, Inputs, MemoryFields, RomSet};
 pub use pac_picture::{Lines, Picture};
 pub use sink::{Refused, Sink};
 pub use snapshot::Snapshot;
+pub use timing::{FRAME_SAMPLES, FRAME_TICKS};

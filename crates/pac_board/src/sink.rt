@@ -28,7 +28,8 @@ pub trait Sink {
 
     /// Takes the picture of a frame as it is lent, or refuses it.
     fn picture(&mut self, picture: &Picture) -> Result<(), Refused>
-        ensures { IsOffer took refused self.old (Show (offered_image picture.now)) result self.new };
+        ensures { IsOffer took refused self.old
+            (Show (offered_image picture.now)) result self.new };
 }
 
 /// A sink that is lent.

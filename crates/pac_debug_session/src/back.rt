@@ -42,7 +42,8 @@ impl Session {
     fn rewind(&mut self, number: u64)
         requires left { checkpoint_steps * number < self.old.furthest }
         requires kept { oldest_index self.old.furthest ≤ checkpoint_steps * number }
-        ensures { self.new ≡ record self.old { index = checkpoint_steps * number; due = state.nothing_due } }
+        ensures { self.new
+            ≡ record self.old { index = checkpoint_steps * number; due = state.nothing_due } }
     {
         let kept = self.checkpoints.get(number);
         kept.put_back(&mut self.board, &mut self.history);

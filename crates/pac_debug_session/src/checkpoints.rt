@@ -38,7 +38,8 @@ impl Model for Checkpoints {
 
 /// Room for all checkpoints. Refused for want of memory alone.
 fn room(alloc: Global, board: &Board) -> Result<HeapCircularBuffer<SessionSnapshot>, AllocError>
-    ensures { IfOk result (λ ring. (length ring.items ≡ checkpoint_count) × (ring.capacity ≡ checkpoint_count)) }
+    ensures { IfOk result (λ ring. (length ring.items ≡ checkpoint_count)
+        × (ring.capacity ≡ checkpoint_count)) }
 {
     let mut ring = HeapCircularBuffer::with_capacity(alloc, COUNT)?;
     'making: for _ in 0..COUNT {
@@ -50,7 +51,8 @@ fn room(alloc: Global, board: &Board) -> Result<HeapCircularBuffer<SessionSnapsh
 impl Checkpoints {
     /// No checkpoint taken yet. Refused for want of memory alone.
     pub fn new(alloc: Global, board: &Board) -> Result<Checkpoints, AllocError>
-        ensures { IfOk result (λ checkpoints. (checkpoints.taken ≡ 0) × (length checkpoints.kept ≡ checkpoint_count)) }
+        ensures { IfOk result (λ checkpoints. (checkpoints.taken ≡ 0)
+            × (length checkpoints.kept ≡ checkpoint_count)) }
     {
         Ok(Checkpoints {
             ring: room(alloc, board)?,
@@ -83,7 +85,8 @@ impl Checkpoints {
     pub fn get(&self, number: u64) -> &SessionSnapshot
         requires taken { number < self.now.taken }
         requires kept { self.now.taken ≤ number + checkpoint_count }
-        ensures { slice_get self.now.kept (checkpoint_count + number - self.now.taken) ≡ Some result.now }
+        ensures { slice_get self.now.kept (checkpoint_count + number - self.now.taken)
+            ≡ Some result.now }
     {
         let place = COUNT - (self.taken - number) as usize;
         let Some(kept) = self.ring.get(place) else {

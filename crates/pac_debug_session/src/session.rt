@@ -11,11 +11,11 @@ ghost use Rattle.pac_debug_session.specs.Session.{IsSession, IsNew, session_at_s
 ghost use Rattle.pac_debug_session.specs.Motions.{checkpoint_count, ReturnsTo, session_with_slot};
 
 use crate::checkpoints::Checkpoints;
-use crate::course::{FRAME_TICKS, hold};
+use crate::course::hold;
 use crate::history::{History, PastStep};
 use crate::kept::SlotContents;
 use arrayvec::ArrayVec;
-use pac_board::Board;
+use pac_board::{Board, FRAME_TICKS};
 use pac_inputs::Script;
 use std::alloc::{AllocError, Global};
 use std::marker::Model;
@@ -79,7 +79,8 @@ fn room(
     alloc: Global,
     board: &Board,
 ) -> Result<(History, Checkpoints, Vec<SlotContents>), AllocError>
-    ensures { IfOk result (λ room. (room.0 ≡ []) × (room.1.taken ≡ 0) × (length room.1.kept ≡ checkpoint_count)
+    ensures { IfOk result (λ room. (room.0 ≡ []) × (room.1.taken ≡ 0)
+        × (length room.1.kept ≡ checkpoint_count)
         × (length room.2.items ≡ slot_count) × AreEmpty room.2.items) }
 {
     let history = History::new(alloc)?;
@@ -94,9 +95,13 @@ impl Session {
     pub fn new(alloc: Global, mut board: Board, script: Script) -> Result<Session, SessionRefused>
         requires { IsNew board }
         ensures session { IfOk result (λ session.
-            session ≡ session_at_start (record { set = board.set; switches = board.state.now.board.memory.switches; script = script })
-            board.made) }
-        ensures refused { IfErr result (λ refused. (refused.board ≡ board) × (refused.script ≡ script)) }
+            session ≡ session_at_start (record {
+              set = board.set;
+              switches = board.state.now.board.memory.switches;
+              script = script;
+            }) board.made) }
+        ensures refused { IfErr result
+            (λ refused. (refused.board ≡ board) × (refused.script ≡ script)) }
     {
         let Ok((history, checkpoints, slots)) = room(alloc, &board) else {
             return Err(SessionRefused { board, script });

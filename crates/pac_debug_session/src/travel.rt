@@ -9,12 +9,13 @@ ghost use Rattle.pac_debug_session.specs.Session.{SessionOffers, breaks_at};
 ghost use Rattle.pac_debug_session.specs.Motions.{has_met, Travels, MakesStep, GivesDue, PassesOn, StepsOn, FinishesRun, RestsBy, IsOutcome};
 
 use crate::checkpoints::Checkpoints;
-use crate::course::{FRAME_TICKS, play_step, tell};
+use crate::course::{play_step, tell};
 use crate::history::History;
 use crate::motion::{Motion, MotionEnd, RunTotals};
 use crate::session::Session;
 use crate::silent::Silent;
-use pac_board::{Board, Once, Refused, Sink, Stop};
+use pac_board::{Board, FRAME_TICKS, Refused, Sink};
+use pac_cpu::{Once, Stop};
 
 /// The steps from one checkpoint to the next (this profile).
 pub const CHECKPOINT_STEPS: u64 = 4096;
@@ -22,7 +23,8 @@ pub const CHECKPOINT_STEPS: u64 = 4096;
 /// Takes a checkpoint where this index is that of the next one.
 fn take_at(checkpoints: &mut Checkpoints, index: u64, board: &Board, history: &History)
     requires { checkpoints.old.taken + 1 < 2 ^ 64 }
-    ensures { checkpoints.new ≡ ring_after_index index checkpoints.old (kept_of board.now history.now) }
+    ensures { checkpoints.new ≡ ring_after_index index checkpoints.old
+        (kept_of board.now history.now) }
 {
     if index % CHECKPOINT_STEPS == 0 && index / CHECKPOINT_STEPS == checkpoints.taken() {
         checkpoints.take(board, history);

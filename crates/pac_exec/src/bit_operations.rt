@@ -1,5 +1,4 @@
-//! Single bits of registers and cells (UM0080, "Bit Set, Reset, and Test Group"). Each gives its time in
-//! T-states.
+//! Single bits of registers and cells (UM0080, "Bit Set, Reset, and Test Group").
 
 ghost use Rattle.pac_exec.specs.BitOperations.{bit_operation_effect, test_bit_transition, reset_bit_transition, set_bit_transition};
 ghost use Rattle.pac_exec.specs.Transition.{DoesTransition, DoesInRegisters};
@@ -36,12 +35,7 @@ fn set_bit<B: Bus>(place: BytePlace, instr: &Instr, regs: &mut Regs, bus: &mut B
 
 /// BIT, RES or SET, by its function; the time in T-states.
 #[tactic(auto, unfolding(crate::specs::BitOperations::bit_operation_effect))]
-pub fn perform_bit_operation<B: Bus>(
-    with: BitOperation,
-    instr: &Instr,
-    regs: &mut Regs,
-    bus: &mut B,
-) -> u8
+pub fn perform_bits<B: Bus>(with: BitOperation, instr: &Instr, regs: &mut Regs, bus: &mut B) -> u8
     ensures { DoesTransition B.after (bit_operation_effect with instr.now regs.old (B.byte_at bus.old)) bus.old regs.new bus.new result }
 {
     match with {

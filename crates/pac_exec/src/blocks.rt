@@ -1,5 +1,4 @@
-//! Block instructions, one byte at a time (UM0080, "Exchange, Block Transfer, and Search Group" and "Input
-//! and Output Group").
+//! Block instructions, one byte at a time (UM0080, "Exchange, Block Transfer, and Search Group" and "Input and Output Group").
 
 ghost use Rattle.std.specs.Prelude.{◌≡◌, []};
 ghost use Rattle.pac_exec.specs.Blocks as blocks;
@@ -49,8 +48,7 @@ fn compare<B: Bus>(direction: Direction, regs: &mut Regs, bus: &B) -> bool
     count != 0 && regs.a != byte
 }
 
-/// Counts a byte between HL's cell and a port, and moves HL; whether another one follows where the
-/// instruction repeats.
+/// Counts a byte between HL's cell and a port, and moves HL; whether another one follows where the instruction repeats.
 #[inline]
 fn count_byte(direction: Direction, regs: &mut Regs) -> bool
     ensures regs { regs.new ≡ (blocks.port_iteration direction [] regs.old).regs }
@@ -82,20 +80,15 @@ fn give_out<B: Bus>(direction: Direction, regs: &mut Regs, bus: &mut B) -> bool
 }
 
 /// One byte of a block instruction; whether another one follows where the instruction repeats.
-fn iterate<B: Bus>(
-    operation: BlockOperation,
-    direction: Direction,
-    regs: &mut Regs,
-    bus: &mut B,
-) -> bool
-    ensures { DoesIteration B.after (blocks.iteration operation direction regs.old (B.byte_at bus.old) (B.input_at bus.old)) bus.old
-        regs.new bus.new result }
+fn iterate<B: Bus>(block: Block, regs: &mut Regs, bus: &mut B) -> bool
+    ensures { DoesIteration B.after (blocks.iteration block.operation block.direction regs.old (B.byte_at bus.old) (B.input_at bus.old))
+        bus.old regs.new bus.new result }
 {
-    match operation {
-        BlockOperation::Load => copy(direction, regs, bus),
-        BlockOperation::Compare => compare(direction, regs, bus),
-        BlockOperation::Input => take_in(direction, regs, bus),
-        BlockOperation::Output => give_out(direction, regs, bus),
+    match block.operation {
+        BlockOperation::Load => copy(block.direction, regs, bus),
+        BlockOperation::Compare => compare(block.direction, regs, bus),
+        BlockOperation::Input => take_in(block.direction, regs, bus),
+        BlockOperation::Output => give_out(block.direction, regs, bus),
     }
 }
 
@@ -104,7 +97,7 @@ pub fn block<B: Bus>(block: Block, instr: &Instr, regs: &mut Regs, bus: &mut B) 
     ensures { DoesTransition B.after (blocks.block_transition block instr.now regs.old (B.byte_at bus.old) (B.input_at bus.old)) bus.old
         regs.new bus.new result }
 {
-    let goes_on = iterate(block.operation, block.direction, regs, bus);
+    let goes_on = iterate(block, regs, bus);
     if block.repeats && goes_on {
         regs.pc = offset(regs.pc, 65534);
         instr.ticks()

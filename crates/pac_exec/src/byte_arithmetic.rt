@@ -1,5 +1,4 @@
-//! Arithmetic of 8 bits and of the carry (UM0080, "8-Bit Arithmetic Group" and "General-Purpose Arithmetic
-//! and CPU Control Groups"). Each gives its time in T-states.
+//! Arithmetic of 8 bits and of the carry (UM0080, "8-Bit Arithmetic Group" and "General-Purpose Arithmetic and CPU Control Groups").
 
 ghost use Rattle.pac_exec.specs.ByteArithmetic.{byte_arithmetic_effect, outcome_in_accumulator, outcome_in_place, alu_transition, increment_transition, decrement_transition, decimal_adjust_transition, complement_transition, negate_transition, set_carry_transition, complement_carry_transition};
 ghost use Rattle.pac_exec.specs.Transition.{DoesTransition, DoesInRegisters};

@@ -1,13 +1,13 @@
-//! Loads of bytes (UM0080, "8-Bit Load Group").
+//! Loads of bytes, those between A and the registers I and R among them (UM0080, "8-Bit Load Group").
 
 ghost use Rattle.pac_exec.specs.ByteLoads.{byte_load_effect, load_transition};
-ghost use Rattle.pac_exec.specs.Transition.{DoesTransition};
+ghost use Rattle.pac_exec.specs.SpecialLoads.{load_from_special_transition, load_special_transition};
+ghost use Rattle.pac_exec.specs.Transition.{DoesTransition, DoesInRegisters};
 
 use crate::places::{get, put_byte};
 use crate::regs::Regs;
-use crate::special_loads::{load_from_special, load_special};
 use pac_bus::Bus;
-use pac_table::{ByteLoad, BytePlace, Instr};
+use pac_table::{ByteLoad, BytePlace, Instr, Special};
 
 /// LD of a byte; its time in T-states.
 #[inline(always)]
@@ -22,6 +22,29 @@ pub fn load<B: Bus>(
 {
     let byte = get(from, instr, regs, bus);
     put_byte(to, byte, instr, regs, bus)
+}
+
+/// LD A,I and LD A,R; R has counted the instruction's own fetches.
+fn load_from_special(special: Special, instr: &Instr, regs: &mut Regs) -> u8
+    ensures { DoesInRegisters (load_from_special_transition special instr.now regs.old) regs.new result }
+{
+    regs.a = match special {
+        Special::Interrupt => regs.i,
+        Special::Refresh => regs.r,
+    };
+    regs.f = pac_alu::control_load_flags(regs.a, regs.iff2, regs.f);
+    instr.ticks()
+}
+
+/// LD I,A and LD R,A, which sets all eight bits of R.
+fn load_special(special: Special, instr: &Instr, regs: &mut Regs) -> u8
+    ensures { DoesInRegisters (load_special_transition special instr.now regs.old) regs.new result }
+{
+    match special {
+        Special::Interrupt => regs.i = regs.a,
+        Special::Refresh => regs.r = regs.a,
+    }
+    instr.ticks()
 }
 
 /// A load of a byte, by its function; the time in T-states.

@@ -1,14 +1,13 @@
-//! Calls and returns (UM0080, "Call and Return Group"). PC stands after the code. Each gives its time in
-//! T-states, the shorter one where a condition isn't met.
+//! Calls and returns (UM0080, "Call and Return Group"). PC stands after the code. The time is the shorter one where a condition isn't met.
 
-ghost use Rattle.pac_exec.specs.Calls.{call_effect, call_to_address, call_transition, call_if_transition, restart_transition, return_transition, return_if_transition, return_from_interrupt_transition, return_from_non_maskable_transition};
+ghost use Rattle.pac_exec.specs.Calls.{call_effect, call_to_address, call_transition, call_if_transition, restart_transition, return_transition, return_if_transition, return_from_non_maskable_transition};
 ghost use Rattle.pac_exec.specs.Transition.{DoesTransition, DoesInRegisters};
 
 use crate::jumps::meets_condition;
 use crate::pairs::{pop_word, push_word};
 use crate::regs::Regs;
 use pac_bus::Bus;
-use pac_table::Instr;
+use pac_table::{Call, Instr};
 
 /// Pushes PC and goes to an address.
 #[inline(always)]
@@ -48,7 +47,7 @@ fn restart<B: Bus>(instr: &Instr, regs: &mut Regs, bus: &mut B) -> u8
     call_address(8 * instr.p() as u16, instr, regs, bus)
 }
 
-/// RET.
+/// RET, and RETI: in this profile both interrupt flip-flops stay.
 #[inline(always)]
 fn return_to_caller<B: Bus>(instr: &Instr, regs: &mut Regs, bus: &B) -> u8
     ensures { DoesInRegisters (return_transition instr.now regs.old (B.byte_at bus.now)) regs.new result }
@@ -69,14 +68,6 @@ fn return_if<B: Bus>(instr: &Instr, regs: &mut Regs, bus: &B) -> u8
     }
 }
 
-/// RETI: in this profile both interrupt flip-flops stay.
-#[inline(always)]
-fn return_from_interrupt<B: Bus>(instr: &Instr, regs: &mut Regs, bus: &B) -> u8
-    ensures { DoesInRegisters (return_from_interrupt_transition instr.now regs.old (B.byte_at bus.now)) regs.new result }
-{
-    return_to_caller(instr, regs, bus)
-}
-
 /// RETN: IFF1 becomes IFF2.
 #[inline(always)]
 fn return_from_non_maskable<B: Bus>(instr: &Instr, regs: &mut Regs, bus: &B) -> u8
@@ -89,21 +80,16 @@ fn return_from_non_maskable<B: Bus>(instr: &Instr, regs: &mut Regs, bus: &B) -> 
 /// A call, a return or a restart, by its function; the time in T-states.
 #[inline(always)]
 #[tactic(auto, unfolding(crate::specs::Calls::call_effect))]
-pub fn perform_call<B: Bus>(
-    with: pac_table::Call,
-    instr: &Instr,
-    regs: &mut Regs,
-    bus: &mut B,
-) -> u8
+pub fn perform_call<B: Bus>(with: Call, instr: &Instr, regs: &mut Regs, bus: &mut B) -> u8
     ensures { DoesTransition B.after (call_effect with instr.now regs.old (B.byte_at bus.old)) bus.old regs.new bus.new result }
 {
     match with {
-        pac_table::Call::Always => call(instr, regs, bus),
-        pac_table::Call::If => call_if(instr, regs, bus),
-        pac_table::Call::Return => return_to_caller(instr, regs, bus),
-        pac_table::Call::ReturnIf => return_if(instr, regs, bus),
-        pac_table::Call::ReturnFromInterrupt => return_from_interrupt(instr, regs, bus),
-        pac_table::Call::ReturnFromNonMaskable => return_from_non_maskable(instr, regs, bus),
-        pac_table::Call::Restart => restart(instr, regs, bus),
+        Call::Always => call(instr, regs, bus),
+        Call::If => call_if(instr, regs, bus),
+        Call::Return => return_to_caller(instr, regs, bus),
+        Call::ReturnIf => return_if(instr, regs, bus),
+        Call::ReturnFromInterrupt => return_to_caller(instr, regs, bus),
+        Call::ReturnFromNonMaskable => return_from_non_maskable(instr, regs, bus),
+        Call::Restart => restart(instr, regs, bus),
     }
 }

@@ -1,5 +1,4 @@
-//! The processor's states (UM0080, "General-Purpose Arithmetic and CPU Control Groups"). Each gives its time in
-//! T-states.
+//! The processor's states (UM0080, "General-Purpose Arithmetic and CPU Control Groups").
 
 ghost use Rattle.pac_exec.specs.Control.{control_effect, halt_transition, disable_interrupts_transition, enable_interrupts_transition, set_interrupt_mode_transition};
 ghost use Rattle.pac_exec.specs.Transition.{DoesInRegisters};
@@ -19,7 +18,8 @@ fn halt(instr: &Instr, regs: &mut Regs) -> u8
 fn disable_interrupts(instr: &Instr, regs: &mut Regs) -> u8
     ensures { DoesInRegisters (disable_interrupts_transition instr.now regs.old) regs.new result }
 {
-    regs.set_interrupts(false);
+    regs.iff1 = false;
+    regs.iff2 = false;
     instr.ticks()
 }
 
@@ -27,7 +27,8 @@ fn disable_interrupts(instr: &Instr, regs: &mut Regs) -> u8
 fn enable_interrupts(instr: &Instr, regs: &mut Regs) -> u8
     ensures { DoesInRegisters (enable_interrupts_transition instr.now regs.old) regs.new result }
 {
-    regs.set_interrupts(true);
+    regs.iff1 = true;
+    regs.iff2 = true;
     regs.after_ei = true;
     instr.ticks()
 }

@@ -1,4 +1,4 @@
-//! The exchanges (UM0080, "Exchange, Block Transfer, and Search Group"). Each gives its time in T-states.
+//! The exchanges (UM0080, "Exchange, Block Transfer, and Search Group").
 
 ghost use Rattle.pac_exec.specs.Exchanges.{exchange_effect, exchange_de_hl_transition, exchange_af_transition, exchange_banks_transition, exchange_stack_top_transition};
 ghost use Rattle.pac_exec.specs.Transition.{DoesTransition, DoesInRegisters};

@@ -1,5 +1,4 @@
-//! Jumps (UM0080, "Jump Group"). PC stands after the code. Each gives its time in T-states, the shorter one
-//! where a condition isn't met.
+//! Jumps (UM0080, "Jump Group"). PC stands after the code. The time is the shorter one where a condition isn't met.
 
 ghost use Rattle.std.specs.Prelude.{◌≡◌};
 ghost use Rattle.pac_alu.specs.Flags.{field_condition, is_met};
@@ -10,7 +9,7 @@ use crate::pairs::get_pair;
 use crate::regs::{Regs, b_left};
 use pac_alu::Condition;
 use pac_num::displaced;
-use pac_table::{Instr, Pair};
+use pac_table::{Instr, Jump, Pair};
 
 /// Whether the condition in an instruction's first field is met.
 #[inline(always)]
@@ -87,15 +86,15 @@ fn decrement_and_jump(instr: &Instr, regs: &mut Regs) -> u8
 /// A jump, by its function; the time in T-states.
 #[inline(always)]
 #[tactic(auto, unfolding(crate::specs::Jumps::jump_effect))]
-pub fn perform_jump(with: pac_table::Jump, instr: &Instr, regs: &mut Regs) -> u8
+pub fn perform_jump(with: Jump, instr: &Instr, regs: &mut Regs) -> u8
     ensures { DoesInRegisters (jump_effect with instr.now regs.old) regs.new result }
 {
     match with {
-        pac_table::Jump::Absolute => jump(instr, regs),
-        pac_table::Jump::If => jump_if(instr, regs),
-        pac_table::Jump::ToPair(pair) => jump_to_pair(pair, instr, regs),
-        pac_table::Jump::Relative => jump_relative(instr, regs),
-        pac_table::Jump::RelativeIf => jump_relative_if(instr, regs),
-        pac_table::Jump::DecrementAndJump => decrement_and_jump(instr, regs),
+        Jump::Absolute => jump(instr, regs),
+        Jump::If => jump_if(instr, regs),
+        Jump::ToPair(pair) => jump_to_pair(pair, instr, regs),
+        Jump::Relative => jump_relative(instr, regs),
+        Jump::RelativeIf => jump_relative_if(instr, regs),
+        Jump::DecrementAndJump => decrement_and_jump(instr, regs),
     }
 }

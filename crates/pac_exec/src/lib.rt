@@ -1,5 +1,4 @@
-//! What each instruction does to the registers and the bus (Zilog Z80 CPU User Manual UM0080, "Z80
-//! Instruction Description").
+//! What each instruction does to the registers and the bus, and its time in T-states (Zilog Z80 CPU User Manual UM0080, "Z80 Instruction Description").
 #![tactic(auto)]
 
 mod bit_operations;
@@ -16,7 +15,6 @@ mod places;
 mod ports;
 mod regs;
 mod shifts;
-mod special_loads;
 mod word_arithmetic;
 mod word_loads;
 

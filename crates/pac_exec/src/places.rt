@@ -36,12 +36,7 @@ pub(crate) fn get<B: Bus>(place: BytePlace, instr: &Instr, regs: &Regs, bus: &B)
         BytePlace::Second => regs.register(instr.q()),
         BytePlace::Accumulator => regs.a,
         BytePlace::Immediate => pac_num::low_byte(instr.word()),
-        BytePlace::AtBc
-        | BytePlace::AtDe
-        | BytePlace::AtHl
-        | BytePlace::AtWord
-        | BytePlace::AtIx
-        | BytePlace::AtIy => bus.read(address(place, instr, regs)),
+        _ => bus.read(address(place, instr, regs)),
     }
 }
 
@@ -56,12 +51,7 @@ pub(crate) fn put<B: Bus>(place: BytePlace, byte: u8, instr: &Instr, regs: &mut 
         BytePlace::Second => regs.set_register(instr.q(), byte),
         BytePlace::Accumulator => regs.a = byte,
         BytePlace::Immediate => {}
-        BytePlace::AtBc
-        | BytePlace::AtDe
-        | BytePlace::AtHl
-        | BytePlace::AtWord
-        | BytePlace::AtIx
-        | BytePlace::AtIy => bus.write(address(place, instr, regs), byte),
+        _ => bus.write(address(place, instr, regs), byte),
     }
 }
 

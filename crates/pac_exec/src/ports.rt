@@ -1,5 +1,4 @@
-//! Input and output (UM0080, "Input and Output Group"), without the block instructions. Each gives its time
-//! in T-states.
+//! Input and output (UM0080, "Input and Output Group"), without the block instructions.
 
 ghost use Rattle.pac_exec.specs.Ports.{port_effect, input_byte_transition, output_byte_transition, input_transition, output_transition};
 ghost use Rattle.pac_exec.specs.Transition.{DoesTransition, DoesInRegisters};

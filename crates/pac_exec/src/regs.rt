@@ -7,8 +7,7 @@ use pac_num::{high_byte, low_byte};
 use pac_table::InterruptMode;
 use std::mem::swap;
 
-/// The second set of the eight registers A, F, B, C, D, E, H and L (UM0080, "Z80 CPU Register
-/// Description"); EX AF,AF' and EXX bring it in.
+/// The second set of the eight registers of a byte (UM0080, "Z80 CPU Register Description"); EX AF,AF' and EXX bring it in.
 #[derive(Clone, Copy, Debug, PartialEq, Eq)]
 pub struct Alternate {
     /// A'.
@@ -29,8 +28,7 @@ pub struct Alternate {
     pub l: u8,
 }
 
-/// The registers of the processor (UM0080, "Z80 CPU Register Description") with the two states that
-/// outlive an instruction: halted, and just after EI.
+/// The registers (UM0080, "Z80 CPU Register Description") with the two states that outlive an instruction: halted, and just after EI.
 #[derive(Clone, Copy, Debug, PartialEq, Eq)]
 pub struct Regs {
     /// The accumulator.
@@ -200,15 +198,6 @@ impl Regs {
             2 => self.set_hl(word),
             _ => self.sp = word,
         }
-    }
-
-    /// Enables interrupts, or disables them.
-    #[inline]
-    pub fn set_interrupts(&mut self, enabled: bool)
-        ensures { self.new ≡ record self.old { iff1 = enabled; iff2 = enabled } }
-    {
-        self.iff1 = enabled;
-        self.iff2 = enabled;
     }
 
     /// Exchanges A and F with their second set.

@@ -1,4 +1,4 @@
-//! Rotations and shifts (UM0080, "Rotate and Shift Group"). Each gives its time in T-states.
+//! Rotations and shifts (UM0080, "Rotate and Shift Group").
 
 ghost use Rattle.std.specs.Prelude.{◌≡◌};
 ghost use Rattle.pac_exec.specs.Shifts.{rotate_and_shift_effect, named_after, rotate_accumulator_transition, shift_transition, in_digits, rotate_digit_left_transition, rotate_digit_right_transition};

@@ -1,4 +1,4 @@
-//! Arithmetic of 16 bits (UM0080, "16-Bit Arithmetic Group"). Each gives its time in T-states.
+//! Arithmetic of 16 bits (UM0080, "16-Bit Arithmetic Group").
 
 ghost use Rattle.std.specs.Prelude.{◌≡◌};
 ghost use Rattle.pac_exec.specs.WordArithmetic.{word_arithmetic_effect, addend, outcome_in_pair, add_pair_transition, add_pair_with_carry_transition, subtract_pair_with_carry_transition, increment_pair_transition, decrement_pair_transition};
@@ -6,10 +6,7 @@ ghost use Rattle.pac_exec.specs.Transition.{DoesInRegisters};
 
 use crate::pairs::{get_pair, set_pair};
 use crate::regs::Regs;
-use pac_alu::{
-    WordOutcome, add_words, add_words_with_carry, decrement_word, increment_word,
-    subtract_words_with_carry,
-};
+use pac_alu::WordOutcome;
 use pac_table::{Instr, Pair, WordArithmetic};
 
 /// The pair that ADD HL,ss and ADD IX,pp add: 2 names the sum's own register.
@@ -39,11 +36,8 @@ fn put_in_pair(outcome: WordOutcome, pair: Pair, instr: &Instr, regs: &mut Regs)
 fn add_pair(pair: Pair, instr: &Instr, regs: &mut Regs) -> u8
     ensures { DoesInRegisters (add_pair_transition pair instr.now regs.old) regs.new result }
 {
-    let sum = add_words(
-        get_pair(pair, instr, regs),
-        addend_of(pair, instr, regs),
-        regs.f,
-    );
+    let word = get_pair(pair, instr, regs);
+    let sum = pac_alu::add_words(word, addend_of(pair, instr, regs), regs.f);
     put_in_pair(sum, pair, instr, regs)
 }
 
@@ -52,7 +46,7 @@ fn add_pair(pair: Pair, instr: &Instr, regs: &mut Regs) -> u8
 fn add_pair_with_carry(instr: &Instr, regs: &mut Regs) -> u8
     ensures { DoesInRegisters (add_pair_with_carry_transition instr.now regs.old) regs.new result }
 {
-    let sum = add_words_with_carry(regs.hl(), regs.pair(instr.p()), regs.f);
+    let sum = pac_alu::add_words_with_carry(regs.hl(), regs.pair(instr.p()), regs.f);
     put_in_pair(sum, Pair::Hl, instr, regs)
 }
 
@@ -61,7 +55,7 @@ fn add_pair_with_carry(instr: &Instr, regs: &mut Regs) -> u8
 fn subtract_pair_with_carry(instr: &Instr, regs: &mut Regs) -> u8
     ensures { DoesInRegisters (subtract_pair_with_carry_transition instr.now regs.old) regs.new result }
 {
-    let difference = subtract_words_with_carry(regs.hl(), regs.pair(instr.p()), regs.f);
+    let difference = pac_alu::subtract_words_with_carry(regs.hl(), regs.pair(instr.p()), regs.f);
     put_in_pair(difference, Pair::Hl, instr, regs)
 }
 
@@ -70,7 +64,7 @@ fn subtract_pair_with_carry(instr: &Instr, regs: &mut Regs) -> u8
 fn increment_pair(pair: Pair, instr: &Instr, regs: &mut Regs) -> u8
     ensures { DoesInRegisters (increment_pair_transition pair instr.now regs.old) regs.new result }
 {
-    let word = increment_word(get_pair(pair, instr, regs));
+    let word = pac_alu::increment_word(get_pair(pair, instr, regs));
     set_pair(pair, word, instr, regs);
     instr.ticks()
 }
@@ -80,7 +74,7 @@ fn increment_pair(pair: Pair, instr: &Instr, regs: &mut Regs) -> u8
 fn decrement_pair(pair: Pair, instr: &Instr, regs: &mut Regs) -> u8
     ensures { DoesInRegisters (decrement_pair_transition pair instr.now regs.old) regs.new result }
 {
-    let word = decrement_word(get_pair(pair, instr, regs));
+    let word = pac_alu::decrement_word(get_pair(pair, instr, regs));
     set_pair(pair, word, instr, regs);
     instr.ticks()
 }

@@ -1,4 +1,4 @@
-//! Loads of 16 bits, the stack's among them (UM0080, "16-Bit Load Group"). Each gives its time in T-states.
+//! Loads of 16 bits, the stack's among them (UM0080, "16-Bit Load Group").
 
 ghost use Rattle.pac_exec.specs.WordLoads.{word_load_effect, load_pair_transition, load_pair_from_memory_transition, store_pair_transition, load_stack_pointer_transition, push_transition, pop_transition};
 ghost use Rattle.pac_exec.specs.Transition.{DoesTransition, DoesInRegisters};
@@ -25,8 +25,7 @@ fn load_pair(pair: Pair, instr: &Instr, regs: &mut Regs) -> u8
 fn load_pair_from_memory<B: Bus>(pair: Pair, instr: &Instr, regs: &mut Regs, bus: &B) -> u8
     ensures { DoesInRegisters (load_pair_from_memory_transition pair instr.now regs.old (B.byte_at bus.now)) regs.new result }
 {
-    let word = read_word(instr.word(), bus);
-    set_pair(pair, word, instr, regs);
+    set_pair(pair, read_word(instr.word(), bus), instr, regs);
     instr.ticks()
 }
 
@@ -55,8 +54,7 @@ fn load_stack_pointer(pair: Pair, instr: &Instr, regs: &mut Regs) -> u8
 fn push<B: Bus>(pair: Pair, instr: &Instr, regs: &mut Regs, bus: &mut B) -> u8
     ensures { DoesTransition B.after (push_transition pair instr.now regs.old) bus.old regs.new bus.new result }
 {
-    let word = get_stack_pair(pair, instr, regs);
-    push_word(word, regs, bus);
+    push_word(get_stack_pair(pair, instr, regs), regs, bus);
     instr.ticks()
 }
 
@@ -65,8 +63,7 @@ fn push<B: Bus>(pair: Pair, instr: &Instr, regs: &mut Regs, bus: &mut B) -> u8
 fn pop<B: Bus>(pair: Pair, instr: &Instr, regs: &mut Regs, bus: &B) -> u8
     ensures { DoesInRegisters (pop_transition pair instr.now regs.old (B.byte_at bus.now)) regs.new result }
 {
-    let word = pop_word(regs, bus);
-    set_stack_pair(pair, word, instr, regs);
+    set_stack_pair(pair, pop_word(regs, bus), instr, regs);
     instr.ticks()
 }
 

@@ -1,6 +1,6 @@
 //! The image of a picture, in the binary PPM format.
 
-ghost use Rattle.std.specs.Prelude.{◌≡◌, ◌<◌, ◌≤◌, ◌++◌, ◌+◌, ◌*◌, ℕ, [], length, slice_index, slice_index_or, take};
+ghost use Rattle.std.specs.Prelude.{◌≡◌, ◌<◌, ◌≤◌, ◌++◌, ◌+◌, ◌*◌, ◌/◌, ℕ, [], length, slice_index, slice_index_or, take};
 ghost use Rattle.std.specs.Prelude.{vec_len, vec_capacity, EachIndex, IfOk};
 ghost use Rattle.std.specs.List.{flat_map};
 ghost use Rattle.pac_num.specs.Tabulate.{tabulate};
@@ -8,12 +8,12 @@ ghost use Rattle.pac_tiles.specs.Tiles as tile;
 ghost use Rattle.pac_colour.specs.Colours.{numbers as colours};
 ghost use Rattle.pac_media.specs.Images.{image_size, pair_number, pair_in, ppm_of};
 
-use pac_picture::{Picture, WIDTH};
+use pac_picture::{HEIGHT, Picture, WIDTH};
 use std::alloc::{AllocError, Global};
 use std::marker::Model;
 
 /// The bytes of an image.
-const SIZE: usize = 193_551;
+const SIZE: usize = 15 + HEIGHT as usize * LINE;
 
 /// The bytes of a line's pixels.
 const LINE: usize = 3 * WIDTH;
@@ -59,7 +59,8 @@ fn pair(pairs: &[TwoPixels; 256], left: u8, right: u8) -> TwoPixels
 fn colour_line(pairs: &[TwoPixels; 256], line: &[u8], out: &mut [u8; LINE + 2])
     requires size { length line.now ≡ tile.width }
     requires below { EachIndex line.now (λ x. slice_index line.now x < colours) }
-    ensures { take 864 out.new ≡ flat_map (take 6) (tabulate 144 (λ k. slice_index_or pairs.now (pair_number line.now k) [])) }
+    ensures { take (3 * tile.width) out.new
+        ≡ flat_map (take 6) (tabulate (tile.width / 2) (λ k. slice_index_or pairs.now (pair_number line.now k) [])) }
 {
     for k in 0..WIDTH / 2 {
         let pair = pair(pairs, line[2 * k], line[2 * k + 1]);
@@ -70,9 +71,9 @@ fn colour_line(pairs: &[TwoPixels; 256], line: &[u8], out: &mut [u8; LINE + 2])
 /// Puts a line's pixels after what an image has that has room for them.
 #[inline(always)]
 fn append_line(image: &mut Vec<u8>, pixels: &[u8; LINE + 2])
-    requires { vec_len image.old + 864 ≤ vec_capacity image.old }
-    ensures items { image.new.items ≡ image.old.items ++ take 864 pixels.now }
-    ensures len { vec_len image.new ≡ vec_len image.old + 864 }
+    requires { vec_len image.old + 3 * tile.width ≤ vec_capacity image.old }
+    ensures items { image.new.items ≡ image.old.items ++ take (3 * tile.width) pixels.now }
+    ensures len { vec_len image.new ≡ vec_len image.old + 3 * tile.width }
     ensures room { vec_capacity image.old ≤ vec_capacity image.new }
 {
     image.extend_from_slice(&pixels[..LINE]).unwrap();
@@ -90,7 +91,7 @@ fn draw(image: &mut Vec<u8>, picture: &Picture)
     image.extend_from_slice(b"P6\n288 224\n255\n").unwrap();
     let pairs = pairs_of(picture.palette());
     let mut pixels = [0; LINE + 2];
-    for y in 0..224u8 {
+    for y in 0..HEIGHT {
         colour_line(&pairs, picture.row(y), &mut pixels);
         append_line(image, &pixels);
     }

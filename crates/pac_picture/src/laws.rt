@@ -4,6 +4,7 @@ ghost use Rattle.std.specs.Prelude.{◌≡◌, ◌≤◌, ◌<◌, ◌+◌, ◌*
 ghost use Rattle.std.specs.Prelude.{◌==◌, if◌then◌else◌, Bool, true, false, not, length, slice_index, slice_index_or, EachIndex};
 ghost use Rattle.pac_picture.specs.Laws.{StaleCellsAreDrawn};
 
+use crate::size::RowBytes;
 use std::simd::prelude::*;
 
 /// Sixteen bits that say at which of sixteen places, from a place on, two lists differ.
@@ -19,9 +20,9 @@ fn sixteen(now: &[u8], shadow: &[u8], start: usize) -> u64
         .to_bitmask()
 }
 
-/// Whether the 36 bytes of two rows are the same, by three vectors, the last over the last sixteen.
+/// Whether the bytes of two rows are the same, by three vectors, the last over the last sixteen.
 #[inline]
-pub(crate) fn is_same(now: &[u8; 36], shadow: &[u8; 36]) -> bool
+pub(crate) fn is_same(now: &RowBytes, shadow: &RowBytes) -> bool
     ensures { result ≡ true → now.now ≡ shadow.now }
 {
     let first = sixteen(now, shadow, 0);

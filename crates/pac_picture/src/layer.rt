@@ -9,20 +9,21 @@ ghost use Rattle.pac_picture.specs.Layer.{IsDrawn, all_differing, kept_dot, made
 
 use crate::graphics::Graphics;
 use crate::laws::{changed, is_same};
-use crate::painting::{Cells, WIDTH, lay_cells};
+use crate::painting::{Cells, lay_cells};
 use crate::screen::Screen;
 use crate::shadow::Shadow;
+use crate::size::{COLUMNS, ROWS, RowBytes, WIDTH};
 use std::alloc::{AllocError, Global};
 use std::marker::Model;
 
-/// For each of 36 places whether all count, or one of two lists has the place.
+/// For each cell of a row whether all count, or one of two lists has the place.
 #[inline]
-fn either(all: bool, one: &[bool; 36], other: &[bool; 36]) -> [bool; 36]
-    ensures { (k : ℕ) → k < 36 → slice_index_or result k false
+fn either(all: bool, one: &[bool; COLUMNS], other: &[bool; COLUMNS]) -> [bool; COLUMNS]
+    ensures { (k : ℕ) → k < tile.columns → slice_index_or result k false
         ≡ (all || slice_index_or one.now k false || slice_index_or other.now k false) }
 {
-    let mut any = [false; 36];
-    for k in 0..36usize {
+    let mut any = [false; COLUMNS];
+    for k in 0..COLUMNS {
         any[k] = all || one[k] || other[k];
     }
     any
@@ -30,12 +31,12 @@ fn either(all: bool, one: &[bool; 36], other: &[bool; 36]) -> [bool; 36]
 
 /// Which cells of a row differ from these bytes.
 #[inline]
-fn differing(shadow: &Shadow, tiles: &[u8; 36], colours: &[u8; 36]) -> [bool; 36]
-    ensures { (column : ℕ) → column < 36 → slice_index_or result column false
+fn differing(shadow: &Shadow, tiles: &RowBytes, colours: &RowBytes) -> [bool; COLUMNS]
+    ensures { (column : ℕ) → column < tile.columns → slice_index_or result column false
         ≡ cell_differs shadow.now tiles.now colours.now column }
 {
-    let mut by_tile = [false; 36];
-    let mut by_colour = [false; 36];
+    let mut by_tile = [false; COLUMNS];
+    let mut by_colour = [false; COLUMNS];
     changed(tiles, &shadow.tiles, &mut by_tile);
     changed(colours, &shadow.colours, &mut by_colour);
     either(shadow.stale, &by_tile, &by_colour)
@@ -61,19 +62,19 @@ fn redraw_cell(cells: &mut Cells, column: usize, pattern: &[[u8; 8]; 8], differs
 fn redraw(
     cells: &mut Cells,
     graphics: &Graphics,
-    tiles: &[u8; 36],
-    colours: &[u8; 36],
-    mask: &[bool; 36],
+    tiles: &RowBytes,
+    colours: &RowBytes,
+    mask: &[bool; COLUMNS],
 ) -> u32
-    ensures cells { (k : ℕ) → k < 36 → slice_index_or cells.new k []
+    ensures cells { (k : ℕ) → k < tile.columns → slice_index_or cells.new k []
         ≡ (if slice_index_or mask.now k false
         then tile_pattern graphics.now (slice_index colours.now k) (slice_index tiles.now k)
         else slice_index_or cells.old k []) }
-    ensures count { result ≡ count_by (λ k. slice_index_or mask.now k false) (tabulate 36 (λ k. k)) }
-    ensures bound { result ≤ 36 }
+    ensures count { result ≡ count_by (λ k. slice_index_or mask.now k false) (tabulate tile.columns (λ k. k)) }
+    ensures bound { result ≤ tile.columns }
 {
     let mut count = 0;
-    for column in 0..36usize {
+    for column in 0..COLUMNS {
         let pattern = graphics.pattern(colours[column], tiles[column]);
         count += redraw_cell(cells, column, pattern, mask[column]);
     }
@@ -86,14 +87,14 @@ fn refresh_cells(
     cells: &mut Cells,
     shadow: &mut Shadow,
     graphics: &Graphics,
-    tiles: &[u8; 36],
-    colours: &[u8; 36],
+    tiles: &RowBytes,
+    colours: &RowBytes,
 ) -> u32
     requires drawn { IsDrawn graphics.now shadow.old cells.old }
     ensures drawn { IsDrawn graphics.now shadow.new cells.new }
     ensures shadow { shadow.new ≡ shadow_from tiles.now colours.now }
     ensures count { result ≡ differing_cells shadow.old tiles.now colours.now }
-    ensures bound { result ≤ 36 }
+    ensures bound { result ≤ tile.columns }
 {
     let mask = differing(shadow, tiles, colours);
     let drawn = redraw(cells, graphics, tiles, colours, &mask);
@@ -105,7 +106,7 @@ fn refresh_cells(
 
 /// Whether a row was drawn from these bytes, as most rows are when a line is composed: told without looking at single cells.
 #[inline]
-fn is_current(shadow: &Shadow, tiles: &[u8; 36], colours: &[u8; 36]) -> bool
+fn is_current(shadow: &Shadow, tiles: &RowBytes, colours: &RowBytes) -> bool
     ensures { result ≡ true → shadow.now ≡ shadow_from tiles.now colours.now }
 {
     !shadow.stale && is_same(tiles, &shadow.tiles) && is_same(colours, &shadow.colours)
@@ -117,14 +118,14 @@ fn refresh(
     cells: &mut Cells,
     shadow: &mut Shadow,
     graphics: &Graphics,
-    tiles: &[u8; 36],
-    colours: &[u8; 36],
+    tiles: &RowBytes,
+    colours: &RowBytes,
 ) -> u32
     requires drawn { IsDrawn graphics.now shadow.old cells.old }
     ensures drawn { IsDrawn graphics.now shadow.new cells.new }
     ensures shadow { shadow.new ≡ shadow_from tiles.now colours.now }
     ensures count { result ≡ differing_cells shadow.old tiles.now colours.now }
-    ensures bound { result ≤ 36 }
+    ensures bound { result ≤ tile.columns }
 {
     if is_current(shadow, tiles, colours) {
         return 0;
@@ -146,9 +147,9 @@ fn make_stale(shadows: &mut [Shadow])
 fn undrawn(alloc: Global) -> Result<Vec<Cells>, AllocError>
     ensures { IfOk result (λ rows. length rows.items ≡ tile.rows) }
 {
-    let mut rows = Vec::with_capacity(alloc, 28)?;
-    for _ in 0..28u8 {
-        rows.push([[[0; 8]; 8]; 36])?;
+    let mut rows = Vec::with_capacity(alloc, ROWS as usize)?;
+    for _ in 0..ROWS {
+        rows.push([[[0; 8]; 8]; COLUMNS])?;
     }
     Ok(rows)
 }
@@ -157,8 +158,8 @@ fn undrawn(alloc: Global) -> Result<Vec<Cells>, AllocError>
 fn stale_shadows(alloc: Global) -> Result<Vec<Shadow>, AllocError>
     ensures { IfOk result (λ shadows. shadows.items ≡ stale_rows) }
 {
-    let mut shadows = Vec::with_capacity(alloc, 28)?;
-    for _ in 0..28u8 {
+    let mut shadows = Vec::with_capacity(alloc, ROWS as usize)?;
+    for _ in 0..ROWS {
         shadows.push(Shadow::new())?;
     }
     Ok(shadows)
@@ -239,7 +240,7 @@ impl Layer {
         ensures count { result ≡ all_differing self.old.shadows screen.now }
     {
         let mut drawn = 0;
-        for row in 0..28u8 {
+        for row in 0..ROWS {
             drawn += self.refresh(row, screen);
         }
         drawn

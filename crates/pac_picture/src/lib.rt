@@ -10,10 +10,11 @@ mod painting;
 mod picture;
 mod screen;
 mod shadow;
+mod size;
 
 pub use graphics::Graphics;
 pub use lines::Lines;
-pub use painting::WIDTH;
 pub use picture::Picture;
 pub use screen::Screen;
 pub use shadow::Shadow;
+pub use size::{COLUMNS, HEIGHT, ROWS, RowBytes, WIDTH};

@@ -10,8 +10,9 @@ ghost use Rattle.pac_picture.specs.Layer.{shadow_at, drawn_from};
 ghost use Rattle.pac_picture.specs.State.{IsPicture, black, source_of};
 
 use crate::layer::Layer;
-use crate::painting::{WIDTH, paint_sprites};
+use crate::painting::paint_sprites;
 use crate::screen::Screen;
+use crate::size::{HEIGHT, WIDTH};
 use std::alloc::{AllocError, Global};
 use std::marker::Model;
 
@@ -60,8 +61,8 @@ impl Lines {
     pub fn new(alloc: Global) -> Result<Lines, AllocError>
         ensures { IfOk result (λ lines. lines ≡ black) }
     {
-        let mut lines = Vec::with_capacity(alloc, 224)?;
-        for _ in 0..224u8 {
+        let mut lines = Vec::with_capacity(alloc, HEIGHT as usize)?;
+        for _ in 0..HEIGHT {
             lines.push([0; WIDTH])?;
         }
         Ok(Lines { lines })
@@ -108,7 +109,7 @@ impl Lines {
         requires { layer.now.shadows ≡ tabulate tile.rows (drawn_from screen.now) }
         ensures { self.new ≡ picture_of layer.now.roms screen.now }
     {
-        for y in 0..224u8 {
+        for y in 0..HEIGHT {
             compose_line(layer, screen, y, &mut self.lines[y as usize]);
         }
     }

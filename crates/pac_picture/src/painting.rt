@@ -1,20 +1,19 @@
 //! A line of the picture: the cells of its row, and the sprites painted over them.
 
 ghost use Rattle.std.specs.Prelude.{◌≡◌, ◌<◌, ℕ, ◌/◌, ◌%◌, [], if◌then◌else◌, find, unwrap_or, length, slice_index, slice_index_or};
-ghost use Rattle.pac_num.specs.Tabulate.{tabulate};
+ghost use Rattle.pac_tiles.specs.Tabulate.{tabulate};
+ghost use Rattle.pac_tiles.specs.Tiles as tile;
 ghost use Rattle.pac_sprites.specs.Sprites as sprites;
 ghost use Rattle.pac_picture.specs.Picture.{is_opaque, sprite_at, sprite_dot};
 ghost use Rattle.pac_picture.specs.Painting.{painted_number, over_line, cell_dot};
 
 use crate::graphics::Graphics;
 use crate::screen::Screen;
+use crate::size::{COLUMNS, WIDTH};
 use pac_sprites::Sprite;
 
-/// The width of the picture, in pixels.
-pub const WIDTH: usize = 288;
-
-/// The colour numbers of a row of 36 cells, each line by line.
-pub(crate) type Cells = [[[u8; 8]; 8]; 36];
+/// The colour numbers of a row of cells, each line by line.
+pub(crate) type Cells = [[[u8; 8]; 8]; COLUMNS];
 
 /// A cell's line by value: a copy can't overlap the picture's line, which is written without a test for that.
 #[inline(always)]
@@ -28,9 +27,9 @@ fn copied(line: &[u8; 8]) -> [u8; 8]
 #[inline]
 pub(crate) fn lay_cells(cells: &Cells, y: u8, out: &mut [u8; WIDTH])
     requires { y < 8 }
-    ensures { out.new ≡ tabulate 288 (λ x. cell_dot cells.now x y) }
+    ensures { out.new ≡ tabulate tile.width (λ x. cell_dot cells.now x y) }
 {
-    for column in 0..36usize {
+    for column in 0..COLUMNS {
         let start = 8 * column;
         let line = copied(&cells[column][y as usize]);
         out[start..start + 8].copy_from_slice(&line);
@@ -48,7 +47,7 @@ fn over(number: u8, below: u8) -> u8
 /// Paints a line of a sprite's colour numbers over a line of the picture.
 #[inline]
 fn paint_line(line: &[u8; 16], sprite: &Sprite, out: &mut [u8; WIDTH])
-    ensures dots { (x : ℕ) → x < 288 → slice_index out.new x ≡ over_line line.now sprite.now x (slice_index out.old x) }
+    ensures dots { (x : ℕ) → x < tile.width → slice_index out.new x ≡ over_line line.now sprite.now x (slice_index out.old x) }
 {
     let columns = sprite.columns();
     for x in columns.start..columns.end {
@@ -61,7 +60,7 @@ fn paint_line(line: &[u8; 16], sprite: &Sprite, out: &mut [u8; WIDTH])
 #[inline]
 fn paint(graphics: &Graphics, sprite: &Sprite, y: u8, out: &mut [u8; WIDTH])
     requires { sprite.now.code < sprites.sprite_codes }
-    ensures dots { (x : ℕ) → x < 288 →
+    ensures dots { (x : ℕ) → x < tile.width →
         slice_index out.new x ≡ painted_number (sprite_dot graphics.now sprite.now x y) (slice_index out.old x) }
 {
     let Some(line) = sprite.line_at(y) else {
@@ -73,7 +72,7 @@ fn paint(graphics: &Graphics, sprite: &Sprite, y: u8, out: &mut [u8; WIDTH])
 
 /// Paints the eight sprites over line y of the picture: the first is in front of all, so it comes last.
 pub(crate) fn paint_sprites(graphics: &Graphics, screen: &Screen<'_>, y: u8, out: &mut [u8; WIDTH])
-    ensures dots { (x : ℕ) → x < 288 → slice_index out.new x
+    ensures dots { (x : ℕ) → x < tile.width → slice_index out.new x
         ≡ unwrap_or (find is_opaque (tabulate 8 (λ k. sprite_dot graphics.now (sprite_at screen.now k) x y))) (slice_index out.old x) }
 {
     for painted in 0..8u8 {

@@ -7,6 +7,7 @@ ghost use Rattle.pac_picture.specs.Picture.{sprite_at, sprite_bytes};
 ghost use Rattle.pac_picture.specs.Layer.{cells_of};
 ghost use Rattle.pac_picture.specs.State.{source_of};
 
+use crate::size::{COLUMNS, HEIGHT, RowBytes};
 use pac_sprites::Sprite;
 use pac_tiles::offset;
 use std::marker::Model;
@@ -91,7 +92,7 @@ impl<'a> Screen<'a> {
         ensures line { result ≡ source_of self.now y }
         ensures below { result < tile.height }
     {
-        if self.flip { 223 - y } else { y }
+        if self.flip { HEIGHT - 1 - y } else { y }
     }
 
     /// A sprite, 0 to 7.
@@ -108,18 +109,18 @@ impl<'a> Screen<'a> {
         )
     }
 
-    /// The tiles of a row of 36 cells.
+    /// The tiles of a row of cells.
     #[inline]
-    pub(crate) fn tiles(&self, row: u8) -> [u8; 36]
+    pub(crate) fn tiles(&self, row: u8) -> RowBytes
         requires { row < tile.rows }
         ensures { result ≡ cells_of self.now.tile_ram row }
     {
         cells(self.tile_ram, row)
     }
 
-    /// The colours of a row of 36 cells.
+    /// The colours of a row of cells.
     #[inline]
-    pub(crate) fn colours(&self, row: u8) -> [u8; 36]
+    pub(crate) fn colours(&self, row: u8) -> RowBytes
         requires { row < tile.rows }
         ensures { result ≡ cells_of self.now.colour_ram row }
     {
@@ -127,14 +128,14 @@ impl<'a> Screen<'a> {
     }
 }
 
-/// The bytes of 1,024 that a row of 36 cells has: the 32 in the middle follow one another.
+/// The bytes of 1,024 that a row of cells has: the 32 in the middle follow one another.
 #[inline]
-fn cells(ram: &[u8], row: u8) -> [u8; 36]
+fn cells(ram: &[u8], row: u8) -> RowBytes
     requires ram { length ram.now ≡ tile.tile_ram_size }
     requires row { row < tile.rows }
     ensures { result ≡ cells_of ram.now row }
 {
-    let mut cells = [0; 36];
+    let mut cells = [0; COLUMNS];
     let middle = 32 * (row as usize + 2);
     cells[2..34].copy_from_slice(&ram[middle..middle + 32]);
     cells[0] = ram[offset(0, row) as usize];

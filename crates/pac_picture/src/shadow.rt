@@ -3,13 +3,15 @@
 ghost use Rattle.std.specs.Prelude.{◌≡◌};
 ghost use Rattle.pac_picture.specs.Layer.{stale_row};
 
-/// The shadow of a row of 36 cells: what they were last drawn from.
+use crate::size::{COLUMNS, RowBytes};
+
+/// The shadow of a row of cells: what they were last drawn from.
 #[derive(Clone, Copy)]
 pub struct Shadow {
     /// The bytes of tile RAM, from left to right.
-    pub tiles: [u8; 36],
+    pub tiles: RowBytes,
     /// The bytes of colour RAM.
-    pub colours: [u8; 36],
+    pub colours: RowBytes,
     /// Whether every cell counts as differing, whatever its bytes are.
     pub stale: bool,
 }
@@ -20,8 +22,8 @@ impl Shadow {
         ensures { result ≡ stale_row }
     {
         Shadow {
-            tiles: [0; 36],
-            colours: [0; 36],
+            tiles: [0; COLUMNS],
+            colours: [0; COLUMNS],
             stale: true,
         }
     }

@@ -6,7 +6,12 @@ ghost use Rattle.pac_board.specs.Latched as latched;
 ghost use Rattle.pac_board.specs.MemoryFields.{view_of_fields};
 ghost use Rattle.pac_state.specs.Text as text;
 
-use pac_board::{Due, Flags, Inputs, InterruptMode, Regs};
+use crate::sizes::ProcessorBlock;
+use bitflags::Flags;
+use pac_board::Due;
+use pac_exec::Regs;
+use pac_inputs::Inputs;
+use pac_table::InterruptMode;
 
 /// A bit as a number.
 fn digit(bit: bool) -> u8
@@ -34,9 +39,9 @@ fn number_of_mode(mode: InterruptMode) -> u8
     }
 }
 
-/// The 28 bytes of the processor.
+/// The bytes of the processor.
 #[tactic(auto, unfolding(crate::specs::Text::processor_bytes))]
-pub(crate) fn processor(regs: &Regs) -> [u8; 28]
+pub(crate) fn processor(regs: &Regs) -> ProcessorBlock
     ensures { result ≡ text.processor_bytes regs.now }
 {
     let [ix, ix_high] = regs.ix.to_le_bytes();

@@ -5,6 +5,7 @@ ghost use Rattle.pac_state.specs.Reading as read;
 ghost use Rattle.pac_state.specs.Saved as saved;
 
 use crate::fault::LoadFault;
+use crate::sizes::{BODY_SIZE, FILE_SIZE};
 use sha1::Sha1;
 
 /// The first 8 bytes of each state file.
@@ -66,7 +67,7 @@ fn is_sealed(bytes: &[u8]) -> bool
     requires { length bytes.now ≡ saved.file_size }
     ensures { result ≡ saved.is_sealed bytes.now }
 {
-    let (before, digest) = bytes.split_at(67_736);
+    let (before, digest) = bytes.split_at(BODY_SIZE);
     let computed = Sha1::digest(before);
     &computed[..] == digest
 }
@@ -95,7 +96,7 @@ pub(crate) fn fault_of(digest: &[u8; 20], bytes: &[u8]) -> Option<LoadFault>
         Some(LoadFault::NoState)
     } else if is_of_another_version(bytes) {
         Some(LoadFault::OtherVersion)
-    } else if bytes.len() != 67_756 {
+    } else if bytes.len() != FILE_SIZE {
         Some(LoadFault::Size)
     } else if !is_sealed(bytes) {
         Some(LoadFault::Damaged)

@@ -9,6 +9,7 @@ mod loading;
 mod ranges;
 mod reading;
 mod saving;
+mod sizes;
 
 pub use fault::{LoadFault, LoadRefused};
 pub use loading::load;

@@ -11,8 +11,14 @@ ghost use Rattle.pac_state.specs.Text as text;
 
 use crate::blocks::{controls, due, processor};
 use crate::header::{double_word, long_word, part, word};
-use pac_board::{Alternate, Due, Fields, Flags, Inputs, InterruptMode, Lines, Regs};
+use crate::sizes::{PictureBlock, ProcessorBlock};
+use bitflags::Flags;
+use pac_board::{Due, Fields};
+use pac_exec::{Alternate, Regs};
+use pac_inputs::Inputs;
 use pac_num::bit;
+use pac_picture::{HEIGHT, Lines, WIDTH};
+use pac_table::InterruptMode;
 
 /// Whether a bit of a byte is set.
 fn is_set(byte: u8, place: u8) -> bool
@@ -34,7 +40,7 @@ fn mode(number: u8) -> InterruptMode
 }
 
 /// The second set of registers of the processor's bytes.
-fn alternate(bytes: &[u8; 28]) -> Alternate
+fn alternate(bytes: &ProcessorBlock) -> Alternate
     ensures { result ≡ (read.regs_of bytes.now).alternate }
 {
     Alternate {
@@ -50,7 +56,7 @@ fn alternate(bytes: &[u8; 28]) -> Alternate
 }
 
 /// The processor of its bytes.
-fn regs(bytes: &[u8; 28]) -> Regs
+fn regs(bytes: &ProcessorBlock) -> Regs
     ensures { result ≡ read.regs_of bytes.now }
 {
     let flags = bytes[26];
@@ -156,13 +162,14 @@ fn are_written(fields: &Fields, bytes: &[u8]) -> bool
 /// Whether fields that were read from a file are a state's, and stand there as they are written.
 pub(crate) fn is_taken(fields: &Fields, bytes: &[u8]) -> bool
     requires { length bytes.now ≡ saved.file_size }
-    ensures { (result ≡ true) ↔ (AreBoardFields fields.now × saved.AreWritten (state_of fields.now) bytes.now) }
+    ensures { (result ≡ true)
+        ↔ (AreBoardFields fields.now × saved.AreWritten (state_of fields.now) bytes.now) }
 {
     fields.are_in_range() && are_written(fields, bytes)
 }
 
 /// Whether each number of a line is a colour number.
-fn are_numbers(line: &[u8; 288]) -> bool
+fn are_numbers(line: &[u8; WIDTH]) -> bool
     ensures { (result ≡ true) ↔ saved.AreNumbers line.now }
 {
     for number in line {
@@ -174,13 +181,13 @@ fn are_numbers(line: &[u8; 288]) -> bool
 }
 
 /// Takes the lines of a picture from its bytes, and tells whether all of them are colour numbers; else lines are missing.
-pub(crate) fn take_lines(lines: &mut Lines, bytes: &[u8; 64512]) -> bool
+pub(crate) fn take_lines(lines: &mut Lines, bytes: &PictureBlock) -> bool
     ensures picture { (result ≡ true) ↔ IsPicture (read.lines_of bytes.now) }
     ensures taken { result ≡ true → lines.new ≡ read.lines_of bytes.now }
 {
     let _before = lines.row(0);
-    for y in 0..224u8 {
-        let line: &[u8; 288] = part(bytes, 288 * y as usize);
+    for y in 0..HEIGHT {
+        let line: &[u8; WIDTH] = part(bytes, WIDTH * y as usize);
         if !are_numbers(line) {
             return false;
         }

@@ -15,6 +15,7 @@ use crate::header::MAGIC;
 use pac_board::{Board, Fields, Lines};
 use pac_out::counted::Counted;
 use pac_out::{Out, WriteFault};
+use pac_picture::{HEIGHT, Lines};
 use pac_roms_manifest::digest;
 use sha1::Sha1;
 
@@ -37,8 +38,10 @@ fn put_pieces<W: Out>(
     hasher: &mut Sha1,
     pieces: &[&[u8]],
 ) -> Result<(), WriteFault>
-    ensures put { Puts W.took W.refused file.old (flat_map (λ piece. piece.now) pieces.now) result file.new }
-    ensures hashed { OnOk result ((m : List ℕ) → Holds hasher.old m → Holds hasher.new (m ++ flat_map (λ piece. piece.now) pieces.now)) }
+    ensures put { Puts W.took W.refused file.old
+        (flat_map (λ piece. piece.now) pieces.now) result file.new }
+    ensures hashed { OnOk result ((m : List ℕ) → Holds hasher.old m
+        → Holds hasher.new (m ++ flat_map (λ piece. piece.now) pieces.now)) }
 {
     for piece in pieces {
         put(file, hasher, piece)?;
@@ -53,10 +56,13 @@ fn put_head<W: Out>(
     digest: &[u8; 20],
     fields: &Fields,
 ) -> Result<(), WriteFault>
-    ensures put { Puts W.took W.refused file.old (joined_pieces (text.head text.written_version digest.now (state_of fields.now)))
+    ensures put { Puts W.took W.refused file.old
+        (text.bytes_of_pieces (text.head text.written_version digest.now (state_of fields.now)))
         result file.new }
     ensures hashed { OnOk result ((m : List ℕ) → Holds hasher.old m
-        → Holds hasher.new (m ++ joined_pieces (text.head text.written_version digest.now (state_of fields.now)))) }
+        → Holds hasher.new
+        (m ++ text.bytes_of_pieces
+        (text.head text.written_version digest.now (state_of fields.now)))) }
 {
     let digest = *digest;
     let pieces: [&[u8]; 7] = [
@@ -78,7 +84,8 @@ fn put_ram<W: Out>(
     hasher: &mut Sha1,
     fields: &Fields,
 ) -> Result<(), WriteFault>
-    ensures put { Puts W.took W.refused file.old (joined_pieces (text.ram (state_of fields.now))) result file.new }
+    ensures put { Puts W.took W.refused file.old
+        (text.bytes_of_pieces (text.ram (state_of fields.now))) result file.new }
     ensures hashed { OnOk result ((m : List ℕ) → Holds hasher.old m →
         Holds hasher.new (m ++ joined_pieces (text.ram (state_of fields.now)))) }
 {
@@ -94,7 +101,8 @@ fn put_devices<W: Out>(
     hasher: &mut Sha1,
     fields: &Fields,
 ) -> Result<(), WriteFault>
-    ensures put { Puts W.took W.refused file.old (joined_pieces (text.devices (state_of fields.now))) result file.new }
+    ensures put { Puts W.took W.refused file.old
+        (text.bytes_of_pieces (text.devices (state_of fields.now))) result file.new }
     ensures hashed { OnOk result ((m : List ℕ) → Holds hasher.old m →
         Holds hasher.new (m ++ joined_pieces (text.devices (state_of fields.now)))) }
 {
@@ -121,9 +129,11 @@ fn put_front<W: Out>(
     digest: &[u8; 20],
     fields: &Fields,
 ) -> Result<(), WriteFault>
-    ensures put { Puts W.took W.refused file.old (text.file_front text.written_version digest.now (state_of fields.now)) result file.new }
+    ensures put { Puts W.took W.refused file.old
+        (text.file_front text.written_version digest.now (state_of fields.now)) result file.new }
     ensures hashed { OnOk result ((m : List ℕ) → Holds hasher.old m
-        → Holds hasher.new (m ++ text.file_front text.written_version digest.now (state_of fields.now))) }
+        → Holds hasher.new
+        (m ++ text.file_front text.written_version digest.now (state_of fields.now))) }
 {
     put_head(file, hasher, digest, fields)?;
     put_ram(file, hasher, fields)?;
@@ -136,10 +146,11 @@ fn put_lines<W: Out>(
     hasher: &mut Sha1,
     lines: &Lines,
 ) -> Result<(), WriteFault>
-    ensures put { Puts W.took W.refused file.old (joined_pieces lines.now) result file.new }
-    ensures hashed { OnOk result ((m : List ℕ) → Holds hasher.old m → Holds hasher.new (m ++ joined_pieces lines.now)) }
+    ensures put { Puts W.took W.refused file.old (text.bytes_of_pieces lines.now) result file.new }
+    ensures hashed { OnOk result ((m : List ℕ) → Holds hasher.old m
+        → Holds hasher.new (m ++ text.bytes_of_pieces lines.now)) }
 {
-    for y in 0..224u8 {
+    for y in 0..HEIGHT {
         put(file, hasher, lines.row(y))?;
     }
     file.put(&[])
@@ -151,7 +162,8 @@ fn put_state<W: Out>(
     digest: &[u8; 20],
     fields: &Fields,
 ) -> Result<(), WriteFault>
-    ensures { Puts W.took W.refused file.old (text.sealed_file (text.body text.written_version digest.now (state_of fields.now))) result
+    ensures { Puts W.took W.refused file.old
+        (text.sealed_file (text.body text.written_version digest.now (state_of fields.now))) result
         file.new }
 {
     let mut hasher = Sha1::new();
@@ -163,7 +175,8 @@ fn put_state<W: Out>(
 /// Writes a board's state to a writer: 67,756 bytes, a file of version 2. Takes no memory. The fault has the count of the
 /// bytes that the writer took before it refused.
 pub fn save<W: Out>(board: &Board, out: &mut W) -> Result<(), WriteFault>
-    ensures { Saves W.took W.refused out.old (text.save_text text.written_version board.now.set board.now.state) result out.new }
+    ensures { Saves W.took W.refused out.old
+        (text.save_text text.written_version board.now.set board.now.state) result out.new }
 {
     let mut file = Counted::new(out);
     put_state(&mut file, &digest(board.set()), &board.fields())

@@ -1,0 +1,16 @@
+//! The size of the picture, in pixels and in cells.
+
+/// The width of the picture, in pixels.
+pub const WIDTH: usize = 288;
+
+/// The height of the picture, in lines of pixels.
+pub const HEIGHT: u8 = 224;
+
+/// The columns of cells, 8 pixels wide each.
+pub const COLUMNS: usize = 36;
+
+/// The rows of cells, 8 lines high each.
+pub const ROWS: u8 = 28;
+
+/// A byte for each cell of a row, from left to right.
+pub type RowBytes = [u8; COLUMNS];
