@@ -1,0 +1,4 @@
+//! Tests of the disassembler: rows of the manual UM0080 and of this profile's number form.
+
+mod rows;
+mod whole_table;
