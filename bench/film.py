@@ -23,7 +23,7 @@ def rom(size, factor):
 
 def source():
     """The mixed program's source."""
-    path = os.path.join(os.path.dirname(os.path.abspath(__file__)), "..", "crates", "pacbench_common", "src", "mixed.rt")
+    path = os.path.join(os.path.dirname(os.path.abspath(__file__)), "..", "crates", "pacbench", "src", "mixed.rt")
     with open(path, "rb") as file:
         return file.read().split(b'= b"\n')[1].split(b'";')[0]
 

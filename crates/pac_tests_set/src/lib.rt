@@ -1,4 +1,4 @@
-//! A ROM set for tests of runs: its files, manifests that name them, and what images of it show.
+//! A ROM set for tests: its parts, the files of runs, manifests that name them, and what images of it show.
 #![tactic(auto)]
 
 mod picture;
@@ -7,4 +7,7 @@ mod set;
 pub use picture::{
     ALL_BLACK, BLUE_AND_RED, GREEN_AND_RED, GREEN_TILE, LATE_GREEN_TILE, Picture, are_shown,
 };
-pub use set::{Files, NO_WAVE, SET, SWITCHES, Tables, WHOLE_SET, text_of};
+pub use set::{
+    Files, NO_WAVE, SET, SWITCHES, Tables, WHOLE_SET, colours, lookup, rom_set, rom_set_with,
+    sprites, text_of, tiles, wave,
+};

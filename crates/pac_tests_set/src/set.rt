@@ -1,5 +1,6 @@
-//! The ROM set of the rows: the bytes of its files, and the manifests that name them.
+//! The ROM set of the rows: the bytes of its parts and of its files, and the manifests that name them.
 
+use pac_roms::{Raw, RomSet};
 use pac_roms_manifest::Part;
 use std::alloc::{AllocError, Global};
 
@@ -78,8 +79,8 @@ fn pixels(number: usize) -> u8 {
     }
 }
 
-/// Every pixel of tile t is t mod 4.
-fn tiles() -> [u8; 4096] {
+/// The tile ROM: every pixel of tile t is t mod 4.
+pub fn tiles() -> [u8; 4096] {
     let mut rom = [0u8; 4096];
     for (place, byte) in rom.iter_mut().enumerate() {
         *byte = pixels(place / 16);
@@ -87,8 +88,8 @@ fn tiles() -> [u8; 4096] {
     rom
 }
 
-/// Every pixel of sprite s is s mod 4.
-fn sprites() -> [u8; 4096] {
+/// The sprite ROM: every pixel of sprite s is s mod 4.
+pub fn sprites() -> [u8; 4096] {
     let mut rom = [0u8; 4096];
     for (place, byte) in rom.iter_mut().enumerate() {
         *byte = pixels(place / 64);
@@ -96,8 +97,13 @@ fn sprites() -> [u8; 4096] {
     rom
 }
 
-/// Byte i of the lookup PROM is i mod 16, save byte 21, which is 0.
-fn lookup() -> [u8; 256] {
+/// The colour PROM: black, red, green, blue, white, dark red, dark blue, and black for the rest.
+pub fn colours() -> [u8; 32] {
+    begun(&[0x00, 0x07, 0x38, 0xC0, 0xFF, 0x01, 0x80])
+}
+
+/// The lookup PROM: byte i is i mod 16, save byte 21, which is 0.
+pub fn lookup() -> [u8; 256] {
     let mut prom = [0u8; 256];
     for place in 0..=255u8 {
         prom[place as usize] = if place == 21 { 0 } else { place % 16 };
@@ -105,8 +111,8 @@ fn lookup() -> [u8; 256] {
     prom
 }
 
-/// Eight waveforms: 0 is all 15, 1 all 0, in each other one sample i is i/2 rounded down.
-fn wave() -> [u8; 256] {
+/// The wave PROM of eight waveforms: 0 is all 15, 1 all 0, in each other one sample i is i/2 rounded down.
+pub fn wave() -> [u8; 256] {
     let mut prom = [0u8; 256];
     for place in 0..=255u8 {
         prom[place as usize] = match place / 32 {
@@ -118,15 +124,47 @@ fn wave() -> [u8; 256] {
     prom
 }
 
+/// A program ROM with these bytes at these addresses, and 0 everywhere else.
+fn program(pieces: &[(usize, &[u8])]) -> [u8; 16384] {
+    let mut rom = [0u8; 16384];
+    for (origin, bytes) in pieces {
+        for (place, byte) in rom.iter_mut().skip(*origin).zip(bytes.iter()) {
+            *place = *byte;
+        }
+    }
+    rom
+}
+
+/// A set whose program has these bytes at these addresses, with these tile and sprite ROMs.
+pub fn rom_set_with(
+    alloc: Global,
+    pieces: &[(usize, &[u8])],
+    tiles: &[u8; 4096],
+    sprites: &[u8; 4096],
+) -> Result<RomSet, AllocError> {
+    let raw = Raw {
+        tiles,
+        sprites,
+        colours: &colours(),
+        lookup: &lookup(),
+        wave: &wave(),
+    };
+    RomSet::of(alloc, &program(pieces), &raw)
+}
+
+/// The set whose program has these bytes at these addresses.
+pub fn rom_set(alloc: Global, pieces: &[(usize, &[u8])]) -> Result<RomSet, AllocError> {
+    rom_set_with(alloc, pieces, &tiles(), &sprites())
+}
+
 impl Files {
-    /// The colours are black, red, green, blue, white, dark red, dark blue, and black for the rest. The program is
-    /// LD A,42H / LD (4040H),A / HALT.
+    /// The program is LD A,42H / LD (4040H),A / HALT.
     pub fn new() -> Files {
         Files {
             program: begun(&[0x3E, 0x42, 0x32, 0x40, 0x40, 0x76]),
             tiles: tiles(),
             sprites: sprites(),
-            colours: begun(&[0x00, 0x07, 0x38, 0xC0, 0xFF, 0x01, 0x80]),
+            colours: colours(),
             lookup: lookup(),
             wave: wave(),
         }

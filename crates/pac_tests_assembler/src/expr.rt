@@ -1,0 +1,3 @@
+//! Tests of expressions: what no clause says, and outside rows.
+
+mod rows;

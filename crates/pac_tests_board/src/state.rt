@@ -1,0 +1,9 @@
+//! Tests of state files: files made by hand from the table of the format, and boards that are saved and loaded again.
+
+mod boards;
+mod damage;
+mod files;
+mod loading;
+mod memory;
+mod refusals;
+mod scarce;

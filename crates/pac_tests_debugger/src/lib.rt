@@ -1,0 +1,12 @@
+//! Tests of the debugger, of sessions over a board, of their command lines and of the texts that are told: each module is named like
+//! the crate that it tests, but for the sessions that two of them use.
+#![tactic(auto)]
+
+#[cfg(test)]
+mod debug;
+#[cfg(test)]
+mod debug_session;
+#[cfg(test)]
+mod debug_text;
+#[cfg(test)]
+mod rig;

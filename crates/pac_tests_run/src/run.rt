@@ -1,0 +1,9 @@
+//! Nothing but tests of runs: whole runs over a set's files, held against what `pac_run` writes and answers.
+
+mod ample;
+mod cut_texts;
+mod once;
+mod outputs;
+mod runs;
+mod scarce;
+mod writers;
