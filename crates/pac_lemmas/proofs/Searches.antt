@@ -1,6 +1,6 @@
 -- Tests of all elements of a list, and the first that passes one.
-use Rattle.std.proofs.Common.{◌≡◌, ℕ, zero, suc, ◌+◌, ◌<◌, ◌≤◌, Bool, true, false, not, cond, if◌then◌else◌, ◌&&◌, ◌||◌, nat_lt}
-use Rattle.std.proofs.Common.{List, [], ◌∷◌, length, map, get_or, take, Option, Some, None, option_map, All, find, position}
+use Rattle.std.proofs.Common.{◌≡◌, ℕ, zero, suc, ◌+◌, ◌<◌, Bool, true, false, not, cond, if◌then◌else◌, ◌||◌, nat_lt, []}
+use Rattle.std.proofs.Common.{List, ◌∷◌, length, map, get_or, take, Option, Some, None, option_map, All, find, position}
 use Rattle.std.proofs.Common.{refl, sym, ap, ◌∙◌, subst, inl, inr, one-add, le_refl, arith}
 use Rattle.std.specs.Prelude.{is_some}
 use Rattle.std.specs.List.{list_all, list_any, filter, position_or_len, prefix_len}
@@ -132,7 +132,7 @@ fails-without-position p xs k d none below =
     elim (cases_lt (position_or_len p xs) (length xs)) [
       | inl found ↦
           let some : None ≡ Some (position_or_len p xs) =
-              sym none ∙ cond-true _ _ _ (lt-ltb (position_or_len p xs) (length xs) found) in
+          sym none ∙ cond-true _ _ _ (lt-ltb (position_or_len p xs) (length xs) found) in
           absurd (cc)
       | inr all ↦ fails_before_first p xs k d (omega (arith, below, all))
     ]
