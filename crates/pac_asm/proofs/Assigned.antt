@@ -3,11 +3,12 @@ use Rattle.std.proofs.Common.{◌≡◌, ℕ, ℤ, pos, negsuc, ◌+◌, Bool, t
 use Rattle.std.proofs.Common.{Ok, Err}
 use Rattle.std.proofs.Common.{refl, ap, sym, ◌∙◌, subst, append_assoc, option_map, length, is_some, is_none, nat_le, nat_lt}
 use Rattle.std.proofs.Common.{if◌then◌else◌}
-use Rattle.std.specs.Result.{is_ok}
 use Rattle.std.specs.Str.{bytes_eq}
 use Rattle.std.proofs.lemmas.Bool.{false≢true}
-use Rattle.std.proofs.lemmas.Option.{none-some}
+use Rattle.std.proofs.lemmas.Option.{none-some, same_Some}
 use Rattle.std.proofs.lemmas.List.{append-nil}
+use Rattle.pac_asm.proofs.Sizes.{closed-ok}
+use Rattle.pac_lemmas.proofs.Options.{same-Ok, Err-is-no-Ok}
 use Rattle.pac_expr.specs.declared.expr.Sign.{Sign}
 use Rattle.pac_expr.specs.declared.expr.Sign.TheVariants as signs
 use Rattle.pac_expr.specs.declared.expr.Operator.{Operator}
@@ -34,9 +35,10 @@ use Rattle.pac_asm.specs.Counting.{OpenIf, counts, is_read, inside_if}
 use Rattle.pac_asm.specs.Unclosed.{conditional_of_line, is_never_closed}
 use Rattle.pac_asm.specs.Standings.{Standing, first_standing, value_above, within_rom, is_new, with_label, overlaps, room_for}
 use Rattle.pac_asm.specs.Reading.{form_of_line}
-use Rattle.pac_asm.specs.Phase1.{after_item, after_statement, after_form, after_judged, after_passed, after_text, unless_left_open}
+use Rattle.pac_asm.specs.Phase1.{after_item, after_statement, after_form, after_judged, after_passed, after_text}
 use Rattle.pac_asm.specs.Phase1.{after_line, phase1}
-use Rattle.pac_asm.specs.Assignments.{Spot, LineStep, label_symbols, optional_count, optional_value, with_open_ifs, is_nonzero, with_bytes, step_by}
+use Rattle.pac_asm.specs.Assignments.{Spot, LineStep, label_symbols, optional_count, optional_value, with_open_ifs, is_nonzero, with_bytes}
+use Rattle.pac_asm.specs.Assignments.{step_by}
 use Rattle.pac_asm.specs.Assignments.{step_read, step_if}
 use Rattle.pac_asm.specs.Assignments.{step_of, defined_after, defined_in, first_spot, SymbolsAreRight}
 use Rattle.pac_asm.specs.Entries.{count_of, entry_sized, entry_by, entry_read, entry_if, entry_of}
@@ -50,25 +52,6 @@ use Rattle.pac_asm.proofs.OpenIfs.{opens, AreNested, AreOpen, none-nested, read-
 use Rattle.pac_asm.proofs.OpenIfs.{open-end, open-skipped, open-if}
 
 -- ---- answers
-
-ok-or : {A E : Type 0} → A → Result A E → A
-ok-or d (Ok x) = x
-ok-or d (Err e) = d
-
-ok-same : {A E : Type 0} (x y : A) → ◌≡◌ {A = Result A E} (Ok x) (Ok y) → x ≡ y
-unfolding ok-or
-ok-same x y e = ap (ok-or x) e
-
-some-or : {A : Type 0} → A → Option A → A
-some-or d None = d
-some-or d (Some x) = x
-
-pub some-same : {A : Type 0} (x y : A) → Some x ≡ Some y → x ≡ y
-unfolding some-or
-some-same x y e = ap (some-or x) e
-
-err-ok : {A E : Type 0} (fault : E) (x : A) → ◌≡◌ {A = Result A E} (Err fault) (Ok x) → ⊥
-err-ok fault x e = false≢true (ap is_ok e)
 
 -- ---- names
 
@@ -91,8 +74,8 @@ found-first (x ∷ xs) ys some v e =
 -- ---- values
 
 defined-ok : (o : Option ℤ) (z : ℤ) → defined_value o ≡ Ok z → o ≡ Some z
-defined-ok None z e = absurd (err-ok _ z e)
-defined-ok (Some y) z e = ap Some (ok-same y z e)
+defined-ok None z e = absurd (Err-is-no-Ok _ z e)
+defined-ok (Some y) z e = ap Some (same-Ok y z e)
 
 record Valued (answer : ValueResult) : Type 0 where
   number : ℤ
@@ -101,17 +84,17 @@ record Valued (answer : ValueResult) : Type 0 where
 sign-ok : (sign : Sign) (answer : ValueResult) (z : ℤ) → sign_value sign answer ≡ Ok z → Valued answer
 sign-ok signs.Plus answer z e = record { number = z; is = e }
 sign-ok signs.Minus (Ok y) z e = record { number = y; is = refl }
-sign-ok signs.Minus (Err fault) z e = absurd (err-ok fault z e)
+sign-ok signs.Minus (Err fault) z e = absurd (Err-is-no-Ok fault z e)
 
 left-ok : (operator : Operator) (left right : ValueResult) (z : ℤ) → joined_value operator left right ≡ Ok z → Valued left
 left-ok operator (Ok x) right z e = record { number = x; is = refl }
-left-ok operator (Err fault) (Ok y) z e = absurd (err-ok fault z e)
-left-ok operator (Err fault) (Err other) z e = absurd (err-ok _ z e)
+left-ok operator (Err fault) (Ok y) z e = absurd (Err-is-no-Ok fault z e)
+left-ok operator (Err fault) (Err other) z e = absurd (Err-is-no-Ok _ z e)
 
 right-ok : (operator : Operator) (left right : ValueResult) (z : ℤ) → joined_value operator left right ≡ Ok z → Valued right
 right-ok operator left (Ok y) z e = record { number = y; is = refl }
-right-ok operator (Ok x) (Err fault) z e = absurd (err-ok fault z e)
-right-ok operator (Err other) (Err fault) z e = absurd (err-ok _ z e)
+right-ok operator (Ok x) (Err fault) z e = absurd (Err-is-no-Ok fault z e)
+right-ok operator (Err other) (Err fault) z e = absurd (Err-is-no-Ok _ z e)
 
 -- a value needs no more names than it has
 value-extends : (symbols : List Symbol) (names : List ℕ → Option ℤ) → Extends symbols names → (at : ℕ) (tree : Tree) (z : ℤ)
@@ -151,7 +134,7 @@ pub record Agrees (above : Standing) (step : Option LineStep) (Fills : LineLayou
 -- the same, for a standing that is known
 agrees-at : (above : Standing) (step : Option LineStep) (Fills : LineLayout → Type 0) (made next : Standing)
     → ◌≡◌ {A = Result Standing AsmCode} (Ok made) (Ok next) → Agrees above step Fills made → Agrees above step Fills next
-agrees-at above step Fills made next e h = subst (Agrees above step Fills) (ok-same made next e) h
+agrees-at above step Fills made next e h = subst (Agrees above step Fills) (same-Ok made next e) h
 
 -- ---- entries
 
@@ -167,9 +150,9 @@ Fills names spot statement place = (here : Line) → placed_by names statement p
 
 placed-is : (at : ℕ) (content : OrFault (Option Content)) (here : Line) → line_or_fault at content ≡ Ok here
     → entering.entry_at at content ≡ Some here
-placed-is at (Ok None) here e = ap Some (ok-same _ here e)
-placed-is at (Ok (Some content)) here e = ap Some (ok-same _ here e)
-placed-is at (Err fault) here e = absurd (err-ok _ here e)
+placed-is at (Ok None) here e = ap Some (same-Ok _ here e)
+placed-is at (Ok (Some content)) here e = ap Some (same-Ok _ here e)
+placed-is at (Err fault) here e = absurd (Err-is-no-Ok _ here e)
 
 fills-item : (names : List ℕ → Option ℤ) (spot : Spot) (statement : Statement) (size : ℕ)
     → count_of names spot.at statement ≡ Some size → Fills names spot statement (Placed (record { at = spot.at; size = size }))
@@ -179,7 +162,7 @@ fills-item names spot statement size e here is =
 fills-blank : (names : List ℕ → Option ℤ) (spot : Spot) (statement : Statement) (size : ℕ) → count_of names spot.at statement ≡ Some size
     → content_of names spot.at size statement ≡ Ok None → Fills names spot statement Blank
 fills-blank names spot statement size e none here is =
-    ap (entry_sized names spot.at statement) e ∙ ap (entering.entry_at spot.at) none ∙ ap Some (ok-same _ here is)
+    ap (entry_sized names spot.at statement) e ∙ ap (entering.entry_at spot.at) none ∙ ap Some (same-Ok _ here is)
 
 blank-nothing : (names : List ℕ → Option ℤ) (spot : Spot) → Fills names spot nothing Blank
 unfolding content_of
@@ -213,9 +196,9 @@ record Known (answer : ValueResult) (go : ℤ → Result Standing AsmCode) (next
 known-ok : (answer : ValueResult) (go : ℤ → Result Standing AsmCode) (next : Standing) → (value_above answer >>= go) ≡ Ok next
     → Known answer go next
 known-ok (Ok z) go next e = record { number = z; is = refl; goes = e }
-known-ok (Err errors.Undefined) go next e = absurd (err-ok _ next e)
-known-ok (Err errors.OutOfRange) go next e = absurd (err-ok _ next e)
-known-ok (Err errors.DivisionByZero) go next e = absurd (err-ok _ next e)
+known-ok (Err errors.Undefined) go next e = absurd (Err-is-no-Ok _ next e)
+known-ok (Err errors.OutOfRange) go next e = absurd (Err-is-no-Ok _ next e)
+known-ok (Err errors.DivisionByZero) go next e = absurd (Err-is-no-Ok _ next e)
 
 record Within (z : ℤ) (go : ℕ → Result Standing AsmCode) (next : Standing) : Type 0 where
   count : ℕ
@@ -225,11 +208,11 @@ record Within (z : ℤ) (go : ℕ → Result Standing AsmCode) (next : Standing)
 within-by : (b : Bool) (n : ℕ) (go : ℕ → Result Standing AsmCode) (next : Standing)
     → ((if b then Ok n else Err OutsideRom) >>= go) ≡ Ok next → go n ≡ Ok next
 within-by true n go next e = e
-within-by false n go next e = absurd (err-ok _ next e)
+within-by false n go next e = absurd (Err-is-no-Ok _ next e)
 
 within-ok : (z : ℤ) (go : ℕ → Result Standing AsmCode) (next : Standing) → (within_rom z >>= go) ≡ Ok next → Within z go next
 within-ok (pos n) go next e = record { count = n; is = refl; goes = within-by (nat_le n rom_size) n go next e }
-within-ok (negsuc n) go next e = absurd (err-ok _ next e)
+within-ok (negsuc n) go next e = absurd (Err-is-no-Ok _ next e)
 
 record Counted (answer : ValueResult) (go : ℕ → Result Standing AsmCode) (next : Standing) : Type 0 where
   count : ℕ
@@ -240,10 +223,10 @@ counted-ok : (answer : ValueResult) (go : ℕ → Result Standing AsmCode) (next
     ((value_above answer >>= within_rom) >>= go) ≡ Ok next
     → Counted answer go next
 counted-ok (Ok (pos n)) go next e = record { count = n; is = refl; goes = within-by (nat_le n rom_size) n go next e }
-counted-ok (Ok (negsuc n)) go next e = absurd (err-ok _ next e)
-counted-ok (Err errors.Undefined) go next e = absurd (err-ok _ next e)
-counted-ok (Err errors.OutOfRange) go next e = absurd (err-ok _ next e)
-counted-ok (Err errors.DivisionByZero) go next e = absurd (err-ok _ next e)
+counted-ok (Ok (negsuc n)) go next e = absurd (Err-is-no-Ok _ next e)
+counted-ok (Err errors.Undefined) go next e = absurd (Err-is-no-Ok _ next e)
+counted-ok (Err errors.OutOfRange) go next e = absurd (Err-is-no-Ok _ next e)
+counted-ok (Err errors.DivisionByZero) go next e = absurd (Err-is-no-Ok _ next e)
 
 record Gone {A B E : Type 0} (answer : Result A E) (go : A → Result B E) (next : B) : Type 0 where
   found : A
@@ -252,12 +235,12 @@ record Gone {A B E : Type 0} (answer : Result A E) (go : A → Result B E) (next
 
 gone : {A B E : Type 0} (answer : Result A E) (go : A → Result B E) (next : B) → (answer >>= go) ≡ Ok next → Gone answer go next
 gone (Ok x) go next e = record { found = x; is = refl; goes = e }
-gone (Err fault) go next e = absurd (err-ok fault next e)
+gone (Err fault) go next e = absurd (Err-is-no-Ok fault next e)
 
 if-ok : {A E : Type 0} (b : Bool) (answer : Result A E) (fault : E) (next : A) → (if b then answer else Err fault) ≡ Ok next →
     answer ≡ Ok next
 if-ok true answer fault next e = e
-if-ok false answer fault next e = absurd (err-ok fault next e)
+if-ok false answer fault next e = absurd (Err-is-no-Ok fault next e)
 
 -- a new label goes last
 new-name : (symbols : List Symbol) (name : List ℕ) (number : ℤ) (o : Option ℤ) → is_none o ≡ true
@@ -272,9 +255,9 @@ new-label symbols (Some name) number e = new-name symbols name number (number_of
 
 room-by : (outside taken : Bool) (made span : Span) (one other : AsmCode)
     → (if outside then Err one else (if taken then Err other else Ok made)) ≡ Ok span → made ≡ span
-room-by true taken made span one other e = absurd (err-ok _ span e)
-room-by false true made span one other e = absurd (err-ok _ span e)
-room-by false false made span one other e = ok-same made span e
+room-by true taken made span one other e = absurd (Err-is-no-Ok _ span e)
+room-by false true made span one other e = absurd (Err-is-no-Ok _ span e)
+room-by false false made span one other e = same-Ok made span e
 
 room-is : (above : Standing) (size : ℕ) (span : Span) → room_for above size ≡ Ok span → record { at = above.at; size = size } ≡ span
 room-is above size span e =
@@ -409,7 +392,7 @@ agree-new : (names : List ℕ → Option ℤ) (above : Standing) → Extends abo
     → Agrees above (step_by names (spot_of above) form.label form.statement) (Fills names (spot_of above) form.statement) next
 agree-new names above extends nest form true inside is-new next e =
     agree-statement names above extends nest form.label form.statement inside is-new next e
-agree-new names above extends nest form false inside is-new next e = absurd (err-ok _ next e)
+agree-new names above extends nest form false inside is-new next e = absurd (Err-is-no-Ok _ next e)
 
 -- what a line puts into a program at a place
 abbrev pub line_by : (List ℕ → Option ℤ) → List ℕ → LineLayout → Result Line AsmCode
@@ -448,7 +431,7 @@ agree-read names above extends nest line judged (Ok form) is next e =
       fills = λ here shown.
           ap (entry_read names (spot_of above)) is ∙ a.fills here (sym (line-reads names line form is a.place) ∙ shown);
     }
-agree-read names above extends nest line judged (Err code) is next e = absurd (err-ok code next e)
+agree-read names above extends nest line judged (Err code) is next e = absurd (Err-is-no-Ok code next e)
 
 agree-if : (names : List ℕ → Option ℤ) (above : Standing) → Extends above.symbols names → AreNested above.conditions → (line : List ℕ)
     (b : Bool) → is_judged above.conditions (conditional_of_line line) ≡ b → (next : Standing)
@@ -459,7 +442,7 @@ agree-if names above extends nest line false is next e =
     let out = counts-none (opens above.conditions) (conditional_of_line line)
     (sym (read-same above.conditions (conditional_of_line line) nest) ∙ is) in
     agree-conditions above (after_skipped (conditional_of_line line) above.conditions) _ Skipped _
-    (λ here shown. ap Some (ok-same _ here shown))
+    (λ here shown. ap Some (same-Ok _ here shown))
     (λ conditions is. open-skipped (conditional_of_line line) above.conditions conditions nest out is) next e
 
 pub agree-text : (names : List ℕ → Option ℤ) (above : Standing) → Extends above.symbols names → AreNested above.conditions
@@ -483,15 +466,10 @@ agree-text names above extends nest line next e =
 
 -- ---- lines
 
-open-ok : (b : Bool) (answer : Result Standing AsmCode) (next : Standing) → unless_left_open b answer ≡ Ok next → answer ≡ Ok next
-open-ok true (Ok after) next e = absurd (err-ok _ next e)
-open-ok false (Ok after) next e = e
-open-ok b (Err code) next e = absurd (err-ok code next e)
-
 in-line-ok : (number : ℕ) (answer : Result Standing AsmCode) (go : Standing → Result Standing AsmFault) (end : Standing)
     → (result_of_line number answer >>= go) ≡ Ok end → (next : Standing) × (answer ≡ Ok next) × (go next ≡ Ok end)
 in-line-ok number (Ok next) go end e = (next, refl, e)
-in-line-ok number (Err code) go end e = absurd (err-ok _ end e)
+in-line-ok number (Err code) go end e = absurd (Err-is-no-Ok _ end e)
 
 pub record First (number : ℕ) (above : Standing) (line : List ℕ) (below : List (List ℕ)) (end : Standing) : Type 0 where
   pub next : Standing
@@ -503,11 +481,15 @@ pub first-line : (number : ℕ) (above : Standing) (line : List ℕ) (below : Li
 unfolding phase1
 first-line number above line below end e =
     let h = in-line-ok number (after_line above line below) _ end e in
-    record { next = h.0; after = open-ok (is_never_closed (conditional_of_line line) below) (after_text above line) h.0 h.1; others = h.2 }
+    record {
+      next = h.0;
+      after = closed-ok (is_never_closed (conditional_of_line line) below) (after_text above line) h.0 h.1;
+      others = h.2;
+    }
 
 pub no-line : (number : ℕ) (above end : Standing) → phase1 number above [] ≡ Ok end → above ≡ end
 unfolding phase1
-no-line number above end e = ok-same above end e
+no-line number above end e = same-Ok above end e
 
 pub record Grown (before after : List Symbol) : Type 0 where
   pub more : List Symbol
@@ -563,7 +545,7 @@ defines names number above nest (line ∷ below) end e extends =
 pub mapped : (new rest : List Symbol) (o : Option (List Symbol)) → option_map (λ more. new ++ more) o ≡ Some rest
     → (more : List Symbol) × (o ≡ Some more) × (new ++ more ≡ rest)
 mapped new rest None e = absurd (none-some rest e)
-mapped new rest (Some more) e = (more, refl, some-same (new ++ more) rest e)
+mapped new rest (Some more) e = (more, refl, same_Some (new ++ more) rest e)
 
 agree-all : (names : List ℕ → Option ℤ) (number : ℕ) (above : Standing) → AreNested above.conditions → (lines : List (List ℕ))
     (end : Standing) (rest : List Symbol)
@@ -572,7 +554,7 @@ agree-all : (names : List ℕ → Option ℤ) (number : ℕ) (above : Standing) 
     → (some : List ℕ) → names some ≡ number_of_symbol end.symbols some
 unfolding defined_in
 agree-all names number above nest [] end rest e d assigned some =
-    let none : [] ≡ rest = some-same [] rest d in
+    let none : [] ≡ rest = same_Some [] rest d in
     let same : above.symbols ++ rest ≡ end.symbols =
     ap (λ xs. above.symbols ++ xs) (sym none) ∙ append-nil above.symbols
     ∙ ap (λ (standing : Standing). standing.symbols) (no-line number above end e) in

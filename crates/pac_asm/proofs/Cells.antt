@@ -1,30 +1,10 @@
 -- Lists that have a value for each number below a limit: a part of one, and one with a part written over.
-use Rattle.std.proofs.Common.{◌≡◌, ℕ, ◌+◌, ◌-◌, ◌<◌, ◌≤◌, Bool, List, [], ◌∷◌, ◌++◌, ◌||◌, length, map, get_or, take, drop}
-use Rattle.std.proofs.Common.{refl, ap, ◌∙◌, ◌⊎◌, inl, inr, ⊎_elim, arith, zero, suc, length-append, length-drop}
-use Rattle.std.specs.List.{range_with_len, list_any}
+use Rattle.std.proofs.Common.{◌≡◌, ℕ, ◌+◌, ◌-◌, ◌<◌, ◌≤◌, List, ◌++◌, length, map, get_or, take, drop}
+use Rattle.std.proofs.Common.{refl, ap, ◌∙◌, ◌⊎◌, inl, inr, ⊎_elim, arith, length-append, length-drop}
+use Rattle.std.specs.List.{range_with_len}
 use Rattle.std.proofs.lemmas.Bool.{cases_lt}
 use Rattle.std.proofs.lemmas.List.{get_or_append_left, get_or-append_right, get_or-take, get_or-drop, length-take-le}
-use Rattle.std.proofs.lemmas.List.FromFn.{fill_by_all, get_or-map-range_with_len, length-map-range_with_len, take-map-range_with_len}
-
--- ---- a part
-
-drop-map : {X : Type 0} (f : ℕ → X) (at a n b m : ℕ) → at + m ≡ n → a + at ≡ b
-    → drop at (map f (range_with_len a n)) ≡ map f (range_with_len b m)
-drop-map f zero a n b m e s =
-    let same : n ≡ m = omega arith in
-    let begin : a ≡ b = omega arith in
-    ap (λ (k : ℕ). map f (range_with_len a k)) same ∙ ap (λ (k : ℕ). map f (range_with_len k m)) begin
-drop-map f (suc at) a zero b m e s = absurd (omega arith)
-drop-map f (suc at) a (suc n) b m e s = drop-map f at (a + 1) n b m (omega arith) (omega arith)
-
-pub part : {X : Type 0} (f : ℕ → X) (at size n : ℕ) → at + size ≤ n
-    → take size (drop at (map f (range_with_len 0 n))) ≡ map f (range_with_len at size)
-part f at size n h =
-    ap (take size) (drop-map f at 0 n at (n - at) (omega arith) (omega arith)) ∙ take-map-range_with_len f at (n - at) size (omega arith)
-
-pub any-map : {X : Type 0} (p : X → Bool) (xs : List X) → list_any (λ b. b) (map p xs) ≡ list_any p xs
-any-map p [] = refl
-any-map p (x ∷ xs) = ap (λ b. p x || b) (any-map p xs)
+use Rattle.std.proofs.lemmas.List.FromFn.{fill_by_all, get_or-map-range_with_len, length-map-range_with_len}
 
 -- ---- a part written over
 

@@ -7,12 +7,14 @@ use Rattle.std.proofs.Math.Bool.{or-false}
 use Rattle.std.proofs.lemmas.List.{length-replicate, get_or-replicate}
 use Rattle.std.proofs.lemmas.List.Folds.{list_any-append}
 use Rattle.std.proofs.lemmas.List.FromFn.{fill_by_all, length-map-range_with_len, get_or-map-range_with_len}
+use Rattle.pac_lemmas.proofs.Searches.{list_any-map}
+use Rattle.pac_lemmas.proofs.Ranges.{part-map-range}
 use Rattle.pac_asm.specs.declared.place.Span.{Span}
 use Rattle.pac_asm.specs.declared.place.LineLayout.{LineLayout}
 use Rattle.pac_asm.specs.declared.place.LineLayout.TheVariants.{Placed}
 use Rattle.pac_asm.specs.Standings.{span_covers, place_covers, is_taken, overlaps}
 use Rattle.pac_asm.specs.Layouts.{IsFreePlace, ArePlacesApart, cells_below}
-use Rattle.pac_asm.proofs.Cells.{part, any-map, written}
+use Rattle.pac_asm.proofs.Cells.{written}
 
 -- no line takes no cell
 pub none : (n : ℕ) → replicate n false ≡ cells_below n []
@@ -29,8 +31,8 @@ pub part_taken : (places : List LineLayout) (span : Span) (n : ℕ) → span.at 
     → list_any (λ taken. taken) (take span.size (drop span.at (cells_below n places))) ≡ overlaps places span
 unfolding cells_below
 part_taken places span n inside =
-    ap (list_any (λ taken. taken)) (part (is_taken places) span.at span.size n inside)
-    ∙ any-map (is_taken places) (range_with_len span.at span.size)
+    ap (list_any (λ taken. taken)) (part-map-range (is_taken places) span.at span.size n inside)
+    ∙ list_any-map (λ taken. taken) (is_taken places) (range_with_len span.at span.size)
 
 -- one line more
 more : (places : List LineLayout) (place : LineLayout) (cell : ℕ) → is_taken (places ++ place ∷ []) cell ≡

@@ -1,6 +1,7 @@
 -- The second phase gives each line the entry that it has under the symbols.
 use Rattle.std.proofs.Common.{◌≡◌, ℕ, ◌+◌, List, [], ◌∷◌, ◌++◌, Some, Result, Ok, Err, option_map}
 use Rattle.std.proofs.Common.{refl, ap, sym, ◌∙◌, subst, append_assoc, append-nil}
+use Rattle.pac_lemmas.proofs.Options.{same-Ok}
 use Rattle.pac_asm_program.specs.Names.{Symbol, number_of_symbol}
 use Rattle.pac_asm_program.specs.declared.line.Line.{Line}
 use Rattle.pac_asm.specs.declared.place.LineLayout.{LineLayout}
@@ -22,9 +23,6 @@ line-is symbols line Blank = refl
 line-is symbols line Skipped = refl
 line-is symbols line (Placed span) = refl
 
-same-list : (xs ys : List Line) → ◌≡◌ {A = Result (List Line) AsmFault} (Ok xs) (Ok ys) → xs ≡ ys
-same-list xs ys e = cc
-
 in-line-ok : (number : ℕ) (answer : Result Line AsmCode) (go : Line → Result (List Line) AsmFault) (out : List Line)
     → (result_of_line number answer >>= go) ≡ Ok out → (here : Line) × (answer ≡ Ok here) × (go here ≡ Ok out)
 in-line-ok number (Ok here) go out e = (here, refl, e)
@@ -43,7 +41,7 @@ unfolding entries_in phase2
 entered symbols number above nest [] end e extends = record {
   places = [];
   are = ap (λ (standing : Standing). standing.places) (sym (no-line number above end e)) ∙ sym (append-nil above.places);
-  filled = λ n before out e. ([], sym (same-list before out e) ∙ sym (append-nil before), refl);
+  filled = λ n before out e. ([], sym (same-Ok before out e) ∙ sym (append-nil before), refl);
 }
 entered symbols number above nest (line ∷ below) end e extends =
     let names = number_of_symbol symbols in

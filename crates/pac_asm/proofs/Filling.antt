@@ -2,12 +2,13 @@
 use Rattle.std.proofs.Common.{◌≡◌, ℕ, zero, suc, ◌+◌, ◌<◌, ◌≤◌, Bool, true, false, List, [], ◌∷◌, ◌++◌, ◌||◌, ◌&&◌, Option, Some, None}
 use Rattle.std.proofs.Common.{Result, Ok, Err, length, get_or, append-nil, refl, ap, sym, ◌∙◌, subst, arith, leb, ltb, ℤ, ◌⊎◌, inl, inr}
 use Rattle.std.proofs.Common.{⊎_elim}
-use Rattle.std.specs.List.{range_with_len, list_any, flat_map, All}
+use Rattle.std.specs.List.{list_any, flat_map, All}
 use Rattle.std.specs.Str.Lines.{lines}
-use Rattle.std.proofs.lemmas.Bool.{or_parts, or_left, or_right, and_parts, leb-true, ltb-true, cases_eq, cases_Bool}
+use Rattle.std.proofs.lemmas.Bool.{or_left, or_right, and_parts, leb-true, ltb-true, cases_Bool, both_ways}
 use Rattle.std.proofs.lemmas.List.Folds.{list_any-append}
 use Rattle.std.proofs.lemmas.List.Elements.{All-push, All-head, All-tail}
 use Rattle.std.proofs.lemmas.Grind.{flat_map-append}
+use Rattle.pac_lemmas.proofs.Ranges.{fails-in-range}
 use Rattle.pac_lex.specs.Tokens.{Lexeme}
 use Rattle.pac_lex.specs.Scan.{tokens_of}
 use Rattle.pac_code.specs.Items.{Item, Content, bytes_of, bytes_in, IsValid}
@@ -28,7 +29,7 @@ use Rattle.pac_asm.specs.declared.fault.LineError.{LineError}
 use Rattle.pac_asm.specs.declared.fault.LineError.TheVariants as causes
 use Rattle.pac_asm.specs.Errors as error
 use Rattle.pac_asm.specs.Results.{◌>>=◌, result_of_line}
-use Rattle.pac_asm.specs.Standings.{place_covers, is_taken, overlaps}
+use Rattle.pac_asm.specs.Standings.{place_covers, is_taken}
 use Rattle.pac_asm.specs.Standings as standings
 use Rattle.pac_asm.specs.Layouts.{IsFree, IsFreePlace, ArePlacesApart}
 use Rattle.pac_asm.specs.Reading.{form_of_line, form_in, form_or_fault}
@@ -118,9 +119,6 @@ covered-by (x ∷ items) zero d cell below e = or_left (covers x cell) (is_cover
 covered-by (x ∷ items) (suc k) d cell below e =
     or_right (covers x cell) (is_covered items cell) (covered-by items k d cell (omega arith) e)
 
-not-both : (b : Bool) → b ≡ true → b ≡ false → ⊥
-not-both b t f = cc
-
 apart-push : (items : List Item) (item : Item) → rom.AreApart items → All (λ x. IsApartFrom x item) items
     → rom.AreApart (items ++ item ∷ [])
 apart-push [] item h all = (λ k d below. absurd (omega arith), tt)
@@ -133,7 +131,7 @@ free-apart : (items : List Item) (item : Item) → IsFreeItem items item → All
 free-apart items item free k d below cell e =
     ⊎_elim
     (λ (yes : covers item cell ≡ true).
-    absurd (not-both (is_covered items cell) (covered-by items k d cell below e) (free.apart cell yes)))
+    absurd (both_ways (is_covered items cell) (free.apart cell yes) (covered-by items k d cell below e)))
     (λ (no : covers item cell ≡ false). no)
     (cases_Bool (covers item cell))
 
@@ -169,16 +167,6 @@ none-laid = record { apart = tt; fit = λ k d below. absurd (omega arith) }
 
 -- ---- a line at its place lies apart
 
-none-taken : (p : ℕ → Bool) (at size cell : ℕ) → list_any p (range_with_len at size) ≡ false → at ≤ cell → cell < at + size
-    → p cell ≡ false
-none-taken p at zero cell e low high = absurd (omega arith)
-none-taken p at (suc size) cell e low high =
-    let parts = or_parts (p at) (list_any p (range_with_len (at + 1) size)) e in
-    ⊎_elim
-    (λ (same : at ≡ cell). sym (ap p same) ∙ parts.0)
-    (λ (other : at ≡ cell → ⊥). none-taken p (at + 1) size cell parts.1 (omega (arith, other)) (omega arith))
-    (cases_eq at cell)
-
 -- the item of a span covers what the span does
 same-cover : (span : Span) (item : Item) (cell : ℕ) → IsItemOf span item → covers item cell ≡ standings.span_covers span cell
 same-cover span item cell is =
@@ -194,7 +182,7 @@ free-item before above span item cells free is = record {
       let parts = and_parts (leb item.at cell) (ltb cell (item.at + length (bytes_of item))) e in
       let low : item.at ≤ cell = leb-true item.at cell parts.0 in
       let high : cell < item.at + length (bytes_of item) = ltb-true cell (item.at + length (bytes_of item)) parts.1 in
-      cells cell ∙ none-taken (is_taken above) span.at span.size cell free.apart (omega (arith, is.at)) (omega (arith, is.at, is.size));
+      cells cell ∙ fails-in-range (is_taken above) span.at span.size cell free.apart (omega (arith, is.at)) (omega (arith, is.at, is.size));
 }
 
 free-line : (before : List Line) (above : List LineLayout) (place : LineLayout) (here : Line)

@@ -16,7 +16,8 @@ use Rattle.pac_lex.specs.Numbers.{numeral}
 use Rattle.pac_lex.specs.Texts.{closing_length}
 use Rattle.pac_lex.specs.Tokens.{Lexeme, one_byte_kind, one_byte_kinds, is_af, begins}
 use Rattle.pac_lex.specs.Words.{first_word}
-use Rattle.pac_lex.specs.Scan.{FoundToken, one_byte_token, numeral_token, name_token_at, number_token_at, quoted_token, text_token_at, token_at, token_before, cut_token, scan}
+use Rattle.pac_lex.specs.Scan.{FoundToken, one_byte_token, numeral_token, name_token_at, number_token_at, quoted_token, text_token_at}
+use Rattle.pac_lex.specs.Scan.{token_at, token_before, cut_token, scan}
 use Rattle.pac_lex.specs.Scan.{tokens_of}
 use Rattle.pac_lex.specs.Scan as scanning
 use Rattle.pac_lex.proofs.ScanLemmas.{scan-end, scan-comment, gap-skipped}
@@ -30,7 +31,8 @@ use Rattle.pac_asm_operation.specs.Operands.{parts_at_commas}
 use Rattle.pac_asm_operation.specs.Operations.{operation_of}
 use Rattle.pac_asm_line.specs.Statements.{text, Statement, nothing, origin, equate, bytes, words, space, condition}
 use Rattle.pac_asm_line.specs.Statements.{otherwise, end_condition, operation, Form}
-use Rattle.pac_asm_line.specs.Forms.{is_name_kind, each_or_none, text_in, part_in, one_or_more, one_or_two, no_operands, directive_statement, directive_or_operation}
+use Rattle.pac_asm_line.specs.Forms.{is_name_kind, each_or_none, text_in, part_in, one_or_more, one_or_two, no_operands}
+use Rattle.pac_asm_line.specs.Forms.{directive_statement, directive_or_operation}
 use Rattle.pac_asm_line.specs.Forms.{statement_of, begins_statement, after_colon, statement_after_label, may_stand, form_of}
 use Rattle.pac_asm_line.specs.Forms as forms
 use Rattle.pac_asm_line.specs.declared.conditional.Conditional.TheVariants.{If}

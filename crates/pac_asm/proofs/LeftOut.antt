@@ -3,6 +3,9 @@ use Rattle.std.proofs.Common.{◌≡◌, ℕ, ◌+◌, suc, false, List, [], ◌
 use Rattle.std.proofs.Common.{◌∙◌, ap, append_assoc, append-nil, length-append, arith, ltb}
 use Rattle.std.specs.Prelude.{slice_get}
 use Rattle.std.specs.Str.Lines.{lines as text_lines}
+use Rattle.std.proofs.lemmas.Option.{same_Some}
+use Rattle.pac_lemmas.proofs.Lists.{slice_get-after}
+use Rattle.pac_lemmas.proofs.Options.{same-Ok}
 use Rattle.pac_asm_program.specs.Names.{Symbol}
 use Rattle.pac_asm_program.specs.Programs.{Assembled}
 use Rattle.pac_asm_program.specs.declared.line.Line.{Line}
@@ -22,14 +25,9 @@ use Rattle.pac_asm.specs.Items.{AllFit}
 use Rattle.pac_asm.specs.Programs.{most_lines, program_of}
 use Rattle.pac_asm.specs.Skipping.{after_texts, IsLeftOutIfSkipped, SkippedLinesAreLeftOut}
 use Rattle.pac_asm.proofs.Skipping.{passed-over}
-use Rattle.pac_asm.proofs.Assigned.{some-same}
 use Rattle.pac_asm.proofs.Sizes.{Adds, Lays, then-ok, if-ok, none-ok, text, laid, closed-ok, in_line-ok}
 
 -- ---- lists
-
-seam : {X : Type 0} (xs : List X) (x : X) (more : List X) → slice_get (xs ++ x ∷ more) (length xs) ≡ Some x
-seam [] x more = refl
-seam (y ∷ xs) x more = seam xs x more
 
 -- ---- the first phase
 
@@ -66,9 +64,9 @@ record Reached (old new : Standing) (texts : List (List ℕ)) (line : List ℕ) 
 own-place : (above after : Standing) (line : List ℕ) (place : LineLayout) → after.places ≡ above.places ++ place ∷ []
     → after_text above line ≡ Ok after → is_judged above.conditions (conditional_of_line line) ≡ false → place ≡ Skipped
 own-place above after line place added is skipped =
-    some-same place Skipped
-    (sym (seam above.places place []) ∙ ap (λ (places : List LineLayout). slice_get places (length above.places))
-    (sym added ∙ (passed-over above after line skipped is).places) ∙ seam above.places Skipped [])
+    same_Some place Skipped
+    (sym (slice_get-after above.places place []) ∙ ap (λ (places : List LineLayout). slice_get places (length above.places))
+    (sym added ∙ (passed-over above after line skipped is).places) ∙ slice_get-after above.places Skipped [])
 
 reach : (number : ℕ) (old new : Standing) (texts below : List (List ℕ)) (line : List ℕ)
     → phase1 number old (texts ++ line ∷ below) ≡ Ok new → Reached old new texts line below
@@ -124,11 +122,8 @@ record Grows (filled out : List Line) : Type 0 where
   more : List Line
   grown : out ≡ filled ++ more
 
-same-list : (filled out : List Line) → ◌≡◌ {A = Result (List Line) AsmFault} (Ok filled) (Ok out) → filled ≡ out
-same-list filled out e = cc
-
 stays : (filled out : List Line) → ◌≡◌ {A = Result (List Line) AsmFault} (Ok filled) (Ok out) → Grows filled out
-stays filled out e = record { more = []; grown = sym (same-list filled out e) ∙ sym (append-nil filled) }
+stays filled out e = record { more = []; grown = sym (same-Ok filled out e) ∙ sym (append-nil filled) }
 
 grows : (symbols : List Symbol) (number : ℕ) (filled : List Line) (texts : List (List ℕ)) (places : List LineLayout) (out : List Line)
     → phase2 symbols number filled texts places ≡ Ok out → Grows filled out
@@ -151,7 +146,7 @@ entry symbols number filled [] below line [] more out fit e =
     let rest : Grows (filled ++ entries.Skipped ∷ []) out = grows symbols (number + 1) (filled ++ entries.Skipped ∷ []) below more out e in
     let at : length filled + 0 ≡ length filled = omega (arith) in
     ap (slice_get out) at ∙ ap (λ (lines : List Line). slice_get lines (length filled))
-    (rest.grown ∙ append_assoc filled (entries.Skipped ∷ []) rest.more) ∙ seam filled entries.Skipped rest.more
+    (rest.grown ∙ append_assoc filled (entries.Skipped ∷ []) rest.more) ∙ slice_get-after filled entries.Skipped rest.more
 entry symbols number filled [] below line (place ∷ before) more out fit e = absurd fit
 entry symbols number filled (text ∷ texts) below line [] more out fit e = absurd fit
 entry symbols number filled (text ∷ texts) below line (place ∷ before) more out fit e =

@@ -2,6 +2,8 @@
 use Rattle.std.proofs.Common.{◌≡◌, ℤ, pos, Bool, true, false, not, List, [], ◌∷◌, Option, Some, None, Result, Ok, Err, ◌||◌}
 use Rattle.std.proofs.Common.{refl, ap, sym, subst, if◌then◌else◌, nat_lt, length}
 use Rattle.std.specs.Ordering.{int_eq}
+use Rattle.std.proofs.lemmas.Bool.{or_parts}
+use Rattle.pac_lemmas.proofs.Options.{same-Ok}
 use Rattle.pac_asm_line.specs.declared.conditional.Conditional.{Conditional}
 use Rattle.pac_asm_line.specs.declared.conditional.Conditional.TheVariants.{If, Else, EndIf}
 use Rattle.pac_asm.specs.declared.condition.IfState.{IfState}
@@ -74,17 +76,10 @@ counts-if (inner ∷ outer) e = or-none (counts (inner ∷ outer)) e
     or-none true e = refl
     or-none false e = absurd cc
 
-or-first : (b c : Bool) → (b || c) ≡ false → b ≡ false
-or-first true c e = absurd cc
-or-first false c e = refl
-
 pub counts-none : (ifs : List OpenIf) (word : Option Conditional) → is_read ifs word ≡ false → counts ifs ≡ false
-counts-none ifs word e = or-first (counts ifs) (ends_part ifs word) e
+counts-none ifs word e = (or_parts (counts ifs) (ends_part ifs word) e).0
 
 -- ---- what follows them
-
-answered : {A : Type 0} (x y : A) → ◌≡◌ {A = Result A AsmCode} (Ok x) (Ok y) → x ≡ y
-answered x y e = cc
 
 -- other open IFs, seen as lines are counted by
 pub record AreOpen (now : Option (List OpenIf)) (next : List IfState) : Type 0 where
@@ -93,7 +88,7 @@ pub record AreOpen (now : Option (List OpenIf)) (next : List IfState) : Type 0 w
 
 open-at : (now : Option (List OpenIf)) (made next : List IfState) → ◌≡◌ {A = Result (List IfState) AsmCode} (Ok made) (Ok next)
     → now ≡ Some (opens made) → AreNested made → AreOpen now next
-open-at now made next e same nested = subst (AreOpen now) (answered made next e) (record { are = same; nested = nested })
+open-at now made next e same nested = subst (AreOpen now) (same-Ok made next e) (record { are = same; nested = nested })
 
 pub open-else : (conditions next : List IfState) → AreNested conditions → after_else conditions ≡ Ok next
     → AreOpen (behind_else (opens conditions)) next

@@ -1,6 +1,7 @@
 -- The first phase gives each line a place that fits it.
 use Rattle.std.proofs.Common.{◌≡◌, ℕ, ◌+◌, Bool, true, false, List, [], ◌∷◌, ◌++◌, Option, Result, Ok, Err, length, refl}
 use Rattle.std.proofs.Common.{ap, sym, ◌∙◌, subst, append_assoc, append-nil, cond, ltb}
+use Rattle.pac_lemmas.proofs.Options.{same-Ok}
 use Rattle.pac_asm_line.specs.declared.conditional.Conditional.{Conditional}
 use Rattle.pac_asm_line.specs.Statements.{Statement, nothing, origin, equate, bytes, words, space, condition, otherwise, end_condition}
 use Rattle.pac_asm_line.specs.Statements.{operation, Form}
@@ -42,19 +43,16 @@ if-ok P false r s first second y e = second y e
 pub none-ok : {E A : Type 0} (P : A → Type 0) (error : E) → (y : A) → Err error ≡ Ok y → P y
 none-ok P error y e = absurd (cc)
 
-ok-same : {A : Type 0} (x y : A) → ◌≡◌ {A = Result A AsmCode} (Ok x) (Ok y) → x ≡ y
-ok-same x y e = cc
-
 -- a line without bytes
 blank : (old : Standing) (line : List ℕ) (new after : Standing) → after.places ≡ old.places ++ Blank ∷ [] →
     ◌≡◌ {A = Result Standing AsmCode} (Ok after) (Ok new)
     → Adds old new line
 blank old line new after is e =
-    record { place = Blank; added = sym (ap (λ (s : Standing). s.places) (ok-same after new e)) ∙ is; fit = tt }
+    record { place = Blank; added = sym (ap (λ (s : Standing). s.places) (same-Ok after new e)) ∙ is; fit = tt }
 
 -- a line with an item
 same-size : (here span : Span) → ◌≡◌ {A = Result Span AsmCode} (Ok here) (Ok span) → span.size ≡ here.size
-same-size here span e = sym (ap (λ (s : Span). s.size) (ok-same here span e))
+same-size here span e = sym (ap (λ (s : Span). s.size) (same-Ok here span e))
 
 room-size : (old : Standing) (size : ℕ) (span : Span) → room_for old size ≡ Ok span → span.size ≡ size
 room-size old size span e =
@@ -71,7 +69,7 @@ item old label size line form is fit new e =
     then-ok (λ (new : Standing). Adds old new line) (room_for old size) _
     (λ span y room e. record {
       place = Placed span;
-      added = sym (ap (λ (s : Standing). s.places) (ok-same _ y e));
+      added = sym (ap (λ (s : Standing). s.places) (same-Ok _ y e));
       fit = (form, is, subst (λ (n : ℕ). IsSized n form.statement) (sym (room-size old size span room)) fit);
     }) new e
 
@@ -118,7 +116,7 @@ passed old line word new e =
     then-ok (λ (new : Standing). Adds old new line) (after_skipped word old.conditions) _
     (λ conditions y e1 e2. record {
       place = Skipped;
-      added = sym (ap (λ (s : Standing). s.places) (ok-same _ y e2));
+      added = sym (ap (λ (s : Standing). s.places) (same-Ok _ y e2));
       fit = tt;
     }) new e
 

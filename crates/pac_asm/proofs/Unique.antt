@@ -1,7 +1,7 @@
 -- At most one assignment is right, where each name whose value is needed at once is defined above.
 use Rattle.std.proofs.Common.{◌≡◌, ℕ, ℤ, Bool, true, false, List, [], ◌∷◌, ◌++◌, Option, Some, None, Result, Ok, Err}
 use Rattle.std.proofs.Common.{refl, ap, sym, ◌∙◌, append_assoc, option_map, inl, inr}
-use Rattle.std.proofs.lemmas.Option.{none-some}
+use Rattle.std.proofs.lemmas.Option.{none-some, same_Some}
 use Rattle.pac_expr.specs.Trees.{Tree, atom, group, signed, joined}
 use Rattle.pac_expr.specs.Trees as trees
 use Rattle.pac_expr.specs.Values.{defined_value, sign_value, joined_value, tree_value}
@@ -13,12 +13,13 @@ use Rattle.pac_asm.specs.declared.fault.AsmCode.{AsmCode}
 use Rattle.pac_asm.specs.Counting.{is_read, inside_if}
 use Rattle.pac_asm.specs.Unclosed.{conditional_of_line}
 use Rattle.pac_asm.specs.Reading.{form_of_line}
-use Rattle.pac_asm.specs.Assignments.{Spot, LineStep, label_symbols, optional_count, optional_value, with_open_ifs, is_nonzero, with_bytes, step_by}
+use Rattle.pac_asm.specs.Assignments.{Spot, LineStep, label_symbols, optional_count, optional_value, with_open_ifs, is_nonzero, with_bytes}
+use Rattle.pac_asm.specs.Assignments.{step_by}
 use Rattle.pac_asm.specs.Assignments.{step_read, step_if, step_of}
 use Rattle.pac_asm.specs.Assignments.{defined_after, defined_in, first_spot, NamesStand, StatementStands, ReadStands}
 use Rattle.pac_asm.specs.Assignments.{LineStands}
 use Rattle.pac_asm.specs.Assignments.{RestStands, AreDefinedAbove, AtMostOneIsRight}
-use Rattle.pac_asm.proofs.Assigned.{Extends, found-first, mapped, some-same}
+use Rattle.pac_asm.proofs.Assigned.{Extends, found-first, mapped}
 
 -- ---- one value
 
@@ -115,7 +116,7 @@ same-after a b above below again (Some step) some other h da db na nb =
 
 are-same : (a b : List ℕ → Option ℤ) (lines : List (List ℕ)) → AreSame a b lines
 unfolding defined_in
-are-same a b [] above spot some other h da db na nb = sym (some-same [] some da) ∙ some-same [] other db
+are-same a b [] above spot some other h da db na nb = sym (same_Some [] some da) ∙ same_Some [] other db
 are-same a b (line ∷ below) above spot some other h da db na nb =
     let same = same-step above a b (λ name z e. na name ∙ found-first above some name z e)
     (λ name z e. nb name ∙ found-first above other name z e) spot line h.0 in

@@ -5,9 +5,11 @@ use Rattle.std.specs.List.{list_any}
 use Rattle.std.specs.Map.{keys_of}
 use Rattle.std.proofs.lemmas.List.Folds.{list_any-append}
 use Rattle.std.proofs.lemmas.Map.Made.{is_some-lookup}
+use Rattle.pac_lemmas.proofs.Searches.{list_any-find, list_any-map}
+use Rattle.pac_lemmas.proofs.Distinct.{is_distinct, distinct-by-test}
 use Rattle.pac_table_names.specs.Names.{is_written, name_of, text_of_name, every_name}
 use Rattle.pac_table_names.specs.Words.{operation_names}
-use Rattle.pac_table_names.proofs.Distinct.{is_distinct, distinct-by-test, any-found, any-map, operation_names_are_distinct}
+use Rattle.pac_table_names.proofs.Distinct.{operation_names_are_distinct}
 use Rattle.pac_asm_operation.specs.Directives.{directive_names, directive_of, is_directive}
 use Rattle.pac_asm_operation.specs.Reserved.{is_reserved}
 use Rattle.pac_asm_operation.specs.Distinct.{reserved_words, ReservedWordsAreDistinct}
@@ -19,7 +21,8 @@ test = refl
 named : (word : List ℕ) → is_some (name_of word) ≡ list_any (is_written word) (map text_of_name every_name)
 unfolding name_of
 named word =
-    sym (any-found (λ some. is_written word (text_of_name some)) every_name) ∙ sym (any-map (is_written word) text_of_name every_name)
+    sym (list_any-find (λ some. is_written word (text_of_name some)) every_name)
+    ∙ sym (list_any-map (is_written word) text_of_name every_name)
 
 directed : (word : List ℕ) → is_directive word ≡ list_any (is_written word) (keys_of directive_names)
 unfolding directive_of

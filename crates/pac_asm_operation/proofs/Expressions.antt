@@ -4,7 +4,7 @@ use Rattle.std.proofs.Common.{refl, sym, ◌∙◌, ap, subst, arith, slice_get}
 use Rattle.std.specs.Prelude.{Option, Some, None, is_some, option_map}
 use Rattle.std.specs.Option.{unwrap_or}
 use Rattle.std.specs.List.{list_any}
-use Rattle.std.proofs.lemmas.Bool.{and_parts, false≢true}
+use Rattle.std.proofs.lemmas.Bool.{and_parts, false≢true, or_parts}
 use Rattle.pac_lex.specs.declared.token.Token.{Token}
 use Rattle.pac_lex.specs.declared.token.TokenKind.{TokenKind}
 use Rattle.pac_lex.specs.declared.token.TokenKind.TheVariants as kinds
@@ -173,10 +173,6 @@ memory-found (first ∷ rest) inner t stands is =
     let both = and_parts (opens first.kind) (ends_closed rest) parts.0 in
     ap (option_map operand_of_tree) (group-expression first rest t both.0 both.1 (ap expression_in parts.1 ∙ is))
 
-or-false : (a b : Bool) → (a || b) ≡ false → b ≡ false
-or-false true b is = absurd (cc)
-or-false false b is = is
-
 no-group : (tokens : List Lexeme) (t : Tree) → expression_in tokens ≡ Some (group t) →
     ((inner : List Lexeme) → inside_parentheses tokens ≡ Some inner → is_some (expression_in inner) ≡ false) → ⊥
 no-group [] t is none =
@@ -194,7 +190,7 @@ no-group (first ∷ rest) t is none =
     ap (λ (b : Bool). if b then Some (front rest) else None) (ap (λ b. b && ends_closed rest) opened ∙ closed.ends) in
     let inner =
     expression-from (front rest) t
-    (sym (closed-free rest closed.ends) ∙ or-false (is_reserved_token first) (list_any is_reserved_token rest) parts.0)
+    (sym (closed-free rest closed.ends) ∙ (or_parts (is_reserved_token first) (list_any is_reserved_token rest) parts.0).1)
     (ap tree_of closed.marks ∙ inside.1) in
     let wrong : true ≡ false = sym (ap is_some inner) ∙ none (front rest) stands in absurd (cc)
 
@@ -215,10 +211,6 @@ some-within (Some t) d is = refl
 pub is-tree : (tokens : List Token) → is_some (expression_in (views tokens)) ≡ true → IsTree tokens
 unfolding tree_of_tokens
 is-tree tokens is = some-within (expression_in (views tokens)) (atom here) is
-
-pub none-where : {X : Type 0} (o : Option X) → is_some o ≡ false → o ≡ None
-none-where None is = refl
-none-where (Some x) is = absurd (cc)
 
 pub none-inside : (tokens inner : List Lexeme) → Some inner ≡ inside_parentheses tokens → false ≡ is_some (expression_in inner) →
     (other : List Lexeme) → inside_parentheses tokens ≡ Some other → is_some (expression_in other) ≡ false

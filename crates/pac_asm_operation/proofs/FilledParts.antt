@@ -16,10 +16,6 @@ taken some next operand i = if takes (writing_of some) next operand then Some (w
 abbrev pub all_taken : List Shape → ℕ → List (Operand ℤ) → Instruction → Option Instruction
 all_taken shapes next operands i = if all_take shapes next operands then Some (with_all_operands shapes next operands i) else None
 
-and-true : (b : Bool) → (b && true) ≡ b
-and-true true = refl
-and-true false = refl
-
 -- nothing more is taken of shapes without operands
 none-more : (b : Shape) (next : ℕ) → all_take (present_shape b) next [] ≡ true
 none-more shape.Absent next = refl

@@ -1,6 +1,7 @@
 -- Two operands against two shapes, one by one.
 use Rattle.std.proofs.Common.{◌≡◌, Bool, true, false, ◌&&◌, List, [], ◌∷◌, refl, sym, ◌∙◌, ap}
 use Rattle.std.specs.Prelude.{Option, Some, None}
+use Rattle.pac_lemmas.proofs.Booleans.{and-true}
 use Rattle.pac_table.specs.declared.operands.Shape.{Shape}
 use Rattle.pac_table.specs.declared.operands.Shape.TheVariants as shape
 use Rattle.pac_table_names.specs.declared.writing.Writing.TheVariants.{Nothing}
@@ -18,10 +19,6 @@ nothing-written (AtName name) = refl
 nothing-written (Indexed name x) = refl
 nothing-written (Memory x) = refl
 nothing-written (Value x) = refl
-
-and-true : (b : Bool) → (b && true) ≡ b
-and-true true = refl
-and-true false = refl
 
 abbrev rest : {A : Type 0} → Option (Operand A) → List (Operand A)
 rest None = []

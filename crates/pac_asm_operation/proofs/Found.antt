@@ -1,13 +1,15 @@
 -- What an operation keeps is the operation of the definitions, and the instruction found in its rows is the first that
 -- the whole table has.
 use denote.Ref.{Bor}
-use Rattle.std.proofs.Common.{◌≡◌, ℕ, ◌+◌, ◌<◌, ℤ, pos, Bool, true, false, not, ◌&&◌, ◌==◌, nat_lt, if◌then◌else◌, cond}
-use Rattle.std.proofs.Common.{List, [], ◌∷◌, ◌++◌, length, map, get_or, find, refl, sym, ◌∙◌, ap, arith, length-append}
-use Rattle.std.specs.Prelude.{Option, Some, None, is_some, option_map, position, IfSome, Ok, Err, IfOk}
+use Rattle.std.proofs.Common.{◌≡◌, ℕ, ◌+◌, ◌<◌, ℤ, pos, Bool, true, false, ◌&&◌, ◌==◌, if◌then◌else◌, []}
+use Rattle.std.proofs.Common.{List, ◌∷◌, length, map, get_or, find, refl, sym, ◌∙◌, ap, arith}
+use Rattle.std.specs.Prelude.{Option, Some, None, is_some, option_map, IfSome, Ok, Err, IfOk}
 use Rattle.std.specs.Option.{unwrap_or, ok_or}
-use Rattle.std.specs.List.{All, position_or_len}
-use Rattle.std.proofs.lemmas.Bool.{and_parts, cond-false, eqb-true}
-use Rattle.std.proofs.lemmas.Bool.Decides.{nat_tests}
+use Rattle.std.specs.List.{All}
+use Rattle.std.proofs.lemmas.Bool.{and_parts, eqb-true}
+use Rattle.pac_table.specs.declared.table.Row.{Row}
+use Rattle.pac_lemmas.proofs.Booleans.{and-false}
+use Rattle.pac_lemmas.proofs.Searches.{find-same, find-map-same, position-all-fail}
 use Rattle.pac_lex.specs.declared.token.Token.{Token}
 use Rattle.pac_lex.specs.Tokens.{Lexeme}
 use Rattle.pac_expr.specs.Trees.{Tree}
@@ -21,18 +23,20 @@ use Rattle.pac_table.specs.Table.{table}
 use Rattle.pac_table.specs.Instructions.{Instruction, row_at, row_count, opcode_of, code}
 use Rattle.pac_table_names.specs.Names.{value_named, writing_of, has_accumulator, present_shape, listed_shapes, written_operands}
 use Rattle.pac_table_names.specs.ByName.{AreNamed, family_in, rows_named}
-use Rattle.pac_table.proofs.Lengths.{length-immediate-bytes}
+use Rattle.pac_table.proofs.Lengths.{length-immediate-bytes, length-arranged}
 use Rattle.pac_asm_operation.specs.declared.fault.OperationFault.{OperationFault}
 use Rattle.pac_asm_operation.specs.declared.fault.OperationFault.TheVariants.{Range}
 use Rattle.pac_asm_operation.specs.declared.operand.Operand.{Operand}
 use Rattle.pac_asm_operation.specs.declared.operand.Operand.TheVariants.{Named, AlternateAf, AtName, Indexed, Memory, Value}
 use Rattle.pac_asm_operation.specs.Operands.{parts_at_commas, operands_of_parts}
-use Rattle.pac_asm_operation.specs.Operations.{Operation, is_form, are_forms, fits_as, named_value, fits, row_for, with_operands, operation_of}
+use Rattle.pac_asm_operation.specs.Operations.{Operation, is_form, are_forms, fits_as, named_value, fits, row_for, with_operands}
+use Rattle.pac_asm_operation.specs.Operations.{operation_of}
 use Rattle.pac_asm_operation.specs.Operations.{row_size, operation_size}
-use Rattle.pac_asm_operation.specs.Operations.{suits_as, suits, parts_as, instruction_in_row, valued_operands, placed_instruction, chosen_instruction, instruction_of}
+use Rattle.pac_asm_operation.specs.Operations.{suits_as, suits, parts_as, instruction_in_row, valued_operands, placed_instruction}
+use Rattle.pac_asm_operation.specs.Operations.{chosen_instruction, instruction_of}
 use Rattle.pac_asm_operation.specs.Views.{seen_operand, operand_pair, seen_operands, fits_row}
 use Rattle.pac_asm_operation.specs.Kept.{with_tree, without_place, kept_operation, seen_operation, IsKept, suits_row, parts_in_row}
-use Rattle.pac_asm_operation.proofs.RowSearch.{named-search, find-same, find-map-same, found-at}
+use Rattle.pac_asm_operation.proofs.RowSearch.{named-search, found-at}
 
 abbrev pub Place : Type 0
 Place = Bor (List Token)
@@ -93,10 +97,6 @@ first-is word rows family operands are named =
 
 -- ---- too many operands
 
-and-false : (b : Bool) → (b && false) ≡ false
-and-false true = refl
-and-false false = refl
-
 present-long : {A : Type 0} (b : Shape) (y z : Operand A) (zs : List (Operand A)) → are_forms (present_shape b) (y ∷ z ∷ zs) ≡ false
 present-long shape.Absent y z zs = refl
 present-long b y z zs = and-false (is_form (writing_of b) y)
@@ -117,30 +117,17 @@ written-long form value x y z zs =
       | false ↦ listed-long form.first form.second x y z zs
     ]
 
-past-all : {X : Type 0} (p : X → Bool) (xs : List X) → ((x : X) → p x ≡ false) → position_or_len p xs ≡ length xs
-past-all p [] fails = refl
-past-all p (x ∷ xs) fails =
-    let rest = past-all p xs fails in
-    ap (λ b. cond (not b) (1 + position_or_len p xs) 0) (fails x) ∙ omega (arith, rest)
-
-not-below : (n : ℕ) → nat_lt n n ≡ false
-not-below n = grind (arith, nat_tests)
-
-none-placed : {X : Type 0} (p : X → Bool) (xs : List X) → ((x : X) → p x ≡ false) → position p xs ≡ None
-none-placed p xs fails =
-    ap {B = Option ℕ} (λ n. cond (nat_lt n (length xs)) (Some n) None) (past-all p xs fails) ∙
-    cond-false (nat_lt (length xs) (length xs)) (Some (length xs)) None (not-below (length xs))
-
 no-row : (word : List ℕ) (operands : List (Operand Tree)) → 2 < length operands → row_for word operands ≡ None
 unfolding row_for
 no-row word [] more = absurd (omega (arith, more))
 no-row word (x ∷ []) more = absurd (omega (arith, more))
 no-row word (x ∷ y ∷ []) more = absurd (omega (arith, more))
 no-row word (x ∷ y ∷ z ∷ zs) more =
-    none-placed (fits word (x ∷ y ∷ z ∷ zs)) table
-    (λ row.
+    let fails : (row : Row) → fits word (x ∷ y ∷ z ∷ zs) row ≡ false =
+    λ row.
     ap (λ b. is_some (value_named row.operands.mnemonic word) && b) (written-long row.operands (named_value word row) x y z zs) ∙
-    and-false (is_some (value_named row.operands.mnemonic word)))
+    and-false (is_some (value_named row.operands.mnemonic word)) in
+    position-all-fail (fits word (x ∷ y ∷ z ∷ zs)) table (λ k row below. fails (get_or table k row))
 
 pub too-many : (word : List ℕ) (operands : Option (List (Operand Tree))) → IfSome operands (λ all. 2 < length all) →
     with_operands word operands ≡ None
@@ -239,16 +226,11 @@ instruction-placed names here word rows family size first second operands is val
 
 -- ---- its size
 
-arranged : (displaced : Bool) (front rest : List ℕ) (byte : ℕ) →
-    length (if displaced then front ++ rest ++ byte ∷ [] else front ++ byte ∷ rest) ≡ length front + length rest + 1
-arranged true front rest byte = grind (arith, length-append)
-arranged false front rest byte = grind (arith, length-append)
-
 same-length : (page : Page) (a b : ℕ) (xs ys : List ℕ) → length xs ≡ length ys →
     length (code_bytes page a xs) ≡ length (code_bytes page b ys)
 same-length page a b xs ys are =
-    arranged (is_displacement_first page) (page_prefix page) xs a ∙ ap (λ n. length (page_prefix page) + n + 1) are ∙
-    sym (arranged (is_displacement_first page) (page_prefix page) ys b)
+    length-arranged (is_displacement_first page) (page_prefix page) xs a ∙ ap (λ n. length (page_prefix page) + n + 1) are ∙
+    sym (length-arranged (is_displacement_first page) (page_prefix page) ys b)
 
 code-length : (i : Instruction) → length (code i) ≡ row_size (row_at i.row)
 code-length i =

@@ -3,8 +3,8 @@ use Rattle.std.proofs.Common.{◌≡◌, ℕ, ◌<◌, ℤ, pos, negsuc, ◌≤�
 use Rattle.std.proofs.Common.{refl, ap, arith}
 use Rattle.std.specs.Prelude.{Option, Some, None, IsSome, IfSome}
 use Rattle.std.proofs.lemmas.Int.{ints}
-use Rattle.std.proofs.lemmas.Bool.{and_parts, and_from, ltb-true, false≢true}
-use Rattle.std.proofs.lemmas.Bool.Decides.{Decides-int_eq, nat_tests}
+use Rattle.std.proofs.lemmas.Bool.{and_parts, and_from, ltb-true, false≢true, lt-ltb}
+use Rattle.std.proofs.lemmas.Bool.Decides.{Decides-int_eq}
 use Rattle.pac_table.specs.declared.patterns.Immediate.{Immediate}
 use Rattle.pac_table.specs.declared.patterns.Immediate.TheVariants as immediate
 use Rattle.pac_table.specs.Patterns.{lists, word_limit, IsDisplacement, IsSignedByte}
@@ -43,9 +43,6 @@ is-displacement immediate.Relative n is = byte-within n is
 is-displacement immediate.Displacement n is = byte-within n is
 is-displacement immediate.DisplacementByte n is = byte-within n is
 
-lt-true : (a b : ℕ) → a < b → nat_lt a b ≡ true
-lt-true a b is = grind (arith, nat_tests)
-
 pub held-instruction : (n : ℕ) (parts : Instruction) → n < row_count → holds (row_at n).pattern parts ≡ true →
     IsInstruction (with_row_number n parts)
 held-instruction n parts below is =
@@ -65,7 +62,7 @@ pub instruction-held : (n : ℕ) (parts : Instruction) → IsInstruction (with_r
 instruction-held n parts is =
     let pattern = (row_at n).pattern in
     and_from _ _
-    (and_from _ _ (and_from _ _ is.first is.second) (lt-true parts.word (word_limit pattern.immediate) is.word))
+    (and_from _ _ (and_from _ _ is.first is.second) (lt-ltb parts.word (word_limit pattern.immediate) is.word))
     (is-displacement pattern.immediate parts.disp is.disp)
 
 -- ---- the instruction of a row, where it is one

@@ -1,12 +1,13 @@
 -- The rows with a name, asked one by one, against the search of the whole table.
-use Rattle.std.proofs.Common.{◌≡◌, ℕ, suc, ◌+◌, ◌<◌, Bool, true, false, not, nat_lt, if◌then◌else◌, cond}
-use Rattle.std.proofs.Common.{List, [], ◌∷◌, length, drop, get_or, find, refl, sym, ◌∙◌, ap, subst, arith, inl, inr, add-one}
+use Rattle.std.proofs.Common.{◌≡◌, ℕ, suc, ◌+◌, ◌<◌, Bool, true, false, if◌then◌else◌, cond, []}
+use Rattle.std.proofs.Common.{List, ◌∷◌, length, drop, get_or, find, refl, sym, ◌∙◌, ap, subst, arith, inl, inr, add-one}
 use Rattle.std.specs.Prelude.{Option, Some, None, is_some, option_map, position}
-use Rattle.std.specs.List.{All, position_or_len}
+use Rattle.std.specs.List.{All}
 use Rattle.std.proofs.Math.Seq.{drop-cons}
 use Rattle.std.proofs.lemmas.List.{get_or_default}
 use Rattle.std.proofs.lemmas.Bool.{cases_Bool, cond-true, cond-false}
-use Rattle.std.proofs.lemmas.Bool.Decides.{nat_tests}
+use Rattle.std.proofs.lemmas.List.Elements.{All-head, All-tail}
+use Rattle.pac_lemmas.proofs.Searches.{position-cons}
 use Rattle.pac_table.specs.declared.table.Row.{Row}
 use Rattle.pac_table.specs.Table.{table}
 use Rattle.pac_table.specs.Instructions.{row_at}
@@ -14,33 +15,6 @@ use Rattle.pac_table_names.specs.Names.{value_named}
 use Rattle.pac_table_names.specs.ByName.{rows_named_from, rows_named}
 
 -- ---- a search by places
-
-less-more : (a b : ℕ) → nat_lt (1 + a) (suc b) ≡ nat_lt a b
-less-more a b = grind (arith, nat_tests)
-
-counted : (b : Bool) (n : ℕ) → cond b (Some (1 + n)) None ≡ option_map (λ k. 1 + k) (cond b (Some n) None)
-counted true n = refl
-counted false n = refl
-
-first-less : (b : ℕ) → nat_lt 0 (suc b) ≡ true
-first-less b = grind (arith, nat_tests)
-
-position-cons : {X : Type 0} (p : X → Bool) (x : X) (xs : List X) →
-    position p (x ∷ xs) ≡ (if p x then Some 0 else option_map (λ k. 1 + k) (position p xs))
-position-cons p x xs =
-    elim (cases_Bool (p x)) [
-      | inl passes ↦
-          let none : position_or_len p (x ∷ xs) ≡ 0 = ap (λ b. cond (not b) (1 + position_or_len p xs) 0) passes in
-          ap {B = Option ℕ} (λ n. cond (nat_lt n (suc (length xs))) (Some n) None) none ∙
-          cond-true (nat_lt 0 (suc (length xs))) (Some 0) None (first-less (length xs)) ∙
-          sym (cond-true (p x) (Some 0) (option_map (λ k. 1 + k) (position p xs)) passes)
-      | inr fails ↦
-          let more : position_or_len p (x ∷ xs) ≡ 1 + position_or_len p xs = ap (λ b. cond (not b) (1 + position_or_len p xs) 0) fails in
-          ap {B = Option ℕ} (λ n. cond (nat_lt n (suc (length xs))) (Some n) None) more ∙
-          ap {B = Option ℕ} (λ b. cond b (Some (1 + position_or_len p xs)) None) (less-more (position_or_len p xs) (length xs)) ∙
-          counted (nat_lt (position_or_len p xs) (length xs)) (position_or_len p xs) ∙
-          sym (cond-false (p x) (Some 0) (option_map (λ k. 1 + k) (position p xs)) fails)
-    ]
 
 -- ---- the rows with a name
 
@@ -106,29 +80,6 @@ named-search word p named = sym (search-from word p 0 table named table-rows ∙
 
 -- ---- searches of a list of numbers
 
-all-rest : (P : ℕ → Type 0) (x : ℕ) (xs : List ℕ) → All P (x ∷ xs) → All P xs
-all-rest P x xs all k d below = all (suc k) d (omega (arith, below))
-
-all-first : (P : ℕ → Type 0) (x : ℕ) (xs : List ℕ) → All P (x ∷ xs) → P x
-all-first P x xs all = all 0 0 (omega arith)
-
--- tests that agree at each number find the same
-pub find-same : (p q : ℕ → Bool) (xs : List ℕ) → All (λ n. p n ≡ q n) xs → find p xs ≡ find q xs
-find-same p q [] same = refl
-find-same p q (x ∷ xs) same =
-    ap (λ b. cond b (Some x) (find p xs)) (all-first (λ n. p n ≡ q n) x xs same) ∙
-    ap (λ o. cond (q x) (Some x) o) (find-same p q xs (all-rest (λ n. p n ≡ q n) x xs same))
-
--- and so do functions of what is found
-pub find-map-same : {Y : Type 0} (p : ℕ → Bool) (f g : ℕ → Y) (xs : List ℕ) → All (λ n. f n ≡ g n) xs →
-    option_map f (find p xs) ≡ option_map g (find p xs)
-find-map-same p f g [] same = refl
-find-map-same p f g (x ∷ xs) same =
-    elim (p x) as (λ b. option_map f (cond b (Some x) (find p xs)) ≡ option_map g (cond b (Some x) (find p xs))) [
-      | true ↦ ap Some (all-first (λ n. f n ≡ g n) x xs same)
-      | false ↦ find-map-same p f g xs (all-rest (λ n. f n ≡ g n) x xs same)
-    ]
-
 pub record FoundAt (p : ℕ → Bool) (P : ℕ → Type 0) (n : ℕ) : Type 0 where
   pub passes : p n ≡ true
   pub holds : P n
@@ -140,9 +91,9 @@ found-at p P (x ∷ xs) n found all =
       | inl passes ↦
           let here : Some x ≡ Some n = sym (cond-true (p x) (Some x) (find p xs) passes) ∙ found in
           let same : x ≡ n = cc here in
-          subst (λ m. FoundAt p P m) same (record { passes = passes; holds = all-first P x xs all })
+          subst (λ m. FoundAt p P m) same (record { passes = passes; holds = All-head P x xs all })
       | inr fails ↦
-          found-at p P xs n (sym (cond-false (p x) (Some x) (find p xs) fails) ∙ found) (all-rest P x xs all)
+          found-at p P xs n (sym (cond-false (p x) (Some x) (find p xs) fails) ∙ found) (All-tail P x xs all)
     ]
 
 -- ---- one step of such a search

@@ -1,7 +1,7 @@
 -- Symbols as their map holds them, under keys that have the names' bytes.
-use Rattle.std.proofs.Common.{◌≡◌, ℕ, Bool, true, false, cond, List, [], ◌∷◌, ◌++◌, map, ℤ, Option, None, Some, refl}
-use Rattle.std.proofs.Common.{ap, sym, ◌∙◌, true≢false}
-use Rattle.std.specs.Prelude.{bytes_eq, if◌then◌else◌, is_some, is_none}
+use Rattle.std.proofs.Common.{◌≡◌, ℕ, true, false, cond, List, [], ◌∷◌, ◌++◌, map, ℤ, None, Some, refl}
+use Rattle.std.proofs.Common.{ap, sym, ◌∙◌}
+use Rattle.std.specs.Prelude.{bytes_eq, if◌then◌else◌, is_some}
 use Rattle.std.specs.Map.{lookup, keys_of}
 use Rattle.std.specs.List.{IsDistinct, AllByRecursion}
 use Rattle.pac_asm_program.specs.Names.{Symbol, number_of_symbol, with_symbol, AreDistinct}
@@ -42,11 +42,3 @@ module _ {K : Type 0} (name_of : K → List ℕ) where
 pub with-old : (symbols : List Symbol) (name : List ℕ) (number : ℤ) → is_some (number_of_symbol symbols name) ≡ true
     → symbols ≡ with_symbol symbols name number
 with-old symbols name number old = sym (ap (λ b. if b then symbols else symbols ++ (name, number) ∷ []) old)
-
-pub old-is_none : {X : Type 0} (found : Option X) → is_some found ≡ true → false ≡ is_none found
-old-is_none None old = absurd (true≢false (sym old))
-old-is_none (Some x) old = refl
-
-pub new-none : {X : Type 0} (found : Option X) → is_some found ≡ false → found ≡ None
-new-none None new = refl
-new-none (Some x) new = absurd (true≢false new)

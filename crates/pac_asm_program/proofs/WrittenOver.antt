@@ -1,51 +1,15 @@
 -- Bytes written over a ROM, item by item from the last to the first.
-use Rattle.std.proofs.Common.{◌≡◌, ℕ, ◌+◌, ◌-◌, ◌<◌, ◌≤◌, List, [], ◌∷◌, ◌++◌, length, map, get_or, take, drop, ap}
+use Rattle.std.proofs.Common.{◌≡◌, ℕ, ◌+◌, ◌-◌, ◌<◌, ◌≤◌, List, [], ◌∷◌, length, map, get_or, ap}
 use Rattle.std.proofs.Common.{sym, ◌∙◌, arith, leb, ⊎_elim, replicate}
 use Rattle.std.specs.List.{range_with_len, slice_index}
 use Rattle.std.proofs.lemmas.Bool.{cond-true, cond-false, lt-ltb, le-ltb, le-leb, lt-leb, and_from, and_right, and_left, cases_lt}
-use Rattle.std.proofs.lemmas.List.{get_or-take, get_or-drop, length-append, length-take-le, length-drop, length-replicate, get_or-replicate}
-use Rattle.std.proofs.lemmas.Slice.{take-put_mid_below, drop-put_mid, between-put_mid}
+use Rattle.std.proofs.lemmas.List.{length-replicate, get_or-replicate}
 use Rattle.std.proofs.lemmas.List.FromFn.{fill_by_all, get_or-map-range_with_len, length-map-range_with_len}
+use Rattle.pac_lemmas.proofs.Lists.{get_or-before-put_mid, get_or-after-put_mid, get_or-in-put_mid, length-put_mid}
 use Rattle.pac_code.specs.Items.{Item, bytes_of}
 use Rattle.pac_asm_program.specs.Programs.{rom_size}
 use Rattle.pac_asm_program.specs.Rom.{byte_over, rom_byte_at, rom_of}
 use borrow.Rule.Slice.PartMut.{put_mid}
-
--- a part of a list written over: what is before it, in it, and after it
-pub before-part : (a k : ℕ) (xs ys : List ℕ) (n : ℕ) → n < a → a ≤ length xs → get_or (put_mid a k xs ys) n 0 ≡ get_or xs n 0
-before-part a k xs ys n h fits =
-    sym (get_or-take (n + 1) (put_mid a k xs ys) n 0 (omega arith))
-    ∙ ap (λ (l : List ℕ). get_or l n 0) (take-put_mid_below a k xs ys (n + 1) (omega arith) fits)
-    ∙ get_or-take (n + 1) xs n 0 (omega arith)
-
-pub after-part : (a k : ℕ) (xs ys : List ℕ) (n : ℕ) → a + k ≤ n → a ≤ length xs → length ys ≡ k →
-    get_or (put_mid a k xs ys) n 0 ≡ get_or xs n 0
-after-part a k xs ys n h fits whole =
-    let same : n ≡ n + 0 = omega arith in
-    ap (λ m. get_or (put_mid a k xs ys) m 0) same
-    ∙ sym (get_or-drop n (put_mid a k xs ys) 0 0)
-    ∙ ap (λ (l : List ℕ). get_or l 0 0) (drop-put_mid a k xs ys n h fits whole)
-    ∙ get_or-drop n xs 0 0
-    ∙ ap (λ m. get_or xs m 0) (sym same)
-
-pub in-part : (a k : ℕ) (xs ys : List ℕ) (j : ℕ) → j < k → a ≤ length xs → length ys ≡ k →
-    get_or (put_mid a k xs ys) (a + j) 0 ≡ get_or ys j 0
-in-part a k xs ys j h fits whole =
-    sym (get_or-drop a (put_mid a k xs ys) j 0)
-    ∙ sym (get_or-take (a + k - a) (drop a (put_mid a k xs ys)) j 0 (omega arith))
-    ∙ ap (λ (l : List ℕ). get_or l j 0) (between-put_mid a k xs ys (a + k) fits (omega arith))
-
-whole-length : (a k : ℕ) (xs ys : List ℕ) → a + k ≤ length xs → length ys ≡ k → length (put_mid a k xs ys) ≡ length xs
-whole-length a k xs ys fits whole =
-    let rest = drop k (drop a xs) in
-    omega (
-      arith,
-      length-append (take a xs) (ys ++ rest),
-      length-append ys rest,
-      length-take-le a xs (omega arith),
-      length-drop k (drop a xs),
-      length-drop a xs,
-    )
 
 -- an item's byte, where it covers the address and where it doesn't
 over-yes : (item : Item) (n other : ℕ) → item.at ≤ n → n < item.at + length (bytes_of item) →
@@ -68,20 +32,21 @@ pub written-over : (item : Item) (old ys : List ℕ) (k size : ℕ)
     → put_mid item.at k old ys ≡ map (λ n. byte_over item n (slice_index old n)) (range_with_len 0 size)
 written-over item old ys k size long fits whole same part all =
     fill_by_all (λ n. byte_over item n (slice_index old n)) (put_mid item.at k old ys) size 0
-    (whole-length item.at k old ys (omega arith) whole ∙ long)
+    (length-put_mid item.at k old ys (omega arith) whole ∙ long)
     (λ n below.
     ⊎_elim
-    (λ (before : n < item.at). before-part item.at k old ys n before (omega arith) ∙ sym (over-before item n (get_or old n 0) before))
+    (λ (before : n < item.at).
+    get_or-before-put_mid item.at k old ys n before (omega arith) ∙ sym (over-before item n (get_or old n 0) before))
     (λ (from : item.at ≤ n).
     ⊎_elim
     (λ (within : n < item.at + k).
     let place : n ≡ item.at + (n - item.at) = omega arith in
     ap (λ m. get_or (put_mid item.at k old ys) m 0) place
-    ∙ in-part item.at k old ys (n - item.at) (omega arith) (omega arith) whole
+    ∙ get_or-in-put_mid item.at k old ys (n - item.at) (omega arith) (omega arith) whole
     ∙ same (n - item.at) (omega arith)
     ∙ sym (over-yes item n (get_or old n 0) from (omega arith)))
     (λ (past : item.at + k ≤ n).
-    after-part item.at k old ys n past (omega arith) whole ∙ sym (over-after item n (get_or old n 0) (all n below past)))
+    get_or-after-put_mid item.at k old ys n past (omega arith) whole ∙ sym (over-after item n (get_or old n 0) (all n below past)))
     (cases_lt n (item.at + k)))
     (cases_lt n item.at))
 

@@ -1,13 +1,14 @@
 -- How long texts are: that of an instruction has 16 bytes at most.
 use Rattle.std.proofs.Common.{◌≡◌, ℕ, zero, suc, ◌+◌, ◌*◌, ◌/◌, ◌<◌, ◌≤◌, ℤ, pos, negsuc, Bool, true, false, nat_le, nat_lt, if◌then◌else◌}
-use Rattle.std.proofs.Common.{Option, Some, None, List, [], ◌∷◌, ◌++◌, length, get_or, not, ◌||◌, refl, sym, ◌∙◌, ap, subst, arith}
+use Rattle.std.proofs.Common.{Option, Some, None, List, [], ◌∷◌, ◌++◌, length, get_or, not, ◌||◌, refl, sym, ap, subst, arith}
 use Rattle.std.specs.Prelude.{map, unwrap_or, codes, max}
 use Rattle.std.specs.Option.{option_map_or}
 use Rattle.std.specs.List.{list_all}
 use Rattle.std.proofs.lemmas.List.{length-append}
 use Rattle.std.proofs.lemmas.Bool.{leb-true, ltb-true, cond-true, lt-ltb, and_parts}
-use Rattle.std.proofs.lemmas.List.Folds.{list_all_at}
 use Rattle.std.proofs.lemmas.Int.{ints}
+use Rattle.pac_lemmas.proofs.Searches.{list_all-get_or}
+use Rattle.pac_table.proofs.Uniqueness.{size-le}
 use Rattle.pac_table.specs.declared.patterns.Immediate.{Immediate}
 use Rattle.pac_table.specs.declared.patterns.Immediate.TheVariants as immediate
 use Rattle.pac_table.specs.declared.operands.Mnemonic.{Mnemonic}
@@ -22,9 +23,9 @@ use Rattle.pac_table_names.specs.declared.writing.Writing.{Writing}
 use Rattle.pac_table_names.specs.declared.writing.Writing.TheVariants.{Nothing, Named, AlternateAf, AtName, FirstField, SecondField}
 use Rattle.pac_table_names.specs.declared.writing.Writing.TheVariants.{Indexed, Number, AtNumber}
 use Rattle.pac_table.specs.declared.table.Row.{Row}
-use Rattle.pac_table_names.specs.Names.{names_of, operation_name, text_of_name, names_in, name_at, writing_of, has_accumulator, present_shape, listed_shapes}
+use Rattle.pac_table_names.specs.Names.{names_of, operation_name, text_of_name, names_in, name_at, writing_of, has_accumulator}
+use Rattle.pac_table_names.specs.Names.{present_shape, listed_shapes}
 use Rattle.pac_table.specs.Forms.{is_family}
-use Rattle.pac_table.specs.declared.patterns.Field.{Field}
 use Rattle.pac_table.specs.declared.patterns.Field.TheVariants as field
 use Rattle.pac_table.specs.Patterns.{lists, field_size, IsDisplacement, IsSignedByte}
 use Rattle.pac_table.specs.Table.{table}
@@ -271,11 +272,6 @@ rows-are-named : list_all row_is_named table ≡ true
 unfolding table
 rows-are-named = refl
 
-passes-at : (p : ℕ → Bool) (values : List ℕ) (k : ℕ) → list_all p values ≡ true → k < length values →
-    (b : Bool) → p (get_or values k 0) ≡ b → b ≡ true
-passes-at p values k all below true is = refl
-passes-at p values k all below false is = sym (list_all_at p values k 0 below is) ∙ all
-
 eight-at : (k : ℕ) → k < 8 → get_or first_eight k 0 ≡ k
 eight-at zero below = refl
 eight-at (suc zero) below = refl
@@ -286,20 +282,6 @@ eight-at (suc (suc (suc (suc (suc zero))))) below = refl
 eight-at (suc (suc (suc (suc (suc (suc zero)))))) below = refl
 eight-at (suc (suc (suc (suc (suc (suc (suc zero))))))) below = refl
 eight-at (suc (suc (suc (suc (suc (suc (suc (suc k)))))))) below = absurd (omega (arith, below))
-
-size-le : (some : Field) → field_size some ≤ 8
-size-le field.Absent = omega arith
-size-le field.RegisterHigh = omega arith
-size-le field.RegisterLow = omega arith
-size-le field.Pair = omega arith
-size-le field.StackPair = omega arith
-size-le field.IndexPair = omega arith
-size-le field.Condition = omega arith
-size-le field.RelativeCondition = omega arith
-size-le field.BitNumber = omega arith
-size-le field.RestartPlace = omega arith
-size-le field.AluOperation = omega arith
-size-le field.ShiftOperation = omega arith
 
 -- the first field holds a number below 8
 field-below : (i : Instruction) → IsInstruction i → i.p < 8
@@ -314,7 +296,7 @@ second-of-or false b is either = absurd (cc)
 pub operation-named : (i : Instruction) → IsInstruction i → 0 < length (operation_text i)
 operation-named i is =
     let named : is_named (row_at i.row) (get_or first_eight i.p 0) ≡ true =
-    passes-at (is_named (row_at i.row)) first_eight i.p (row-passes row_is_named rows-are-named i.row is.row) (field-below i is) _ refl in
+    list_all-get_or (is_named (row_at i.row)) first_eight i.p 0 (row-passes row_is_named rows-are-named i.row is.row) (field-below i is) in
     let at_field : is_named (row_at i.row) i.p ≡ true =
     subst (λ (n : ℕ). is_named (row_at i.row) n ≡ true) (eight-at i.p (field-below i is)) named in
     ltb-true 0 _ (second-of-or _ _ is.first at_field)

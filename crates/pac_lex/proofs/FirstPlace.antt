@@ -1,29 +1,23 @@
 -- The first byte that passes a test, as a search tells it and by counting.
-use Rattle.std.proofs.Common.{◌≡◌, ℕ, ◌<◌, Bool, true, false, List, length, sym, ◌∙◌, ap, arith, refl}
+use Rattle.std.proofs.Common.{◌≡◌, ℕ, Bool, List, length, sym, ◌∙◌, ap, arith, le_refl}
 use Rattle.std.specs.Prelude.{Option, Some, None, position, cond, nat_lt}
 use Rattle.std.specs.List.{position_or_len}
-use Rattle.std.proofs.lemmas.Bool.{cond-true, cond-false, lt-ltb}
-use Rattle.std.proofs.lemmas.Bool.Decides.{nat_tests}
+use Rattle.std.proofs.lemmas.Bool.{cond-true, cond-false, lt-ltb, false_from_ne_true, le-ltb}
 use Rattle.std.proofs.lemmas.List.Sums.{position_or_len_is}
 use Rattle.memchr.specs.Find.{IsFirstByte}
-
-not-true : (b : Bool) → (b ≡ true → ⊥) → b ≡ false
-not-true true fails = absurd (fails refl)
-not-true false fails = refl
-
-not-below : (n : ℕ) → nat_lt n n ≡ false
-not-below n = grind (arith, nat_tests)
 
 pub first-place : (test : ℕ → Bool) (bytes : List ℕ) (found : Option ℕ) → IsFirstByte test bytes found → found ≡ position test bytes
 first-place test bytes None is =
     let at : position_or_len test bytes ≡ length bytes =
-    position_or_len_is test bytes (length bytes) 0 (omega arith) (λ k below. not-true _ (is k (omega arith) below))
+    position_or_len_is test bytes (length bytes) 0 (omega arith) (λ k below. false_from_ne_true _ (is k (omega arith) below))
     (λ below. absurd (omega arith)) in
     sym (ap {B = Option ℕ} (λ n. cond (nat_lt n (length bytes)) (Some n) None) at ∙
-    cond-false (nat_lt (length bytes) (length bytes)) (Some (length bytes)) None (not-below (length bytes)))
+    cond-false (nat_lt (length bytes) (length bytes)) (Some (length bytes)) None
+    (le-ltb (length bytes) (length bytes) (le_refl (length bytes))))
 first-place test bytes (Some k) is =
     let at : position_or_len test bytes ≡ k =
-    position_or_len_is test bytes k 0 (omega (arith, is.0.high)) (λ j below. not-true _ (is.0.before j (omega arith) below)) (λ below. is.1)
+    position_or_len_is test bytes k 0 (omega (arith, is.0.high))
+    (λ j below. false_from_ne_true _ (is.0.before j (omega arith) below)) (λ below. is.1)
     in
     sym (ap {B = Option ℕ} (λ n. cond (nat_lt n (length bytes)) (Some n) None) at ∙
     cond-true (nat_lt k (length bytes)) (Some k) None (lt-ltb k (length bytes) is.0.high))

@@ -3,7 +3,6 @@ pub mod NumberLemmas
 pub mod QuoteLemmas
 pub mod NameLemmas
 pub mod Prefixes
-pub mod PartLemmas
 pub mod WordLemmas
 pub mod ByteLemmas
 pub mod ScanLemmas

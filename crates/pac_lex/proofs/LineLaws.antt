@@ -4,6 +4,7 @@ use Rattle.std.proofs.Common.{refl, sym, ap, ◌∙◌, subst, arith, inl, inr, 
 use Rattle.std.specs.List.{prefix_len, list_all}
 use Rattle.std.proofs.lemmas.Bool.{cases_Bool, lt-ltb, le-ltb, ltb-true, ltb-false, eqb-true, not-false, true≢false}
 use Rattle.std.proofs.lemmas.List.{take-append-drop, take_at, drop_at, length-drop, length-append}
+use Rattle.pac_lemmas.proofs.Searches.{list_all-prefix}
 use Rattle.pac_lex.specs.declared.token.TokenKind.{TokenKind}
 use Rattle.pac_lex.specs.declared.fault.LexFault.{LexFault}
 use Rattle.pac_lex.specs.declared.fault.LexFault.TheVariants.{NoToken, WrongNumber, OpenText, LongLine}
@@ -11,7 +12,7 @@ use Rattle.pac_lex.specs.Bytes.{is_blank, is_comment_start}
 use Rattle.pac_lex.specs.Tokens.{Lexeme, begins, TokenFirst, NoTokenLeft, FaultFirst, ReadsTokens, Breaks, IsRead, HasLexFault}
 use Rattle.pac_lex.specs.Scan.{is_end, token_before, cut_token, token_at, scan, tokens_of}
 use Rattle.pac_lex.proofs.ScanLemmas.{AfterGap, gap-skipped, next-none, next-fault, next-some}
-use Rattle.pac_lex.proofs.Prefixes.{all-of-prefix, prefix-of-all}
+use Rattle.pac_lex.proofs.Prefixes.{prefix-of-all}
 use Rattle.pac_lex.proofs.TokenLaws.{token-is, token-again, fault-is, fault-again}
 use Rattle.pac_lex.proofs.ByteLemmas.{chosen}
 
@@ -33,7 +34,7 @@ split : (line : List ℕ) → Split line
 split line = let n = prefix_len is_blank line in record {
   gap = take n line;
   rest = drop n line;
-  blank = all-of-prefix is_blank line;
+  blank = list_all-prefix is_blank line;
   parts = sym (take-append-drop n line);
   reads = gap-skipped line (drop n line) refl;
 }

@@ -2,15 +2,8 @@
 use Rattle.std.proofs.Common.{◌≡◌, ℕ, zero, suc, ◌<◌, Bool, true, false, List, [], ◌∷◌, ◌++◌, length, take, drop, refl, ap, arith, inl, inr}
 use Rattle.std.proofs.Common.{one-add}
 use Rattle.std.specs.List.{prefix_len, list_all}
-use Rattle.std.proofs.lemmas.Bool.{cases_Bool, and_parts, and_from}
+use Rattle.std.proofs.lemmas.Bool.{cases_Bool, and_parts}
 use Rattle.pac_lex.specs.Tokens.{begins}
-
-pub all-of-prefix : (p : ℕ → Bool) (xs : List ℕ) → list_all p (take (prefix_len p xs) xs) ≡ true
-all-of-prefix p [] = refl
-all-of-prefix p (x ∷ xs) = elim (cases_Bool (p x)) [
-  | inl e ↦ rw (e, one-add) (and_from (p x) (list_all p (take (prefix_len p xs) xs)) e (all-of-prefix p xs))
-  | inr e ↦ rw e refl
-]
 
 pub prefix-of-all : (p : ℕ → Bool) (xs ys : List ℕ) → list_all p xs ≡ true → begins p ys ≡ false → prefix_len p (xs ++ ys) ≡ length xs
 prefix-of-all p [] [] all stop = refl

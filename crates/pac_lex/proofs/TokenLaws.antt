@@ -7,6 +7,8 @@ use Rattle.std.specs.Char.{is_ascii_digit, is_ascii_alphanumeric}
 use Rattle.std.proofs.lemmas.Bool.{cond-true, cond-false, eqb-true, and_parts, or_cases, or_parts, not-true, true≢false}
 use Rattle.std.proofs.lemmas.Option.{none-some}
 use Rattle.std.proofs.lemmas.List.{take_at, drop_at, take-append-drop, length-append}
+use Rattle.pac_lemmas.proofs.Options.{none-or-some}
+use Rattle.pac_lemmas.proofs.Searches.{list_all-prefix}
 use Rattle.pac_lex.specs.declared.token.TokenKind.{TokenKind}
 use Rattle.pac_lex.specs.declared.token.TokenKind.TheVariants.{Name, Number, Text, AlternateAf}
 use Rattle.pac_lex.specs.declared.fault.LexFault.{LexFault}
@@ -16,7 +18,7 @@ use Rattle.pac_lex.specs.Numbers.{numeral}
 use Rattle.pac_lex.specs.Texts.{quoted_character, quoted_text, closing_length}
 use Rattle.pac_lex.specs.Tokens.{one_byte_kind, is_af, begins, begins_nothing, IsToken, IsTokenFault}
 use Rattle.pac_lex.specs.Scan.{name_token_at, number_token_at, text_token_at, quoted_token, one_byte_token, numeral_token, token_at}
-use Rattle.pac_lex.proofs.Prefixes.{all-of-prefix, prefix-of-all, begins-after, begins-take}
+use Rattle.pac_lex.proofs.Prefixes.{prefix-of-all, begins-after, begins-take}
 use Rattle.pac_lex.proofs.ByteLemmas.{chosen, Starts, digit-no-start, digit-no-blank, digit-no-comment, start-no-blank, start-no-comment}
 use Rattle.pac_lex.proofs.ByteLemmas.{is_mark, symbol-is-mark, symbol-parts}
 use Rattle.pac_lex.proofs.NameLemmas.{name-has-bytes, number-has-bytes}
@@ -66,7 +68,7 @@ name-is bytes kind len start e =
       | inr (t, p) ↦
           let begins_so = begins-take is_name_start n bytes some ∙ start in
           found-at bytes Name kind n len p
-          (record { some = some; is_token = (begins_so, all-of-prefix is_name_byte bytes, begins-after is_name_byte bytes, t) })
+          (record { some = some; is_token = (begins_so, list_all-prefix is_name_byte bytes, begins-after is_name_byte bytes, t) })
     ]
 
 numbered-ok : (o : Option ℕ) (n : ℕ) (kind : TokenKind) (len : ℕ) → numeral_token o n ≡ Ok (kind, len)
@@ -88,7 +90,7 @@ number-is bytes kind len start e =
     let begins_so = begins-take is_ascii_digit n bytes some ∙ start in
     let run_ends = begins-after is_ascii_alphanumeric bytes in
     found-at bytes (Number v) kind n len p
-    (record { some = some; is_token = (begins_so, all-of-prefix is_ascii_alphanumeric bytes, run_ends, is) })
+    (record { some = some; is_token = (begins_so, list_all-prefix is_ascii_alphanumeric bytes, run_ends, is) })
 
 text-ok : (o : Option ℕ) (bytes : List ℕ) (kind : TokenKind) (len : ℕ) → quoted_token o bytes ≡ Ok (kind, len)
     → (n : ℕ) × (o ≡ Some n) × (list_all is_printable (take n bytes) ≡ true) × (pair Text (n + 1) ≡ pair kind len)
@@ -302,7 +304,7 @@ number-fault-is bytes fault start e =
       sym (take-append-drop n bytes),
       begins-take is_ascii_digit n bytes (number-has-bytes bytes start)
           ∙ start,
-      all-of-prefix is_ascii_alphanumeric bytes,
+      list_all-prefix is_ascii_alphanumeric bytes,
       begins-after is_ascii_alphanumeric bytes,
       is,
     )
@@ -370,10 +372,6 @@ number-told (b ∷ run) rest start all stop is = record {
   starts = record { no_blank = digit-no-blank b start; no_end = digit-no-comment b start };
   told = rw (digit-no-start b start, start) (number-at-bad (b ∷ run) rest all stop is);
 }
-
-none-or-some : (o : Option ℕ) → (o ≡ None) ⊎ ((n : ℕ) × (o ≡ Some n))
-none-or-some None = inl refl
-none-or-some (Some n) = inr (n, refl)
 
 open-told : (b : ℕ) (bytes : List ℕ) → is_quote b ≡ true
     → ((characters rest : List ℕ) → b ∷ bytes ≡ quoted_text characters ++ rest → begins is_quote rest ≡ false → ⊥) →

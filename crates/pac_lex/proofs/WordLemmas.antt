@@ -3,9 +3,9 @@ use Rattle.std.proofs.Common.{◌≡◌, ℕ, ◌<◌, true, false, List, [], �
 use Rattle.std.proofs.Common.{inr, subst}
 use Rattle.std.specs.List.{prefix_len, filter}
 use Rattle.std.proofs.lemmas.Bool.{cases_Bool}
+use Rattle.pac_lemmas.proofs.Parts.{part_end, parts_after, first-part, part-more, part-stops}
 use Rattle.pac_lex.specs.Bytes.{is_blank, after_gap}
 use Rattle.pac_lex.specs.Words.{words_of_line, is_nonempty_word}
-use Rattle.pac_lex.proofs.PartLemmas.{part_end, parts_after, first-part, part-more, part-stops}
 
 -- a list's prefix of blanks, one byte further on
 gap-more : (b : ℕ) (line : List ℕ) → is_blank b ≡ true → prefix_len is_blank (b ∷ line) ≡ suc (prefix_len is_blank line)

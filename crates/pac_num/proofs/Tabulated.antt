@@ -1,10 +1,10 @@
 -- What a list by its places is made of.
-use Rattle.std.proofs.Common.{◌≡◌, ℕ, zero, suc, ◌+◌, ◌<◌, [], ◌∷◌, ◌++◌, length, get_or, refl, sym, ◌∙◌}
+use Rattle.std.proofs.Common.{◌≡◌, ℕ, zero, suc, ◌+◌, ◌<◌, List, [], ◌∷◌, ◌++◌, length, get_or, refl, sym, ◌∙◌}
 use Rattle.std.proofs.Common.{append_assoc, append-nil, add-zero, arith}
 use Rattle.std.proofs.lemmas.Bool.{cases_lt}
 use mathlib.Core.Logic.{inl, inr}
-use Rattle.std.proofs.lemmas.List.{length_push, get_or_push, get_or_append_left}
-use Rattle.pac_num.specs.Tabulate.{tabulate}
+use Rattle.std.proofs.lemmas.List.{length_push, get_or_push, get_or_append_left, same_lists, get_or_default}
+use Rattle.pac_tiles.specs.Tabulate.{tabulate}
 
 pub length-tabulate : {A : Type 0} (count : ℕ) (value : ℕ → A) → length (tabulate count value) ≡ count
 unfolding tabulate
@@ -24,6 +24,15 @@ get_or-tabulate (suc count) value place other below =
           let last : place ≡ count = omega (arith, below, past) in
           rw last (get_or_push _ _ other count long)
     ]
+
+-- a list is the values of a function where it has them at each of its places
+pub tabulate-is : {A : Type 0} (xs : List A) (count : ℕ) (value : ℕ → A) (other : A) → length xs ≡ count →
+    ((k : ℕ) → k < count → get_or xs k other ≡ value k) → xs ≡ tabulate count value
+tabulate-is xs count value other long filled =
+    same_lists xs (tabulate count value) (long ∙ sym (length-tabulate count value))
+    (λ k d inside.
+    let within : k < count = rw long at inside in
+    get_or_default xs k d other inside ∙ (filled k within ∙ sym (get_or-tabulate count value k d within)))
 
 -- the first `count` values, then `more` of them
 pub tabulate-add : {A : Type 0} (count more : ℕ) (value : ℕ → A) →

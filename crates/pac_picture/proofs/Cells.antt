@@ -6,9 +6,9 @@ use Rattle.std.proofs.lemmas.Grind.{get_or-set_at}
 use Rattle.std.proofs.lemmas.Bool.Decides.{nat_tests}
 use Rattle.std.proofs.lemmas.List.{get_or_append_left, length-set}
 use mathlib.Core.Logic.{inl, inr}
+use Rattle.pac_tiles.proofs.Tabulated.{tabulate-is}
 use Rattle.pac_tiles.specs.Tiles.{offset_of}
 use Rattle.pac_picture.specs.Layer.{cells_of}
-use Rattle.pac_picture.proofs.Places.{tabulate-is}
 
 -- the cells in the middle of a row follow one another
 offset-middle : (k row : ℕ) → k < 32 → offset_of (suc (suc k)) row ≡ 32 * (row + 2) + k

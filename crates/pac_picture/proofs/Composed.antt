@@ -1,14 +1,15 @@
 -- Lines of the picture, whole.
-use Rattle.std.proofs.Common.{◌≡◌, ◌≢◌, ℕ, zero, suc, ◌+◌, ◌-◌, ◌/◌, ◌<◌, ◌≤◌}
-use Rattle.std.proofs.Common.{Bool, true, false, if◌then◌else◌, List, [], length, get_or, set, replicate}
+use Rattle.std.proofs.Common.{◌≡◌, ◌≢◌, ℕ, zero, suc, ◌+◌, ◌-◌, ◌/◌, ◌<◌, ◌≤◌, []}
+use Rattle.std.proofs.Common.{Bool, true, false, if◌then◌else◌, List, length, get_or, set, replicate}
 use Rattle.std.proofs.Common.{slice_index, refl, ◌∙◌, arith, get_or-set_other, get_or-set_same, length-set}
 use Rattle.std.specs.Prelude.{find, unwrap_or, reverse}
 use Rattle.std.proofs.lemmas.List.{get_or-reverse, length-reverse, length-replicate}
 use Rattle.std.proofs.lemmas.Bool.{cases_Bool, cases_lt, cases_eq}
 use Rattle.std.proofs.Math.ListN.{get_or-eq_default}
 use mathlib.Core.Logic.{inl, inr}
-use Rattle.pac_num.specs.Tabulate.{tabulate}
-use Rattle.pac_num.proofs.Tabulated.{length-tabulate, get_or-tabulate}
+use Rattle.pac_lemmas.proofs.Lists.{set-one-more, get_or-replicate-all}
+use Rattle.pac_tiles.specs.Tabulate.{tabulate}
+use Rattle.pac_tiles.proofs.Tabulated.{length-tabulate, get_or-tabulate, tabulate-is}
 use Rattle.pac_sprites.specs.declared.Sprite.{Sprite}
 use Rattle.pac_sprites.specs.Sprites.{covers_of}
 use Rattle.pac_picture.specs.Picture.{VideoRoms, VideoMemory, is_opaque, tile_number, sprite_number}
@@ -16,7 +17,6 @@ use Rattle.pac_picture.specs.Picture.{tile_dot, sprite_at, sprite_dot, dot, pict
 use Rattle.pac_picture.specs.Layer.{drawn_from, kept_dot}
 use Rattle.pac_picture.specs.Painting.{painted_number}
 use Rattle.pac_picture.specs.State.{IsPicture, black, source_of}
-use Rattle.pac_picture.proofs.Places.{set-step, tabulate-is}
 use Rattle.pac_picture.proofs.Painted.{painted, painted-first}
 use Rattle.pac_picture.proofs.Layers.{dot-drawn}
 
@@ -159,14 +159,8 @@ composed-picture roms memory lines high done =
     picture-is lines high (λ y down. rw (done y down) (length-line_of roms memory y)) (λ x y down. rw (done y down)
     (line-below roms memory y x))
 
--- lines of 0
-zeros : (count x : ℕ) → ◌≡◌ {A = ℕ} (get_or (replicate {A = ℕ} count 0) x 0) 0
-zeros zero x = refl
-zeros (suc count) zero = refl
-zeros (suc count) (suc x) = zeros count x
-
 zeros-below : (count x : ℕ) → get_or (replicate count 0) x 0 < 16
-zeros-below count x = rw (zeros count x) (omega arith)
+zeros-below count x = rw (get_or-replicate-all {A = ℕ} count x 0) (omega arith)
 
 black-wide : (count : ℕ) (lines : List (List ℕ)) → lines ≡ tabulate 224 (λ _. replicate count 0) →
     (y : ℕ) → y < 224 → length (get_or lines y []) ≡ count
@@ -187,7 +181,7 @@ pub lines-step : (roms : VideoRoms) (memory : VideoMemory) (lines : List (List �
     line ≡ picture_line roms memory y →
     ((k : ℕ) → k < y → get_or lines k [] ≡ picture_line roms memory k) →
     (k : ℕ) → k < y + 1 → get_or (set lines y line) k [] ≡ picture_line roms memory k
-lines-step roms memory lines y line inside is done = set-step lines (picture_line roms memory) y line [] inside is done
+lines-step roms memory lines y line inside is done = set-one-more lines (picture_line roms memory) y line [] inside is done
 
 pub source-row : (memory : VideoMemory) (y : ℕ) → y < 224 → source_of memory y / 8 < 28
 source-row memory y below =

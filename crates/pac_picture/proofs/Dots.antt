@@ -1,6 +1,6 @@
 -- A line of the picture, dot by dot.
-use Rattle.std.proofs.Common.{◌≡◌, ◌≢◌, ℕ, ◌+◌, ◌*◌, ◌/◌, ◌%◌, ◌<◌, ◌≤◌, ◌++◌, Bool, true, false, nat_lt}
-use Rattle.std.proofs.Common.{if◌then◌else◌, List, [], length, get_or, set, slice_index, slice_index_or, take, refl, sym, ap, ◌∙◌, arith}
+use Rattle.std.proofs.Common.{◌≡◌, ◌≢◌, ℕ, ◌+◌, ◌*◌, ◌/◌, ◌%◌, ◌<◌, ◌≤◌, ◌++◌, Bool, true, false, nat_lt, []}
+use Rattle.std.proofs.Common.{if◌then◌else◌, List, length, get_or, set, slice_index, slice_index_or, take, refl, sym, ap, ◌∙◌, arith}
 use Rattle.std.proofs.Common.{get_or-set_other, get_or-set_same, Some, None}
 use Rattle.std.proofs.lemmas.Slice.{take-put_mid}
 use Rattle.std.proofs.lemmas.Bool.{cases_Bool, ltb-true, ltb-false, lt-ltb, le-ltb, and_parts, cases_eq}
@@ -8,14 +8,13 @@ use Rattle.std.proofs.lemmas.Bool.Decides.{nat_tests}
 use Rattle.std.proofs.lemmas.List.{take_all}
 use mathlib.Core.Logic.{inl, inr}
 use borrow.Rule.Slice.PartMut.{put_mid}
-use Rattle.pac_num.specs.Tabulate.{tabulate}
-use Rattle.pac_num.proofs.Tabulated.{get_or-tabulate, tabulate-add}
+use Rattle.pac_tiles.specs.Tabulate.{tabulate}
+use Rattle.pac_tiles.proofs.Tabulated.{get_or-tabulate, tabulate-add, tabulate-is}
 use Rattle.pac_sprites.specs.declared.Sprite.{Sprite}
 use Rattle.pac_sprites.specs.Sprites.{is_column_of, is_in_box, box_place, flipped_place}
 use Rattle.pac_picture.specs.Picture.{VideoRoms, sprite_dot, sprite_number}
 use Rattle.pac_picture.specs.Layer.{sprite_image}
 use Rattle.pac_picture.specs.Painting.{painted_number, over_line, cell_dot}
-use Rattle.pac_picture.proofs.Places.{tabulate-is}
 
 -- the eight dots of a cell
 cell-dots : (cells : List (List (List ℕ))) (piece : List ℕ) (column y : ℕ) →

@@ -5,15 +5,15 @@ use Rattle.std.specs.Prelude.{sum}
 use Rattle.std.proofs.lemmas.List.{same_lists, get_or_default, get_or_read, get_or-map, length-map}
 use Rattle.std.proofs.lemmas.List.Sums.{sum_by_push}
 use Rattle.std.proofs.lemmas.Bool.{true≢false}
-use Rattle.pac_num.specs.Tabulate.{tabulate}
+use Rattle.pac_lemmas.proofs.Lists.{set-one-more}
+use Rattle.pac_tiles.specs.Tabulate.{tabulate}
 use Rattle.pac_tiles.specs.Tiles.{offset_of}
-use Rattle.pac_num.proofs.Tabulated.{length-tabulate, get_or-tabulate, tabulate-same}
+use Rattle.pac_tiles.proofs.Tabulated.{length-tabulate, get_or-tabulate, tabulate-same, tabulate-is}
 use Rattle.pac_picture.specs.declared.shadow.Shadow.{Shadow}
 use Rattle.pac_picture.specs.Picture.{VideoRoms, VideoMemory, tile_number, tile_dot}
 use Rattle.pac_picture.specs.Layer.{shadow_from, shadow_at, drawn_from, cells_of, differing_in, tile_pattern}
 use Rattle.pac_picture.specs.Layer.{kept_dot, made_stale, stale_rows, stale_row, IsDrawn, IsLayer, LayerState}
 use Rattle.pac_picture.specs.Painting.{cell_dot}
-use Rattle.pac_picture.proofs.Places.{set-step, tabulate-is}
 
 -- one row more that is stale
 pub made-step : (old now : List Shadow) (index : ℕ) → index < length now →
@@ -21,7 +21,7 @@ pub made-step : (old now : List Shadow) (index : ℕ) → index < length now →
     ((k : ℕ) → index ≤ k → shadow_at now k ≡ shadow_at old k) →
     (k : ℕ) → k < index + 1 → shadow_at (set now index (made_stale (shadow_at now index))) k ≡ made_stale (shadow_at old k)
 made-step old now index inside made rest =
-    set-step now (λ k. made_stale (shadow_at old k)) index (made_stale (shadow_at now index)) (shadow_from [] []) inside
+    set-one-more now (λ k. made_stale (shadow_at old k)) index (made_stale (shadow_at now index)) (shadow_from [] []) inside
     (ap made_stale (rest index (omega arith))) made
 
 pub made-rest : (old now : List Shadow) (index : ℕ) (next : Shadow) →
@@ -107,7 +107,7 @@ dot-drawn roms memory x y across =
 pub row-step : (memory : VideoMemory) (now : List Shadow) (row : ℕ) → row < length now →
     ((k : ℕ) → k < row → shadow_at now k ≡ drawn_from memory k) →
     (k : ℕ) → k < row + 1 → shadow_at (set now row (drawn_from memory row)) k ≡ drawn_from memory k
-row-step memory now row inside done = set-step now (drawn_from memory) row (drawn_from memory row) (shadow_from [] []) inside refl done
+row-step memory now row inside done = set-one-more now (drawn_from memory) row (drawn_from memory row) (shadow_from [] []) inside refl done
 
 pub sum-more : (value : ℕ → ℕ) (count : ℕ) → sum (tabulate (suc count) value) ≡ sum (tabulate count value) + value count
 unfolding tabulate

@@ -6,7 +6,8 @@ use Rattle.std.proofs.lemmas.List.{get_or-map, length-map}
 use Rattle.pac_num.specs.Tabulate.{tabulate}
 use Rattle.pac_picture.specs.declared.shadow.Shadow.{Shadow}
 use Rattle.pac_picture.specs.Picture.{VideoMemory}
-use Rattle.pac_picture.specs.Layer.{AreStale, cells_of, cell_differs, differing_cells, differing_in, all_differing, drawn_from, made_stale, shadow_at}
+use Rattle.pac_picture.specs.Layer.{AreStale, cells_of, cell_differs, differing_cells, differing_in, all_differing, drawn_from, made_stale}
+use Rattle.pac_picture.specs.Layer.{shadow_at}
 use Rattle.pac_picture.specs.Layer.{shadow_from, stale_rows}
 use Rattle.pac_picture.specs.Laws.{StaleCellsAreDrawn, cell_row_of}
 use Rattle.pac_picture.proofs.Counts.{count-more, count-none}

@@ -1,11 +1,11 @@
 -- Searches over all parts: what they say of each, and how far a loop over them has come.
-use Rattle.std.proofs.Common.{◌≡◌, ℕ, ◌+◌, ◌<◌, Bool, false, List, [], ◌∷◌, ◌++◌, length, get_or, drop, take, zero, suc}
+use Rattle.std.proofs.Common.{◌≡◌, ℕ, ◌+◌, ◌<◌, Bool, false, List, [], ◌∷◌, ◌++◌, length, get_or, drop, zero, suc}
 use Rattle.std.proofs.Common.{Option, Some, None, Bor, map, refl, ap, sym, ◌∙◌, arith}
-use Rattle.std.specs.Prelude.{filter_map, option_copied}
+use Rattle.std.specs.Prelude.{option_copied}
 use Rattle.std.specs.List.{cons_option}
 use Rattle.std.specs.Option.{option_or}
-use Rattle.std.proofs.lemmas.List.{at_drop_more, take_more, map-append, append-nil}
-use Rattle.std.proofs.lemmas.List.Elements.{filter_map-append}
+use Rattle.std.proofs.lemmas.List.{at_drop_more, map-append, append-nil}
+use Rattle.pac_lemmas.proofs.Options.{both-none}
 use Rattle.pac_roms_manifest.specs.Manifests.{entry_of_part}
 use Rattle.pac_roms_manifest.specs.Parts.{parts_in_order}
 use Rattle.pac_roms_manifest.specs.Sets.{first_answer, is_unnamed, unnamed_fault}
@@ -14,17 +14,13 @@ use Rattle.pac_roms_manifest.specs.declared.part.PartName.{PartName}
 use Rattle.pac_roms_manifest.specs.declared.part.PartName.TheVariants.{Program1, Program2, Program3, Program4, Tiles, Sprites}
 use Rattle.pac_roms_manifest.specs.declared.part.PartName.TheVariants.{Colours, Lookup, Wave, Timing}
 
-neither : {A : Type 0} (a b : Option A) → option_or a b ≡ None → (a ≡ None) × (b ≡ None)
-neither None b h = (refl, h)
-neither (Some x) b h = cc h
-
 -- a question without an answer has none at any element
 nowhere : {A B : Type 0} (question : A → Option B) (xs : List A) (n : ℕ) (d : A) → n < length xs → first_answer question xs ≡ None
     → question (get_or xs n d) ≡ None
 nowhere question [] n d within none = absurd (omega arith)
-nowhere question (x ∷ xs) zero d within none = (neither (question x) (first_answer question xs) none).0
+nowhere question (x ∷ xs) zero d within none = (both-none (question x) (first_answer question xs) none).0
 nowhere question (x ∷ xs) (suc n) d within none =
-    nowhere question xs n d (omega arith) (neither (question x) (first_answer question xs) none).1
+    nowhere question xs n d (omega arith) (both-none (question x) (first_answer question xs) none).1
 
 -- so it has none at any part
 pub nothing_at : {A : Type 0} (question : PartName → Option A) (part : PartName)
@@ -51,13 +47,6 @@ passed question xs i d within none so_far =
 pub named_part : (manifest : Manifest) (assembled : Bool) (part : PartName) (test : Bool)
     → test ≡ is_unnamed assembled part (entry_of_part manifest part) → test ≡ false → unnamed_fault manifest assembled part ≡ None
 named_part manifest assembled part test same not_so = rw (← same, not_so) refl
-
--- the answers at the elements so far, and at one more
-pub one_more : {A B : Type 0} (question : A → Option B) (xs : List A) (i : ℕ) (d : A) (answer : Option B) → i < length xs
-    → answer ≡ question (get_or xs i d)
-    → filter_map question (take (i + 1) xs) ≡ filter_map question (take i xs) ++ cons_option answer []
-one_more question xs i d answer within same =
-    rw (take_more xs i d within, filter_map-append question (take i xs) (get_or xs i d ∷ []), same) refl
 
 -- names that are lent, with the answer at one more element
 pub pushed : (names : List (Bor (List ℕ))) (so_far more : List (List ℕ)) (found : Option (Bor (List ℕ))) (name : Bor (List ℕ))

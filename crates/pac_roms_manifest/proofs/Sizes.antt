@@ -1,14 +1,16 @@
 -- Where a part has to be there and none of its faults is found, its file has the part's size.
-use Rattle.std.proofs.Common.{◌≡◌, ℕ, ◌==◌, Bool, true, false, cond, List, [], ◌++◌, length, sym, ap, ◌∙◌, refl, inl, inr, arith}
+use Rattle.std.proofs.Common.{◌≡◌, ℕ, ◌==◌, Bool, true, false, List, [], ◌++◌, length, sym, ap, ◌∙◌, refl, inl, inr, arith}
 use Rattle.std.proofs.Common.{Option, Some, None, option_map, is_some, is_none, IfSome, Bor}
 use Rattle.std.specs.Prelude.{unwrap_or, option_copied}
+use Rattle.pac_lemmas.proofs.Options.{none-parts}
 use Rattle.pac_roms.specs.Parts.{program_size}
 use Rattle.std.proofs.lemmas.Bool.{cases_Bool, eqb-true}
 use Rattle.std.proofs.lemmas.List.{length-append}
 use Rattle.pac_roms_manifest.specs.Entries.{PlainEntry}
 use Rattle.pac_roms_manifest.specs.Manifests.{◌>>=◌, entry_of_part}
 use Rattle.pac_roms_manifest.specs.Parts.{parts_in_order, rom_part_size}
-use Rattle.pac_roms_manifest.specs.Sets.{first_answer, needs_table, is_unnamed, unnamed_fault, code_of_part, file_fault, bytes_named, rom_part_bytes, program_bytes, fault_at}
+use Rattle.pac_roms_manifest.specs.Sets.{first_answer, needs_table, is_unnamed, unnamed_fault, code_of_part, file_fault, bytes_named}
+use Rattle.pac_roms_manifest.specs.Sets.{rom_part_bytes, program_bytes, fault_at}
 use Rattle.pac_roms_manifest.specs.declared.fault.ManifestCode.TheVariants.{Unnamed}
 use Rattle.pac_roms_manifest.specs.declared.manifest.Manifest.{Manifest}
 use Rattle.pac_roms_manifest.specs.declared.part.Part.{Part}
@@ -33,11 +35,6 @@ sized_file : (part : PartName) (files : List Part) (file digest : Option (List �
 sized_file part files None digest named right = cc named
 sized_file part files (Some name) digest named right = sized_bytes part digest (bytes_named files name) right
 
--- a fault that isn't found isn't there
-not_so : {A : Type 0} (test : Bool) (fault : A) → cond test (Some fault) None ≡ None → test ≡ false
-not_so true fault none = cc none
-not_so false fault none = refl
-
 -- the same by the entry of a part
 sized_entry : (assembled : Bool) (part : PartName) (files : List Part) (entry : Option PlainEntry) → needs_table assembled part ≡ true
     → is_unnamed assembled part entry ≡ false
@@ -54,8 +51,8 @@ pub sized : (manifest : Manifest) (files : List Part) (assembled : Bool) (part :
 unfolding rom_part_bytes
 sized manifest files assembled part needed named right =
     sized_entry assembled part files (entry_of_part manifest part) needed
-    (not_so (is_unnamed assembled part (entry_of_part manifest part)) (fault_at part Unnamed)
-    (nothing_at (unnamed_fault manifest assembled) part named))
+    (none-parts (is_unnamed assembled part (entry_of_part manifest part)) (fault_at part Unnamed) None
+    (nothing_at (unnamed_fault manifest assembled) part named)).0
     (nothing_at (file_fault manifest files) part right)
 
 -- so has what is lent of it

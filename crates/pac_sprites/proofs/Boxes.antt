@@ -1,19 +1,9 @@
 -- Lines and columns of a sprite's box.
-use Rattle.std.proofs.Common.{◌≡◌, ℕ, ℤ, pos, ◌+◌, ◌+ℤ◌, ◌<◌, ◌≤◌, ◌≢◌, ◌&&◌, nat_le, nat_lt, arith}
-use Rattle.std.proofs.Common.{List, length, slice_index, slice_set, get_or-set_other, get_or-set_same, below_more}
+use Rattle.std.proofs.Common.{◌≡◌, ℕ, ℤ, pos, ◌+ℤ◌, ◌<◌, ◌≤◌, ◌&&◌, nat_le, nat_lt, arith}
 use Rattle.std.proofs.lemmas.Bool.Decides.{nat_tests}
 use Rattle.std.proofs.lemmas.Int.{ints}
 use Rattle.std.specs.Int.Signed.{le_z}
 use Rattle.pac_sprites.specs.Sprites.{is_in_box}
-
--- one value more
-pub value-step : (values : List ℕ) (value : ℕ → ℕ) (place next : ℕ) → place < length values → next ≡ value place →
-    ((k : ℕ) → k < place → slice_index values k ≡ value k) →
-    (k : ℕ) → k < place + 1 → slice_index (slice_set values place next) k ≡ value k
-value-step values value place next inside is so_far =
-    below_more _ _
-    (λ k before. let other : k ≢ place = omega arith in rw get_or-set_other (so_far k before))
-    (rw get_or-set_same is)
 
 -- the columns at which a sprite shows, by the first of them and the first after them
 pub columns-between : (left first last : ℤ) (x start end : ℕ) → first ≡ left → last ≡ left +ℤ pos 16 → 16 ≤ start → end ≤ 272 →

@@ -1,19 +1,22 @@
 -- The index of names finds the rows that a search of the whole table finds: what is computed over the index and the
 -- table, and that names are found by their first letter.
 use Rattle.std.proofs.Common.{◌≡◌, ℕ, zero, suc, ◌+◌, ◌-◌, ◌<◌, ◌≤◌, Bool, true, false, not, ◌&&◌, ◌==◌, nat_lt, nat_le, ◌||◌}
-use Rattle.std.proofs.Common.{if◌then◌else◌, cond}
+use Rattle.std.proofs.Common.{if◌then◌else◌}
 use Rattle.std.proofs.Common.{List, [], ◌∷◌, length, map, take, get_or, slice_index, slice_range, slice_get, refl, sym, ◌∙◌, ap, subst}
 use Rattle.std.proofs.Common.{arith, inl, inr, find}
 use Rattle.std.specs.Prelude.{Option, Some, None, is_some, position}
 use Rattle.std.specs.Option.{unwrap_or, option_or}
-use Rattle.std.specs.List.{list_all, list_any, filter, range_with_len, position_or_len}
+use Rattle.std.specs.List.{list_all, list_any, filter, range_with_len}
 use Rattle.std.specs.Str.{bytes_eq, str_to_ascii_lowercase}
 use Rattle.std.specs.Char.{to_ascii_lowercase, to_ascii_uppercase, is_ascii_uppercase}
-use Rattle.std.proofs.lemmas.Bool.{and_parts, cases_Bool, cond-true, cond-false, eqb-true, eq-eqb, agree_below, agree_below_at, false≢true}
+use Rattle.std.proofs.lemmas.Bool.{and_parts, cases_Bool, cond-true, cond-false, eqb-true, agree_below, agree_below_at, false≢true}
 use Rattle.std.proofs.lemmas.Bool.{leb-true, ltb-true}
 use Rattle.std.proofs.lemmas.Slice.Eq.{bytes_eq-Decides}
 use Rattle.std.proofs.lemmas.Bool.Decides.{nat_tests}
 use Rattle.std.proofs.lemmas.List.FromFn.{get_or-map-range_with_len}
+use Rattle.pac_lemmas.proofs.Letters.{same-first-letter}
+use Rattle.pac_lemmas.proofs.Options.{none-parts}
+use Rattle.pac_lemmas.proofs.Searches.{find-filter, find-passes, position-all-fail, list_all-get_or}
 use Rattle.pac_table.specs.declared.operands.Mnemonic.{Mnemonic}
 use Rattle.pac_table.specs.declared.operands.Mnemonic.TheVariants as mnemonic
 use Rattle.pac_table_names.specs.declared.by_name.Word.{Word}
@@ -25,19 +28,6 @@ use Rattle.pac_table_names.specs.ByName.{rows_named_from, rows_named, family_val
 use Rattle.pac_table_names.specs.Words.{operation_names, row_list, word_list, letter_list, letters_of, begins_with, is_text, rows_of}
 
 -- ---- what is found in a list
-
-pub find-passes : {X : Type 0} (p q : X → Bool) (xs : List X) (x : X) → find p xs ≡ Some x → list_all q xs ≡ true →
-    (p x ≡ true) × (q x ≡ true)
-find-passes p q [] x found all = absurd (cc)
-find-passes p q (y ∷ ys) x found all =
-    let parts = and_parts (q y) (list_all q ys) all in
-    elim (cases_Bool (p y)) [
-      | inl passes ↦
-          let here : Some y ≡ Some x = sym (cond-true (p y) (Some y) (find p ys) passes) ∙ found in
-          let same : y ≡ x = cc here in
-          (subst (λ z. p z ≡ true) same passes, subst (λ z. q z ≡ true) same parts.0)
-      | inr fails ↦ find-passes p q ys x (sym (cond-false (p y) (Some y) (find p ys) fails) ∙ found) parts.1
-    ]
 
 -- ---- names by their first letter
 
@@ -78,28 +68,10 @@ starts : (b : ℕ) (rest : List ℕ) (n : ℕ) (letters : List ℕ) →
     (to_ascii_lowercase (slice_index letters 0) == to_ascii_lowercase b) ≡ true
 starts b rest zero letters is = absurd (false≢true is)
 starts b rest (suc n) [] is = absurd (false≢true is)
-starts b rest (suc n) (letter ∷ letters) is =
-    eq-eqb (to_ascii_lowercase letter) (to_ascii_lowercase b)
-    (sym (eqb-true (to_ascii_lowercase b) (to_ascii_lowercase letter) (and_parts _ _ is).0))
+starts b rest (suc n) (letter ∷ letters) is = same-first-letter b rest (letter ∷ take n letters) is
 
 text-begins : (b : ℕ) (rest : List ℕ) (word : Word) → is_text (b ∷ rest) word ≡ true → begins_with b word ≡ true
 text-begins b rest word is = starts b rest word.length word.letters is
-
-pub find-filter : {X : Type 0} (p q : X → Bool) (xs : List X) → ((x : X) → p x ≡ true → q x ≡ true) → find p (filter q xs) ≡ find p xs
-find-filter p q [] implied = refl
-find-filter p q (x ∷ xs) implied =
-    elim (cases_Bool (q x)) [
-      | inl passes ↦
-          ap (find p) (cond-true (q x) (x ∷ filter q xs) (filter q xs) passes) ∙
-          ap (cond (p x) (Some x)) (find-filter p q xs implied)
-      | inr fails ↦
-          elim (cases_Bool (p x)) [
-            | inl both ↦ absurd (false≢true (sym fails ∙ implied x both))
-            | inr none ↦
-                ap (find p) (cond-false (q x) (x ∷ filter q xs) (filter q xs) fails) ∙ find-filter p q xs implied ∙
-                sym (cond-false (p x) (Some x) (find p xs) none)
-          ]
-    ]
 
 pub found-by-letter : (b : ℕ) (rest : List ℕ) → find (is_text (b ∷ rest)) (filter (begins_with b) word_list) ≡ find (is_text (b ∷ rest))
     word_list
@@ -184,15 +156,11 @@ families-listed : (list_all is_listed (names_of mnemonic.Alu) && list_all is_lis
 unfolding word_list operation_names rows_named family_value table
 families-listed = refl
 
-none-of : {X : Type 0} (b : Bool) (x : X) (o : Option X) → cond b (Some x) o ≡ None → (b ≡ false) × (o ≡ None)
-none-of true x o is = absurd (cc)
-none-of false x o is = (refl, is)
-
 not-written : (word text : List ℕ) (words : List Word) → find (is_text word) words ≡ None →
     list_any (λ some. bytes_eq (letters_of some) text) words ≡ true → is_written word text ≡ false
 not-written word text [] none any = absurd (false≢true any)
 not-written word text (some ∷ words) none any =
-    let parts = none-of (is_text word some) some (find (is_text word) words) none in
+    let parts = none-parts (is_text word some) some (find (is_text word) words) none in
     elim (cases_Bool (bytes_eq (letters_of some) text)) [
       | inl same ↦
           subst (λ (xs : List ℕ). is_written word xs ≡ false) ((bytes_eq-Decides (letters_of some) text).0 same) parts.0
@@ -206,26 +174,11 @@ not-at : (word : List ℕ) (some : Option (List ℕ)) → find (is_text word) wo
 not-at word None none listed = refl
 not-at word (Some text) none listed = not-written word text word_list none listed
 
-past-all : {X : Type 0} (p q : X → Bool) (xs : List X) → ((x : X) → q x ≡ true → p x ≡ false) → list_all q xs ≡ true →
-    position_or_len p xs ≡ length xs
-past-all p q [] fails all = refl
-past-all p q (x ∷ xs) fails all =
-    let parts = and_parts (q x) (list_all q xs) all in
-    let rest = past-all p q xs fails parts.1 in
-    ap (λ b. cond (not b) (1 + position_or_len p xs) 0) (fails x parts.0) ∙ omega (arith, rest)
-
-not-below : (n : ℕ) → nat_lt n n ≡ false
-not-below n = grind (arith, nat_tests)
-
-none-placed : {X : Type 0} (p q : X → Bool) (xs : List X) → ((x : X) → q x ≡ true → p x ≡ false) → list_all q xs ≡ true →
-    position p xs ≡ None
-none-placed p q xs fails all =
-    ap {B = Option ℕ} (λ n. cond (nat_lt n (length xs)) (Some n) None) (past-all p q xs fails all) ∙
-    cond-false (nat_lt (length xs) (length xs)) (Some (length xs)) None (not-below (length xs))
-
 no-value : (word : List ℕ) (some : Mnemonic) → find (is_text word) word_list ≡ None → list_all is_listed (names_of some) ≡ true →
     value_named some word ≡ None
-no-value word some none listed = none-placed (is_name_at word) is_listed (names_of some) (λ o is. not-at word o none is) listed
+no-value word some none listed =
+    position-all-fail (is_name_at word) (names_of some)
+    (λ k d below. not-at word (get_or (names_of some) k d) none (list_all-get_or is_listed (names_of some) k d listed below))
 
 no-rows : (word : List ℕ) (n : ℕ) (rows : List Row) → find (is_text word) word_list ≡ None → list_all row_is_listed rows ≡ true →
     rows_named_from word n rows ≡ []
@@ -345,7 +298,4 @@ first-some (x ∷ rest) b is =
 -- ---- the numbers of rows
 
 pub all-below : (limit : ℕ) (xs : List ℕ) → list_all (λ n. nat_lt n limit) xs ≡ true → (k d : ℕ) → k < length xs → get_or xs k d < limit
-all-below limit [] all k d below = absurd (omega (arith, below))
-all-below limit (x ∷ xs) all zero d below = ltb-true x limit (and_parts (nat_lt x limit) (list_all (λ n. nat_lt n limit) xs) all).0
-all-below limit (x ∷ xs) all (suc k) d below =
-    all-below limit xs (and_parts (nat_lt x limit) (list_all (λ n. nat_lt n limit) xs) all).1 k d (omega (arith, below))
+all-below limit xs all k d below = ltb-true (get_or xs k d) limit (list_all-get_or (λ n. nat_lt n limit) xs k d all below)

@@ -1,24 +1,15 @@
 -- The names of registers, pairs and conditions are found by their first letter.
-use Rattle.std.proofs.Common.{◌≡◌, ℕ, true, ◌==◌, List, [], ◌∷◌, find, slice_index, slice_get, refl, sym, ◌∙◌, ap}
+use Rattle.std.proofs.Common.{◌≡◌, ℕ, true, List, [], ◌∷◌, find, slice_get, refl, ◌∙◌, ap}
 use Rattle.std.specs.Prelude.{Some, None}
 use Rattle.std.specs.List.{filter}
-use Rattle.std.specs.Char.{to_ascii_lowercase}
-use Rattle.std.specs.Str.{bytes_eq, str_to_ascii_lowercase}
-use Rattle.std.proofs.lemmas.Bool.{and_parts, eqb-true, eq-eqb, false≢true}
+use Rattle.pac_lemmas.proofs.Letters.{same-first-letter}
+use Rattle.pac_lemmas.proofs.Searches.{find-filter}
 use Rattle.pac_table_names.specs.declared.names.Name.{Name}
 use Rattle.pac_table_names.specs.Names.{is_written, text_of_name, every_name, name_of}
 use Rattle.pac_table_names.specs.Words.{begins_name}
-use Rattle.pac_table_names.proofs.Index.{find-filter}
-
-starts : (b : ℕ) (rest letters : List ℕ) → bytes_eq (str_to_ascii_lowercase (b ∷ rest)) (str_to_ascii_lowercase letters) ≡ true →
-    (to_ascii_lowercase (slice_index letters 0) == to_ascii_lowercase b) ≡ true
-starts b rest [] is = absurd (false≢true is)
-starts b rest (letter ∷ letters) is =
-    eq-eqb (to_ascii_lowercase letter) (to_ascii_lowercase b)
-    (sym (eqb-true (to_ascii_lowercase b) (to_ascii_lowercase letter) (and_parts _ _ is).0))
 
 written-begins : (b : ℕ) (rest : List ℕ) (some : Name) → is_written (b ∷ rest) (text_of_name some) ≡ true → begins_name b some ≡ true
-written-begins b rest some is = starts b rest (text_of_name some) is
+written-begins b rest some is = same-first-letter b rest (text_of_name some) is
 
 -- no word at all is no name
 pub no-letter : (word : List ℕ) → None ≡ slice_get word 0 → None ≡ name_of word

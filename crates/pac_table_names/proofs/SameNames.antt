@@ -1,43 +1,39 @@
 -- Names are one where they are written alike: computed over all pairs of them.
-use Rattle.std.proofs.Common.{◌≡◌, ℕ, zero, suc, ◌<◌, Bool, true, false, List, [], ◌∷◌, length, get_or, refl, arith, lit<}
+use Rattle.std.proofs.Common.{◌≡◌, Bool, true, false, refl, lit<}
 use Rattle.std.specs.List.{list_all}
-use Rattle.std.proofs.lemmas.Bool.{and_parts, false≢true}
+use Rattle.std.proofs.lemmas.Bool.{false≢true}
 use denote.Enum.Bare.{sameb}
+use Rattle.pac_lemmas.proofs.Searches.{list_all-get_or}
 use Rattle.pac_table_names.specs.contracts.names.Name.{the_type}
 use Rattle.pac_table_names.specs.declared.names.Name.{Name}
 use Rattle.pac_table_names.specs.declared.names.Name.TheVariants as name
 use Rattle.pac_table_names.specs.Names.{every_name, is_same_name}
 
-all-at : {X : Type 0} (p : X → Bool) (xs : List X) (k : ℕ) (d : X) → list_all p xs ≡ true → k < length xs → p (get_or xs k d) ≡ true
-all-at p [] k d all below = absurd (omega (arith, below))
-all-at p (x ∷ xs) zero d all below = (and_parts (p x) (list_all p xs) all).0
-all-at p (x ∷ xs) (suc k) d all below = all-at p xs k d (and_parts (p x) (list_all p xs) all).1 (omega (arith, below))
-
 -- what is computed over all names is so of each
 each-name : (p : Name → Bool) → list_all p every_name ≡ true → (some : Name) → p some ≡ true
-each-name p all name.A = all-at p every_name 0 name.A all (lit< tt)
-each-name p all name.B = all-at p every_name 1 name.A all (lit< tt)
-each-name p all name.C = all-at p every_name 2 name.A all (lit< tt)
-each-name p all name.D = all-at p every_name 3 name.A all (lit< tt)
-each-name p all name.E = all-at p every_name 4 name.A all (lit< tt)
-each-name p all name.H = all-at p every_name 5 name.A all (lit< tt)
-each-name p all name.L = all-at p every_name 6 name.A all (lit< tt)
-each-name p all name.I = all-at p every_name 7 name.A all (lit< tt)
-each-name p all name.R = all-at p every_name 8 name.A all (lit< tt)
-each-name p all name.Af = all-at p every_name 9 name.A all (lit< tt)
-each-name p all name.Bc = all-at p every_name 10 name.A all (lit< tt)
-each-name p all name.De = all-at p every_name 11 name.A all (lit< tt)
-each-name p all name.Hl = all-at p every_name 12 name.A all (lit< tt)
-each-name p all name.Sp = all-at p every_name 13 name.A all (lit< tt)
-each-name p all name.Ix = all-at p every_name 14 name.A all (lit< tt)
-each-name p all name.Iy = all-at p every_name 15 name.A all (lit< tt)
-each-name p all name.Nz = all-at p every_name 16 name.A all (lit< tt)
-each-name p all name.Z = all-at p every_name 17 name.A all (lit< tt)
-each-name p all name.Nc = all-at p every_name 18 name.A all (lit< tt)
-each-name p all name.Po = all-at p every_name 19 name.A all (lit< tt)
-each-name p all name.Pe = all-at p every_name 20 name.A all (lit< tt)
-each-name p all name.P = all-at p every_name 21 name.A all (lit< tt)
-each-name p all name.M = all-at p every_name 22 name.A all (lit< tt)
+each-name p all name.A = list_all-get_or p every_name 0 name.A all (lit< tt)
+each-name p all name.B = list_all-get_or p every_name 1 name.A all (lit< tt)
+each-name p all name.C = list_all-get_or p every_name 2 name.A all (lit< tt)
+each-name p all name.D = list_all-get_or p every_name 3 name.A all (lit< tt)
+each-name p all name.E = list_all-get_or p every_name 4 name.A all (lit< tt)
+each-name p all name.H = list_all-get_or p every_name 5 name.A all (lit< tt)
+each-name p all name.L = list_all-get_or p every_name 6 name.A all (lit< tt)
+each-name p all name.I = list_all-get_or p every_name 7 name.A all (lit< tt)
+each-name p all name.R = list_all-get_or p every_name 8 name.A all (lit< tt)
+each-name p all name.Af = list_all-get_or p every_name 9 name.A all (lit< tt)
+each-name p all name.Bc = list_all-get_or p every_name 10 name.A all (lit< tt)
+each-name p all name.De = list_all-get_or p every_name 11 name.A all (lit< tt)
+each-name p all name.Hl = list_all-get_or p every_name 12 name.A all (lit< tt)
+each-name p all name.Sp = list_all-get_or p every_name 13 name.A all (lit< tt)
+each-name p all name.Ix = list_all-get_or p every_name 14 name.A all (lit< tt)
+each-name p all name.Iy = list_all-get_or p every_name 15 name.A all (lit< tt)
+each-name p all name.Nz = list_all-get_or p every_name 16 name.A all (lit< tt)
+each-name p all name.Z = list_all-get_or p every_name 17 name.A all (lit< tt)
+each-name p all name.Nc = list_all-get_or p every_name 18 name.A all (lit< tt)
+each-name p all name.Po = list_all-get_or p every_name 19 name.A all (lit< tt)
+each-name p all name.Pe = list_all-get_or p every_name 20 name.A all (lit< tt)
+each-name p all name.P = list_all-get_or p every_name 21 name.A all (lit< tt)
+each-name p all name.M = list_all-get_or p every_name 22 name.A all (lit< tt)
 
 agree : Bool → Bool → Bool
 agree true b = b

@@ -1,6 +1,6 @@
 use Rattle.std.proofs.Common.{◌<◌, ℕ, length, rules, arith}
 use Rattle.pac_num.proofs.Pixels.{pixel_value-below}
-use Rattle.pac_sprites.proofs.Boxes.{value-step}
+use Rattle.pac_lemmas.proofs.Lists.{set-one-more}
 use Rattle.pac_sprites.proofs.Sprite.boxed_line.Goals as goal
 
 pub loop-across-preserved : goal.loop-across-preserved
@@ -9,7 +9,7 @@ loop-across-preserved c =
     let inside : c.loop-across.across < length c.loop-across.values = omega (arith, long, c.loop-across-test.true) in
     record {
       long = search rules;
-      filled = value-step _ _ _ _ inside c.boxed.ensures.value c.loop-across.invariant.filled;
+      filled = set-one-more _ _ _ _ 0 inside c.boxed.ensures.value c.loop-across.invariant.filled;
     }
 
 pub returns : goal.returns

@@ -4,13 +4,14 @@ use Rattle.std.proofs.Common.{w32}
 use Rattle.std.proofs.lemmas.Int.{to_z-of_z}
 use Rattle.std.specs.Prelude.{bytes_eq}
 use Rattle.std.specs.Map.{lookup}
-use Rattle.pac_asm_program.proofs.Seen.{seen, lookup-seen, old-is_none, new-none, with-old, seen-new}
+use Rattle.pac_lemmas.proofs.Options.{is_none-where-some, none-from-is_some}
+use Rattle.pac_asm_program.proofs.Seen.{seen, lookup-seen, with-old, seen-new}
 use Rattle.pac_asm_program.proofs.symbols.Symbols.define.Goals as goal
 
 pub returns-then-contains_key-clause-is_new : goal.returns-then-contains_key-clause-is_new
 returns-then-contains_key-clause-is_new c =
     let found = lookup-seen (λ key. key.items) c.args.name.now c.self.inside.names.entries in
-    rw (← c.self.view_is) (old-is_none _ (ap is_some (sym found) ∙ sym c.contains_key.ensures ∙ c.if-contains_key.true))
+    rw (← c.self.view_is) (is_none-where-some _ (ap is_some (sym found) ∙ sym c.contains_key.ensures ∙ c.if-contains_key.true))
 
 pub returns-then-contains_key-clause-defined : goal.returns-then-contains_key-clause-defined
 returns-then-contains_key-clause-defined c =
@@ -21,13 +22,13 @@ returns-then-contains_key-clause-defined c =
 pub returns-clause-is_new : goal.returns-clause-is_new
 returns-clause-is_new c =
     let found = lookup-seen (λ key. key.items) c.args.name.now c.self.inside.names.entries in
-    let absent = new-none _ (ap is_some (sym found) ∙ sym c.contains_key.ensures ∙ c.if-contains_key.false) in
+    let absent = none-from-is_some _ (ap is_some (sym found) ∙ sym c.contains_key.ensures ∙ c.if-contains_key.false) in
     rw (← c.self.view_is) (ap is_none (sym absent))
 
 pub returns-clause-defined : goal.returns-clause-defined
 returns-clause-defined c =
     let found = lookup-seen (λ key. key.items) c.args.name.now c.self.inside.names.entries in
-    let absent = new-none _ (ap is_some (sym found) ∙ sym c.contains_key.ensures ∙ c.if-contains_key.false) in
+    let absent = none-from-is_some _ (ap is_some (sym found) ∙ sym c.contains_key.ensures ∙ c.if-contains_key.false) in
     let entries = c.self.inside.names.entries in
     let key = c.in_ok-key.key in
     let same : key.items ≡ c.args.name.now = c.in_ok-key.ensures.items in

@@ -1,5 +1,6 @@
 use Rattle.std.proofs.Common.{◌≡◌, ◌<◌, length, rules, arith}
-use Rattle.pac_picture.proofs.Places.{set-step, tabulate-is}
+use Rattle.pac_tiles.proofs.Tabulated.{tabulate-is}
+use Rattle.pac_lemmas.proofs.Lists.{set-one-more}
 use Rattle.pac_picture.proofs.graphics.Roms.sprite_line.Goals as goal
 
 pub loop-x-preserved : goal.loop-x-preserved
@@ -7,7 +8,7 @@ loop-x-preserved c =
     let inside : c.loop-x.x < length c.loop-x.line = omega (arith, c.loop-x.invariant.long) in
     record {
       long = search rules;
-      filled = set-step c.loop-x.line _ _ _ _ inside c.sprite_number.ensures c.loop-x.invariant.filled;
+      filled = set-one-more c.loop-x.line _ _ _ _ inside c.sprite_number.ensures c.loop-x.invariant.filled;
     }
 
 pub returns : goal.returns

@@ -1,0 +1,11 @@
+pub mod Booleans
+pub mod Options
+pub mod Lists
+pub mod Ranges
+pub mod Pieces
+pub mod Parts
+pub mod Searches
+pub mod Lookups
+pub mod Distinct
+pub mod Digits
+pub mod Letters
