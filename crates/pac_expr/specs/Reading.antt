@@ -1,9 +1,9 @@
 -- For proofs: an expression read from the left of its tokens, part by part: a part that was read stands for its tree, whatever
 -- waits before it.
-use Rattle.std.specs.Prelude.{◌≡◌, ◌≤◌, ◌<◌, ◌-◌, ℕ, ℤ, List, [], ◌∷◌, Option, Some, None, IfSome}
+use Rattle.std.specs.Prelude.{◌≡◌, ◌≤◌, ◌<◌, ◌-◌, ℕ, ℤ, Bool, true, false, List, [], ◌∷◌, Option, Some, None, IfSome}
 use Rattle.pac_expr.specs.declared.expr.Operator.{Operator}
 use Rattle.pac_expr.specs.declared.expr.Operator.TheVariants.{Add, Subtract, Multiply, Divide}
-use Rattle.pac_expr.specs.Trees.{Atom, Tree, Mark, single, plus, minus, star, slash, rank_of_operator, sum_rank}
+use Rattle.pac_expr.specs.Trees.{Atom, Tree, Mark, single, closing, plus, minus, star, slash, rank_of_operator, sum_rank}
 use Rattle.pac_expr.specs.Parsing.{Waiting, sign, left, parenthesis, needs, stands, tree_onward}
 use Rattle.pac_expr.specs.Values.{ValueResult, tree_value}
 
@@ -25,6 +25,11 @@ pub record BeginsWithTree (names : List ℕ → Option ℤ) (line n : ℕ) (ms :
 -- no expression goes on with the tokens where something of rank n may stand
 abbrev pub BeginsNoTree : ℕ → List Mark → Type 0
 BeginsNoTree n ms = (waiting : List Waiting) → n ≤ highest_rank waiting → tree_onward (Some (needs waiting)) ms ≡ None
+
+-- whether a token is a closing parenthesis
+abbrev pub is_closing : Mark → Bool
+is_closing closing = true
+is_closing mark = false
 
 -- the operator that a token is, if it is one
 abbrev pub operator_in : Mark → Option Operator

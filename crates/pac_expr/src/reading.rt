@@ -5,7 +5,7 @@ ghost use Rattle.pac_lex.specs.Tokens.{views};
 ghost use Rattle.pac_expr.specs.Trees.{Mark, Tree, IsExpression, atom_of, closing, token_mark, token_marks, operator_mark, rank_of_operator};
 ghost use Rattle.pac_expr.specs.Parsing.{tree_in};
 ghost use Rattle.pac_expr.specs.Values.{tree_value, HasUndefined, HasValue};
-ghost use Rattle.pac_expr.specs.Reading.{BeginsWithTree, EndsTree, BeginsNoTree, atom_in, operator_in};
+ghost use Rattle.pac_expr.specs.Reading.{BeginsWithTree, EndsTree, BeginsNoTree, atom_in, is_closing, operator_in};
 
 use crate::evaluation::{SymbolLookup, ValueError, joined, operand_value, signed};
 use crate::expr::{Operator, Primary, SUM_RANK, Sign, operator_rank};
@@ -145,6 +145,13 @@ fn operator_of(token: &Token<'_>) -> Option<Operator>
     }
 }
 
+/// Whether a token is a closing parenthesis.
+fn is_closing(token: &Token<'_>) -> bool
+    ensures { result ≡ is_closing (token_mark token.now) }
+{
+    matches!(token.kind, TokenKind::Close)
+}
+
 /// The tokens after a closing parenthesis at the left.
 fn after_closing<'t, 'a>(tokens: &'t [Token<'a>]) -> Option<&'t [Token<'a>]>
     ensures { MatchOption result ((ms : List Mark) → token_marks tokens.now ≡ closing ∷ ms → ⊥)
@@ -153,10 +160,7 @@ fn after_closing<'t, 'a>(tokens: &'t [Token<'a>]) -> Option<&'t [Token<'a>]>
     let [first, after @ ..] = tokens else {
         return None;
     };
-    match first.kind {
-        TokenKind::Close => Some(after),
-        _ => None,
-    }
+    if is_closing(first) { Some(after) } else { None }
 }
 
 /// The operand that a token is by itself, if it is one.
