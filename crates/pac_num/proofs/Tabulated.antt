@@ -4,7 +4,7 @@ use Rattle.std.proofs.Common.{append_assoc, append-nil, add-zero, arith}
 use Rattle.std.proofs.lemmas.Bool.{cases_lt}
 use mathlib.Core.Logic.{inl, inr}
 use Rattle.std.proofs.lemmas.List.{length_push, get_or_push, get_or_append_left, same_lists, get_or_default}
-use Rattle.pac_tiles.specs.Tabulate.{tabulate}
+use Rattle.pac_num.specs.Tabulate.{tabulate}
 
 pub length-tabulate : {A : Type 0} (count : ℕ) (value : ℕ → A) → length (tabulate count value) ≡ count
 unfolding tabulate

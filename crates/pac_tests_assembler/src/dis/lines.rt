@@ -1,6 +1,6 @@
 //! Disassemblies, byte for byte.
 
-use pac_dis_text::put_disassembly;
+use pac_dis::put_disassembly;
 use pac_out::counted::Counted;
 use pac_out::memory::MemoryWriter;
 use std::test::Fail;
