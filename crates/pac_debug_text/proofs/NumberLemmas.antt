@@ -1,36 +1,9 @@
 -- A number read digit by digit, from the left, and an address of four digits.
-use Rattle.std.proofs.Common.{ap, inl, inr, true, get_or, length, ◌≡◌, ℕ, ◌+◌, ◌-◌, ◌*◌, ◌<◌, ◌≤◌, cond, ◌&&◌, List, [], ◌∷◌, Option, Some, None, fold, arith, le_trans, false}
-use Rattle.std.specs.Prelude.{nat_le}
-use Rattle.std.specs.List.{list_all}
-use Rattle.std.specs.Char.{is_ascii_digit, is_ascii_hexdigit}
-use Rattle.std.proofs.lemmas.Bool.{and_right, cond-false, cond-true, cases_Bool}
+use Rattle.std.proofs.Common.{ap, inl, inr, true, get_or, length, ◌≡◌, ℕ, ◌+◌, ◌*◌, List, [], ◌∷◌, Option, Some, None, arith}
+use Rattle.std.specs.Char.{is_ascii_hexdigit}
+use Rattle.std.proofs.lemmas.Bool.{cond-false, cond-true, cases_Bool}
 use Rattle.pac_lex.specs.Numbers.{value_of_digit}
 use Rattle.pac_debug_text.specs.Numbers.{hex_digit_number, address_of}
-use Rattle.std.proofs.lemmas.Bool.Decides.{nat_tests}
-
--- the number whose first digits came to n, and whose other digits are these
-abbrev pub number_from : ℕ → List ℕ → ℕ
-number_from n digits = fold (λ m c. m * 10 + (c - 48)) n digits
-
--- such a number, if it is within the range
-abbrev pub with_digits : ℕ → ℕ → List ℕ → Option ℕ
-with_digits most n digits =
-    cond (list_all is_ascii_digit digits && nat_le 1 (number_from n digits) && nat_le (number_from n digits) most)
-    (Some (number_from n digits)) None
-
-grows : (n : ℕ) (digits : List ℕ) → n ≤ number_from n digits
-grows n [] = omega arith
-grows n (c ∷ digits) = le_trans (omega arith) (grows (n * 10 + (c - 48)) digits)
-
-above : (most n : ℕ) → most < n → nat_le n most ≡ false
-above most n h = grind (arith, nat_tests)
-
-pub too-large : (most n c : ℕ) (digits : List ℕ) → most < n * 10 + (c - 48) → with_digits most n (c ∷ digits) ≡ None
-too-large most n c digits large =
-    let more = grows (n * 10 + (c - 48)) digits in
-    cond-false _ _ _
-    (and_right (list_all is_ascii_digit (c ∷ digits) && nat_le 1 (number_from n (c ∷ digits))) _
-    (above most (number_from n (c ∷ digits)) (omega (arith, more, large))))
 
 -- a hexadecimal digit, by what it counts
 record IsDigit (c n : ℕ) : Type 0 where

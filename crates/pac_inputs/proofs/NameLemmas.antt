@@ -9,7 +9,7 @@ use Rattle.std.specs.Char.{is_ascii}
 use Rattle.std.specs.Cmp.Lexicographic.{pointwise, same_text}
 use Rattle.std.specs.Int.RustNames.{bit_or}
 use Rattle.bitflags.specs.Sets.{Row, find_row, find_name}
-use Rattle.pac_lex.proofs.PartLemmas.{last-part, more-parts}
+use Rattle.pac_lemmas.proofs.Parts.{last-part, more-parts}
 use Rattle.pac_inputs.specs.Inputs.{input_bits}
 use Rattle.pac_inputs.specs.Words.{is_comma_byte, with_names}
 

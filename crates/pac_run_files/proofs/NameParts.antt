@@ -1,9 +1,10 @@
 -- The parts of a name.
-use Rattle.std.proofs.Common.{◌≡◌, ◌≢◌, ℕ, ◌+◌, ◌<◌, Bool, true, false, ◌||◌, if◌then◌else◌, eqb, List, [], ◌∷◌, ◌++◌, length, get_or, suc, codes}
+use Rattle.std.proofs.Common.{◌≡◌, ◌≢◌, ℕ, ◌||◌, if◌then◌else◌, eqb, List, [], ◌∷◌, ◌++◌, suc, codes}
 use Rattle.std.proofs.Common.{refl, ap, ◌∙◌, arith}
 use Rattle.std.proofs.lemmas.Bool.Decides.{nat_tests}
 use Rattle.std.specs.Str.{bytes_eq}
 use Rattle.std.specs.List.{list_any}
+use Rattle.pac_lemmas.proofs.Booleans.{or-false}
 use Rattle.pac_run_files.specs.Names.{slash, lengthen, name_parts, climbs}
 use Rattle.pac_run_files.proofs.Folders.{HasNone}
 
@@ -24,10 +25,6 @@ parts-split (byte ∷ part) more none =
 -- the name climbs where its first part does, or what follows does
 pub climbs-split : (part more : List ℕ) → HasNone part → climbs (part ++ slash ∷ more) ≡ (bytes_eq part (codes "..") || climbs more)
 climbs-split part more none = ap (list_any (λ one. bytes_eq one (codes ".."))) (parts-split part more none)
-
-or-false : (fact : Bool) → (fact || false) ≡ fact
-or-false true = refl
-or-false false = refl
 
 pub climbs-none : (name : List ℕ) → HasNone name → climbs name ≡ bytes_eq name (codes "..")
 climbs-none name none = ap (list_any (λ one. bytes_eq one (codes ".."))) (parts-none name none) ∙ or-false (bytes_eq name (codes ".."))

@@ -1,8 +1,6 @@
 -- Files that are read one after another.
-use Rattle.std.proofs.Common.{◌≡◌, ℕ, ◌+◌, ◌<◌, List, [], ◌∷◌, ◌++◌, length, map, take, drop, get_or}
-use Rattle.std.proofs.Common.{Err, inl, inr, sym, ap, append_assoc, ◌∙◌}
-use Rattle.std.proofs.lemmas.List.{take_more, take-append-drop}
-use mathlib.Core.List.{map-append}
+use Rattle.std.proofs.Common.{ℕ, List, [], ◌∷◌, ◌++◌}
+use Rattle.std.proofs.Common.{Err, inl, inr}
 use Rattle.pac_run_files.specs.Files.{FindsFile, IsUnread, FirstUnread, standing_by}
 use Rattle.pac_run_files.specs.Read.{ReadsFiles, IsPart, HasParts, part_files}
 use Rattle.pac_run_files.specs.declared.given.ReadFault.{ReadFault}
@@ -33,15 +31,3 @@ pub as-first : {A B : Type 0} (one : A → Type 0) (all : B → Type 0) (unread 
     → ((told : List ℕ) → unread told → first told) → ReadsFiles one unread (Err fault) → ReadsFiles all first (Err fault)
 as-first one all unread first (Unreadable name) onward reads = onward name.now reads
 as-first one all unread first Memory onward reads = tt
-
--- the names before one, and that one; and those after it
-pub names-more : {X : Type 0} (f : X → List ℕ) (xs : List X) (i : ℕ) (d : X) → i < length xs
-    → map f (take i xs) ++ f (get_or xs i d) ∷ [] ≡ map f (take (i + 1) xs)
-names-more f xs i d lt = sym (map-append f (take i xs) (get_or xs i d ∷ [])) ∙ ap (map f) (sym (take_more xs i d lt))
-
-pub names-split : {X : Type 0} (f : X → List ℕ) (xs : List X) (i : ℕ) (d : X) → i < length xs
-    → map f (take i xs) ++ f (get_or xs i d) ∷ map f (drop (i + 1) xs) ≡ map f xs
-names-split f xs i d lt =
-    sym (append_assoc (map f (take i xs)) (f (get_or xs i d) ∷ []) (map f (drop (i + 1) xs)))
-    ∙ ap (λ names. names ++ map f (drop (i + 1) xs)) (names-more f xs i d lt)
-    ∙ sym (map-append f (take (i + 1) xs) (drop (i + 1) xs)) ∙ ap (map f) (take-append-drop (i + 1) xs)

@@ -17,20 +17,15 @@ use Rattle.clap.specs.Takes.{is_given}
 use Rattle.clap.specs.Faults.{built_fault, check_fault, defaults_fault, entered_fault, fault_of, level_fault, settle_fault, walk_fault}
 use Rattle.clap.specs.declared.parser.matches.ValueSource.TheVariants.{DefaultValue}
 use Rattle.clap.proofs.WalkLemmas.{both}
-use Rattle.pac_run_options.specs.CommandLine.{Asked, asked_command, asked_asm, asked_debug, asked_dis, asked_run, asm, asm_command, byte_of_text, debug}
+use Rattle.std.proofs.lemmas.Bool.{or_parts}
+use Rattle.pac_lemmas.proofs.Options.{some-from-is_some}
+use Rattle.pac_run_options.specs.CommandLine.{Asked, asked_command, asked_asm, asked_debug, asked_dis, asked_run, asm, asm_command}
+use Rattle.pac_run_options.specs.CommandLine.{byte_of_text, debug}
 use Rattle.pac_run_options.specs.CommandLine.{debug_command, dip_option, dis, dis_command, pacboard, request_of, required_option, run}
 use Rattle.pac_run_options.specs.CommandLine.{run_command, run_rules}
 use Rattle.pac_run_options.proofs.Levels.{AreFine, AreGood, is_good, level_good, new_row, or_both, some_kind}
 
 -- ---- what is given
-
-some_of : {X : Type 0} (o : Option X) → is_some o ≡ true → (x : X) × (o ≡ Some x)
-some_of None e = absurd (true≢false (sym e))
-some_of (Some x) e = (x, refl)
-
-either_false : (a b : Bool) → (a || b) ≡ false → (a ≡ false) × (b ≡ false)
-either_false true b e = absurd (true≢false e)
-either_false false b e = (refl, e)
 
 abbrev IsFoundGood : (Row → Bool) → Option Row → Type 0
 IsFoundGood p None = Unit {0}
@@ -176,19 +171,19 @@ missing true e = absurd (true≢false (ap some_kind e))
 asm_said : (rows : List Row) → AreGood rows → check_fault asm_built rows false ≡ [] → is_some (option_map asm (asked_asm rows)) ≡ true
 asm_said rows good none =
     let all = missing (list_any (λ a. a.required && not (is_given a.id rows)) asm_built.rules) none in
-    let source = either_false (not (is_given (codes "source") rows)) _ all in
-    let rom = either_false (not (is_given (codes "rom") rows)) _ source.1 in
-    let listing = either_false (not (is_given (codes "listing") rows)) _ rom.1 in
-    let a = some_of _ (required_first (codes "source") rows good source.0) in
-    let b = some_of _ (required_first (codes "rom") rows good rom.0) in
-    let c = some_of _ (required_first (codes "listing") rows good listing.0) in
+    let source = or_parts (not (is_given (codes "source") rows)) _ all in
+    let rom = or_parts (not (is_given (codes "rom") rows)) _ source.1 in
+    let listing = or_parts (not (is_given (codes "listing") rows)) _ rom.1 in
+    let a = some-from-is_some _ (required_first (codes "source") rows good source.0) in
+    let b = some-from-is_some _ (required_first (codes "rom") rows good rom.0) in
+    let c = some-from-is_some _ (required_first (codes "listing") rows good listing.0) in
     rw (a.1, b.1, c.1) refl
 
 dis_said : (rows : List Row) → AreGood rows → check_fault dis_built rows false ≡ [] → is_some (option_map dis (asked_dis rows)) ≡ true
 dis_said rows good none =
     let all = missing (list_any (λ a. a.required && not (is_given a.id rows)) dis_built.rules) none in
-    let file = either_false (not (is_given (codes "file") rows)) _ all in
-    let a = some_of _ (required_first (codes "file") rows good file.0) in
+    let file = or_parts (not (is_given (codes "file") rows)) _ all in
+    let a = some-from-is_some _ (required_first (codes "file") rows good file.0) in
     rw a.1 refl
 
 -- some option of a run is missing, or some other
@@ -200,24 +195,24 @@ some_missing rows other =
 run_asked : (rows : List Row) (other : Bool) → AreGood rows → has_row (codes "dip") rows ≡ true → some_missing rows other ≡ false
     → (is_some (asked_run rows) ≡ true) × (other ≡ false)
 run_asked rows other good there all =
-    let set = either_false (not (is_given (codes "set") rows)) _ all in
-    let script = either_false (not (is_given (codes "script") rows)) _ set.1 in
-    let frames = either_false (not (is_given (codes "frames") rows)) _ script.1 in
-    let wave = either_false (not (is_given (codes "wave") rows)) _ frames.1 in
-    let listing = either_false (not (is_given (codes "listing") rows)) _ wave.1 in
-    let a = some_of _ (required_first (codes "set") rows good set.0) in
-    let b = some_of _ (required_first (codes "script") rows good script.0) in
-    let c = some_of _ (required_first (codes "frames") rows good frames.0) in
-    let d = some_of _ (required_first (codes "wave") rows good wave.0) in
-    let e = some_of _ (required_first (codes "listing") rows good listing.0) in
-    let n = some_of _ (dip_reads rows good there) in
+    let set = or_parts (not (is_given (codes "set") rows)) _ all in
+    let script = or_parts (not (is_given (codes "script") rows)) _ set.1 in
+    let frames = or_parts (not (is_given (codes "frames") rows)) _ script.1 in
+    let wave = or_parts (not (is_given (codes "wave") rows)) _ frames.1 in
+    let listing = or_parts (not (is_given (codes "listing") rows)) _ wave.1 in
+    let a = some-from-is_some _ (required_first (codes "set") rows good set.0) in
+    let b = some-from-is_some _ (required_first (codes "script") rows good script.0) in
+    let c = some-from-is_some _ (required_first (codes "frames") rows good frames.0) in
+    let d = some-from-is_some _ (required_first (codes "wave") rows good wave.0) in
+    let e = some-from-is_some _ (required_first (codes "listing") rows good listing.0) in
+    let n = some-from-is_some _ (dip_reads rows good there) in
     (rw (a.1, b.1, c.1, d.1, e.1, n.1) refl, listing.1)
 
 run_said : (rows : List Row) → AreGood rows → has_row (codes "dip") rows ≡ true → check_fault run_built rows false ≡ []
     → is_some (option_map run (asked_run rows)) ≡ true
 run_said rows good there none =
     let all = missing (list_any (λ a. a.required && not (is_given a.id rows)) run_built.rules) none in
-    let files = some_of _ (run_asked rows false good there all).0 in
+    let files = some-from-is_some _ (run_asked rows false good there all).0 in
     rw files.1 refl
 
 debug_said : (rows : List Row) → AreGood rows → has_row (codes "dip") rows ≡ true → check_fault debug_built rows false ≡ []
@@ -225,9 +220,9 @@ debug_said : (rows : List Row) → AreGood rows → has_row (codes "dip") rows �
 debug_said rows good there none =
     let all = missing (list_any (λ a. a.required && not (is_given a.id rows)) debug_built.rules) none in
     let files = run_asked rows (not (is_given (codes "commands") rows) || false) good there all in
-    let commands = either_false (not (is_given (codes "commands") rows)) _ files.1 in
-    let a = some_of _ files.0 in
-    let b = some_of _ (required_first (codes "commands") rows good commands.0) in
+    let commands = or_parts (not (is_given (codes "commands") rows)) _ files.1 in
+    let a = some-from-is_some _ files.0 in
+    let b = some-from-is_some _ (required_first (codes "commands") rows good commands.0) in
     rw (a.1, b.1) refl
 
 -- ---- the whole line

@@ -1,15 +1,12 @@
 -- What building a command makes of what clap reads of it.
-use Rattle.std.proofs.Common.{◌≡◌, ◌∙◌, ◌||◌, ◌+◌, ◌<◌, ℕ, Bool, false, true, List, refl, sym, ap, ap₂}
+use Rattle.std.proofs.Common.{◌≡◌, ◌∙◌, ◌+◌, ◌<◌, ℕ, Bool, false, List, sym, ap, ap₂}
 use Rattle.std.proofs.Common.{map, drop, length, get_or, add-one, drop-cons}
+use Rattle.pac_lemmas.proofs.Booleans.{or-where-false}
 use Rattle.pac_run_options.specs.CommandLine.{with_rules}
 use Rattle.clap.specs.Words.{AddsArg, AddsSubcommand, App, Rule, app_of, rule_of, with_rule, with_subcommand}
 use Rattle.clap.specs.declared.builder.arg.Arg.{Arg}
 use Rattle.clap.specs.declared.builder.command.Command.{Command}
 use Rattle.clap.specs.declared.builder.command.Command.TheViews.{out-Command}
-
-pub or_false : (a b : Bool) → b ≡ false → (a || b) ≡ a
-or_false true b e = refl
-or_false false b e = e
 
 -- one more argument
 pub with_one : (old : Command) (a : Arg) (new : Command) (app : App) (r : Rule) → AddsArg old a new → a.global ≡ false → rule_of a ≡ r
@@ -20,7 +17,7 @@ with_one old a new app r h local rule before = h.shape local ∙ ap₂ with_rule
 pub still_local : (old : Command) (a : Arg) (new : Command) (b : Bool) → AddsArg old a new → a.global ≡ false
     → (out-Command old).has_globals ≡ b
     → (out-Command new).has_globals ≡ b
-still_local old a new b h local before = h.globals ∙ or_false _ _ local ∙ before
+still_local old a new b h local before = h.globals ∙ or-where-false _ _ local ∙ before
 
 -- one more subcommand
 pub with_sub : (old sub new : Command) (app : App) (below : App) → AddsSubcommand old sub new → (out-Command sub).has_globals ≡ false

@@ -1,6 +1,6 @@
 use Rattle.std.proofs.Common.{◌<◌, ◌+◌, ◌-◌, ◌*◌, ◌∙◌, sym, drop, get_or, arith}
 use Rattle.std.proofs.lemmas.List.{at_drop_more}
-use Rattle.pac_debug_text.proofs.NumberLemmas.{with_digits, too-large}
+use Rattle.pac_lemmas.proofs.Digits.{with_digits, too-large}
 use Rattle.pac_debug_text.proofs.numbers.number_within.Goals as goal
 
 pub returns-then-value-from-clause-exact : goal.returns-then-value-from-clause-exact

@@ -1,6 +1,6 @@
 use Rattle.std.proofs.Common.{◌≡◌, ◌≤◌, drop}
+use Rattle.pac_lemmas.proofs.Digits.{with_digits}
 use Rattle.pac_debug_text.specs.Numbers.{number_within}
-use Rattle.pac_debug_text.proofs.NumberLemmas.{with_digits}
 use Rattle.pac_debug_text.proofs.numbers.number_within.Given as goal
 
 abbrev pub invariant-loop-byte : goal.invariant-loop-byte

@@ -1,7 +1,7 @@
 use Rattle.std.proofs.Common.{drop, ap, ◌∙◌, arith}
 use Rattle.std.proofs.lemmas.List.{take_rest}
+use Rattle.pac_lemmas.proofs.Parts.{more-parts}
 use Rattle.pac_inputs.specs.Words.{is_comma_byte}
-use Rattle.pac_lex.proofs.PartLemmas.{more-parts}
 use Rattle.pac_inputs.proofs.line.first_name.Goals as goal
 
 pub returns-in-len1-up-clause-more : goal.returns-in-len1-up-clause-more

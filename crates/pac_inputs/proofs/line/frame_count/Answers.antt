@@ -1,6 +1,6 @@
 use Rattle.std.proofs.Common.{◌∙◌, ◌+◌, sym, drop, get_or}
 use Rattle.std.proofs.lemmas.List.{at_drop_more}
-use Rattle.pac_inputs.proofs.CountLemmas.{with_digits, too-large}
+use Rattle.pac_lemmas.proofs.Digits.{with_digits, too-large}
 use Rattle.pac_inputs.proofs.line.frame_count.Goals as goal
 
 pub returns-then-value-gt-FRAME_LIMIT : goal.returns-then-value-gt-FRAME_LIMIT
@@ -8,5 +8,5 @@ returns-then-value-gt-FRAME_LIMIT c =
     let digits = c.args.word.now in
     let at = c.loop-byte.byte-index in
     let digit = get_or digits at 0 in
-    sym (sym c.loop-byte.invariant.rest ∙ at_drop_more (with_digits c.loop-byte.value) digits at 0 c.loop-byte-test.true
-    ∙ too-large c.loop-byte.value digit (drop (at + 1) digits) (rw (← c.from.ensures) c.if-value-gt-FRAME_LIMIT.true))
+    sym (sym c.loop-byte.invariant.rest ∙ at_drop_more (with_digits 36000 c.loop-byte.value) digits at 0 c.loop-byte-test.true
+    ∙ too-large 36000 c.loop-byte.value digit (drop (at + 1) digits) (rw (← c.from.ensures) c.if-value-gt-FRAME_LIMIT.true))

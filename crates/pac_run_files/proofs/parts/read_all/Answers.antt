@@ -1,8 +1,9 @@
 use Rattle.std.proofs.Common.{ℕ, ◌+◌, List, [], ◌∷◌, ◌++◌, map, take, drop, get_or, Vec, Global, subst, rules}
+use Rattle.pac_lemmas.proofs.Pieces.{map-one-more, map-split}
 use Rattle.pac_run_files.specs.Files.{IsUnread, FirstUnread, standing_by}
 use Rattle.pac_run_files.specs.Read.{IsPart, HasParts, part_files}
 use Rattle.pac_run_files.specs.declared.parts.NamedFile.{NamedFile}
-use Rattle.pac_run_files.proofs.Reading.{as-first, part-more, unread-after, names-more, names-split}
+use Rattle.pac_run_files.proofs.Reading.{as-first, part-more, unread-after}
 use Rattle.pac_run_files.proofs.parts.read_all.Goals as goal
 
 pub loop-name-preserved : goal.loop-name-preserved
@@ -12,7 +13,7 @@ loop-name-preserved g c =
     let i = c.loop-name.name-index in
     let name = (get_or names i (record { ref_ptr = (0, 0); now = [] })).now in
     subst (λ (some : List (List ℕ)). HasParts finds c.args.set.now some c.push.new.self.items)
-    (names-more (λ name. name.now) names i (record { ref_ptr = (0, 0); now = [] }) c.loop-name-test.true)
+    (map-one-more (λ name. name.now) names i (record { ref_ptr = (0, 0); now = [] }) c.loop-name-test.true)
     (subst (λ (files : List NamedFile). HasParts finds c.args.set.now (map (λ name. name.now) (take i names) ++ name ∷ []) files)
     (search rules)
     (part-more finds c.args.set.now (map (λ name. name.now) (take i names)) c.loop-name.parts.items name c.in-Ok.part c.loop-name.invariant
@@ -29,7 +30,7 @@ returns-in-Err g c =
     (λ parts. HasParts finds set (map (λ name. name.now) names) parts.items)
     (IsUnread finds (standing_by set name)) (FirstUnread finds (part_files set (map (λ name. name.now) names))) c.in-Err.fault
     (λ told unread. subst (λ (all : List (List ℕ)). FirstUnread finds (part_files set all) told)
-    (names-split (λ name. name.now) names i (record { ref_ptr = (0, 0); now = [] }) c.loop-name-test.true)
+    (map-split (λ name. name.now) names i (record { ref_ptr = (0, 0); now = [] }) c.loop-name-test.true)
     (unread-after finds set (map (λ name. name.now) (take i names)) c.loop-name.parts.items name
     (map (λ name. name.now) (drop (i + 1) names)) told c.loop-name.invariant unread))
     c.in-Err.ensures
