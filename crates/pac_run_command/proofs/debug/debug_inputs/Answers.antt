@@ -1,3 +1,4 @@
+use Rattle.std.proofs.Common.{rules}
 use Rattle.pac_run_command.proofs.debug.debug_inputs.Goals as goal
 
 pub returns-in-Ok : goal.returns-in-Ok
@@ -6,6 +7,6 @@ returns-in-Ok g c = c.in-Ok.ensures
 pub returns-in-Err : goal.returns-in-Err
 returns-in-Err g c = record {
   fault = c.in-Err.fault;
-  told = c.failure_of.ensures;
+  told = search rules;
   left = c.in-Err.ensures;
 }
