@@ -22,7 +22,12 @@ use std::alloc::Global;
 
 /// What a session's run came to, as a run tells it.
 fn outcome_of(outcome: pac_debug_session::RunTotals) -> Outcome
-    ensures { result ≡ record { frames = outcome.frames; steps = outcome.steps; ticks = outcome.ticks; stop = outcome.stop } }
+    ensures { result ≡ record {
+      frames = outcome.frames;
+      steps = outcome.steps;
+      ticks = outcome.ticks;
+      stop = outcome.stop;
+    } }
 {
     Outcome {
         frames: outcome.frames,
@@ -60,7 +65,7 @@ fn write_watched<F: Out, W: Out, L: Out, R: Out, T: Out>(
     }
     let outcome = match watch_run(session, commands, total, image, frames, wave, text) {
         Ok(outcome) => outcome_of(outcome),
-        Err((output, count)) => return Err(RunFault::Write(output, count)),
+        Err(fault) => return Err(RunFault::Write(fault.output, fault.count)),
     };
     match report_on(report, outcome, total) {
         Ok(()) => Ok(outcome),
