@@ -15,7 +15,7 @@ use Rattle.pac_media.specs.Sound as media
 use Rattle.pac_media.proofs.Gathered.{fails-within, finishes-after}
 use Rattle.pac_board.specs.Output.{Output, Image, Sound, Show}
 use Rattle.pac_board.specs.Sinks.{TookAll, RefusesAt}
-use Rattle.pac_run.specs.declared.fault.Output.{Output as Which}
+use Rattle.pac_run.specs.declared.fault.OutputFault.{OutputFault}
 use Rattle.pac_run.specs.declared.fault.Output.TheVariants as which
 use Rattle.pac_run.specs.declared.film.Film.{Film}
 use Rattle.pac_run.specs.Films.{film_took, film_refused, RefusedSample, RefusedImage}
@@ -137,7 +137,7 @@ module _ {F W : Type 0} (took_f : F → List ℕ → F → Type 0) (refused_f : 
   is-told taken left old new refuses = told-of refuses.first refuses.asked new refuses.refusal
 
   -- the fault that is kept is that of the output that refused
-  some-same : (one other : Which × ℕ) → Some one ≡ Some other → one ≡ other
+  some-same : (one other : OutputFault) → Some one ≡ Some other → one ≡ other
   some-same one other e = subst (λ it. IfSome it (λ value. one ≡ value)) e refl
 
   -- ---- where it stopped
@@ -191,27 +191,28 @@ module _ {F W : Type 0} (took_f : F → List ℕ → F → Type 0) (refused_f : 
         };
       }
 
-  pub stops-at-next : (output : Output) (taken rest : List Output) (old asked mid new : Film F W) (fault : Which × ℕ) →
+  pub stops-at-next : (output : Output) (taken rest : List Output) (old asked mid new : Film F W) (fault : OutputFault) →
       Filmed taken old asked
-      → film_refused took_f refused_f took_w refused_w asked output mid → Some fault ≡ mid.fault → GivesUp took_w refused_w mid fault.0 new
-      → StopsFilm took_f refused_f took_w refused_w taken (output ∷ rest) old fault.0 fault.1 new
+      → film_refused took_f refused_f took_w refused_w asked output mid → Some fault ≡ mid.fault
+      → GivesUp took_w refused_w mid fault.output new
+      → StopsFilm took_f refused_f took_w refused_w taken (output ∷ rest) old fault.output fault.count new
   stops-at-next (Sound sample) taken rest old asked mid new fault film refused told gives =
-      let same = some-same fault (which.Wave, refused.told.count) (told ∙ refused.fault) in
-      let ends = subst (λ (it : Which × ℕ). GivesUp took_w refused_w mid it.0 new) same gives in
-      subst (λ (it : Which × ℕ). StopsFilm took_f refused_f took_w refused_w taken (Sound sample ∷ rest) old it.0 it.1 new) (sym same)
+      let same = some-same fault (record { output = which.Wave; count = refused.told.count }) (told ∙ refused.fault) in
+      let ends = subst (λ it. GivesUp took_w refused_w mid it.output new) same gives in
+      subst (λ it. StopsFilm took_f refused_f took_w refused_w taken (Sound sample ∷ rest) old it.output it.count new) (sym same)
       (stops-in-sound taken sample old asked mid new film refused ends)
   stops-at-next (Show image) taken rest old asked mid new fault film refused told gives =
-      let same = some-same fault (which.Frames, refused.told.count) (told ∙ refused.fault) in
-      let ends = subst (λ (it : Which × ℕ). GivesUp took_w refused_w mid it.0 new) same gives in
-      subst (λ (it : Which × ℕ). StopsFilm took_f refused_f took_w refused_w taken (Show image ∷ rest) old it.0 it.1 new) (sym same)
+      let same = some-same fault (record { output = which.Frames; count = refused.told.count }) (told ∙ refused.fault) in
+      let ends = subst (λ it. GivesUp took_w refused_w mid it.output new) same gives in
+      subst (λ it. StopsFilm took_f refused_f took_w refused_w taken (Show image ∷ rest) old it.output it.count new) (sym same)
       (stops-in-image taken image old asked mid new film refused ends.0 ends.1)
 
   -- among all outputs of a run
-  abbrev pub stops-among : (outputs taken left : List Output) (old mid new : Film F W) (fault : Which × ℕ) →
+  abbrev pub stops-among : (outputs taken left : List Output) (old mid new : Film F W) (fault : OutputFault) →
       IsPrefix (taken ++ left) outputs
       → RefusesAt (film_took took_f took_w) (film_refused took_f refused_f took_w refused_w) old taken left mid
-      → Some fault ≡ mid.fault → GivesUp took_w refused_w mid fault.0 new
-      → StopsAmong took_f refused_f took_w refused_w outputs old fault.0 fault.1 new
+      → Some fault ≡ mid.fault → GivesUp took_w refused_w mid fault.output new
+      → StopsAmong took_f refused_f took_w refused_w outputs old fault.output fault.count new
   stops-among outputs taken left old mid new fault among refuses told gives =
       let rest = refuses.rest ++ among.0 in
       let all : taken ++ (refuses.first ∷ rest) ≡ outputs =

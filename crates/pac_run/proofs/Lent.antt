@@ -15,6 +15,7 @@ use Rattle.pac_media.specs.Sound as media
 use Rattle.pac_board.specs.ModelLaws.{frame_samples}
 use Rattle.pac_board.specs.Output.{Output, Sound, Show}
 use Rattle.pac_run.specs.declared.fault.Output.{Output as Which}
+use Rattle.pac_run.specs.declared.fault.OutputFault.{OutputFault}
 use Rattle.pac_run.specs.declared.fault.Output.TheVariants as which
 use Rattle.pac_run.specs.declared.film.Film.{Film}
 use Rattle.pac_run.specs.Recorded.{sound_text, IsRecorded, StopsFilm, StopsAmong, PerformsFilm, RecordsOutputs, FilmStops, WritesWholeText}
@@ -333,11 +334,11 @@ module _ {F W : Type 0} (took_f : F → List ℕ → F → Type 0) (refused_f : 
       no-words taken (Show image ∷ more) count stops = stops
       no-words taken (Sound sample ∷ more) count stops = stops
 
-  pub records : {A : Type 0} (outputs : List Output) (result : Result A (Which × ℕ))
+  pub records : {A : Type 0} (outputs : List Output) (result : Result A OutputFault)
       → PerformsFilm (lent_took took_f) (lent_refused refused_f) (lent_took took_w) (lent_refused refused_w) outputs old result new
       → RecordsOutputs (writing took_f refused_f frames.now left_f) (writing took_w refused_w wave.now left_w) total outputs result
   records outputs (Ok done) performs = whole outputs performs
-  records outputs (Err fault) performs = film-stops outputs fault.0 fault.1 performs
+  records outputs (Err fault) performs = film-stops outputs fault.output fault.count performs
 
   cut-short : (taken : List Output) → IsCutShort (lent_took took_f) (lent_took took_w) (lent_refused refused_w) taken old new
       → TookOutputs (writing took_f refused_f frames.now left_f) (writing took_w refused_w wave.now left_w) total taken
@@ -394,7 +395,7 @@ module _ {F W : Type 0} (took_f : F → List ℕ → F → Type 0) (refused_f : 
           film = cut-short (given_by films.left) films.film;
         }
 
-    pub films : {A : Type 0} (result : Result A (Which × ℕ))
+    pub films : {A : Type 0} (result : Result A OutputFault)
         → Films (lent_took took_f) (lent_refused refused_f) (lent_took took_w) (lent_refused refused_w) (lent_took took)
         (lent_refused refused) setting lines old words result new later
         → WatchesOutputs (writing took_f refused_f frames.now left_f) (writing took_w refused_w wave.now left_w)
@@ -402,4 +403,4 @@ module _ {F W : Type 0} (took_f : F → List ℕ → F → Type 0) (refused_f : 
     films (Ok done) watched =
         let film = whole shown watched.0 in
         (film.0, film.1, all-told took refused owner left setting lines words later fresh_t ends_t watched.1)
-    films (Err fault) till = films-till fault.0 fault.1 till
+    films (Err fault) till = films-till fault.output fault.count till

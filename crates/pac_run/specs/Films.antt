@@ -32,14 +32,14 @@ pub record RefusedSample {F W : Type 0} (took : W → List ℕ → W → Type 0)
   pub frames : new.frames ≡ old.frames
   pub told : WriteFault
   pub wave : SoundFails took refused old.wave (sample_text sample) told new.wave
-  pub fault : new.fault ≡ Some (which.Wave, told.count)
+  pub fault : new.fault ≡ Some (record { output = which.Wave; count = told.count })
 
 pub record RefusedImage {F W : Type 0} (took : F → List ℕ → F → Type 0) (refused : F → F → Type 0) (old : Film F W) (image : Image)
     (new : Film F W) : Type 0 where
   pub wave : new.wave ≡ old.wave
   pub told : WriteFault
   pub frames : Refuses took refused old.frames (ppm_of image.lines image.palette) told new.frames
-  pub fault : new.fault ≡ Some (which.Frames, told.count)
+  pub fault : new.fault ≡ Some (record { output = which.Frames; count = told.count })
 
 abbrev pub film_refused : {F W : Type 0} → (F → List ℕ → F → Type 0) → (F → F → Type 0) → (W → List ℕ → W → Type 0) → (W → W → Type 0)
     → Film F W → Output → Film F W → Type 0

@@ -13,6 +13,7 @@ use Rattle.pac_board.specs.Step.{Moment, frame_ticks}
 use Rattle.pac_board.specs.State.{BoardValue}
 use Rattle.pac_run.specs.declared.fault.Output.{Output as Which}
 use Rattle.pac_run.specs.declared.fault.Output.TheVariants as which
+use Rattle.pac_run.specs.declared.fault.OutputFault.{OutputFault}
 use Rattle.pac_run.specs.declared.film.Film.{Film}
 use Rattle.pac_run.specs.declared.outcome.Outcome.{Outcome}
 use Rattle.pac_run.specs.Plays.{run_of}
@@ -74,10 +75,10 @@ pub record StopsAmong {F W : Type 0} (took_f : F → List ℕ → F → Type 0) 
   pub film : StopsFilm took_f refused_f took_w refused_w taken left old output count new
 
 abbrev pub PerformsFilm : {F W A : Type 0} → (F → List ℕ → F → Type 0) → (F → F → Type 0) → (W → List ℕ → W → Type 0) → (W → W → Type 0)
-    → List Output → Film F W → Result A (Which × ℕ) → Film F W → Type 0
+    → List Output → Film F W → Result A OutputFault → Film F W → Type 0
 PerformsFilm took_f refused_f took_w refused_w outputs old (Ok done) new = IsRecorded took_f took_w outputs old new
 PerformsFilm took_f refused_f took_w refused_w outputs old (Err fault) new =
-    StopsAmong took_f refused_f took_w refused_w outputs old fault.0 fault.1 new
+    StopsAmong took_f refused_f took_w refused_w outputs old fault.output fault.count new
 
 -- what the end of a film that refused leaves: where its images were refused, the sound so far is written
 abbrev pub GivesUp : {F W : Type 0} → (W → List ℕ → W → Type 0) → (W → W → Type 0) → Film F W → Which → Film F W → Type 0
@@ -101,10 +102,10 @@ FilmStops frames wave total outputs which.Frames count = FramesStop frames wave 
 FilmStops frames wave total outputs which.Wave count = WaveStops frames wave total outputs count
 FilmStops frames wave total outputs other count = ⊥
 
-abbrev pub RecordsOutputs : {F W A : Type 0} → Writing F → Writing W → ℕ → List Output → Result A (Which × ℕ) → Type 0
+abbrev pub RecordsOutputs : {F W A : Type 0} → Writing F → Writing W → ℕ → List Output → Result A OutputFault → Type 0
 RecordsOutputs frames wave total outputs (Ok done) =
     TakesText frames (text.images_text outputs) × TakesText wave (text.wave_file_text total outputs)
-RecordsOutputs frames wave total outputs (Err fault) = FilmStops frames wave total outputs fault.0 fault.1
+RecordsOutputs frames wave total outputs (Err fault) = FilmStops frames wave total outputs fault.output fault.count
 
 -- a text, put into one writer
 abbrev pub WritesWholeText : {W A : Type 0} → Writing W → List ℕ → Result A WriteFault → Type 0

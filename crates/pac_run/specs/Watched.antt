@@ -11,6 +11,7 @@ use Rattle.pac_debug.specs.Watched.{TellsOfLine, TellsAll, ToldUpTo, given_by}
 use Rattle.pac_board.specs.Output.{Output}
 use Rattle.pac_run.specs.declared.fault.Output.{Output as Which}
 use Rattle.pac_run.specs.declared.fault.Output.TheVariants as which
+use Rattle.pac_run.specs.declared.fault.OutputFault.{OutputFault}
 use Rattle.pac_run.specs.declared.film.Film.{Film}
 use Rattle.pac_run.specs.Recorded.{IsRecorded, IsFlushed, StopsAmong}
 use Rattle.pac_run.specs.Run.{Writing, TakesText, StopsInText, IsUnwritten, TookOrRefused, FramesStop, WaveStops}
@@ -85,12 +86,12 @@ FilmsTill took_f refused_f took_w refused_w took refused setting lines old words
 
 -- by the answer of the session: it came to the run's end, or this output refused after so many bytes
 abbrev pub Films : {F W T A : Type 0} → (F → List ℕ → F → Type 0) → (F → F → Type 0) → (W → List ℕ → W → Type 0) → (W → W → Type 0)
-    → (T → List ℕ → T → Type 0) → (T → T → Type 0) → Setting → List (List ℕ) → Film F W → Counted T → Result A (Which × ℕ) → Film F W
+    → (T → List ℕ → T → Type 0) → (T → T → Type 0) → Setting → List (List ℕ) → Film F W → Counted T → Result A OutputFault → Film F W
     → Counted T → Type 0
 Films took_f refused_f took_w refused_w took refused setting lines old words (Ok done) new later =
     IsRecorded took_f took_w (whole_run setting).outputs old new × AllTold (λ told. Takes took words told later) setting lines
 Films took_f refused_f took_w refused_w took refused setting lines old words (Err fault) new later =
-    FilmsTill took_f refused_f took_w refused_w took refused setting lines old words fault.0 fault.1 new later
+    FilmsTill took_f refused_f took_w refused_w took refused setting lines old words fault.output fault.count new later
 
 -- ---- three writers
 
@@ -122,9 +123,9 @@ WatchedTill frames wave words total outputs setting lines other count = ⊥
 
 -- the images and the sound of outputs of so many frames, and all that the lines tell; or one of the three writers refused
 abbrev pub WatchesOutputs : {F W T A : Type 0} → Writing F → Writing W → Writing T → (total : ℕ) → List Output → Setting → List (List ℕ)
-    → Result A (Which × ℕ) → Type 0
+    → Result A OutputFault → Type 0
 WatchesOutputs frames wave words total outputs setting lines (Ok done) =
     TakesText frames (text.images_text outputs) × TakesText wave (text.wave_file_text total outputs)
     × AllTold (TakesText words) setting lines
 WatchesOutputs frames wave words total outputs setting lines (Err fault) =
-    WatchedTill frames wave words total outputs setting lines fault.0 fault.1
+    WatchedTill frames wave words total outputs setting lines fault.output fault.count

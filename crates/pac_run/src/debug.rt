@@ -20,8 +20,13 @@ use pac_media::{Image, Out};
 use std::alloc::Global;
 
 /// What a session's run came to, as a run tells it.
-fn outcome_of(outcome: pac_debug::RunTotals) -> Outcome
-    ensures { result ≡ record { frames = outcome.frames; steps = outcome.steps; ticks = outcome.ticks; stop = outcome.stop } }
+fn outcome_of(outcome: pac_debug_session::RunTotals) -> Outcome
+    ensures { result ≡ record {
+      frames = outcome.frames;
+      steps = outcome.steps;
+      ticks = outcome.ticks;
+      stop = outcome.stop;
+    } }
 {
     Outcome {
         frames: outcome.frames,
@@ -59,7 +64,7 @@ fn write_watched<F: Out, W: Out, L: Out, R: Out, T: Out>(
     }
     let outcome = match watch_run(session, commands, image, frames, wave, text) {
         Ok(outcome) => outcome_of(outcome),
-        Err((output, count)) => return Err(RunFault::Write(output, count)),
+        Err(fault) => return Err(RunFault::Write(fault.output, fault.count)),
     };
     match report_on(report, outcome, total) {
         Ok(()) => Ok(outcome),

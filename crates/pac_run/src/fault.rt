@@ -41,6 +41,15 @@ impl fmt::Display for Output {
     }
 }
 
+/// Which output refused, and how much of it was taken.
+#[derive(Clone, Copy)]
+pub struct OutputFault {
+    /// The output whose writer refused.
+    pub output: Output,
+    /// How many of its bytes the writer took before.
+    pub count: u64,
+}
+
 /// Why a run has no outcome. Refusals come in this order, and after one of the first three nothing is written.
 #[derive(Clone, Copy, Debug, PartialEq, Eq)]
 pub enum RunFault {

@@ -6,21 +6,21 @@ ghost use Rattle.pac_run.specs.Films.{film_took, film_refused};
 ghost use Rattle.pac_run.specs.Plays.{IsUntouched, run_of};
 ghost use Rattle.pac_run.specs.Recorded.{GivesUp, HasPlayed, PerformsFilm, RecordsOutputs};
 
-use crate::fault::Output;
+use crate::fault::{Output, OutputFault};
 use crate::play::play;
 use pac_board::{Board, Picture, Refused, Sink, Stop};
 use pac_inputs::Script;
 use pac_media::{Frames, Image, Out, WaveFile};
 
-/// The film and the wave file of a run, and which of them refused, after how many bytes, if one did.
+/// The film and the wave file of a run, and which of them refused, if one did.
 #[derive(Drop)]
 pub struct Film<F, W> {
     /// The images.
     pub frames: Frames<F>,
     /// The sound.
     pub wave: WaveFile<W>,
-    /// The output that refused, and the count of the bytes that it took.
-    pub fault: Option<(Output, u64)>,
+    /// The output that refused, if one did.
+    pub fault: Option<OutputFault>,
 }
 
 impl<F: Out, W: Out> Sink for Film<F, W> {
@@ -33,7 +33,10 @@ impl<F: Out, W: Out> Sink for Film<F, W> {
         match self.wave.put(sample) {
             Ok(()) => Ok(()),
             Err(fault) => {
-                self.fault = Some((Output::Wave, fault.count));
+                self.fault = Some(OutputFault {
+                    output: Output::Wave,
+                    count: fault.count,
+                });
                 Err(Refused)
             }
         }
@@ -44,7 +47,10 @@ impl<F: Out, W: Out> Sink for Film<F, W> {
         match self.frames.put(picture) {
             Ok(()) => Ok(()),
             Err(fault) => {
-                self.fault = Some((Output::Frames, fault.count));
+                self.fault = Some(OutputFault {
+                    output: Output::Frames,
+                    count: fault.count,
+                });
                 Err(Refused)
             }
         }
@@ -52,33 +58,37 @@ impl<F: Out, W: Out> Sink for Film<F, W> {
 }
 
 /// The samples of a frame.
-pub(crate) const FRAME_SAMPLES: u32 = 1584;
+pub(crate) const FRAME_SAMPLES: u32 = pac_board::FRAME_SAMPLES as u32;
 
 impl<F: Out, W: Out> Film<F, W> {
     /// The output that refused. Where that is the film, the samples that came before are still written.
-    pub(crate) fn give_up(&mut self) -> (Output, u64)
+    pub(crate) fn give_up(&mut self) -> OutputFault
         requires { IsSome self.old.fault }
         ensures told { Some result ≡ self.old.fault }
-        ensures left { GivesUp W.took W.refused self.old result.0 self.new }
+        ensures left { GivesUp W.took W.refused self.old result.output self.new }
     {
         let fault = self.fault.unwrap();
-        if let Output::Frames = fault.0 {
+        if let Output::Frames = fault.output {
             let _ = self.wave.flush();
         }
         fault
     }
 
     /// Plays the script: all that the board gives out is written, and zeros for the samples that never came.
-    /// Answers the stop, if there was one, or the output that refused, after how many bytes.
-    fn perform(&mut self, board: &mut Board, script: &Script) -> Result<Option<Stop>, (Output, u64)>
+    /// Answers the stop, if there was one, or the output that refused.
+    fn perform(&mut self, board: &mut Board, script: &Script) -> Result<Option<Stop>, OutputFault>
         requires { IsUntouched board.old }
         ensures played { IfOk result (λ stop. HasPlayed board.old script.now stop board.new) }
-        ensures film { PerformsFilm F.took F.refused W.took W.refused (run_of board.old script.now).outputs self.old result self.new }
+        ensures film { PerformsFilm F.took F.refused W.took W.refused
+            (run_of board.old script.now).outputs self.old result self.new }
     {
         match play(board, script, self) {
             Ok(stop) => match self.wave.finish() {
                 Ok(()) => Ok(stop),
-                Err(fault) => Err((Output::Wave, fault.count)),
+                Err(fault) => Err(OutputFault {
+                    output: Output::Wave,
+                    count: fault.count,
+                }),
             },
             Err(_) => Err(self.give_up()),
         }
@@ -93,7 +103,7 @@ pub fn record_run<F: Out, W: Out>(
     image: Image,
     frames: &mut F,
     wave: &mut W,
-) -> Result<Option<Stop>, (Output, u64)>
+) -> Result<Option<Stop>, OutputFault>
     requires { IsUntouched board.old }
     ensures played { IfOk result (λ stop. HasPlayed board.old script.now stop board.new) }
     ensures texts { RecordsOutputs
@@ -104,7 +114,10 @@ pub fn record_run<F: Out, W: Out>(
     let mut wave = WaveFile::begin(wave, FRAME_SAMPLES * script.frames());
     if let Err(fault) = wave.flush() {
         let _ = wave.into_writer();
-        return Err((Output::Wave, fault.count));
+        return Err(OutputFault {
+            output: Output::Wave,
+            count: fault.count,
+        });
     }
     let mut film = Film {
         frames: Frames::new(frames, image),

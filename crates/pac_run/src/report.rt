@@ -19,7 +19,8 @@ fn put_counts<W: Out>(
     steps: u64,
     ticks: u64,
 ) -> Result<(), WriteFault>
-    ensures { Puts W.took W.refused output.old (text.counts_text shown total steps ticks) result output.new }
+    ensures { Puts W.took W.refused output.old
+        (text.counts_text shown total steps ticks) result output.new }
 {
     let mut shown_digits = Buffer::new();
     let mut total_digits = Buffer::new();
@@ -65,7 +66,8 @@ fn put_opcode_stop<W: Out>(
 
 /// The line of a stop at a vector byte that is no RST.
 fn put_vector_stop<W: Out>(output: &mut Counted<W>, pc: u16, vector: u8) -> Result<(), WriteFault>
-    ensures { (bytes : List ℕ) → Puts W.took W.refused output.old (text.cause_text pc bytes (Vector vector)) result output.new }
+    ensures { (bytes : List ℕ) → Puts W.took W.refused output.old
+        (text.cause_text pc bytes (Vector vector)) result output.new }
 {
     let pieces: [&[u8]; 5] = [
         b"stop S2 at ",
@@ -79,7 +81,8 @@ fn put_vector_stop<W: Out>(output: &mut Counted<W>, pc: u16, vector: u8) -> Resu
 
 /// What stopped the board, and where: one line.
 fn put_stop<W: Out>(output: &mut Counted<W>, stop: Stop) -> Result<(), WriteFault>
-    ensures { Puts W.took W.refused output.old (text.cause_text stop.pc stop.bytes stop.cause) result output.new }
+    ensures { Puts W.took W.refused output.old
+        (text.cause_text stop.pc stop.bytes stop.cause) result output.new }
 {
     match stop.cause {
         Cause::Opcode => put_opcode_stop(output, stop.pc, stop.bytes),

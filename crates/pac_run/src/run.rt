@@ -14,15 +14,13 @@ use crate::inputs::RunInputs;
 use crate::outcome::Outcome;
 use crate::plan::{Prepared, prepare};
 use crate::report::put_report;
-use pac_asm::Program;
-use pac_board::{Board, Stop};
+use pac_asm_program::Program;
+use pac_board::{Board, FRAME_TICKS};
+use pac_cpu::Stop;
 use pac_inputs::Script;
 use pac_listing::write_listing;
 use pac_media::{Counted, Image, Out, WriteFault};
 use std::alloc::Global;
-
-/// The T-states of a frame.
-const FRAME_TICKS: u64 = 50_688;
 
 /// Puts the listing into its file: without a source it has no lines and no symbols.
 fn put_listing<L: Out>(
@@ -30,7 +28,8 @@ fn put_listing<L: Out>(
     source: Option<&[u8]>,
     program: &Option<Program>,
 ) -> Result<(), WriteFault>
-    ensures { Puts L.took L.refused file.old (listing_in (option_copied source.entry) program.now) result file.new }
+    ensures { Puts L.took L.refused file.old
+        (listing_in (option_copied source.entry) program.now) result file.new }
 {
     match (source, program) {
         (Some(source), Some(program)) => write_listing(file, program, source),
@@ -44,7 +43,8 @@ pub(crate) fn list<L: Out>(
     source: Option<&[u8]>,
     program: &Option<Program>,
 ) -> Result<(), WriteFault>
-    ensures { WritesWholeText (record { took = L.took; refused = L.refused; old = listing.old; new = listing.new })
+    ensures { WritesWholeText
+        (record { took = L.took; refused = L.refused; old = listing.old; new = listing.new })
         (listing_in (option_copied source.entry) program.now) result }
 {
     let mut file = Counted::new(listing);
@@ -57,7 +57,8 @@ pub(crate) fn report_on<R: Out>(
     outcome: Outcome,
     total: u32,
 ) -> Result<(), WriteFault>
-    ensures { WritesWholeText (record { took = R.took; refused = R.refused; old = report.old; new = report.new })
+    ensures { WritesWholeText
+        (record { took = R.took; refused = R.refused; old = report.old; new = report.new })
         (text.report outcome total) result }
 {
     let mut file = Counted::new(report);
@@ -89,7 +90,8 @@ fn write_all<F: Out, W: Out, L: Out, R: Out>(
     listing: &mut L,
     report: &mut R,
 ) -> Result<Outcome, RunFault>
-    requires { IsPrepared inputs.now (record { program = program.now; board = board.old; script = script.now; image = image }) }
+    requires { IsPrepared inputs.now
+        (record { program = program.now; board = board.old; script = script.now; image = image }) }
     ensures { Runs inputs.now (record {
       frames = record { took = F.took; refused = F.refused; old = frames.old; new = frames.new };
       wave = record { took = W.took; refused = W.refused; old = wave.old; new = wave.new };
@@ -103,7 +105,7 @@ fn write_all<F: Out, W: Out, L: Out, R: Out>(
     }
     let stop = match record_run(board, script, image, frames, wave) {
         Ok(stop) => stop,
-        Err((output, count)) => return Err(RunFault::Write(output, count)),
+        Err(fault) => return Err(RunFault::Write(fault.output, fault.count)),
     };
     let outcome = outcome_of(board, stop);
     match report_on(report, outcome, total) {

@@ -8,34 +8,41 @@ ghost use Rattle.pac_debug.specs.Running.{whole_run};
 ghost use Rattle.pac_debug.specs.Session.{session_at_start};
 ghost use Rattle.pac_run.specs.Watched.{Films, WatchesOutputs};
 
-use crate::fault::Output;
+use crate::fault::{Output, OutputFault};
 use crate::film::{FRAME_SAMPLES, Film};
 use pac_debug::{CommandFault, RunTotals, Session, watch};
 use pac_media::{Counted, Frames, Image, Out, WaveFile};
 
 impl<F: Out, W: Out> Film<F, W> {
     /// Does a session's commands and goes on to the end of its run. All that the run gives out is written, whatever the commands
-    /// do, and zeros for the samples that never came. Answers what the run came to, or the output that refused, after how many bytes.
+    /// do, and zeros for the samples that never came. Answers what the run came to, or the output that refused.
     fn watch<T: Out>(
         &mut self,
         session: &mut Session,
         commands: &[u8],
         text: &mut Counted<T>,
-    ) -> Result<RunTotals, (Output, u64)>
+    ) -> Result<RunTotals, OutputFault>
         requires { session.old ≡ session_at_start session.old.setting 0 }
         ensures outcome { IfOk result (IsOutcome session.old) }
-        ensures film { Films F.took F.refused W.took W.refused T.took T.refused session.old.setting (lines commands.now)
+        ensures film { Films F.took F.refused W.took W.refused T.took T.refused session.old.setting
+            (lines commands.now)
             self.old text.old result self.new text.new }
     {
         match watch(session, commands, self, text) {
             Ok(outcome) => match self.wave.finish() {
                 Ok(()) => Ok(outcome),
-                Err(fault) => Err((Output::Wave, fault.count)),
+                Err(fault) => Err(OutputFault {
+                    output: Output::Wave,
+                    count: fault.count,
+                }),
             },
             Err(CommandFault::Refused) => Err(self.give_up()),
             Err(CommandFault::Text(fault)) => {
                 let _ = self.wave.flush();
-                Err((Output::Text, fault.count))
+                Err(OutputFault {
+                    output: Output::Text,
+                    count: fault.count,
+                })
             }
         }
     }
@@ -50,19 +57,24 @@ pub fn watch_run<F: Out, W: Out, T: Out>(
     frames: &mut F,
     wave: &mut W,
     text: &mut T,
-) -> Result<RunTotals, (Output, u64)>
-    requires { session.old ≡ session_at_start session.old.setting 0 }
+) -> Result<RunTotals, OutputFault>
+    requires begun { session.old ≡ session_at_start session.old.setting 0 }
+    requires count { frame_count ≡ total_frames session.old.setting.script }
     ensures outcome { IfOk result (IsOutcome session.old) }
     ensures texts { WatchesOutputs
         (record { took = F.took; refused = F.refused; old = frames.old; new = frames.new })
         (record { took = W.took; refused = W.refused; old = wave.old; new = wave.new })
         (record { took = T.took; refused = T.refused; old = text.old; new = text.new })
-        (total_frames session.old.setting.script) (whole_run session.old.setting).outputs session.old.setting (lines commands.now) result }
+        (total_frames session.old.setting.script)
+        (whole_run session.old.setting).outputs session.old.setting (lines commands.now) result }
 {
     let mut wave = WaveFile::begin(wave, FRAME_SAMPLES * session.frames());
     if let Err(fault) = wave.flush() {
         let _ = wave.into_writer();
-        return Err((Output::Wave, fault.count));
+        return Err(OutputFault {
+            output: Output::Wave,
+            count: fault.count,
+        });
     }
     let mut film = Film {
         frames: Frames::new(frames, image),

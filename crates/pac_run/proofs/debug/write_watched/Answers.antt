@@ -25,7 +25,7 @@ returns-in-Err-watch_run g c =
       report = writing g.R.Out.took g.R.Out.refused c.args.report.now c.args.report.now;
     })
     (writing g.T.Out.took g.T.Out.refused c.args.text.now c.watch_run.new.text)
-    c.args.program.now c.args.session.now c.args.total c.requires c.in-Err-watch_run.output c.in-Err-watch_run.count
+    c.args.program.now c.args.session.now c.args.total c.requires c.in-Err-watch_run.fault.output c.in-Err-watch_run.fault.count
     c.in-Err-watch_run.ensures.texts c.in_default.ensures refl
 
 pub returns-in-Ok-report_on : goal.returns-in-Ok-report_on

@@ -14,7 +14,7 @@ returns-in-Err-record_run g c =
       listing = writing g.L.Out.took g.L.Out.refused c.args.listing.now c.list.new.listing;
       report = writing g.R.Out.took g.R.Out.refused c.args.report.now c.args.report.now;
     })
-    c.args.inputs.now _ c.requires c.in-Err-record_run.output c.in-Err-record_run.count c.in-Err-record_run.ensures.texts
+    c.args.inputs.now _ c.requires c.in-Err-record_run.fault.output c.in-Err-record_run.fault.count c.in-Err-record_run.ensures.texts
     c.in_default.ensures refl
 
 pub outcome_of-outcome-requires : goal.outcome_of-outcome-requires

@@ -48,7 +48,7 @@ returns-in-Err-Refused-clause-film g c =
     c.in-Err-Refused.is c.watch.ensures c.in-Err-Refused.field-0-is in
     films-till g.F.Out.took g.F.Out.refused g.W.Out.took g.W.Out.refused g.T.Out.took g.T.Out.refused c.args.session.now.setting
     (lines c.args.commands.now) c.args.self.now c.give_up.new.self c.args.text.now c.watch.new.text refused.told refused.text.takes
-    c.give_up.result.0 c.give_up.result.1
+    c.give_up.result.output c.give_up.result.count
     (stops-among g.F.Out.took g.F.Out.refused g.W.Out.took g.W.Out.refused (whole_run c.args.session.now.setting).outputs refused.taken
     refused.left c.args.self.now c.watch.new.sink c.give_up.new.self c.give_up.result
     (subst (λ outputs. IsPrefix (refused.taken ++ refused.left) outputs) (all-to-give c.args.session.now c.requires) refused.among)
