@@ -1,8 +1,8 @@
 -- Lines of the picture that are composed again, from the top.
 use Rattle.std.proofs.Common.{◌≡◌, ◌<◌, ℕ, suc, ◌+◌, ◌-◌, List, [], ◌∷◌, ◌++◌, length, set, drop, refl, sym, ap, ◌∙◌, arith, append_assoc}
 use Rattle.std.proofs.lemmas.List.{drop-set, drop-set-add, set-append_right}
-use Rattle.pac_num.specs.Tabulate.{tabulate}
-use Rattle.pac_num.proofs.Tabulated.{length-tabulate}
+use Rattle.pac_cpu.specs.Tabulate.{tabulate}
+use Rattle.pac_cpu.proofs.Tabulated.{length-tabulate}
 use Rattle.pac_map.specs.Entry.{Line}
 use Rattle.pac_picture.specs.Picture.{picture_line}
 use Rattle.pac_board_model.specs.BoardView.{video_roms, video_memory}

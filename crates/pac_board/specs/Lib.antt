@@ -28,6 +28,7 @@ pub use Rattle.pac_map.specs.Entry
 pub use Rattle.pac_map.specs.Fields as MemoryFields
 pub use Rattle.pac_map.specs.Inputs
 pub use Rattle.pac_map.specs.Latched
+pub use Rattle.pac_map.specs.Place
 pub use Rattle.pac_map.specs.RomParts
 pub use Rattle.pac_map.specs.View as MemoryView
 pub use Rattle.pac_board_model.specs.BoardView

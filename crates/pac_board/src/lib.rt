@@ -22,7 +22,7 @@ pub use fault::{Fault, Idle, InitRefused};
 pub use fields::Fields;
 pub use pac_cpu::{Alternate, Cause, InterruptMode, Once, Regs, StepKind, Stop};
 pub use pac_map::{Flags, Inputs, MemoryFields, RomSet};
-pub use pac_picture::{Lines, Picture};
+pub use pac_picture::{HEIGHT, Lines, Picture, WIDTH};
 pub use sink::{Refused, Sink};
 pub use snapshot::Snapshot;
 pub use timing::{FRAME_SAMPLES, FRAME_TICKS};

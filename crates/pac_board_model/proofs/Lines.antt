@@ -4,9 +4,9 @@ use Rattle.std.proofs.Common.{List, [], ◌∷◌, length, slice_index_or, slice
 use Rattle.std.proofs.lemmas.Bool.Decides.{nat_tests}
 use Rattle.std.proofs.lemmas.Grind.{get_or-set_at}
 use Rattle.std.proofs.lemmas.List.{ext_get_or, get_or-set_other}
-use Rattle.pac_roms.specs.Parts.{Parts}
-use Rattle.pac_tiles.specs.Tiles.{height}
-use Rattle.pac_num.proofs.Tabulated.{length-tabulate, get_or-tabulate}
+use Rattle.pac_map.specs.RomParts.{Parts}
+use Rattle.pac_picture.specs.Tiles.{height}
+use Rattle.pac_cpu.proofs.Tabulated.{length-tabulate, get_or-tabulate}
 use Rattle.pac_picture.specs.Picture.{picture_line}
 use Rattle.pac_map.specs.Entry.{Entry, Line}
 use Rattle.pac_board_model.specs.BoardView.{BoardView, IsBoard, video_roms, video_memory}

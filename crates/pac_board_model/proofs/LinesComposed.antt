@@ -3,10 +3,10 @@
 use Rattle.std.proofs.Common.{◌≡◌, ◌≢◌, ℕ, suc, ◌+◌, ◌-◌, ◌/◌, ◌%◌, ◌==◌, ◌&&◌, ◌<◌, ◌≤◌, if◌then◌else◌, Bool, true, false}
 use Rattle.std.proofs.Common.{nat_le, ◌⊎◌, inl, inr, List, [], ◌∷◌, ◌++◌, refl, sym, ap, subst, ◌∙◌, arith}
 use Rattle.std.proofs.lemmas.Bool.Decides.{nat_tests}
-use Rattle.pac_code.specs.Items.{Item}
-use Rattle.pac_roms.specs.Parts.{Parts}
-use Rattle.pac_tiles.specs.Tiles.{height}
-use Rattle.pac_num.proofs.Tabulated.{get_or-tabulate}
+use Rattle.pac_cpu.specs.PlacedItems.{Item}
+use Rattle.pac_map.specs.RomParts.{Parts}
+use Rattle.pac_picture.specs.Tiles.{height}
+use Rattle.pac_cpu.proofs.Tabulated.{get_or-tabulate}
 use Rattle.pac_map.specs.Entry.{Entry, Sample, Line, Blank}
 use Rattle.pac_picture.specs.Picture.{picture_line}
 use Rattle.pac_board_model.specs.BoardView.{BoardView, power_on_board_view, video_roms}

@@ -7,8 +7,8 @@ use Rattle.pac_map.specs.Lookups.{Lookups, answer_at}
 use Rattle.pac_map.specs.Entry.{Entry, Write, Hold, view_after}
 use Rattle.pac_map.specs.Place.{ram_size, coordinates_size, registers_size}
 use Rattle.pac_map.specs.View.{View, kept_nibble, attributes_size}
-use Rattle.pac_num.specs.Tabulate.{tabulate}
-use Rattle.pac_roms.specs.Parts.{Parts}
+use Rattle.pac_cpu.specs.Tabulate.{tabulate}
+use Rattle.pac_map.specs.RomParts.{Parts}
 use Rattle.pac_board_model.specs.BoardView.{BoardView, board_after}
 
 -- whether a place is this cell of tile, colour or work RAM

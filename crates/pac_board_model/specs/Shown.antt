@@ -1,9 +1,9 @@
 -- To be believed: what a history sounds and shows: the voices' accumulators as sums over all samples, and each line of the
 -- picture as it was last composed. No loop and no buffer stands here.
 use Rattle.std.specs.Prelude.{ℕ, ℤ, suc, ◌+◌, ◌%◌, ◌==◌, if◌then◌else◌, List, [], ◌∷◌, ◌++◌, slice_index_or}
-use Rattle.pac_roms.specs.Parts.{Parts}
-use Rattle.pac_num.specs.Tabulate.{tabulate}
-use Rattle.pac_tiles.specs.Tiles.{height}
+use Rattle.pac_map.specs.RomParts.{Parts}
+use Rattle.pac_cpu.specs.Tabulate.{tabulate}
+use Rattle.pac_picture.specs.Tiles.{height}
 use Rattle.pac_map.specs.Entry.{Entry, Sample, Line, Blank}
 use Rattle.pac_map.specs.Place.{ram_size}
 use Rattle.pac_map.specs.View.{View}

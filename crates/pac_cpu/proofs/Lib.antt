@@ -1,4 +1,5 @@
 pub mod CpuSteps
 pub mod Views
+pub use Rattle.pac_num.proofs.Tabulated
 pub use Rattle.pac_table.proofs.Lengths as CodeLengths
 pub use Rattle.pac_code.proofs.RoundTrip

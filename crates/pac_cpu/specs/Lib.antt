@@ -1,5 +1,6 @@
 pub mod Power
 pub mod Step
+pub use Rattle.pac_num.specs.Tabulate
 pub use Rattle.pac_table.specs.Instructions
 pub use Rattle.pac_table.specs.declared.effects.InterruptMode
 pub use Rattle.pac_table.specs.declared.effects.InterruptMode.TheVariants as InterruptModeVariants

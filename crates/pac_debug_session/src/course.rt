@@ -8,10 +8,8 @@ ghost use Rattle.pac_board.specs.Step.{frame_ticks};
 ghost use Rattle.pac_debug_session.specs.Steps.{PlaysStep, told_after};
 
 use crate::history::{History, PastStep};
-use bitflags::Flags;
-use pac_board::{Board, FRAME_TICKS};
-use pac_cpu::Once;
-use pac_inputs::{Inputs, Script};
+use pac_board::{Board, FRAME_TICKS, Once};
+use pac_inputs::{Flags, Inputs, Script};
 
 /// Holds these inputs, and no others.
 pub fn hold(board: &mut Board, inputs: Inputs)

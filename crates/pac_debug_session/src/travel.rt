@@ -14,8 +14,7 @@ use crate::history::History;
 use crate::motion::{Motion, MotionEnd, RunTotals};
 use crate::session::Session;
 use crate::silent::Silent;
-use pac_board::{Board, FRAME_TICKS, Refused, Sink};
-use pac_cpu::{Once, Stop};
+use pac_board::{Board, FRAME_TICKS, Once, Refused, Sink, Stop};
 
 /// The steps from one checkpoint to the next (this profile).
 pub const CHECKPOINT_STEPS: u64 = 4096;

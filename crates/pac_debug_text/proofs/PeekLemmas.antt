@@ -2,7 +2,7 @@
 use Rattle.std.proofs.Common.{◌≡◌, ℕ, suc, ◌+◌, ◌-◌, ◌/◌, ◌<◌, List, [], ◌++◌, sym, ap, ◌∙◌, arith}
 use Rattle.std.specs.Prelude.{min}
 use Rattle.std.specs.List.{flat_map}
-use Rattle.pac_num.specs.Numbers.{wrapped_address}
+use Rattle.pac_dis.specs.Numbers.{wrapped_address}
 use Rattle.pac_dis.specs.Texts.{size_at}
 use Rattle.pac_dis.specs.Lines.{line_text}
 use Rattle.pac_debug_text.specs.Peeks.{bytes_from, spaced_byte, row_text, rows_text, memory_row_bytes, memory_text, instructions_text}

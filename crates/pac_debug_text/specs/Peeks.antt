@@ -2,8 +2,8 @@
 -- the byte that the processor would read at an address; addresses wrap at 65,536.
 use Rattle.std.specs.Prelude.{ℕ, zero, suc, ◌+◌, ◌-◌, ◌/◌, min, List, [], ◌∷◌, ◌++◌, codes}
 use Rattle.std.specs.List.{flat_map}
-use Rattle.pac_num.specs.Numbers.{wrapped_address}
-use Rattle.pac_num.specs.Hexadecimal.{hex_byte, hex_word}
+use Rattle.pac_dis.specs.Numbers.{wrapped_address}
+use Rattle.pac_dis.specs.Hexadecimal.{hex_byte, hex_word}
 use Rattle.pac_dis.specs.Texts.{size_at}
 use Rattle.pac_out.specs.Pieces.{joined_pieces}
 use Rattle.pac_dis.specs.Lines.{line_text}

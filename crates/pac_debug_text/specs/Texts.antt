@@ -1,7 +1,7 @@
 -- To be believed: the texts that answer a command (this profile). A text is the join of its pieces.
 use Rattle.std.specs.Prelude.{ℕ, Bool, true, false, List, [], ◌∷◌, codes, decimal}
 use Rattle.std.specs.List.{flat_map}
-use Rattle.pac_num.specs.Hexadecimal.{hex_byte, hex_word}
+use Rattle.pac_dis.specs.Hexadecimal.{hex_byte, hex_word}
 use Rattle.pac_exec.specs.InterruptMode.{InterruptMode}
 use Rattle.pac_exec.specs.InterruptModeVariants.{Zero, One, Two}
 use Rattle.pac_exec.specs.declared.regs.Regs.{Regs}

@@ -7,8 +7,7 @@ ghost use Rattle.pac_debug_text.specs.Texts as text;
 
 use crate::place::{code_text, halted_text};
 use itoa::Buffer;
-use pac_dis::Text;
-use pac_num::hex_word;
+use pac_dis::{Text, hex_word};
 use pac_out::counted::Counted;
 use pac_out::pending::Pending;
 use pac_out::{Out, WriteFault};

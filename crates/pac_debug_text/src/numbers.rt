@@ -47,5 +47,5 @@ pub(crate) fn address_of(word: &[u8]) -> Option<u16>
     };
     let high = 16 * hex_digit(*a)? + hex_digit(*b)?;
     let low = 16 * hex_digit(*c)? + hex_digit(*d)?;
-    Some(pac_num::word(low, high))
+    Some(pac_dis::word(low, high))
 }

@@ -2,13 +2,12 @@
 
 ghost use Rattle.std.specs.Prelude.{◌≡◌, ◌≤◌, ◌-◌, ℕ, min};
 ghost use Rattle.std.specs.List.{flat_map};
-ghost use Rattle.pac_num.specs.Numbers.{wrapped_address};
+ghost use Rattle.pac_dis.specs.Numbers.{wrapped_address};
 ghost use Rattle.pac_out.specs.Counted.{Puts};
 ghost use Rattle.pac_out.specs.Pending.{Gathers};
 ghost use Rattle.pac_debug_text.specs.Peeks as text;
 
-use pac_dis::put_line;
-use pac_num::{hex_byte, hex_word, offset};
+use pac_dis::{hex_byte, hex_word, offset, put_line};
 use pac_out::counted::Counted;
 use pac_out::pending::Pending;
 use pac_out::{Out, WriteFault};

@@ -6,8 +6,7 @@ ghost use Rattle.pac_out.specs.Counted.{Puts};
 ghost use Rattle.pac_debug_text.specs.Texts as text;
 
 use itoa::Buffer;
-use pac_dis::{Text, disassemble};
-use pac_num::hex_word;
+use pac_dis::{Text, disassemble, hex_word};
 use pac_out::counted::Counted;
 use pac_out::{Out, WriteFault};
 

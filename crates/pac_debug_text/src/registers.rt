@@ -6,8 +6,8 @@ ghost use Rattle.pac_out.specs.Pending.{Gathers};
 ghost use Rattle.pac_debug_text.specs.Texts as text;
 
 use itoa::Buffer;
+use pac_dis::{hex_byte, hex_word};
 use pac_exec::{Alternate, InterruptMode, Regs};
-use pac_num::{hex_byte, hex_word};
 use pac_out::counted::Counted;
 use pac_out::pending::Pending;
 use pac_out::{Out, WriteFault};

@@ -12,6 +12,7 @@ mod text;
 
 pub use disassembly::disassemble;
 pub use lines::{put_disassembly, put_line};
+pub use pac_num::{hex_byte, hex_word, offset, word};
 pub use text::Text;
 
 /// The text of each instruction of the table, wherever it stands, has 16 bytes at most.

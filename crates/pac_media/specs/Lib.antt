@@ -2,6 +2,7 @@ pub mod Images
 pub mod Samples
 pub mod Sound
 pub use Rattle.pac_out.specs.Counted
+pub use Rattle.pac_out.specs.Pieces
 pub use Rattle.pac_out.specs.Writes
 pub use Rattle.pac_out.specs.declared.WriteFault
 pub use Rattle.pac_out.specs.declared.counted.Counted as CountedFile

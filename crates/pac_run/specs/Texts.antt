@@ -1,11 +1,11 @@
 -- To be believed: the four texts of a run: the images of its pictures, its sound, the listing and the report.
 use Rattle.std.specs.Prelude.{ℕ, ℤ, pos, ◌*◌, ◌-◌, length, replicate, Option, None, Some, slice_index, List, [], ◌∷◌, ◌++◌, codes, decimal}
 use Rattle.std.specs.List.{flat_map}
-use Rattle.pac_num.specs.Hexadecimal.{hex_byte, hex_word}
-use Rattle.pac_out.specs.Pieces.{joined_pieces}
-use Rattle.pac_cpu.specs.declared.once.Stop.{Stop}
-use Rattle.pac_cpu.specs.declared.once.Cause.{Cause}
-use Rattle.pac_cpu.specs.declared.once.Cause.TheVariants.{Opcode, Vector}
+use Rattle.pac_listing.specs.Hexadecimal.{hex_byte, hex_word}
+use Rattle.pac_media.specs.Pieces.{joined_pieces}
+use Rattle.pac_board.specs.Stop.{Stop}
+use Rattle.pac_board.specs.Cause.{Cause}
+use Rattle.pac_board.specs.CauseVariants.{Opcode, Vector}
 use Rattle.pac_media.specs.Images.{ppm_of}
 use Rattle.pac_media.specs.Samples.{wav_header, samples_text}
 use Rattle.pac_board.specs.ModelLaws.{frame_samples}

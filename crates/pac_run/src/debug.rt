@@ -20,7 +20,7 @@ use pac_media::{Image, Out};
 use std::alloc::Global;
 
 /// What a session's run came to, as a run tells it.
-fn outcome_of(outcome: pac_debug_session::RunTotals) -> Outcome
+fn outcome_of(outcome: pac_debug::RunTotals) -> Outcome
     ensures { result ≡ record {
       frames = outcome.frames;
       steps = outcome.steps;

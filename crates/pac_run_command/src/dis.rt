@@ -8,9 +8,7 @@ ghost use Rattle.pac_run_command.specs.Texts.{WritesDisassembly};
 
 use crate::failure::{Failure, Target, read_failure};
 use pac_dis::put_disassembly;
-use pac_out::counted::Counted;
-use pac_out::{Out, WriteFault};
-use pac_run::Output;
+use pac_run::{Counted, Out, Output, WriteFault};
 use pac_run_files::{FileSystem, read_file};
 use std::alloc::Global;
 

@@ -5,7 +5,7 @@ use Rattle.std.proofs.lemmas.List.{ext_get_or}
 use Rattle.std.proofs.lemmas.Bool.{eqb-true}
 use Rattle.pac_num.specs.Tabulate.{tabulate}
 use Rattle.pac_num.proofs.Tabulated.{length-tabulate, get_or-tabulate}
-use Rattle.pac_picture.specs.State.{IsPicture}
+use Rattle.pac_board.specs.PictureState.{IsPicture}
 use Rattle.pac_board.specs.declared.fields.Fields.{Fields}
 use Rattle.pac_board.specs.Fields.{state_of, AreBoardFields}
 use Rattle.pac_board.specs.State.{BoardState}

@@ -10,7 +10,7 @@ use Rattle.std.proofs.lemmas.Slice.Eq.{bytes_eq-Decides}
 use Rattle.std.specs.Int.{w16, w32, w64, from_le_bytes}
 use Rattle.sha1.specs.Sha1.{sha1}
 use Rattle.pac_num.specs.Tabulate.{tabulate}
-use Rattle.pac_roms.specs.Parts.{Parts}
+use Rattle.pac_board.specs.RomParts.{Parts}
 use Rattle.pac_roms_manifest.specs.Sets.{digest_of}
 use Rattle.pac_state.specs.declared.fault.LoadFault.TheVariants.{NoState, OtherVersion, Size, Damaged, OtherSet}
 use Rattle.pac_out.specs.Pieces.{joined_pieces}

@@ -2,13 +2,13 @@
 use Rattle.std.specs.Prelude.{ℕ, ℤ, ◌*◌, ◌==◌, Bool, if◌then◌else◌, List, take, drop, slice_index, Option, Some, None}
 use Rattle.std.specs.Int.{w16, w32, w64, from_le_bytes, cast_signed}
 use Rattle.pac_num.specs.Numbers.{bit}
-use Rattle.pac_latch.specs.Latched.{latched_of}
-use Rattle.pac_table.specs.declared.effects.InterruptMode.{InterruptMode}
-use Rattle.pac_table.specs.declared.effects.InterruptMode.TheVariants.{Zero, One, Two}
-use Rattle.pac_exec.specs.declared.regs.Regs.{Regs}
+use Rattle.pac_board.specs.Latched.{latched_of}
+use Rattle.pac_board.specs.InterruptMode.{InterruptMode}
+use Rattle.pac_board.specs.InterruptModeVariants.{Zero, One, Two}
+use Rattle.pac_board.specs.Regs.{Regs}
 use Rattle.pac_num.specs.Tabulate.{tabulate}
-use Rattle.pac_tiles.specs.Tiles.{width, height}
-use Rattle.pac_map.specs.View.{View}
+use Rattle.pac_board.specs.Tiles.{width, height}
+use Rattle.pac_board.specs.MemoryView.{View}
 use Rattle.pac_board.specs.declared.due.Due.{Due}
 use Rattle.pac_board.specs.State.{BoardState}
 

@@ -4,12 +4,12 @@ use Rattle.std.specs.Prelude.{ℕ, pos, List, [], ◌∷◌, ◌++◌, is_some, 
 use Rattle.std.specs.Int.{w16, w32, w64, to_le_bytes, cast_unsigned}
 use Rattle.sha1.specs.Sha1.{sha1}
 use Rattle.pac_out.specs.Pieces.{joined_pieces}
-use Rattle.pac_latch.specs.Latched.{binary_digit, binary_number, byte_of_latch}
-use Rattle.pac_table.specs.declared.effects.InterruptMode.{InterruptMode}
-use Rattle.pac_table.specs.declared.effects.InterruptMode.TheVariants.{Zero, One, Two}
-use Rattle.pac_exec.specs.declared.regs.Regs.{Regs}
-use Rattle.pac_map.specs.View.{View}
-use Rattle.pac_roms.specs.Parts.{Parts}
+use Rattle.pac_board.specs.Latched.{binary_digit, binary_number, byte_of_latch}
+use Rattle.pac_board.specs.InterruptMode.{InterruptMode}
+use Rattle.pac_board.specs.InterruptModeVariants.{Zero, One, Two}
+use Rattle.pac_board.specs.Regs.{Regs}
+use Rattle.pac_board.specs.MemoryView.{View}
+use Rattle.pac_board.specs.RomParts.{Parts}
 use Rattle.pac_roms_manifest.specs.Sets.{digest_of}
 use Rattle.pac_board.specs.declared.due.Due.{Due}
 use Rattle.pac_board.specs.State.{BoardState}

@@ -7,11 +7,7 @@ ghost use Rattle.pac_board.specs.MemoryFields.{view_of_fields};
 ghost use Rattle.pac_state.specs.Text as text;
 
 use crate::sizes::ProcessorBlock;
-use bitflags::Flags;
-use pac_board::Due;
-use pac_exec::Regs;
-use pac_inputs::Inputs;
-use pac_table::InterruptMode;
+use pac_board::{Due, Flags, Inputs, InterruptMode, Regs};
 
 /// A bit as a number.
 fn digit(bit: bool) -> u8

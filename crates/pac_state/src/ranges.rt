@@ -1,8 +1,8 @@
 //! What holds of a board's fields by their types.
 
 ghost use Rattle.std.specs.Prelude.{◌≡◌, ◌<◌, ◌^◌, length};
-ghost use Rattle.pac_inputs.specs.Inputs as inputs;
-ghost use Rattle.pac_map.specs.Place as place;
+ghost use Rattle.pac_board.specs.Inputs as inputs;
+ghost use Rattle.pac_board.specs.Place as place;
 ghost use Rattle.pac_state.specs.Files.{AreWords, FitsSample, IsState};
 ghost use Rattle.pac_board.specs.Fields.{state_of, AreBoardFields};
 
@@ -47,7 +47,7 @@ fn sample(due: Due)
 }
 
 /// Memories have their sizes.
-fn sizes(memory: &pac_map::MemoryFields)
+fn sizes(memory: &pac_board::MemoryFields)
     ensures tile { length memory.now.tile.now ≡ place.ram_size }
     ensures colour { length memory.now.colour.now ≡ place.ram_size }
     ensures work { length memory.now.work.now ≡ place.ram_size }

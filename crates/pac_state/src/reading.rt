@@ -12,13 +12,8 @@ ghost use Rattle.pac_state.specs.Text as text;
 use crate::blocks::{controls, due, processor};
 use crate::header::{double_word, long_word, part, word};
 use crate::sizes::{PictureBlock, ProcessorBlock};
-use bitflags::Flags;
-use pac_board::{Due, Fields};
-use pac_exec::{Alternate, Regs};
-use pac_inputs::Inputs;
+use pac_board::{Alternate, Due, Fields, Flags, HEIGHT, Inputs, InterruptMode, Lines, Regs, WIDTH};
 use pac_num::bit;
-use pac_picture::{HEIGHT, Lines, WIDTH};
-use pac_table::InterruptMode;
 
 /// Whether a bit of a byte is set.
 fn is_set(byte: u8, place: u8) -> bool

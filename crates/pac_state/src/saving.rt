@@ -12,10 +12,9 @@ ghost use Rattle.pac_state.specs.Text as text;
 
 use crate::blocks::{controls, due, processor};
 use crate::header::MAGIC;
-use pac_board::{Board, Fields, Lines};
+use pac_board::{Board, Fields, HEIGHT, Lines};
 use pac_out::counted::Counted;
 use pac_out::{Out, WriteFault};
-use pac_picture::{HEIGHT, Lines};
 use pac_roms_manifest::digest;
 use sha1::Sha1;
 

@@ -1,6 +1,6 @@
 //! The sizes of a state file and of its larger parts, in bytes.
 
-use pac_picture::{HEIGHT, WIDTH};
+use pac_board::{HEIGHT, WIDTH};
 
 /// A state file as a whole.
 pub(crate) const FILE_SIZE: usize = 67_756;

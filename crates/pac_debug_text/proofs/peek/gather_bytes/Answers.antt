@@ -1,6 +1,6 @@
 use Rattle.std.proofs.Common.{◌≡◌, List, ℕ, suc, ◌+◌, ◌-◌, subst, arith}
 use Rattle.std.proofs.lemmas.Result.{err_from_is_err_and}
-use Rattle.pac_num.specs.Numbers.{wrapped_address}
+use Rattle.pac_dis.specs.Numbers.{wrapped_address}
 use Rattle.pac_out.proofs.Gathering.{Leaves, leaves-less, leaves-refused, leaves-nothing}
 use Rattle.pac_debug_text.specs.Peeks.{spaced_byte}
 use Rattle.pac_debug_text.proofs.PeekLemmas.{bytes_text, bytes-more, bytes-none}

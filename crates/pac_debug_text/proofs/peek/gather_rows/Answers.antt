@@ -1,6 +1,6 @@
 use Rattle.std.proofs.Common.{◌≡◌, List, ℕ, ◌+◌, ◌-◌, subst, arith}
 use Rattle.std.proofs.lemmas.Result.{err_from_is_err_and}
-use Rattle.pac_num.specs.Numbers.{wrapped_address}
+use Rattle.pac_dis.specs.Numbers.{wrapped_address}
 use Rattle.pac_out.proofs.Gathering.{Leaves, leaves-less, leaves-refused, leaves-nothing}
 use Rattle.pac_debug_text.specs.Peeks.{memory_row_bytes, row_text, memory_text}
 use Rattle.pac_debug_text.proofs.PeekLemmas.{rows-more, rows-none}
