@@ -17,7 +17,8 @@ use Rattle.pac_board.specs.declared.due.Due.{Due}
 use Rattle.pac_board.specs.State.{BoardState}
 use Rattle.pac_state.specs.Text.{saved_word, number_of_mode, processor_bytes, control_bytes, due_bytes, sealed_file, body, save_text}
 use Rattle.pac_state.specs.Text as text
-use Rattle.pac_state.specs.Reading.{saved_word_at, is_bit_set, mode_of, regs_of, due_sample, due_of, lines_of, controls_in, memory_of, state_in}
+use Rattle.pac_state.specs.Reading.{saved_word_at, is_bit_set, mode_of, regs_of, due_sample, due_of, lines_of, controls_in, memory_of}
+use Rattle.pac_state.specs.Reading.{state_in}
 use Rattle.pac_state.specs.Files.{AreWords, FitsSample, IsState}
 use Rattle.pac_state.proofs.Read.{same-state}
 use Rattle.pac_state.proofs.Written.{HasPieces, has-pieces, has-picture, lines-again, length-sha1}

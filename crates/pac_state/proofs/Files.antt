@@ -18,7 +18,8 @@ use Rattle.pac_state.specs.declared.fault.LoadFault.TheVariants.{NoState, OtherV
 use Rattle.pac_state.specs.declared.fault.LoadRefused.{LoadRefused}
 use Rattle.pac_state.specs.Text.{magic, body, save_text}
 use Rattle.pac_state.specs.Reading.{bytes_at_place, saved_word_at, due_sample, processor_in, state_in}
-use Rattle.pac_state.specs.Saved.{file_size, begins_with_magic, version_in, is_known, is_of_another_version, is_sealed, is_of_set, load_fault}
+use Rattle.pac_state.specs.Saved.{file_size, begins_with_magic, version_in, is_known, is_of_another_version, is_sealed, is_of_set}
+use Rattle.pac_state.specs.Saved.{load_fault}
 use Rattle.pac_state.specs.Saved.{IsStateInRange, AreWritten, IsText, upgraded_board, Misses, LoadsBoard}
 use Rattle.pac_state.specs.Files.{FitsSample, IsState, IsFile, board_of_file, Accepts}
 use Rattle.pac_state.proofs.Taken.{below, size-of}

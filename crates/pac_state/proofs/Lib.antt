@@ -1,7 +1,5 @@
 pub mod Again
-pub mod Bits
 pub mod Files
-pub mod Pieces
 pub mod Read
 pub mod Sealing
 pub mod Taken

@@ -1,15 +1,11 @@
 -- A state's text put into a new file.
-use Rattle.std.proofs.Common.{◌≡◌, ℕ, List, [], Result, Ok, Err, OnOk, sym, ◌∙◌, subst}
+use Rattle.std.proofs.Common.{◌≡◌, ℕ, List, [], Result, Ok, Err, sym, ◌∙◌, subst}
 use Rattle.std.specs.Borrow.{MutBor}
 use Rattle.pac_out.specs.declared.counted.Counted.{Counted}
 use Rattle.pac_out.specs.declared.WriteFault.{WriteFault}
 use Rattle.pac_out.specs.Counted.{HasTaken, Puts}
 use Rattle.pac_out.specs.Writes.{lent_took, lent_refused}
 use Rattle.pac_state.specs.Saves.{Saves}
-
-pub on-ok : {A E P Q : Type 0} → (result : Result A E) → (P → Q) → OnOk result P → OnOk result Q
-on-ok (Ok done) next given = next given
-on-ok (Err fault) next given = given
 
 -- a text that was put into a new file over a writer that is lent, and that writer when the loan ends
 pub saves : {W A : Type 0} (took : W → List ℕ → W → Type 0) (refused : W → W → Type 0) {owner : MutBor W} {file : Counted (MutBor W)}

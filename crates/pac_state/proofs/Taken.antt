@@ -1,11 +1,8 @@
 -- What is known of a file that was looked at.
-use Rattle.std.proofs.Common.{◌≡◌, ℕ, ◌<◌, ◌==◌, Bool, true, false, not, if◌then◌else◌}
-use Rattle.std.proofs.Common.{List, length, get_or, Option, Some, None, refl, sym, subst, ◌∙◌}
-use Rattle.std.proofs.lemmas.List.{ext_get_or}
+use Rattle.std.proofs.Common.{◌≡◌, ℕ, ◌==◌, Bool, true, false, not, if◌then◌else◌}
+use Rattle.std.proofs.Common.{List, length, Option, Some, None, refl, sym, subst}
 use Rattle.std.proofs.lemmas.Bool.{eqb-true}
-use Rattle.pac_num.specs.Tabulate.{tabulate}
-use Rattle.pac_num.proofs.Tabulated.{length-tabulate, get_or-tabulate}
-use Rattle.pac_board.specs.PictureState.{IsPicture}
+use Rattle.pac_picture.specs.State.{IsPicture}
 use Rattle.pac_board.specs.declared.fields.Fields.{Fields}
 use Rattle.pac_board.specs.Fields.{state_of, AreBoardFields}
 use Rattle.pac_board.specs.State.{BoardState}
@@ -28,14 +25,6 @@ unfolding load_fault
 size-of digest bytes none =
     eqb-true (length bytes) file_size (tested (length bytes == file_size) Size _
     (below (is_of_another_version bytes) OtherVersion _ (below (not (begins_with_magic bytes)) NoState _ none)))
-
--- a list of a function's values
-pub tabulated : {A : Type 0} (xs : List A) (count : ℕ) (value : ℕ → A) (other : A) → length xs ≡ count
-    → ((k : ℕ) → k < count → get_or xs k other ≡ value k) → xs ≡ tabulate count value
-tabulated xs count value other long same =
-    ext_get_or other xs (tabulate count value) (long ∙ sym (length-tabulate count value))
-    (λ k inside. let within : k < count = subst (λ n. k < n) long inside in
-    same k within ∙ sym (get_or-tabulate count value k other within))
 
 -- fields in their ranges, with a picture, and a state in its ranges
 pub in-range : (fields : Fields) (state : BoardState) → state_of fields ≡ state → AreBoardFields fields → IsPicture state.now.board.lines
