@@ -12,7 +12,7 @@ use crate::fault::InitRefused;
 use crate::machine::Machine;
 use crate::timing::{FRAME_TICKS, HIDDEN_LINES, LINE_TICKS};
 use pac_cpu::{Cpu, Regs};
-use pac_map::{Map, Memory};
+use pac_map::{Map, Memory, RomSet};
 use pac_picture::{Graphics, Lines, Picture};
 use pac_wave::Wave;
 use std::alloc::{AllocError, Global};
