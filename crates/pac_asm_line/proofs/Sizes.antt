@@ -5,7 +5,8 @@ use Rattle.std.proofs.lemmas.List.Sums.{sum_by-cons}
 use Rattle.pac_expr.specs.Trees.{Tree}
 use Rattle.pac_num.specs.Numbers.{low_byte, high_byte}
 use Rattle.pac_asm_line.specs.Statements.{DataPart, text, value}
-use Rattle.pac_asm_line.specs.Contents.{OrFault, byte_value, gathered_bytes, joined_bytes, map_unless_fault, part_bytes, part_size, word_bytes, word_value}
+use Rattle.pac_asm_line.specs.Contents.{OrFault, byte_value, gathered_bytes, joined_bytes, map_unless_fault, part_bytes, part_size}
+use Rattle.pac_asm_line.specs.Contents.{word_bytes, word_value}
 
 -- bytes joined to others
 joined-length : (a b : OrFault (List ℕ)) (m n : ℕ) (bytes : List ℕ) →

@@ -21,7 +21,8 @@ use Rattle.pac_board.specs.declared.fault.Fault.{Fault}
 use Rattle.pac_board.specs.declared.fault.Fault.TheVariants.{TooFar, Refused}
 use Rattle.pac_board.specs.declared.fault.Idle.{Idle}
 use Rattle.pac_board.specs.State.{BoardValue, BoardState, due_outputs, nothing_due, time_of}
-use Rattle.pac_board.specs.Calls.{Executes, StepsOnce, Offers, Advances, IsOfferRefused, IsStepRefused, outputs_given, next_of, outputs_in, board_after_step}
+use Rattle.pac_board.specs.Calls.{Executes, StepsOnce, Offers, Advances, IsOfferRefused, IsStepRefused, outputs_given, next_of}
+use Rattle.pac_board.specs.Calls.{outputs_in, board_after_step}
 use Rattle.pac_board.specs.Calls.{with_due}
 use Rattle.pac_board.specs.Hosts.{Call, Exec, StepOnce, Advance, Offer, Reset, InputSet, InputClear, Snapshot, Restore, HostedBoard}
 use Rattle.pac_board.specs.Hosts.{run_took, refused_took, step_took, offer_took, IsCall, acts_of, steps_between, AreCalls, goes_back}

@@ -10,6 +10,7 @@ pub mod Parts
 pub mod Hosts
 pub use Rattle.pac_picture.proofs.Tabulated
 pub use Rattle.pac_map.proofs.LatchBits
+pub use Rattle.pac_map.proofs.LatchBytes
 pub use Rattle.pac_board_model.proofs.Agreed
 pub use Rattle.pac_board_model.proofs.HostCarried
 pub use Rattle.pac_board_model.proofs.Outputs

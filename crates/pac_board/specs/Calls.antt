@@ -16,7 +16,8 @@ use Rattle.pac_board.specs.declared.fault.Idle.TheVariants.{OutputsDue, TimeIsOv
 use Rattle.pac_board.specs.declared.exec.Ran.{Ran}
 use Rattle.pac_board.specs.Sinks.{TookAll, RefusesAt}
 use Rattle.pac_map.specs.RomParts.{Parts}
-use Rattle.pac_board.specs.State.{BoardValue, BoardStanding, due_outputs_in, due_with, due_outputs, nothing_due, latest, most_asked, time_of, steps_counted}
+use Rattle.pac_board.specs.State.{BoardValue, BoardStanding, due_outputs_in, due_with, due_outputs, nothing_due, latest, most_asked}
+use Rattle.pac_board.specs.State.{time_of, steps_counted}
 
 -- ---- one step
 

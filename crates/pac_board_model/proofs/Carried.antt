@@ -11,8 +11,10 @@ use Rattle.pac_cpu.specs.Step.{CpuStep, Steps, Stops, cpu_step}
 use Rattle.pac_map.specs.Entry.{Entry, Sample, Line, Blank, Accept, Reset, Hold, entries_of}
 use Rattle.pac_map.specs.Lookups.{port_byte}
 use Rattle.pac_board_model.specs.Output.{Sound, Show}
-use Rattle.pac_board_model.specs.Step.{Questions, Moment, StepProgress, Next, Goes, Ends, put_all, put_actions, put_kind, surroundings, note, give}
-use Rattle.pac_board_model.specs.Step.{sample_ticks, line_ticks, frame_ticks, hidden_lines, scan_line, scan_frame, sample_event, line_event, reset_event, watchdog_event}
+use Rattle.pac_board_model.specs.Step.{Questions, Moment, StepProgress, Next, Goes, Ends, put_all, put_actions, put_kind, surroundings}
+use Rattle.pac_board_model.specs.Step.{note, give}
+use Rattle.pac_board_model.specs.Step.{sample_ticks, line_ticks, frame_ticks, hidden_lines, scan_line, scan_frame, sample_event}
+use Rattle.pac_board_model.specs.Step.{line_event, reset_event, watchdog_event}
 use Rattle.pac_board_model.specs.Step.{blank_event, at_moment, through, next_after_events, progress_after_cpu, after_cpu_step, step}
 use Rattle.pac_board_model.specs.Walk.{Walk, walk, walk_onward, onward_if, walk_after_step}
 use Rattle.pac_board_model.specs.Trace.{Play, moment_with_inputs, next_with_inputs, play_step, power_on_moment, run_at}

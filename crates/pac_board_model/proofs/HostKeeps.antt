@@ -4,7 +4,8 @@ use Rattle.std.proofs.Common.{◌≡◌, ℕ, zero, suc, ◌+◌, ◌<◌, ◌�
 use Rattle.pac_map.specs.Entry.{Entry, Reset, Hold}
 use Rattle.pac_map.specs.View.{held_with, held_without}
 use Rattle.pac_picture.specs.Tiles.{height}
-use Rattle.pac_board_model.specs.Host.{Act, StepOn, ResetBoard, HoldToo, LetGo, Keep, GoBack, Account, Host, with_step, after_act, after_acts}
+use Rattle.pac_board_model.specs.Host.{Act, StepOn, ResetBoard, HoldToo, LetGo, Keep, GoBack, Account, Host, with_step, after_act}
+use Rattle.pac_board_model.specs.Host.{after_acts}
 use Rattle.pac_board_model.specs.Host.{host_at, account_by_history}
 use Rattle.pac_board_model.specs.Laws.{HostsAreLineExact, line_moment}
 use Rattle.pac_board_model.specs.Step.{Moment, StepProgress, at_moment, step}

@@ -2,7 +2,8 @@
 use Rattle.std.proofs.Common.{◌≡◌, ◌≢◌, ℕ, zero, suc, ◌+◌, ◌≤◌, ◌==◌, min, nat_le, Bool, true, false, cond, not, ◌&&◌, ◌||◌}
 use Rattle.std.proofs.Common.{List, [], ◌∷◌, replicate, slice_index_or, Option, Some, None, unwrap_or, refl, ap, ◌∙◌, arith}
 use Rattle.std.proofs.lemmas.Bool.Decides.{nat_tests}
-use Rattle.pac_map.specs.Latched.{latch_bits, latch_place, is_latch_bit_set, withdraws, watchdog_limit, latched_after_bit, interrupt_request}
+use Rattle.pac_map.specs.Latched.{latch_bits, latch_place, is_latch_bit_set, withdraws, watchdog_limit, latched_after_bit}
+use Rattle.pac_map.specs.Latched.{interrupt_request}
 use Rattle.pac_map.specs.Latched as latch
 use Rattle.pac_map.proofs.LatchBits.{is_set-written, is_set-others}
 use Rattle.pac_map.specs.declared.bus_table.BusPlace.{BusPlace}

@@ -12,8 +12,10 @@ use Rattle.pac_cpu.specs.Step.{CpuStep, Steps, Stops, cpu_step}
 use Rattle.pac_map.specs.Entry.{Entry, Write, Vector, Sample, Line, Blank, Accept, Hold}
 use Rattle.pac_map.specs.Place.{write_place}
 use Rattle.pac_board_model.specs.Output.{Output, Sound, Show}
-use Rattle.pac_board_model.specs.Step.{Questions, Moment, StepProgress, Next, Goes, Ends, put_all, put_actions, put_kind, at_moment, through, progress_after_cpu}
-use Rattle.pac_board_model.specs.Step.{surroundings, after_cpu_step, step, note, give, sample_event, line_event, reset_event, watchdog_event, blank_event}
+use Rattle.pac_board_model.specs.Step.{Questions, Moment, StepProgress, Next, Goes, Ends, put_all, put_actions, put_kind, at_moment}
+use Rattle.pac_board_model.specs.Step.{through, progress_after_cpu}
+use Rattle.pac_board_model.specs.Step.{surroundings, after_cpu_step, step, note, give, sample_event, line_event, reset_event}
+use Rattle.pac_board_model.specs.Step.{watchdog_event, blank_event}
 use Rattle.pac_board_model.specs.Step.{scan_line, scan_frame, sample_ticks, line_ticks, frame_ticks, hidden_lines}
 use Rattle.pac_board_model.specs.Trace.{Play, moment_with_inputs, next_with_inputs, play_step, power_on_moment, run_at}
 use Rattle.pac_board_model.specs.Walk.{Walk, walk, onward_if, walk_after_step}

@@ -15,7 +15,8 @@ use Rattle.pac_map.specs.Latched.{Latched, latched_after_vector, latched_after_b
 use Rattle.pac_map.specs.View.{View, IsWellFormed, kept_nibble}
 use Rattle.pac_map.specs.Contents.{lookups_of, read_of}
 use Rattle.pac_map.proofs.WellFormed.{view-after-well-formed}
-use Rattle.pac_board_model.specs.History.{is_tile, is_colour, is_work, last_written, tile_at, colour_at, work_at, history_inputs, history_lookups, read}
+use Rattle.pac_board_model.specs.History.{is_tile, is_colour, is_work, last_written, tile_at, colour_at, work_at, history_inputs}
+use Rattle.pac_board_model.specs.History.{history_lookups, read}
 use Rattle.pac_board_model.specs.History.{view_after_entries, is_coordinate, is_wave_register, coordinate_at, register_at}
 
 pub view-of-well-formed : (start : View) (entries : List Entry) → IsWellFormed start → IsWellFormed (view_after_entries start entries)

@@ -16,10 +16,12 @@ use Rattle.pac_map.specs.Place.{ram_size}
 use Rattle.pac_map.specs.View as view
 use Rattle.pac_picture.specs.Picture.{picture_line}
 use Rattle.pac_board_model.specs.BoardView.{BoardView, IsBoard, power_on_board_view, video_roms}
-use Rattle.pac_board_model.specs.History.{read, board_after_entries, tile_at, colour_at, work_at, history_attributes, history_coordinates, history_registers, history_inputs}
+use Rattle.pac_board_model.specs.History.{read, board_after_entries, tile_at, colour_at, work_at, history_attributes, history_coordinates}
+use Rattle.pac_board_model.specs.History.{history_registers, history_inputs}
 use Rattle.pac_board_model.specs.Queries.{bit_at, history_vector, history_request, blanks_since, is_reset_due}
 use Rattle.pac_board_model.specs.Shown.{accumulators_at, memory_at, lines_at, history_outputs, sample_count, blank_count}
-use Rattle.pac_board_model.specs.Step.{Questions, Moment, Next, Goes, Ends, StepProgress, note, line_event, step, line_ticks, frame_ticks, sample_ticks}
+use Rattle.pac_board_model.specs.Step.{Questions, Moment, Next, Goes, Ends, StepProgress, note, line_event, step, line_ticks, frame_ticks}
+use Rattle.pac_board_model.specs.Step.{sample_ticks}
 use Rattle.pac_board_model.specs.Walk.{Walk, walk, walk_to, walk_at_start, has_ended}
 use Rattle.pac_board_model.specs.Carried.{moment_view, next_view, walk_view}
 use Rattle.pac_board_model.specs.Host.{Host, Act, account_by_history, account_by_view, host_at, after_acts, host_view}

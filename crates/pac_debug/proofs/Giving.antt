@@ -22,7 +22,8 @@ use Rattle.pac_debug.specs.declared.answer.Answer.{Answer}
 use Rattle.pac_debug.specs.declared.answer.Answer.TheVariants as answers
 use Rattle.pac_debug.specs.declared.line.CommandFault.{CommandFault}
 use Rattle.pac_debug.specs.declared.line.CommandFault.TheVariants as faults
-use Rattle.pac_debug.specs.Obeying.{AnswersBack, AnswersReturn, SetsBreakpoint, Stays, IsCommandPerformed, IsCommandObeyed, IsCommandDone, IsCommandRefused, session_without_due, kept_at}
+use Rattle.pac_debug.specs.Obeying.{AnswersBack, AnswersReturn, SetsBreakpoint, Stays, IsCommandPerformed, IsCommandObeyed, IsCommandDone}
+use Rattle.pac_debug.specs.Obeying.{IsCommandRefused, session_without_due, kept_at}
 use Rattle.pac_debug.specs.Obeying.{Scene, Asks, ObeysLines, motion_of}
 use Rattle.pac_debug.specs.Watched.{HasGivenOutputs, GaveAll, GaveSome, LinesGive, outputs_to_give}
 

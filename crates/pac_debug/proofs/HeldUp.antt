@@ -18,7 +18,8 @@ use Rattle.pac_debug_session.proofs.Forwards.{between-joined, joined-to-end}
 use Rattle.pac_debug.specs.declared.answer.Answer.TheVariants as answers
 use Rattle.pac_debug.specs.Answers.{ending_of, answer_text}
 use Rattle.pac_debug.specs.Obeying.{Scene, IsCommandPerformed, IsCommandObeyed, session_without_due}
-use Rattle.pac_debug.specs.Watched.{takes_all, TellsOfCommand, TellsAll, HasGivenOutputs, RefusedOf, RefusedAt, IsWatchRefused, IsWatchUntold}
+use Rattle.pac_debug.specs.Watched.{takes_all, TellsOfCommand, TellsAll, HasGivenOutputs, RefusedOf, RefusedAt, IsWatchRefused}
+use Rattle.pac_debug.specs.Watched.{IsWatchUntold}
 use Rattle.pac_debug.specs.Watched.{given_by, FirstGivesMore, ToldUpTo}
 use Rattle.pac_debug.proofs.Giving.{nothing-given, obeyed}
 use Rattle.pac_debug.proofs.Resting.{ComesToRest, comes-to-rest}

@@ -24,14 +24,16 @@ use Rattle.pac_debug_session.specs.declared.motion.MotionEnd.{MotionEnd}
 use Rattle.pac_debug_session.specs.declared.motion.MotionEnd.TheVariants.{AtStop, AtEnd}
 use Rattle.pac_debug_session.specs.declared.motion.Motion.{Motion}
 use Rattle.pac_debug_session.specs.declared.motion.Motion.TheVariants as motions
-use Rattle.pac_debug_session.specs.Motions.{RestsBy, HasTravelled, rests, has_met, motion_ending, moved_to, oldest_index, back_to, session_with_slot}
+use Rattle.pac_debug_session.specs.Motions.{RestsBy, HasTravelled, rests, has_met, motion_ending, moved_to, oldest_index, back_to}
+use Rattle.pac_debug_session.specs.Motions.{session_with_slot}
 use Rattle.pac_debug_session.specs.Running.{Setting, IsLeast, play_of, run, next_from, limit, is_late, stop_in, stop_at, goes_at}
 use Rattle.pac_debug_session.specs.Session.{SessionValue, breaks_at, has_breakpoint, without_breakpoint, most_breakpoints}
 use Rattle.pac_debug_session.proofs.Travelled.{met-by}
 use Rattle.pac_debug.specs.declared.answer.Answer.{Answer}
 use Rattle.pac_debug.specs.declared.answer.Answer.TheVariants as answers
 use Rattle.pac_debug.specs.Answers.{ending_of, answer_text}
-use Rattle.pac_debug.specs.Obeying.{AnswersBack, AnswersReturn, SetsBreakpoint, IsCommandPerformed, IsCommandObeyed, session_without_due, kept_at, motion_of}
+use Rattle.pac_debug.specs.Obeying.{AnswersBack, AnswersReturn, SetsBreakpoint, IsCommandPerformed, IsCommandObeyed, session_without_due}
+use Rattle.pac_debug.specs.Obeying.{kept_at, motion_of}
 use Rattle.pac_debug.specs.Watched.{takes_all, TellsOfCommand}
 use Rattle.pac_debug.specs.Laws.{AllLinesTell}
 use Rattle.pac_debug.proofs.Telling.{all-taken, told-then}

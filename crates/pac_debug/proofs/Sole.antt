@@ -22,7 +22,8 @@ use Rattle.pac_debug_session.specs.Session.{SessionValue, breaks_at, has_breakpo
 use Rattle.pac_debug.specs.declared.answer.Answer.{Answer}
 use Rattle.pac_debug.specs.declared.answer.Answer.TheVariants as answers
 use Rattle.pac_debug.specs.Answers.{ending_of, answer_text}
-use Rattle.pac_debug.specs.Obeying.{AnswersBack, AnswersReturn, SetsBreakpoint, Stays, HasMoved, IsCommandPerformed, IsCommandObeyed, kept_at, motion_of}
+use Rattle.pac_debug.specs.Obeying.{AnswersBack, AnswersReturn, SetsBreakpoint, Stays, HasMoved, IsCommandPerformed, IsCommandObeyed}
+use Rattle.pac_debug.specs.Obeying.{kept_at, motion_of}
 use Rattle.pac_debug.specs.Watched.{TellsOfCommand, TellsAll}
 use Rattle.pac_debug.specs.Laws.{TellsOneThing}
 

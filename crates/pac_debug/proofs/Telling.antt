@@ -18,7 +18,8 @@ use Rattle.pac_debug_session.specs.Session.{SessionValue}
 use Rattle.pac_debug.specs.declared.answer.Answer.{Answer}
 use Rattle.pac_debug.specs.declared.line.CommandFault.TheVariants as faults
 use Rattle.pac_debug.specs.Answers.{answer_text}
-use Rattle.pac_debug.specs.Obeying.{HasMoved, IsCommandPerformed, IsCommandObeyed, IsCommandDone, Scene, Asks, ObeysLines, session_without_due, motion_of}
+use Rattle.pac_debug.specs.Obeying.{HasMoved, IsCommandPerformed, IsCommandObeyed, IsCommandDone, Scene, Asks, ObeysLines}
+use Rattle.pac_debug.specs.Obeying.{session_without_due, motion_of}
 use Rattle.pac_debug.specs.Watched.{takes_all, WordsTell, TellsOfCommand, TellsAll, TookTold, RefusedOf, RefusedAt}
 use Rattle.pac_debug.proofs.Giving.{obeyed as done-after}
 

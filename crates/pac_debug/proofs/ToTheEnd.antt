@@ -13,7 +13,8 @@ use Rattle.pac_debug_session.specs.Session.{SessionValue, IsSessionOfferRefused,
 use Rattle.pac_debug.specs.declared.line.CommandFault.{CommandFault}
 use Rattle.pac_debug.specs.declared.line.CommandFault.TheVariants as faults
 use Rattle.pac_debug.specs.Obeying.{Scene, ObeysLines}
-use Rattle.pac_debug.specs.Watched.{HasGivenOutputs, GaveAll, LinesGive, TookTold, outputs_to_give, IsSessionWatched, IsWatchRefused, WatchesSession}
+use Rattle.pac_debug.specs.Watched.{HasGivenOutputs, GaveAll, LinesGive, TookTold, outputs_to_give, IsSessionWatched, IsWatchRefused}
+use Rattle.pac_debug.specs.Watched.{WatchesSession}
 use Rattle.pac_debug.proofs.Giving.{all-to-give, some-after, finish-given, lines-given}
 use Rattle.pac_debug.proofs.Telling.{lines-told, lines-refused, lines-untold}
 

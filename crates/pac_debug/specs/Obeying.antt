@@ -1,5 +1,6 @@
 -- To be believed: what a command line does to a session, and what it is answered with.
-use Rattle.std.specs.Prelude.{◌≡◌, ◌<◌, ℕ, Bool, true, false, List, [], ◌∷◌, ◌++◌, length, Option, None, Some, Result, Ok, Err, ◌⊎◌, slice_index_or}
+use Rattle.std.specs.Prelude.{◌≡◌, ◌<◌, ℕ, Bool, true, false, List, [], ◌∷◌, ◌++◌, length, Option, None, Some, Result, Ok, Err, ◌⊎◌}
+use Rattle.std.specs.Prelude.{slice_index_or}
 use Rattle.pac_board.specs.Output.{Output}
 use Rattle.pac_board.specs.Sinks.{TookAll, Then}
 use Rattle.pac_board.specs.State.{nothing_due}
@@ -16,7 +17,8 @@ use Rattle.pac_debug_session.specs.declared.motion.MotionEnd.{MotionEnd}
 use Rattle.pac_debug_session.specs.declared.motion.Motion.{Motion}
 use Rattle.pac_debug_session.specs.declared.motion.Motion.TheVariants as motions
 use Rattle.pac_debug_session.specs.Motions.{HasTravelled, IsTravelRefused, IsBack, IsTooOld, session_with_slot}
-use Rattle.pac_debug_session.specs.Session.{SessionValue, IsSessionOfferRefused, session_due_outputs, has_breakpoint, without_breakpoint, most_breakpoints}
+use Rattle.pac_debug_session.specs.Session.{SessionValue, IsSessionOfferRefused, session_due_outputs, has_breakpoint, without_breakpoint}
+use Rattle.pac_debug_session.specs.Session.{most_breakpoints}
 use Rattle.pac_debug.specs.declared.answer.Answer.{Answer}
 use Rattle.pac_debug.specs.declared.answer.Answer.TheVariants as answers
 use Rattle.pac_debug.specs.declared.line.CommandFault.{CommandFault}

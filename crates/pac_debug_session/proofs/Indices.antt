@@ -12,7 +12,8 @@ use Rattle.pac_board.specs.Step.{Moment, Next, Goes, Ends}
 use Rattle.pac_board.specs.Trace.{by_view}
 use Rattle.pac_board.specs.Walk.{Walk, walk_after_step}
 use Rattle.pac_board.proofs.Walks.{open-goes-on, going-steps, play-timely, not-both}
-use Rattle.pac_debug_session.specs.Running.{Setting, run, now_at, next_from, next_at, limit, is_late, stop_in, stop_at, goes_at, outputs_between}
+use Rattle.pac_debug_session.specs.Running.{Setting, run, now_at, next_from, next_at, limit, is_late, stop_in, stop_at, goes_at}
+use Rattle.pac_debug_session.specs.Running.{outputs_between}
 
 -- ---- tests
 

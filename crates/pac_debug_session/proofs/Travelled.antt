@@ -21,7 +21,8 @@ use Rattle.pac_debug_session.specs.declared.motion.MotionEnd.{MotionEnd}
 use Rattle.pac_debug_session.specs.declared.motion.MotionEnd.TheVariants.{AtStop, AtEnd, AtBreakpoint, AtFrame, AtStep}
 use Rattle.pac_debug_session.specs.declared.motion.Motion.{Motion}
 use Rattle.pac_debug_session.specs.declared.motion.Motion.TheVariants.{Steps, Continue, Frames, ToEnd}
-use Rattle.pac_debug_session.specs.Motions.{has_met, rests, motion_ending, stop_of, RestsBy, moved_to, session_one_step_on, HasStepped, HasMetStop}
+use Rattle.pac_debug_session.specs.Motions.{has_met, rests, motion_ending, stop_of, RestsBy, moved_to, session_one_step_on, HasStepped}
+use Rattle.pac_debug_session.specs.Motions.{HasMetStop}
 use Rattle.pac_debug_session.specs.Motions.{IsSessionStepRefused}
 use Rattle.pac_debug_session.specs.Motions.{HasTravelled, IsTravelRefused}
 use Rattle.pac_debug_session.specs.Running.{Setting, play_of, run, whole_run, now_at, next_from, next_at, limit, is_late, stop_in, stop_at}

@@ -1,5 +1,6 @@
 -- To be believed: the commands of the debugger, and how a line tells one (this profile).
-use Rattle.std.specs.Prelude.{ℕ, ◌≤◌, ⊤, ◌==◌, List, [], ◌∷◌, codes, Option, Some, None, Result, Ok, Err, option_map, option_and_then, if◌then◌else◌}
+use Rattle.std.specs.Prelude.{ℕ, ◌≤◌, ⊤, ◌==◌, List, [], ◌∷◌, codes, Option, Some, None, Result, Ok, Err, option_map, option_and_then}
+use Rattle.std.specs.Prelude.{if◌then◌else◌}
 use Rattle.std.specs.Map.{lookup}
 use Rattle.std.specs.Str.{bytes_eq}
 use Rattle.pac_lex.specs.Words.{words_of_line}

@@ -4,9 +4,11 @@ use Rattle.std.proofs.Common.{sym, ap, ◌∙◌, arith, append_assoc, append-ni
 use Rattle.std.proofs.lemmas.Bool.{leb-true, leb-false}
 use Rattle.pac_expr.specs.declared.expr.Operator.{Operator}
 use Rattle.pac_expr.specs.declared.expr.Operator.TheVariants.{Add, Subtract, Multiply, Divide}
-use Rattle.pac_expr.specs.Trees.{Tree, Mark, single, opening, closing, plus, minus, star, slash, sign_mark, operator_mark, spelling, rank_of_operator}
+use Rattle.pac_expr.specs.Trees.{Tree, Mark, single, opening, closing, plus, minus, star, slash, sign_mark, operator_mark, spelling}
+use Rattle.pac_expr.specs.Trees.{rank_of_operator}
 use Rattle.pac_expr.specs.Trees.{sum_rank, IsRanked}
-use Rattle.pac_expr.specs.Parsing.{Waiting, sign, left, parenthesis, completed_tree, waiting_rank, settled_operand, ParseState, needs, stands, state_after_operator}
+use Rattle.pac_expr.specs.Parsing.{Waiting, sign, left, parenthesis, completed_tree, waiting_rank, settled_operand, ParseState, needs}
+use Rattle.pac_expr.specs.Parsing.{stands, state_after_operator}
 use Rattle.pac_expr.specs.Reading.{highest_rank}
 use Rattle.pac_expr.specs.Parsing.{closed_group, state_after_mark, whole_tree, finished_tree, tree_onward, tree_of}
 

@@ -10,7 +10,8 @@ use Rattle.pac_expr.specs.declared.expr.Operator.{Operator}
 use Rattle.pac_expr.specs.declared.expr.Operator.TheVariants.{Add, Subtract, Multiply, Divide}
 use Rattle.pac_expr.specs.declared.evaluation.ValueError.TheVariants.{Undefined, OutOfRange, DivisionByZero}
 use Rattle.pac_expr.specs.Trees.{number, character, name, here, Tree, atom, group, signed, joined}
-use Rattle.pac_expr.specs.Values.{ValueResult, value_in_range, defined_value, operator_value, sign_value, joined_value, tree_value, HasUndefined}
+use Rattle.pac_expr.specs.Values.{ValueResult, value_in_range, defined_value, operator_value, sign_value, joined_value, tree_value}
+use Rattle.pac_expr.specs.Values.{HasUndefined}
 
 abbrev IsUndefined : ValueResult → Type 0
 IsUndefined answer = answer ≡ Err Undefined

@@ -6,7 +6,8 @@ use Rattle.pac_expr.specs.declared.expr.Sign.{Sign}
 use Rattle.pac_expr.specs.declared.expr.Sign.TheVariants as signs
 use Rattle.pac_expr.specs.declared.expr.Operator.{Operator}
 use Rattle.pac_expr.specs.declared.expr.Operator.TheVariants.{Add, Subtract, Multiply, Divide}
-use Rattle.pac_expr.specs.Trees.{Tree, atom, group, signed, joined, Mark, single, opening, closing, plus, minus, star, slash, rank_of_operator}
+use Rattle.pac_expr.specs.Trees.{Tree, atom, group, signed, joined, Mark, single, opening, closing, plus, minus, star, slash}
+use Rattle.pac_expr.specs.Trees.{rank_of_operator}
 use Rattle.pac_expr.specs.Trees.{sum_rank, spelling, IsRanked, marks_of}
 
 -- what waits for an operand: a sign, an operator with its left operand, an open parenthesis

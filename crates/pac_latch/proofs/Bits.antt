@@ -6,7 +6,8 @@ use Rattle.std.proofs.Math.Nat.{zero-div, div-div-eq-div-mul}
 use Rattle.std.proofs.lemmas.List.{ext_get_or}
 use Rattle.std.proofs.lemmas.Grind.{common_steps}
 use Rattle.pac_num.specs.Numbers.{bit}
-use Rattle.pac_latch.specs.Latched.{Bits, Latched, latch_bits, latch_of_bits, latch_place, is_latch_bit_set, binary_digit, binary_number, byte_of_latch, bits_of, latched_after_bit}
+use Rattle.pac_latch.specs.Latched.{Bits, Latched, latch_bits, latch_of_bits, latch_place, is_latch_bit_set, binary_digit, binary_number}
+use Rattle.pac_latch.specs.Latched.{byte_of_latch, bits_of, latched_after_bit}
 
 -- eight bits, listed again, are those bits
 listed-at : (bits : List Bool) (place : ℕ) → place < 8 → get_or (latch_bits (latch_of_bits bits)) place false ≡ get_or bits place false

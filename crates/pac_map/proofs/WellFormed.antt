@@ -5,7 +5,8 @@ use Rattle.std.proofs.Math.Nat.{min-le_left}
 use Rattle.std.proofs.lemmas.Bool.Decides.{nat_tests}
 use Rattle.std.proofs.lemmas.Grind.{get_or-set_at}
 use Rattle.std.proofs.lemmas.List.{get_or-set_other, get_or_past, length-set, length-replicate}
-use Rattle.pac_latch.specs.Latched.{Latched, watchdog_limit, latched_after_bit, latched_after_vector, latched_after_kick, latched_after_accept, latched_after_reset, latched_after_blank}
+use Rattle.pac_latch.specs.Latched.{Latched, watchdog_limit, latched_after_bit, latched_after_vector, latched_after_kick}
+use Rattle.pac_latch.specs.Latched.{latched_after_accept, latched_after_reset, latched_after_blank}
 use Rattle.pac_map.specs.declared.bus_table.BusPlace.{BusPlace}
 use Rattle.pac_map.specs.declared.bus_table.BusPlace.TheVariants.{Tile, Colour, Work, Kick, Latch, Wave, Coordinate}
 use Rattle.pac_map.specs.Place.{ram_size, coordinates_size, registers_size}

@@ -24,7 +24,8 @@ use Rattle.pac_run.specs.Plan.{Plan, ◌>>=◌, plan_of, plan_with, program_in, 
 use Rattle.pac_run.specs.Plan.{set_in, set_told, script_told, IsPrepared, Prepares}
 use Rattle.pac_run.specs.Plays.{run_of}
 use Rattle.pac_run.specs.Recorded.{FilmStops, HasPlayed, outcome_at}
-use Rattle.pac_run.specs.Run.{Writers, IsUnwritten, TakesText, StopsInText, NothingWritten, FramesStop, WaveStops, Runs, IsRunWhole, IsCutAt}
+use Rattle.pac_run.specs.Run.{Writers, IsUnwritten, TakesText, StopsInText, NothingWritten, FramesStop, WaveStops, Runs, IsRunWhole}
+use Rattle.pac_run.specs.Run.{IsCutAt}
 use Rattle.pac_run.specs.Run.{trace_of, outcome_of}
 use Rattle.pac_run.specs.Texts as text
 use Rattle.pac_run.proofs.Traced.{same-outputs, same-outcome}

@@ -21,7 +21,8 @@ use Rattle.pac_run.specs.declared.film.Film.{Film}
 use Rattle.pac_run.specs.Recorded.{sound_text, IsRecorded, StopsFilm, StopsAmong, PerformsFilm, RecordsOutputs, FilmStops, WritesWholeText}
 use Rattle.pac_run.specs.Run.{Writing, TakesText, StopsInText, TookOrRefused, StopsAt, IsFilmHeldUp, FramesStop, WaveStops}
 use Rattle.pac_run.specs.Texts.{samples_in, images_text, wave_file_text, wave_so_far}
-use Rattle.pac_run.specs.Watched.{AllTold, ToldTill, BreaksOff, IsTextStopped, IsCutShort, TookOutputs, FilmsTill, Films, WatchedTill, WatchesOutputs}
+use Rattle.pac_run.specs.Watched.{AllTold, ToldTill, BreaksOff, IsTextStopped, IsCutShort, TookOutputs, FilmsTill, Films, WatchedTill}
+use Rattle.pac_run.specs.Watched.{WatchesOutputs}
 use Rattle.pac_run.proofs.Filmed.{frames-append, sound-append}
 
 -- a writer before a run and after it

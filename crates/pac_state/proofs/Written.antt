@@ -5,10 +5,10 @@ use Rattle.std.proofs.Math.Seq.{take-append_seam, drop-append_seam}
 use Rattle.std.proofs.lemmas.List.{length-append, take_all}
 use Rattle.std.proofs.lemmas.Grind.{flat_map-append}
 use Rattle.sha1.specs.Sha1.{sha1, digest_bytes}
-use Rattle.pac_tiles.proofs.Tabulated.{tabulate-is}
-use Rattle.pac_lemmas.proofs.Pieces.{flat_map-one-more, flat_map-split}
-use Rattle.pac_map.specs.View.{IsWellFormed}
-use Rattle.pac_picture.specs.State.{IsPicture}
+use Rattle.pac_board.proofs.Tabulated.{tabulate-is}
+use Rattle.pac_roms_manifest.proofs.Pieces.{flat_map-one-more, flat_map-split}
+use Rattle.pac_board.specs.MemoryView.{IsWellFormed}
+use Rattle.pac_board.specs.PictureState.{IsPicture}
 use Rattle.pac_board.specs.State.{BoardState}
 use Rattle.pac_out.specs.Pieces.{joined_pieces}
 use Rattle.pac_state.specs.Text.{magic, saved_word, saved_double_word, saved_long_word, head, ram}

@@ -16,7 +16,8 @@ use Rattle.pac_table_names.specs.declared.names.NameList.{NameList}
 use Rattle.pac_table_names.specs.declared.names.NameList.TheVariants as list
 use Rattle.pac_table_names.specs.declared.writing.NumberKind.TheVariants as kind
 use Rattle.pac_table_names.specs.declared.writing.Writing.{Writing}
-use Rattle.pac_table_names.specs.declared.writing.Writing.TheVariants.{Nothing, Named, AlternateAf, AtName, FirstField, SecondField, Indexed}
+use Rattle.pac_table_names.specs.declared.writing.Writing.TheVariants.{Nothing, Named, AlternateAf, AtName, FirstField, SecondField}
+use Rattle.pac_table_names.specs.declared.writing.Writing.TheVariants.{Indexed}
 use Rattle.pac_table_names.specs.declared.writing.Writing.TheVariants.{Number, AtNumber}
 use Rattle.pac_table.specs.Forms.{is_family}
 use Rattle.pac_table.specs.Table.{table}

@@ -1,5 +1,5 @@
 use Rattle.std.proofs.Common.{sym, arith}
-use Rattle.pac_latch.proofs.LatchBytes.{byte_of-bits_of}
+use Rattle.pac_board.proofs.LatchBytes.{byte_of-bits_of}
 use Rattle.pac_state.proofs.blocks.latch_byte.Goals as goal
 
 pub returns : goal.returns

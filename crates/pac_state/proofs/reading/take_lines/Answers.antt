@@ -1,6 +1,6 @@
 use Rattle.std.proofs.Common.{◌≡◌, ◌<◌, ◌*◌, ℕ, List, [], get_or, true, false, refl, sym, subst, ◌∙◌, arith}
-use Rattle.pac_tiles.proofs.Tabulated.{get_or-tabulate, tabulate-is}
-use Rattle.pac_picture.specs.State.{IsPicture}
+use Rattle.pac_board.proofs.Tabulated.{get_or-tabulate, tabulate-is}
+use Rattle.pac_board.specs.PictureState.{IsPicture}
 use Rattle.pac_state.specs.Reading.{bytes_at_place, lines_of}
 use Rattle.pac_state.proofs.reading.take_lines.Goals as goal
 

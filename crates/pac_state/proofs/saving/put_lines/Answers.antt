@@ -1,7 +1,7 @@
 use Rattle.std.proofs.Common.{◌≡◌, ◌<◌, ◌+◌, List, [], ℕ, ◌++◌, length, take, drop, subst, ap, ◌∙◌, append_assoc, arith}
 use Rattle.std.proofs.lemmas.Result.{err_from_is_err_and}
 use Rattle.sha1.specs.Sha1.{Holds}
-use Rattle.pac_lemmas.proofs.Pieces.{flat_map-split, flat_map-one-more}
+use Rattle.pac_roms_manifest.proofs.Pieces.{flat_map-split, flat_map-one-more}
 use Rattle.pac_out.specs.Counted.{Takes, Refuses}
 use Rattle.pac_out.proofs.Files.{refuses-after, refuses-within, takes-joined}
 use Rattle.pac_state.specs.Text.{bytes_of_pieces}

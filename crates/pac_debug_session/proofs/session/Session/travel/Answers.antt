@@ -6,7 +6,8 @@ use Rattle.pac_board.specs.declared.sink.Refused.{Refused}
 use Rattle.pac_debug_session.specs.declared.motion.MotionEnd.{MotionEnd}
 use Rattle.pac_debug_session.specs.Motions.{has_met, HasTravelled, StepsOn, motion_ending}
 use Rattle.pac_debug_session.specs.Running.{is_late}
-use Rattle.pac_debug_session.proofs.Travelled.{underway-begins, underway-more, underway-late, underway-met, underway-stopped, underway-refused}
+use Rattle.pac_debug_session.proofs.Travelled.{underway-begins, underway-more, underway-late, underway-met, underway-stopped}
+use Rattle.pac_debug_session.proofs.Travelled.{underway-refused}
 use Rattle.pac_debug_session.proofs.Travelled.{time-falls}
 use Rattle.pac_debug_session.proofs.session.Session.travel.Goals as goal
 
