@@ -3,4 +3,3 @@ pub mod Trees
 pub mod Searches
 pub mod Sizes
 pub mod Misreadings
-pub use Rattle.pac_lemmas.proofs.Pieces

@@ -58,8 +58,7 @@ pub fn watch_run<F: Out, W: Out, T: Out>(
     wave: &mut W,
     text: &mut T,
 ) -> Result<RunTotals, OutputFault>
-    requires begun { session.old ≡ session_at_start session.old.setting 0 }
-    requires count { frame_count ≡ total_frames session.old.setting.script }
+    requires { session.old ≡ session_at_start session.old.setting 0 }
     ensures outcome { IfOk result (IsOutcome session.old) }
     ensures texts { WatchesOutputs
         (record { took = F.took; refused = F.refused; old = frames.old; new = frames.new })

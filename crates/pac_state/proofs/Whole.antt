@@ -13,7 +13,8 @@ use Rattle.pac_num.specs.Tabulate.{tabulate}
 use Rattle.pac_board.specs.RomParts.{Parts}
 use Rattle.pac_roms_manifest.specs.Sets.{digest_of}
 use Rattle.pac_state.specs.declared.fault.LoadFault.TheVariants.{NoState, OtherVersion, Size, Damaged, OtherSet}
-use Rattle.pac_state.specs.Text.{bytes_of_pieces, magic, saved_word, saved_double_word, saved_long_word, head, ram, devices, file_front}
+use Rattle.pac_out.specs.Pieces.{joined_pieces}
+use Rattle.pac_state.specs.Text.{magic, saved_word, saved_double_word, saved_long_word, head, ram, devices, file_front}
 use Rattle.pac_state.specs.Text.{body, save_text}
 use Rattle.pac_state.specs.Reading.{bytes_at_place, lines_of, picture_in, state_in}
 use Rattle.pac_state.specs.Saved.{begins_with_magic, is_of_another_version, is_sealed, is_of_set, load_fault, file_size, body_size}

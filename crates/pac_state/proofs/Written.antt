@@ -6,7 +6,7 @@ use Rattle.std.proofs.lemmas.List.{length-append, take_all}
 use Rattle.std.proofs.lemmas.Grind.{flat_map-append}
 use Rattle.sha1.specs.Sha1.{sha1, digest_bytes}
 use Rattle.pac_board.proofs.Tabulated.{tabulate-is}
-use Rattle.pac_roms_manifest.proofs.Pieces.{flat_map-one-more, flat_map-split}
+use Rattle.pac_lemmas.proofs.Pieces.{flat_map-one-more, flat_map-split}
 use Rattle.pac_board.specs.MemoryView.{IsWellFormed}
 use Rattle.pac_board.specs.PictureState.{IsPicture}
 use Rattle.pac_board.specs.State.{BoardState}
@@ -149,7 +149,7 @@ lines-before lines picture (suc count) within =
     let inside : count < length lines = omega (arith, high, within) in
     let wide : length (get_or lines count []) ≡ 288 = picture.wide count (omega (arith, within)) in
     let before = lines-before lines picture count (omega (arith, within)) in
-    let more : bytes_of_pieces (take count lines) ++ get_or lines count [] ≡ bytes_of_pieces (take (count + 1) lines) =
+    let more : joined_pieces (take count lines) ++ get_or lines count [] ≡ joined_pieces (take (count + 1) lines) =
     flat_map-one-more (λ (piece : List ℕ). piece) lines count [] inside in
     let next : count + 1 ≡ suc count = omega arith in
     ap (λ count. length (joined_pieces (take count lines))) (sym next) ∙ (ap length (sym more)
@@ -165,7 +165,7 @@ line-at : (lines : List (List ℕ)) → IsPicture lines → (y : ℕ) → y < 22
 line-at lines picture y inside =
     let high : length lines ≡ 224 = picture.high in
     let before = lines-before lines picture y (omega (arith, inside)) in
-    let split : (bytes_of_pieces (take y lines) ++ get_or lines y []) ++ bytes_of_pieces (drop (y + 1) lines) ≡ bytes_of_pieces lines =
+    let split : (joined_pieces (take y lines) ++ get_or lines y []) ++ joined_pieces (drop (y + 1) lines) ≡ joined_pieces lines =
     flat_map-split (λ (piece : List ℕ). piece) lines y [] (omega (arith, high, inside)) in
     ap (bytes_at_place (288 * y) 288) (sym split
     ∙ append_assoc (joined_pieces (take y lines)) (get_or lines y []) (joined_pieces (drop (y + 1) lines)))
@@ -174,7 +174,7 @@ line-at lines picture y inside =
 
 pub lines-again : (lines : List (List ℕ)) → IsPicture lines → lines_of (joined_pieces lines) ≡ lines
 lines-again lines picture =
-    sym (tabulate-is lines 224 (λ y. bytes_at_place (288 * y) 288 (bytes_of_pieces lines)) [] picture.high
+    sym (tabulate-is lines 224 (λ y. bytes_at_place (288 * y) 288 (joined_pieces lines)) [] picture.high
     (λ y inside. sym (line-at lines picture y inside)))
 
 -- ---- the digests

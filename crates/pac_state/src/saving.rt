@@ -56,11 +56,11 @@ fn put_head<W: Out>(
     fields: &Fields,
 ) -> Result<(), WriteFault>
     ensures put { Puts W.took W.refused file.old
-        (text.bytes_of_pieces (text.head text.written_version digest.now (state_of fields.now)))
+        (joined_pieces (text.head text.written_version digest.now (state_of fields.now)))
         result file.new }
     ensures hashed { OnOk result ((m : List ℕ) → Holds hasher.old m
         → Holds hasher.new
-        (m ++ text.bytes_of_pieces
+        (m ++ joined_pieces
         (text.head text.written_version digest.now (state_of fields.now)))) }
 {
     let digest = *digest;
@@ -84,7 +84,7 @@ fn put_ram<W: Out>(
     fields: &Fields,
 ) -> Result<(), WriteFault>
     ensures put { Puts W.took W.refused file.old
-        (text.bytes_of_pieces (text.ram (state_of fields.now))) result file.new }
+        (joined_pieces (text.ram (state_of fields.now))) result file.new }
     ensures hashed { OnOk result ((m : List ℕ) → Holds hasher.old m →
         Holds hasher.new (m ++ joined_pieces (text.ram (state_of fields.now)))) }
 {
@@ -101,7 +101,7 @@ fn put_devices<W: Out>(
     fields: &Fields,
 ) -> Result<(), WriteFault>
     ensures put { Puts W.took W.refused file.old
-        (text.bytes_of_pieces (text.devices (state_of fields.now))) result file.new }
+        (joined_pieces (text.devices (state_of fields.now))) result file.new }
     ensures hashed { OnOk result ((m : List ℕ) → Holds hasher.old m →
         Holds hasher.new (m ++ joined_pieces (text.devices (state_of fields.now)))) }
 {
@@ -145,9 +145,9 @@ fn put_lines<W: Out>(
     hasher: &mut Sha1,
     lines: &Lines,
 ) -> Result<(), WriteFault>
-    ensures put { Puts W.took W.refused file.old (text.bytes_of_pieces lines.now) result file.new }
+    ensures put { Puts W.took W.refused file.old (joined_pieces lines.now) result file.new }
     ensures hashed { OnOk result ((m : List ℕ) → Holds hasher.old m
-        → Holds hasher.new (m ++ text.bytes_of_pieces lines.now)) }
+        → Holds hasher.new (m ++ joined_pieces lines.now)) }
 {
     for y in 0..HEIGHT {
         put(file, hasher, lines.row(y))?;

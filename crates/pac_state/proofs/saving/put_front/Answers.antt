@@ -3,7 +3,8 @@ use Rattle.std.proofs.lemmas.Result.{err_from_is_err_and, on_ok_weaker}
 use Rattle.sha1.specs.Sha1.{Holds}
 use Rattle.pac_out.proofs.Files.{refuses-after, refuses-within, takes-joined, puts-after}
 use Rattle.pac_board.specs.Fields.{state_of}
-use Rattle.pac_state.specs.Text.{bytes_of_pieces, head, ram, devices, written_version}
+use Rattle.pac_out.specs.Pieces.{joined_pieces}
+use Rattle.pac_state.specs.Text.{head, ram, devices, written_version}
 use Rattle.pac_state.proofs.saving.put_front.Goals as goal
 
 pub returns-in_err-put_head-clause-put : goal.returns-in_err-put_head-clause-put
@@ -25,9 +26,9 @@ returns-clause-put g c =
 
 pub returns-clause-hashed : goal.returns-clause-hashed
 returns-clause-hashed g c =
-    let first = bytes_of_pieces (head written_version c.args.digest.now (state_of c.args.fields.now)) in
-    let second = bytes_of_pieces (ram (state_of c.args.fields.now)) in
-    let third = bytes_of_pieces (devices (state_of c.args.fields.now)) in
+    let first = joined_pieces (head written_version c.args.digest.now (state_of c.args.fields.now)) in
+    let second = joined_pieces (ram (state_of c.args.fields.now)) in
+    let third = joined_pieces (devices (state_of c.args.fields.now)) in
     on_ok_weaker c.put_devices.result (λ more m holds. subst (λ (text : List ℕ). Holds c.put_devices.new.hasher text)
     (append_assoc (m ++ first) second third ∙ (append_assoc m first (second ++ third)
     ∙ ap (λ text. m ++ text) (sym (append_assoc first second third))))

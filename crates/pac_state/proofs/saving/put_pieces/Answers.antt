@@ -1,7 +1,7 @@
 use Rattle.std.proofs.Common.{◌+◌, List, [], ℕ, drop, subst}
 use Rattle.std.proofs.lemmas.Result.{err_from_is_err_and}
 use Rattle.std.specs.List.{flat_map}
-use Rattle.pac_roms_manifest.proofs.Pieces.{flat_map-split}
+use Rattle.pac_lemmas.proofs.Pieces.{flat_map-split}
 use Rattle.pac_out.specs.Counted.{Refuses}
 use Rattle.pac_out.proofs.Files.{refuses-after, refuses-within}
 use Rattle.pac_state.proofs.saving.put_pieces.Goals as goal
