@@ -21,7 +21,7 @@ pub use exec::Ran;
 pub use fault::{Fault, Idle, InitRefused};
 pub use fields::Fields;
 pub use pac_cpu::{Alternate, Cause, InterruptMode, Once, Regs, StepKind, Stop};
-pub use pac_map::{Flags, Inputs, MemoryFields, RomSet};
+pub use pac_map::{Flags, Inputs, MemoryFields, Raw, RomSet};
 pub use pac_picture::{HEIGHT, Lines, Picture, WIDTH};
 pub use sink::{Refused, Sink};
 pub use snapshot::Snapshot;

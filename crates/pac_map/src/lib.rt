@@ -9,4 +9,4 @@ pub use board_bus::Map;
 pub use bus_table::{BusPlace, read_place, write_place};
 pub use memory::{Memory, MemoryFields};
 pub use pac_inputs::{Flags, Inputs};
-pub use pac_roms::RomSet;
+pub use pac_roms::{Raw, RomSet};

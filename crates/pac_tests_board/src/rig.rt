@@ -1,9 +1,7 @@
 //! A board with a sink that keeps what it gives: how it is made, and moved by calls with small answers.
 
 use pac_board::kept::Kept;
-use pac_board::{Board, Fault, Fields, Snapshot};
-use pac_cpu::{Once, StepKind, Stop};
-use pac_inputs::Inputs;
+use pac_board::{Board, Fault, Fields, Inputs, Once, Snapshot, StepKind, Stop};
 use pac_tests_set::{SWITCHES, rom_set};
 use std::alloc::{AllocError, Global};
 use std::marker::Model;

@@ -3,11 +3,10 @@
 ghost use Rattle.std.specs.Prelude.{◌≡◌, IfOk};
 ghost use Rattle.pac_debug_session.specs.Session.{IsNew};
 
-use pac_board::Board;
 use pac_board::kept::Kept;
+use pac_board::{Board, Raw, RomSet};
 use pac_debug_session::Session;
 use pac_inputs::read_script;
-use pac_roms::{Raw, RomSet};
 use std::alloc::{AllocError, Global};
 use std::marker::Model;
 

@@ -4,6 +4,7 @@
 mod picture;
 mod set;
 
+pub use pac_roms_manifest::{ManifestCode, Part, PartName, SetFault};
 pub use picture::{
     ALL_BLACK, BLUE_AND_RED, GREEN_AND_RED, GREEN_TILE, LATE_GREEN_TILE, Picture, are_shown,
 };

@@ -2,12 +2,11 @@
 //! the folder `bench` prints for the same work.
 
 ghost use Rattle.std.specs.Prelude.{◌≡◌, IfOk};
-ghost use Rattle.pac_debug_session.specs.Session.{IsNew};
+ghost use Rattle.pac_debug.specs.Session.{IsNew};
 
 use crate::mixed::mixed_program;
 use crate::sum::Sum;
-use pac_board::Board;
-use pac_roms::{Raw, RomSet};
+use pac_board::{Board, Raw, RomSet};
 use std::alloc::{AllocError, Global};
 use std::io;
 use std::time::Instant;

@@ -1,7 +1,6 @@
 //! The program that is measured, as a source and assembled, and sums in which the order tells.
 
-use pac_asm::assemble;
-use pac_asm_program::Program;
+use pac_asm::{Program, assemble};
 use std::alloc::{AllocError, Global};
 
 /// The mixed program: arithmetic, loads and calls, all of tile RAM rewritten about once a frame, sound in three voices, eight

@@ -1,12 +1,11 @@
 //! How fast a debugger's session over the mixed program goes back, step by step, and how fast it runs many frames.
 
-ghost use Rattle.pac_debug_session.specs.Session.{IsNew};
+ghost use Rattle.pac_debug.specs.Session.{IsNew};
 
 use crate::board::board;
 use crate::sum::Sum;
 use pac_board::Board;
-use pac_debug::command;
-use pac_debug_session::Session;
+use pac_debug::{Session, command};
 use pac_inputs::{Script, read_script};
 use pac_out::counted::Counted;
 use pac_out::{Failed, Out};

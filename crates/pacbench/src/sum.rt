@@ -3,8 +3,7 @@
 ghost use Rattle.std.specs.Prelude.{◌≡◌};
 
 use crate::mixed::summed;
-use pac_board::{Refused, Sink};
-use pac_picture::Picture;
+use pac_board::{Picture, Refused, Sink};
 
 /// What a round came to.
 #[derive(Clone, Copy)]

@@ -1,8 +1,7 @@
 //! How long a board can run.
 
 use crate::rig::Rig;
-use pac_board::Fault;
-use pac_cpu::{Cause, Stop};
+use pac_board::{Cause, Fault, Stop};
 use std::test::Fail;
 
 // A board that stops at once is asked for 2^50 microseconds, and then for one more.

@@ -1,9 +1,8 @@
 //! What a board with its sink shows, held against what is wanted.
 
 use crate::rig::Rig;
-use pac_board::Fields;
 use pac_board::kept::{Kept, Taken};
-use pac_picture::{Lines, Picture};
+use pac_board::{Fields, Lines, Picture};
 use pac_tests_set::SWITCHES;
 use std::ops::Range;
 

@@ -2,8 +2,7 @@
 
 use crate::rig::{FRAME, Rig};
 use crate::scarce::release;
-use pac_board::Board;
-use pac_roms::RomSet;
+use pac_board::{Board, RomSet};
 use pac_tests_memory::Hoard;
 use pac_tests_set::{SWITCHES, rom_set};
 use std::alloc::Global;

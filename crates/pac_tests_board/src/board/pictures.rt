@@ -1,7 +1,7 @@
 //! Pictures as the board gives them, worked out by hand from the schematics and this profile.
 
 use crate::rig::{FRAME, Rig};
-use pac_inputs::Inputs;
+use pac_board::Inputs;
 use std::test::Fail;
 
 const GREEN: [u8; 3] = [0, 255, 0];

@@ -1,8 +1,7 @@
 //! Programs whose steps, times and stops were worked out by hand from the manual, the schematics and this profile.
 
 use crate::rig::{FRAME, Rig};
-use pac_cpu::{Cause, Stop};
-use pac_inputs::Inputs;
+use pac_board::{Cause, Inputs, Stop};
 use pac_tests_set::SWITCHES;
 use std::test::Fail;
 

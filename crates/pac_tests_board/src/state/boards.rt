@@ -3,9 +3,7 @@
 use super::files::file;
 use crate::rig::{CELL, FLIP, Rig};
 use pac_board::kept::Taken;
-use pac_board::{Board, Fault, Fields};
-use pac_exec::Regs;
-use pac_table::InterruptMode;
+use pac_board::{Board, Fault, Fields, InterruptMode, Regs};
 use std::alloc::{AllocError, Global};
 use std::test::Fail;
 

@@ -2,7 +2,7 @@
 
 use super::files::{SIZE, file_of};
 use crate::rig::CELL;
-use pac_roms::RomSet;
+use pac_board::RomSet;
 use pac_state::{LoadFault, LoadRefused, load};
 use pac_tests_set::rom_set;
 use std::alloc::{AllocError, Global};

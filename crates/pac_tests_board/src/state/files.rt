@@ -1,7 +1,7 @@
 //! State files that are made by hand, from the table of the format, and why some aren't loaded.
 
 use crate::rig::CELL;
-use pac_roms::RomSet;
+use pac_board::RomSet;
 use pac_state::{LoadFault, load};
 use pac_tests_set::rom_set;
 use sha1::Sha1;

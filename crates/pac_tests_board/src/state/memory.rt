@@ -3,7 +3,7 @@
 use super::files::file_of;
 use crate::rig::CELL;
 use crate::scarce::release;
-use pac_roms::RomSet;
+use pac_board::RomSet;
 use pac_state::{LoadFault, load};
 use pac_tests_memory::Hoard;
 use pac_tests_set::rom_set;

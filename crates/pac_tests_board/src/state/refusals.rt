@@ -2,7 +2,7 @@
 
 use super::files::{SIZE, file_of, is_refused};
 use crate::rig::CELL;
-use pac_roms::RomSet;
+use pac_board::RomSet;
 use pac_state::{LoadFault, load};
 use pac_tests_set::{rom_set, rom_set_with, tiles};
 use std::alloc::{AllocError, Global};

@@ -3,8 +3,7 @@
 use super::boards::is_flipped;
 use crate::rig::{FLIP, Rig};
 use pac_board::kept::Kept;
-use pac_board::{Board, Fault};
-use pac_roms::RomSet;
+use pac_board::{Board, Fault, RomSet};
 use pac_state::{LoadFault, LoadRefused, load};
 use pac_tests_memory::Hoard;
 use pac_tests_set::rom_set;

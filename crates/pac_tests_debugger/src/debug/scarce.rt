@@ -4,12 +4,11 @@ ghost use Rattle.std.specs.Prelude.{⊤};
 
 use super::answers::text_of;
 use crate::rig::{CELL, session};
-use pac_board::{Refused, Sink};
+use pac_board::{Picture, Refused, Sink};
 use pac_debug::commands;
 use pac_debug_session::Session;
 use pac_out::counted::Counted;
 use pac_out::memory::MemoryWriter;
-use pac_picture::Picture;
 use pac_tests_memory::Hoard;
 use std::alloc::Global;
 

@@ -1,15 +1,14 @@
 //! Texts, byte for byte.
 
+use pac_board::{Alternate, InterruptMode, Regs};
 use pac_debug_text::{
     Done, Ending, HistoryLine, Latches, Peek, Place, Refusal, put_history, put_instructions,
     put_memory, put_ok, put_place, put_refusal, put_registers,
 };
-use pac_exec::{Alternate, Regs};
 use pac_out::WriteFault;
 use pac_out::counted::Counted;
 use pac_out::faulty::Faulty;
 use pac_out::memory::MemoryWriter;
-use pac_table::InterruptMode;
 use std::alloc::Global;
 use std::process::Abort;
 use std::test::Fail;

@@ -2,9 +2,8 @@
 
 use crate::cell::CELL;
 use pac_out::faulty::Faulty;
-use pac_roms_manifest::Part;
 use pac_run::{RunFault, RunInputs, debug_all, run_all};
-use pac_tests_set::{Files, SET, SWITCHES, Tables, text_of};
+use pac_tests_set::{Files, Part, SET, SWITCHES, Tables, text_of};
 use std::alloc::{AllocError, Global};
 use std::marker::Model;
 

@@ -5,11 +5,10 @@ use super::outputs::{AMPLE, Given, Outputs, run};
 use crate::cell::{CELL, LISTING, REPORT};
 use pac_asm::{AsmCode, AsmFault};
 use pac_inputs::ScriptFault;
-use pac_roms_manifest::{ManifestCode, PartName, SetFault};
 use pac_run::RunFault;
 use pac_tests_set::{
-    ALL_BLACK, BLUE_AND_RED, GREEN_TILE, LATE_GREEN_TILE, NO_WAVE, Picture, SET, SWITCHES, Tables,
-    WHOLE_SET, are_shown,
+    ALL_BLACK, BLUE_AND_RED, GREEN_TILE, LATE_GREEN_TILE, ManifestCode, NO_WAVE, PartName, Picture,
+    SET, SWITCHES, SetFault, Tables, WHOLE_SET, are_shown,
 };
 use std::alloc::Global;
 

@@ -3,10 +3,9 @@
 use super::outputs::{AMPLE, Outputs};
 use crate::cell::{CELL, REPORT};
 use pac_out::faulty::Faulty;
-use pac_roms_manifest::Part;
 use pac_run::{RunFault, RunInputs};
 use pac_tests_memory::Hoard;
-use pac_tests_set::{Files, SET, SWITCHES, text_of};
+use pac_tests_set::{Files, Part, SET, SWITCHES, text_of};
 use std::alloc::{AllocError, Global};
 
 /// More turns than are refused.
