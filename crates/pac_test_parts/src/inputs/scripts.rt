@@ -1,0 +1,64 @@
+//! Long scripts, and scripts where memory is refused.
+
+use bitflags::Flags;
+use pac_inputs::{Inputs, Script, ScriptError, read_script};
+use pac_test_memory::{Answer, refusals};
+use std::alloc::Global;
+use std::test::Fail;
+
+/// Numbers of lines.
+static SIZES: [u32; 17] = [
+    1, 2, 4, 8, 16, 32, 64, 128, 256, 512, 1024, 2048, 4096, 8192, 16_384, 32_768, 36_000,
+];
+
+/// Whether a script has so many frames, and holds nothing in the first, the middle, the last and the one after it.
+fn is_idle(script: &Script, frames: u32) -> bool {
+    script.frames() == frames
+        && script.held(1) == Inputs::empty()
+        && script.held(frames / 2) == Inputs::empty()
+        && script.held(frames) == Inputs::empty()
+        && script.held(frames.saturating_add(1)) == Inputs::empty()
+}
+
+/// Whether a text is such a script.
+fn reads_idle(alloc: Global, text: &str, frames: u32) -> bool {
+    match read_script(alloc, text.as_bytes()) {
+        Ok(script) => is_idle(&script, frames),
+        Err(_) => false,
+    }
+}
+
+// Scripts of n lines of one frame each, as long as a script can be.
+#[test]
+fn scripts_of_many_lines(rt: HostRuntime) -> Result<(), Fail> {
+    for lines in &SIZES {
+        let text = "1 -\n".repeat(rt.alloc(), *lines as usize)?;
+        assert!(rt; reads_idle(rt.alloc(), text.as_str(), *lines), "{lines}");
+    }
+    Ok(())
+}
+
+/// Whether it is the script that memory was wanted for, by its frames and what it holds near its end.
+fn is_right(script: &Script) -> bool {
+    script.frames() == 1500
+        && script.held(1498) == Inputs::empty()
+        && script.held(1500) == Inputs::COIN1
+}
+
+/// What reading a script comes to.
+fn reading(alloc: Global, text: &[u8]) -> Answer {
+    match read_script(alloc, text) {
+        Ok(script) if is_right(&script) => Answer::Right,
+        Err(ScriptError::Memory) => Answer::Refused,
+        _ => Answer::Wrong,
+    }
+}
+
+// With no memory, and then with a little more each time, there is no answer but want of it or the right one.
+#[test]
+fn scripts_in_scarce_memory(rt: HostRuntime) -> Result<(), Fail> {
+    let lines = "1 -\n2 COIN1\n".repeat(rt.alloc(), 500)?;
+    let refused = refusals(rt.alloc(), 50, |alloc| reading(alloc, lines.as_bytes()));
+    assert!(rt; matches!(refused, Some(4..49)), "{refused:?}");
+    Ok(())
+}
