@@ -137,6 +137,16 @@ impl Board {
         Ok(None)
     }
 
+    /// Does steps while the time is before a limit, up to a stop, and offers what each gives. Nothing is due before.
+    pub fn go_to<S: Sink>(&mut self, limit: u64, sink: &mut S) -> Result<Option<Stop>, Refused>
+        requires limit { limit ≤ latest }
+        requires nothing { due_outputs self.old ≡ [] }
+        ensures { GoesTo S.took S.refused self.old limit sink.old result self.new sink.new }
+    {
+        self.made();
+        self.run(limit, sink)
+    }
+
     /// Lets so many microseconds go by: offers what is due, then does steps, and offers what each gives, while the time is before
     /// that of all microseconds asked so far, or to a stop.
     pub fn exec<S: Sink>(&mut self, us: u32, sink: &mut S) -> Result<Ran, Fault>

@@ -70,11 +70,11 @@ module _ {Board : Type 0} (ask : Questions Board) (held : ℕ → ℕ) (frames :
   play = play_step ask held
 
   -- a frame's walk of plain steps, at whose end the next one's inputs are held
-  abbrev closed_if : Walk Board → Option Stop → Bool → Walk Board
+  abbrev pub closed_if : Walk Board → Option Stop → Bool → Walk Board
   closed_if w (Some stop) late = w
   closed_if w None late = if late then record w { now = moment_with_inputs ask held w.now } else w
 
-  abbrev closed : Walk Board → Walk Board
+  abbrev pub closed : Walk Board → Walk Board
   closed w = closed_if w w.stop (nat_le limit w.now.time)
 
   closed-ended : (w : Walk Board) (stop : Option Stop) (late : Bool) → has_ended limit (closed_if w stop late) ≡ has_ended limit w
@@ -126,7 +126,7 @@ module _ {Board : Type 0} (ask : Questions Board) (held : ℕ → ℕ) (frames :
       ∙ ap (walk_onward play limit) (sym (closed-going w w.stop (nat_le limit w.now.time) e))
 
   -- a frame's walk of plain steps, closed, is the walk of the run
-  walk-closed : (from : Moment Board) (n : ℕ) → frame_ticks * frames ≤ from.time → from.time < limit
+  pub walk-closed : (from : Moment Board) (n : ℕ) → frame_ticks * frames ≤ from.time → from.time < limit
       → closed (walk plain limit from n) ≡ walk play limit from n
   walk-closed from zero begins early =
       let not_late : nat_le limit from.time ≡ false = grind (arith, nat_tests) in

@@ -1,0 +1,123 @@
+-- A frame of a course: the board's walk to the frame's end, at which the next one's inputs are held, is on the way on.
+use Rattle.std.proofs.Common.{◌≡◌, ℕ, ◌/◌, ◌<◌, ◌≤◌, ◌++◌, Option, None, Some, Bool, true, false, if◌then◌else◌}
+use Rattle.std.proofs.Common.{nat_le, is_some, refl, sym, ap, ◌∙◌, arith}
+use Rattle.std.proofs.lemmas.Bool.Decides.{nat_tests}
+use Rattle.pac_board.specs.Stop.{Stop}
+use Rattle.pac_board.specs.BoardView.{BoardView}
+use Rattle.pac_board.specs.Step.{Questions, Moment, frame_ticks, step}
+use Rattle.pac_board.specs.Trace.{by_view, moment_with_inputs}
+use Rattle.pac_board.specs.Walk.{Walk, walk, walk_to}
+use Rattle.pac_board.proofs.Runs.{closed, closed_if, walk-closed}
+use Rattle.pac_board.proofs.Walks.{joined, goes-on, on-the-way, ended-whole, stopped-has-ended, stopped-is-early, play-timely}
+use Rattle.pac_board_course.specs.Course.{CourseValue, held_in, end_of, next_in, way_on}
+use Rattle.pac_board_course.specs.Frames.{frame_end}
+
+-- the frames that have ended
+abbrev pub frames_ended : CourseValue → ℕ
+frames_ended course = course.board.state.now.time / frame_ticks
+
+-- the board's walk in the frame under way, after so many tries
+abbrev pub frame_walk : CourseValue → ℕ → Walk BoardView
+frame_walk course tries = walk (step (by_view course.board.set)) (frame_end course) course.board.state.now tries
+
+-- the moment after it, with the next frame's inputs where the frame has ended
+abbrev pub moment_after : CourseValue → Moment BoardView → Moment BoardView
+moment_after course now =
+    if nat_le (frame_end course) now.time then moment_with_inputs (by_view course.board.set) (held_in course) now else now
+
+module _ (course : CourseValue) where
+  abbrev pub ask : Questions BoardView
+  ask = by_view course.board.set
+
+  abbrev pub frame_closed : ℕ → Walk BoardView
+  frame_closed tries = closed ask (held_in course) (frames_ended course) (frame_walk course tries)
+
+  early-in-frame : course.board.state.now.time < frame_end course
+  early-in-frame = omega arith
+
+  -- a walk that met a stop is before the frame's end, so its moment is closed by the time alone
+  closed-now : (w : Walk BoardView) (stop : Option Stop) (late : Bool) → (is_some stop ≡ true → late ≡ false)
+      → (closed_if ask (held_in course) (frames_ended course) w stop late).now
+      ≡ (if late then moment_with_inputs ask (held_in course) w.now else w.now)
+  closed-now w (Some stop) true early = let no = early refl in cc
+  closed-now w (Some stop) false early = refl
+  closed-now w None true early = refl
+  closed-now w None false early = refl
+
+  closed-rest : (w : Walk BoardView) (stop : Option Stop) (late : Bool)
+      → ((closed_if ask (held_in course) (frames_ended course) w stop late).outputs ≡ w.outputs)
+      × ((closed_if ask (held_in course) (frames_ended course) w stop late).stop ≡ w.stop)
+  closed-rest w (Some stop) late = (refl, refl)
+  closed-rest w None true = (refl, refl)
+  closed-rest w None false = (refl, refl)
+
+  stop-is-early : (tries : ℕ) (stop : Option Stop) → (frame_walk course tries).stop ≡ stop → is_some stop ≡ true
+      → nat_le (frame_end course) (frame_walk course tries).now.time ≡ false
+  stop-is-early tries None met is = cc
+  stop-is-early tries (Some stop) met is =
+      let early = stopped-is-early (step ask) (frame_end course) course.board.state.now tries stop met in
+      grind (arith, nat_tests)
+
+  pub frame-now : (tries : ℕ) → (frame_closed tries).now ≡ moment_after course (frame_walk course tries).now
+  frame-now tries =
+      let w = frame_walk course tries in
+      closed-now w w.stop (nat_le (frame_end course) w.now.time) (stop-is-early tries w.stop refl)
+
+  pub closed-outputs : (tries : ℕ) → (frame_closed tries).outputs ≡ (frame_walk course tries).outputs
+  closed-outputs tries =
+      let w = frame_walk course tries in (closed-rest w w.stop (nat_le (frame_end course) w.now.time)).0
+
+  pub closed-stop : (tries : ℕ) → (frame_closed tries).stop ≡ (frame_walk course tries).stop
+  closed-stop tries =
+      let w = frame_walk course tries in (closed-rest w w.stop (nat_le (frame_end course) w.now.time)).1
+
+  -- the closed walk is on the way on
+  on-the-way-on : (tries : ℕ) → frame_end course ≤ end_of course
+      → (n : ℕ) × (frame_closed tries ≡ walk (next_in course) (end_of course) course.board.state.now n)
+  on-the-way-on tries within =
+      let same = walk-closed ask (held_in course) (frames_ended course) course.board.state.now tries (omega arith) early-in-frame in
+      let on = on-the-way (next_in course) (frame_end course) (end_of course) course.board.state.now tries within in
+      (on.0, same ∙ on.1)
+
+  joined-on : (tries : ℕ) → frame_end course ≤ end_of course
+      → joined (next_in course) (end_of course) (frame_closed tries) (walk_to (next_in course) (end_of course) (frame_closed tries).now)
+      ≡ way_on course
+  joined-on tries within =
+      let on = on-the-way-on tries within in
+      ap (λ w. joined (next_in course) (end_of course) w (walk_to (next_in course) (end_of course) w.now)) on.1
+      ∙ goes-on (next_in course) (end_of course) (play-timely ask (held_in course)) course.board.state.now on.0
+
+  -- the way on from where the frame's walk came
+  abbrev pub way_from : ℕ → Walk BoardView
+  way_from tries = walk_to (next_in course) (end_of course) (moment_after course (frame_walk course tries).now)
+
+  -- what it gave and what is left are the whole
+  pub frame-outputs : (tries : ℕ) → frame_end course ≤ end_of course
+      → (frame_walk course tries).outputs ++ (way_from tries).outputs ≡ (way_on course).outputs
+  frame-outputs tries within =
+      let w = frame_walk course tries in
+      let rest = closed-rest w w.stop (nat_le (frame_end course) w.now.time) in
+      ap (λ xs. xs ++ (way_from tries).outputs) (sym rest.0)
+      ∙ ap (λ now. (frame_closed tries).outputs ++ (walk_to (next_in course) (end_of course) now).outputs) (sym (frame-now tries))
+      ∙ ap (λ (w : Walk BoardView). w.outputs) (joined-on tries within)
+
+  pub frame-ends : (tries : ℕ) → frame_end course ≤ end_of course
+      → ((way_from tries).now ≡ (way_on course).now) × ((way_from tries).stop ≡ (way_on course).stop)
+  frame-ends tries within =
+      let there = ap (walk_to (next_in course) (end_of course)) (sym (frame-now tries)) in
+      let whole = joined-on tries within in (
+        ap (λ (w : Walk BoardView). w.now) there ∙ ap (λ (w : Walk BoardView). w.now) whole,
+        ap (λ (w : Walk BoardView). w.stop) there ∙ ap (λ (w : Walk BoardView). w.stop) whole,
+      )
+
+  -- a stop that the frame's walk met ends the run
+  pub frame-stops : (tries : ℕ) (stop : Stop) → frame_end course ≤ end_of course → (frame_walk course tries).stop ≡ Some stop
+      → frame_closed tries ≡ way_on course
+  frame-stops tries stop within met =
+      let on = on-the-way-on tries within in
+      let w = frame_walk course tries in
+      let rest = closed-rest w w.stop (nat_le (frame_end course) w.now.time) in
+      let stopped = ap (λ (w : Walk BoardView). w.stop) (sym on.1) ∙ rest.1 ∙ met in
+      on.1
+      ∙ ended-whole (next_in course) (end_of course) (play-timely ask (held_in course)) course.board.state.now on.0
+      (stopped-has-ended (end_of course) (walk (next_in course) (end_of course) course.board.state.now on.0) stop stopped)

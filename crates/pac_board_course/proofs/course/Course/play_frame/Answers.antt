@@ -1,0 +1,33 @@
+-- A frame's answer is the board's, and the next frame's inputs are held where it has ended.
+use Rattle.std.proofs.Common.{◌≡◌, ◌+◌, ◌*◌, ◌/◌, ◌<◌, ◌≤◌, inl, inr, refl, rules}
+use Rattle.pac_board.specs.State.{board_with_inputs}
+use Rattle.pac_board_course.specs.Frames.{frame_end}
+use Rattle.pac_board_course.proofs.Answered.{frame-answered, next_mask}
+use Rattle.pac_board_course.proofs.course.Course.play_frame.Goals as goal
+
+pub returns-then-time-frame : goal.returns-then-time-frame
+returns-then-time-frame g c =
+    let old = c.args.self.now in
+    let begins : c.self.inside.board ≡ old.board = search rules in
+    let ends : 50688 * (c.time.result / 50688 + 1) ≡ frame_end old = search rules in
+    let ended : frame_end old ≤ c.go_to-played.new.self.state.now.time = search rules in
+    let held : c.hold.new.board ≡ board_with_inputs c.go_to-played.new.self (next_mask old) = search rules in
+    let script : c.self.inside.script ≡ old.script = search rules in
+    let gone : c.self.inside.gone ≡ old.gone = search rules in
+    frame-answered g.S.Sink.took g.S.Sink.refused old
+    (record { board = c.hold.new.board; script = c.self.inside.script; gone = c.self.inside.gone }) c.go_to-played.new.self
+    c.args.sink.now c.go_to-played.new.sink c.go_to-played.result c.self.inside.board (50688 * (c.time.result / 50688 + 1)) begins ends
+    c.requires.early c.go_to-played.ensures (inl (ended, held)) script gone
+
+pub returns-else-time-frame : goal.returns-else-time-frame
+returns-else-time-frame g c =
+    let old = c.args.self.now in
+    let begins : c.self.inside.board ≡ old.board = search rules in
+    let ends : 50688 * (c.time.result / 50688 + 1) ≡ frame_end old = search rules in
+    let early : c.go_to-played.new.self.state.now.time < frame_end old = search rules in
+    let script : c.self.inside.script ≡ old.script = search rules in
+    let gone : c.self.inside.gone ≡ old.gone = search rules in
+    frame-answered g.S.Sink.took g.S.Sink.refused old
+    (record { board = c.go_to-played.new.self; script = c.self.inside.script; gone = c.self.inside.gone }) c.go_to-played.new.self
+    c.args.sink.now c.go_to-played.new.sink c.go_to-played.result c.self.inside.board (50688 * (c.time.result / 50688 + 1)) begins ends
+    c.requires.early c.go_to-played.ensures (inr (early, refl)) script gone

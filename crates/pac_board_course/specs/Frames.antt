@@ -1,0 +1,37 @@
+-- For proofs: a course as it is kept, and one frame of it.
+use Rattle.std.specs.Prelude.{◌≡◌, ◌<◌, ◌≤◌, ℕ, suc, ◌*◌, ◌/◌, Option, None, Some, Result, Ok, Err, List}
+use Rattle.pac_board.specs.Stop.{Stop}
+use Rattle.pac_board.specs.Output.{Output}
+use Rattle.pac_board.specs.Step.{frame_ticks}
+use Rattle.pac_board.specs.Sinks.{TookAll}
+use Rattle.pac_board.specs.State.{nothing_due, latest}
+use Rattle.pac_inputs.specs.Stretches.{total_frames, most_frames}
+use Rattle.pac_board_course.specs.Course.{CourseValue, end_of}
+use Rattle.pac_board_course.specs.Plays.{GoesOn, IsOver, IsHeldUp}
+
+-- what holds of each course
+pub record IsCourse (course : CourseValue) : Type 0 where
+  pub ends : end_of course ≤ latest
+  pub short : total_frames course.script ≤ most_frames
+
+-- the time of the blank that ends the frame under way
+abbrev pub frame_end : CourseValue → ℕ
+frame_end course = frame_ticks * suc (course.board.state.now.time / frame_ticks)
+
+-- the frame under way was played, and the sink took what it gave
+pub record IsFramePlayed {S : Type 0} (took : S → Output → S → Type 0) (old : CourseValue) (sink : S) (new : CourseValue) (later : S)
+    : Type 0 where
+  pub given : List Output
+  pub goes_on : GoesOn old given new
+  pub later_is : old.board.state.now.time < new.board.state.now.time
+  pub nothing : new.board.state.due ≡ nothing_due
+  pub sink_is : TookAll took sink given later
+
+abbrev pub IsFrameDone : {S : Type 0} → (S → Output → S → Type 0) → CourseValue → S → Option Stop → CourseValue → S → Type 0
+IsFrameDone took old sink None new later = IsFramePlayed took old sink new later
+IsFrameDone took old sink (Some stop) new later = IsOver took old sink (Some stop) new later
+
+abbrev pub PlaysFrameOn : {S E : Type 0} → (S → Output → S → Type 0) → (S → Output → S → Type 0)
+    → CourseValue → S → Result (Option Stop) E → CourseValue → S → Type 0
+PlaysFrameOn took refused old sink (Ok stop) new later = IsFrameDone took old sink stop new later
+PlaysFrameOn took refused old sink (Err refusal) new later = IsHeldUp took refused old sink new later

@@ -1,0 +1,4 @@
+pub mod Course
+pub mod Plays
+pub mod Frames
+pub use Rattle.pac_inputs.specs.Stretches

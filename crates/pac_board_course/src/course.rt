@@ -1,0 +1,105 @@
+//! A course: a board, and the script that is played on it.
+
+ghost use Rattle.std.specs.Prelude.{◌≡◌, ◌<◌, ◌≤◌};
+ghost use Rattle.pac_board.specs.Inputs.{mask};
+ghost use Rattle.pac_board.specs.State as state;
+ghost use Rattle.pac_board_course.specs.Course.{FitsTime, begun, end_of};
+ghost use Rattle.pac_board_course.specs.Frames.{PlaysFrameOn};
+ghost use Rattle.pac_board_course.specs.Plays.{IsCourseStep, RunsToEnd};
+
+use pac_board::{Board, Flags, Inputs, Once, Refused, Sink, Stop};
+use pac_inputs::Script;
+use std::marker::Model;
+
+/// The T-states of a frame.
+pub const FRAME_TICKS: u64 = 50_688;
+
+/// A script that is played on a board. Frames are counted from power-on, whenever the script's first one begins. Clauses see board and
+/// script, and how many frames had gone by before.
+#[derive(Drop)]
+pub struct Course {
+    board: Board,
+    script: Script,
+    gone: u64,
+}
+
+impl Model for Course {
+    ghost use Rattle.pac_board_course.specs.Course.{CourseValue};
+    ghost use Rattle.pac_board_course.specs.Frames.{IsCourse};
+
+    ghost Value = { CourseValue };
+
+    ghost view = { λ course. record { board = course.board; script = course.script; gone = course.gone } };
+
+    ghost invariant = { λ course. IsCourse (record { board = course.board; script = course.script; gone = course.gone }) };
+}
+
+/// Holds these inputs, and no others.
+fn hold(board: &mut Board, inputs: Inputs)
+    ensures { board.new ≡ state.board_with_inputs board.old (mask inputs) }
+{
+    board.input_clear(Inputs::from_bits_retain(0xFFFF));
+    board.input_set(inputs);
+}
+
+impl Course {
+    /// The script is played from the board's frame on: the inputs of its first frame are held.
+    pub fn new(mut board: Board, script: Script) -> Course
+        requires { FitsTime board script }
+        ensures { result ≡ begun board script }
+    {
+        let gone = board.time() / FRAME_TICKS;
+        hold(&mut board, script.held(1));
+        Course {
+            board,
+            script,
+            gone,
+        }
+    }
+
+    /// The board as it is now.
+    #[inline]
+    pub fn board(&self) -> &Board
+        ensures { result.now ≡ self.now.board }
+    {
+        &self.board
+    }
+
+    /// The time at which the run is over, in T-states.
+    #[inline]
+    pub fn end(&self) -> u64
+        ensures time { result ≡ end_of self.now }
+        ensures bound { end_of self.now ≤ state.latest }
+    {
+        FRAME_TICKS * (self.gone + u64::from(self.script.frames()))
+    }
+
+    /// Plays the frame under way to its blank, after which the next one's inputs are held, or up to a stop, or to a refusal of the sink.
+    fn play_frame<S: Sink>(&mut self, sink: &mut S) -> Result<Option<Stop>, Refused>
+        requires nothing { self.old.board.state.due ≡ state.nothing_due }
+        requires early { self.old.board.state.now.time < end_of self.old }
+        ensures { PlaysFrameOn S.took S.refused self.old sink.old result self.new sink.new }
+    {
+        let frame = self.board.time() / FRAME_TICKS + 1;
+        let played = self.board.go_to(FRAME_TICKS * frame, sink);
+        if self.board.time() >= FRAME_TICKS * frame {
+            let next = (frame + 1).saturating_sub(self.gone);
+            hold(&mut self.board, self.script.held(next as u32));
+        }
+        played
+    }
+
+    /// Plays what is left of the run, to its end or to a stop, or to a refusal of the sink, after which it can be taken up again.
+    pub fn run_to_end<S: Sink>(&mut self, sink: &mut S) -> Result<Option<Stop>, Refused>
+        requires nothing { self.old.board.state.due ≡ state.nothing_due }
+        ensures { RunsToEnd S.took S.refused self.old sink.old result self.new sink.new }
+    {
+        'frames: while self.board.time() < self.end() {
+            let stop = self.play_frame(sink)?;
+            if stop.is_some() {
+                return Ok(stop);
+            }
+        }
+        Ok(None)
+    }
+}
