@@ -6,7 +6,7 @@ use Rattle.std.proofs.lemmas.Grind.{get_or-set_at}
 use Rattle.std.proofs.lemmas.Bool.Decides.{nat_tests}
 use Rattle.std.proofs.lemmas.List.{get_or_append_left, length-set}
 use mathlib.Core.Logic.{inl, inr}
-use Rattle.pac_tiles.proofs.Tabulated.{tabulate-is}
+use Rattle.pac_num.proofs.Tabulated.{tabulate-is}
 use Rattle.pac_tiles.specs.Tiles.{offset_of}
 use Rattle.pac_picture.specs.Layer.{cells_of}
 

@@ -8,8 +8,8 @@ use Rattle.std.proofs.lemmas.Bool.{cases_Bool, cases_lt, cases_eq}
 use Rattle.std.proofs.Math.ListN.{get_or-eq_default}
 use mathlib.Core.Logic.{inl, inr}
 use Rattle.pac_lemmas.proofs.Lists.{set-one-more, get_or-replicate-all}
-use Rattle.pac_tiles.specs.Tabulate.{tabulate}
-use Rattle.pac_tiles.proofs.Tabulated.{length-tabulate, get_or-tabulate, tabulate-is}
+use Rattle.pac_num.specs.Tabulate.{tabulate}
+use Rattle.pac_num.proofs.Tabulated.{length-tabulate, get_or-tabulate, tabulate-is}
 use Rattle.pac_sprites.specs.declared.Sprite.{Sprite}
 use Rattle.pac_sprites.specs.Sprites.{covers_of}
 use Rattle.pac_picture.specs.Picture.{VideoRoms, VideoMemory, is_opaque, tile_number, sprite_number}

@@ -8,8 +8,8 @@ use Rattle.std.proofs.lemmas.Bool.Decides.{nat_tests}
 use Rattle.std.proofs.lemmas.List.{take_all}
 use mathlib.Core.Logic.{inl, inr}
 use borrow.Rule.Slice.PartMut.{put_mid}
-use Rattle.pac_tiles.specs.Tabulate.{tabulate}
-use Rattle.pac_tiles.proofs.Tabulated.{get_or-tabulate, tabulate-add, tabulate-is}
+use Rattle.pac_num.specs.Tabulate.{tabulate}
+use Rattle.pac_num.proofs.Tabulated.{get_or-tabulate, tabulate-add, tabulate-is}
 use Rattle.pac_sprites.specs.declared.Sprite.{Sprite}
 use Rattle.pac_sprites.specs.Sprites.{is_column_of, is_in_box, box_place, flipped_place}
 use Rattle.pac_picture.specs.Picture.{VideoRoms, sprite_dot, sprite_number}

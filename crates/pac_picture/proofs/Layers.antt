@@ -6,9 +6,9 @@ use Rattle.std.proofs.lemmas.List.{same_lists, get_or_default, get_or_read, get_
 use Rattle.std.proofs.lemmas.List.Sums.{sum_by_push}
 use Rattle.std.proofs.lemmas.Bool.{true≢false}
 use Rattle.pac_lemmas.proofs.Lists.{set-one-more}
-use Rattle.pac_tiles.specs.Tabulate.{tabulate}
+use Rattle.pac_num.specs.Tabulate.{tabulate}
 use Rattle.pac_tiles.specs.Tiles.{offset_of}
-use Rattle.pac_tiles.proofs.Tabulated.{length-tabulate, get_or-tabulate, tabulate-same, tabulate-is}
+use Rattle.pac_num.proofs.Tabulated.{length-tabulate, get_or-tabulate, tabulate-same, tabulate-is}
 use Rattle.pac_picture.specs.declared.shadow.Shadow.{Shadow}
 use Rattle.pac_picture.specs.Picture.{VideoRoms, VideoMemory, tile_number, tile_dot}
 use Rattle.pac_picture.specs.Layer.{shadow_from, shadow_at, drawn_from, cells_of, differing_in, tile_pattern}

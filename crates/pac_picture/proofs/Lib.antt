@@ -8,4 +8,4 @@ pub mod Counts
 pub mod Layers
 pub mod Composed
 pub mod Stale
-pub use Rattle.pac_tiles.proofs.Tabulated
+pub use Rattle.pac_num.proofs.Tabulated

@@ -1,8 +1,8 @@
 -- Lists that are filled place by place.
 use Rattle.std.proofs.Common.{◌≡◌, ℕ, ◌+◌, ◌<◌, List, [], ◌∷◌, ◌++◌, add-one}
 use Rattle.std.proofs.Common.{length, get_or, refl, ◌∙◌}
-use Rattle.pac_tiles.specs.Tabulate.{tabulate}
-use Rattle.pac_tiles.proofs.Tabulated.{length-tabulate, get_or-tabulate}
+use Rattle.pac_num.specs.Tabulate.{tabulate}
+use Rattle.pac_num.proofs.Tabulated.{length-tabulate, get_or-tabulate}
 
 -- a list that grows by the next value
 pub push-step : {A : Type 0} (xs ys : List A) (count : ℕ) (value : ℕ → A) (next : A) → ys ≡ xs ++ next ∷ [] → next ≡ value count →

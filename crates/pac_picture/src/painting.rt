@@ -1,7 +1,7 @@
 //! A line of the picture: the cells of its row, and the sprites painted over them.
 
 ghost use Rattle.std.specs.Prelude.{◌≡◌, ◌<◌, ℕ, ◌/◌, ◌%◌, [], if◌then◌else◌, find, unwrap_or, length, slice_index, slice_index_or};
-ghost use Rattle.pac_tiles.specs.Tabulate.{tabulate};
+ghost use Rattle.pac_num.specs.Tabulate.{tabulate};
 ghost use Rattle.pac_tiles.specs.Tiles as tile;
 ghost use Rattle.pac_sprites.specs.Sprites as sprites;
 ghost use Rattle.pac_picture.specs.Picture.{is_opaque, sprite_at, sprite_dot};

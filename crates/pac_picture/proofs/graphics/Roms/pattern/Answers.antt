@@ -1,5 +1,5 @@
 use Rattle.std.proofs.Common.{◌≡◌, ◌<◌, length, rules, arith, []}
-use Rattle.pac_tiles.proofs.Tabulated.{tabulate-is}
+use Rattle.pac_num.proofs.Tabulated.{tabulate-is}
 use Rattle.pac_lemmas.proofs.Lists.{set-one-more}
 use Rattle.pac_picture.specs.Layer.{tile_pattern}
 use Rattle.pac_picture.proofs.graphics.Roms.pattern.Goals as goal
