@@ -1,12 +1,11 @@
 -- To be believed: what playing a course leaves of it and of the sink.
 use Rattle.std.specs.Prelude.{◌≡◌, List, ◌++◌, Option, Result, Ok, Err}
 use Rattle.pac_board.specs.Stop.{Stop}
-use Rattle.pac_board.specs.Once.{Once}
 use Rattle.pac_board.specs.Output.{Output}
-use Rattle.pac_board.specs.Calls.{board_after_step, once_at, outputs_in}
+use Rattle.pac_board.specs.Calls.{Offers}
 use Rattle.pac_board.specs.Sinks.{TookAll, RefusesAt}
 use Rattle.pac_board.specs.State.{due_outputs, nothing_due}
-use Rattle.pac_board_course.specs.Course.{CourseValue, next_in, way_on}
+use Rattle.pac_board_course.specs.Course.{CourseValue, way_on}
 
 -- the same run: the set, the script, the frames before it, and what was asked of the board
 pub record IsSameRun (old new : CourseValue) : Type 0 where
@@ -22,15 +21,13 @@ pub record GoesOn (old : CourseValue) (given : List Output) (new : CourseValue) 
   pub stop : (way_on new).stop ≡ (way_on old).stop
   pub outputs : given ++ (way_on new).outputs ≡ (way_on old).outputs
 
--- ---- one step
+-- ---- what is due
 
--- the next step of the run is done; what it gives is due
-pub record IsCourseStep (old : CourseValue) (once : Once) (new : CourseValue) : Type 0 where
-  pub script : new.script ≡ old.script
-  pub gone : new.gone ≡ old.gone
-  pub board : new.board ≡ board_after_step (next_in old old.board.state.now) old.board new.board.state.due
-  pub outputs : due_outputs new.board ≡ outputs_in (next_in old old.board.state.now)
-  pub once_is : once ≡ once_at (next_in old old.board.state.now) old.board.state.now.time
+-- the board's offer; nothing else changes
+abbrev pub CourseOffers : {S A E : Type 0} → (S → Output → S → Type 0) → (S → Output → S → Type 0)
+    → CourseValue → S → Result A E → CourseValue → S → Type 0
+CourseOffers took refused old sink result new later =
+    (new ≡ record old { board = new.board }) × Offers took refused old.board sink result new.board later
 
 -- ---- to the end
 

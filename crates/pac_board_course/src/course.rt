@@ -5,14 +5,11 @@ ghost use Rattle.pac_board.specs.Inputs.{mask};
 ghost use Rattle.pac_board.specs.State as state;
 ghost use Rattle.pac_board_course.specs.Course.{FitsTime, begun, end_of};
 ghost use Rattle.pac_board_course.specs.Frames.{PlaysFrameOn};
-ghost use Rattle.pac_board_course.specs.Plays.{IsCourseStep, RunsToEnd};
+ghost use Rattle.pac_board_course.specs.Plays.{CourseOffers, RunsToEnd};
 
-use pac_board::{Board, Flags, Inputs, Once, Refused, Sink, Stop};
+use pac_board::{Board, FRAME_TICKS, Flags, Inputs, Refused, Sink, Stop};
 use pac_inputs::Script;
 use std::marker::Model;
-
-/// The T-states of a frame.
-pub const FRAME_TICKS: u64 = 50_688;
 
 /// A script that is played on a board. Frames are counted from power-on, whenever the script's first one begins. Clauses see board and
 /// script, and how many frames had gone by before.
@@ -72,6 +69,25 @@ impl Course {
         ensures bound { end_of self.now ≤ state.latest }
     {
         FRAME_TICKS * (self.gone + u64::from(self.script.frames()))
+    }
+
+    /// Offers what is due to a sink, the sample before the picture. What it refuses stays due, with what comes after it.
+    pub fn offer<S: Sink>(&mut self, sink: &mut S) -> Result<(), Refused>
+        ensures { CourseOffers S.took S.refused self.old sink.old result self.new sink.new }
+    {
+        self.board.offer(sink)
+    }
+
+    /// The board, where the course left it.
+    pub fn into_board(self) -> Board
+        ensures { result ≡ self.board }
+    {
+        let Course {
+            board,
+            script: _,
+            gone: _,
+        } = self;
+        board
     }
 
     /// Plays the frame under way to its blank, after which the next one's inputs are held, or up to a stop, or to a refusal of the sink.

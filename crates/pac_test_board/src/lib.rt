@@ -4,6 +4,8 @@
 #[cfg(test)]
 mod board;
 #[cfg(test)]
+mod course;
+#[cfg(test)]
 mod rig;
 #[cfg(test)]
 mod scarce;
