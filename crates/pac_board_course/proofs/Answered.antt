@@ -16,7 +16,7 @@ use Rattle.pac_board_course.proofs.Framed.{frame_walk, moment_after, frames_ende
 use Rattle.pac_board_course.proofs.Whole.{frame-goes-on, frame-within, held-after, not-held-yet}
 use Rattle.pac_board_course.specs.Course.{CourseValue, end_of}
 use Rattle.pac_board_course.specs.Frames.{IsFrameDone, PlaysFrameOn, frame_end}
-use Rattle.pac_board_course.specs.Plays.{IsSameRun, GoesOn, IsHeldUp}
+use Rattle.pac_board_course.specs.Plays.{IsSameRun, CourseGoesOn, IsCourseHeldUp}
 
 -- the inputs that are held after the frame under way
 abbrev pub next_mask : CourseValue → ℕ
@@ -121,7 +121,7 @@ module _ {S : Type 0} (took refused : S → Output → S → Type 0) (old new : 
       }
 
   held-up : old.board.state.now.time < end_of old → IsWayRefused took refused old.board (frame_end old) sink board later
-      → IsClosed old board new.board → new.script ≡ old.script → new.gone ≡ old.gone → IsHeldUp took refused old sink new later
+      → IsClosed old board new.board → new.script ≡ old.script → new.gone ≡ old.gone → IsCourseHeldUp took refused old sink new later
   held-up early stays closed script gone =
       let walked : Walked old stays.steps board = record {
         set = ap (λ (b : BoardValue). b.set) stays.board;
@@ -132,7 +132,7 @@ module _ {S : Type 0} (took refused : S → Output → S → Type 0) (old new : 
       record {
         taken = stays.taken;
         goes_on =
-            subst (λ given. GoesOn old given new) (stays.parts ∙ ap (λ xs. stays.taken ++ xs) (sym at.outputs))
+            subst (λ given. CourseGoesOn old given new) (stays.parts ∙ ap (λ xs. stays.taken ++ xs) (sym at.outputs))
             (frame-goes-on old new stays.steps early at.run at.now);
         refuses = subst (λ left. RefusesAt took refused sink stays.taken left later) (sym at.outputs) stays.refuses;
       }

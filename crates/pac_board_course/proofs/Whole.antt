@@ -21,7 +21,7 @@ use Rattle.pac_inputs.specs.declared.line.Stretch.{Stretch}
 use Rattle.pac_board_course.proofs.Framed.{frame_walk, moment_after, frames_ended, frame-outputs, frame-ends}
 use Rattle.pac_board_course.specs.Course.{CourseValue, held_in, end_of, next_in, way_on}
 use Rattle.pac_board_course.specs.Frames.{IsFramePlayed, IsFrameDone, frame_end}
-use Rattle.pac_board_course.specs.Plays.{IsSameRun, GoesOn, IsOver, IsHeldUp}
+use Rattle.pac_board_course.specs.Plays.{IsSameRun, CourseGoesOn, IsOver, IsCourseHeldUp}
 
 -- ---- what is left of a run, by its parts
 
@@ -42,11 +42,11 @@ way-kept old new now same there =
 pub same-run : (course : CourseValue) → IsSameRun course course
 same-run course = record { set = refl; script = refl; gone = refl; asked = refl }
 
-pub goes-on-here : (course : CourseValue) → GoesOn course [] course
+pub goes-on-here : (course : CourseValue) → CourseGoesOn course [] course
 goes-on-here course = record { run = same-run course; now = refl; stop = refl; outputs = refl }
 
-pub goes-on-twice : (first second third : CourseValue) (given more : List Output) → GoesOn first given second → GoesOn second more third
-    → GoesOn first (given ++ more) third
+pub goes-on-twice : (first second third : CourseValue) (given more : List Output) → CourseGoesOn first given second → CourseGoesOn second more third
+    → CourseGoesOn first (given ++ more) third
 goes-on-twice first second third given more a b = record {
   run = record {
     set = b.run.set ∙ a.run.set;
@@ -66,7 +66,7 @@ pub frame-within : (course : CourseValue) → course.board.state.now.time < end_
 frame-within course early = omega arith
 
 pub frame-goes-on : (old new : CourseValue) (tries : ℕ) → old.board.state.now.time < end_of old → IsSameRun old new
-    → new.board.state.now ≡ moment_after old (frame_walk old tries).now → GoesOn old (frame_walk old tries).outputs new
+    → new.board.state.now ≡ moment_after old (frame_walk old tries).now → CourseGoesOn old (frame_walk old tries).outputs new
 frame-goes-on old new tries early same there =
     let way = way-kept old new (moment_after old (frame_walk old tries).now) same there in
     let within = frame-within old early in
@@ -118,7 +118,7 @@ late-way course late =
 pub record IsUnderway {S : Type 0} (took : S → Output → S → Type 0) (old : CourseValue) (sink : S) (new : CourseValue) (later : S)
     : Type 0 where
   pub given : List Output
-  pub goes_on : GoesOn old given new
+  pub goes_on : CourseGoesOn old given new
   pub nothing : new.board.state.due ≡ nothing_due
   pub sink_is : TookAll took sink given later
 
@@ -167,12 +167,12 @@ module _ {S : Type 0} (took refused : S → Output → S → Type 0) (old : Cour
       }
 
   pub underway-held-up : (now new : CourseValue) (taker later : S) → IsUnderway took old sink now taker
-      → IsHeldUp took refused now taker new later → IsHeldUp took refused old sink new later
+      → IsCourseHeldUp took refused now taker new later → IsCourseHeldUp took refused old sink new later
   underway-held-up now new taker later under stays =
       let on = goes-on-twice old now new under.given (stays.taken ++ due_outputs new.board) under.goes_on stays.goes_on in
       record {
         taken = under.given ++ stays.taken;
-        goes_on = subst (λ given. GoesOn old given new) (sym (append_assoc under.given stays.taken (due_outputs new.board))) on;
+        goes_on = subst (λ given. CourseGoesOn old given new) (sym (append_assoc under.given stays.taken (due_outputs new.board))) on;
         refuses = refuses-after took refused under.given stays.taken (due_outputs new.board) sink taker later under.sink_is stays.refuses;
       }
 

@@ -7,7 +7,7 @@ use Rattle.pac_board.specs.Sinks.{TookAll}
 use Rattle.pac_board.specs.State.{nothing_due, latest}
 use Rattle.pac_inputs.specs.Stretches.{total_frames, most_frames}
 use Rattle.pac_board_course.specs.Course.{CourseValue, end_of}
-use Rattle.pac_board_course.specs.Plays.{GoesOn, IsOver, IsHeldUp}
+use Rattle.pac_board_course.specs.Plays.{CourseGoesOn, IsOver, IsCourseHeldUp}
 
 -- what holds of each course
 pub record IsCourse (course : CourseValue) : Type 0 where
@@ -22,7 +22,7 @@ frame_end course = frame_ticks * suc (course.board.state.now.time / frame_ticks)
 pub record IsFramePlayed {S : Type 0} (took : S → Output → S → Type 0) (old : CourseValue) (sink : S) (new : CourseValue) (later : S)
     : Type 0 where
   pub given : List Output
-  pub goes_on : GoesOn old given new
+  pub goes_on : CourseGoesOn old given new
   pub later_is : old.board.state.now.time < new.board.state.now.time
   pub nothing : new.board.state.due ≡ nothing_due
   pub sink_is : TookAll took sink given later
@@ -34,4 +34,4 @@ IsFrameDone took old sink (Some stop) new later = IsOver took old sink (Some sto
 abbrev pub PlaysFrameOn : {S E : Type 0} → (S → Output → S → Type 0) → (S → Output → S → Type 0)
     → CourseValue → S → Result (Option Stop) E → CourseValue → S → Type 0
 PlaysFrameOn took refused old sink (Ok stop) new later = IsFrameDone took old sink stop new later
-PlaysFrameOn took refused old sink (Err refusal) new later = IsHeldUp took refused old sink new later
+PlaysFrameOn took refused old sink (Err refusal) new later = IsCourseHeldUp took refused old sink new later

@@ -15,7 +15,7 @@ pub record IsSameRun (old new : CourseValue) : Type 0 where
   pub asked : new.board.state.asked ≡ old.board.state.asked
 
 -- The run goes on as it would have: what was given out, and what is left of it now, is what was left of it before.
-pub record GoesOn (old : CourseValue) (given : List Output) (new : CourseValue) : Type 0 where
+pub record CourseGoesOn (old : CourseValue) (given : List Output) (new : CourseValue) : Type 0 where
   pub run : IsSameRun old new
   pub now : (way_on new).now ≡ (way_on old).now
   pub stop : (way_on new).stop ≡ (way_on old).stop
@@ -42,13 +42,13 @@ pub record IsOver {S : Type 0} (took : S → Output → S → Type 0) (old : Cou
   pub sink_is : TookAll took sink (way_on old).outputs later
 
 -- The sink refused an output: it and what its step gave after it are due, all before was taken, and the run can be taken up from there.
-pub record IsHeldUp {S : Type 0} (took refused : S → Output → S → Type 0) (old : CourseValue) (sink : S) (new : CourseValue) (later : S)
+pub record IsCourseHeldUp {S : Type 0} (took refused : S → Output → S → Type 0) (old : CourseValue) (sink : S) (new : CourseValue) (later : S)
     : Type 0 where
   pub taken : List Output
-  pub goes_on : GoesOn old (taken ++ due_outputs new.board) new
+  pub goes_on : CourseGoesOn old (taken ++ due_outputs new.board) new
   pub refuses : RefusesAt took refused sink taken (due_outputs new.board) later
 
 abbrev pub RunsToEnd : {S E : Type 0} → (S → Output → S → Type 0) → (S → Output → S → Type 0)
     → CourseValue → S → Result (Option Stop) E → CourseValue → S → Type 0
 RunsToEnd took refused old sink (Ok stop) new later = IsOver took old sink stop new later
-RunsToEnd took refused old sink (Err refusal) new later = IsHeldUp took refused old sink new later
+RunsToEnd took refused old sink (Err refusal) new later = IsCourseHeldUp took refused old sink new later
