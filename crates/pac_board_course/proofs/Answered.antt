@@ -56,8 +56,9 @@ standing old new tries board walked (inl closed) script gone =
       now =
           ap (λ (b : BoardValue). b.state.now) closed.1
           ∙ ap (λ set. (board_with_inputs (record board { set = set }) (next_mask old)).state.now) walked.set
-          ∙ ap (λ now. (board_with_inputs (record { set = old.board.set; state = record board.state { now = now }; made = 0 }) (next_mask old)).state.now)
-          walked.now
+          ∙ ap (λ now.
+          (board_with_inputs (record { set = old.board.set; state = record board.state { now = now }; made = 0 })
+          (next_mask old)).state.now) walked.now
           ∙ held-after old tries (next_mask old) ended refl;
       due = ap (λ (b : BoardValue). b.state.due) closed.1;
       outputs = ap due_outputs closed.1;

@@ -45,7 +45,8 @@ same-run course = record { set = refl; script = refl; gone = refl; asked = refl 
 pub goes-on-here : (course : CourseValue) → CourseGoesOn course [] course
 goes-on-here course = record { run = same-run course; now = refl; stop = refl; outputs = refl }
 
-pub goes-on-twice : (first second third : CourseValue) (given more : List Output) → CourseGoesOn first given second → CourseGoesOn second more third
+pub goes-on-twice : (first second third : CourseValue) (given more : List Output) → CourseGoesOn first given second
+    → CourseGoesOn second more third
     → CourseGoesOn first (given ++ more) third
 goes-on-twice first second third given more a b = record {
   run = record {

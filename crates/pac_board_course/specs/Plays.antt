@@ -42,7 +42,8 @@ pub record IsOver {S : Type 0} (took : S → Output → S → Type 0) (old : Cou
   pub sink_is : TookAll took sink (way_on old).outputs later
 
 -- The sink refused an output: it and what its step gave after it are due, all before was taken, and the run can be taken up from there.
-pub record IsCourseHeldUp {S : Type 0} (took refused : S → Output → S → Type 0) (old : CourseValue) (sink : S) (new : CourseValue) (later : S)
+pub record IsCourseHeldUp {S : Type 0} (took refused : S → Output → S → Type 0) (old : CourseValue) (sink : S) (new : CourseValue)
+    (later : S)
     : Type 0 where
   pub taken : List Output
   pub goes_on : CourseGoesOn old (taken ++ due_outputs new.board) new
