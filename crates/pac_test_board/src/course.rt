@@ -45,7 +45,8 @@ fn offered(course: &mut Course, kept: &mut Kept) -> Result<(), AllocError>
     }
 }
 
-// NOPs: a frame has 1,584 samples and a picture, and ends with a step.
+// NOPs, up to the port at 5000H, whose byte is an RST: 20,480 steps of 4 T-states, one of 11, and then 4,862 of 4 are 101,379, the first
+// time past the second blank. A frame has 1,584 samples and a picture.
 #[test]
 fn two_frames_of_nops(rt: HostRuntime) -> Result<(), Fail> {
     let mut course = course(rt.alloc(), &[], b"2 COIN1")?;
@@ -53,7 +54,7 @@ fn two_frames_of_nops(rt: HostRuntime) -> Result<(), Fail> {
     assert!(rt; played(&mut course, &mut kept)?.is_none());
     assert_eq!(rt; kept.taken().len(), 3170);
     assert_eq!(rt; course.end(), 101_376);
-    assert_eq!(rt; course.into_board().time(), 101_376);
+    assert_eq!(rt; course.into_board().time(), 101_379);
     Ok(())
 }
 
@@ -68,7 +69,7 @@ fn a_refused_sample_is_taken_up_again(rt: HostRuntime) -> Result<(), Fail> {
     assert!(rt; played(&mut course, &mut kept)?.is_none());
     assert_eq!(rt;
         (kept.taken().len(), course.board().time()),
-        (3170, 101_376)
+        (3170, 101_379)
     );
     Ok(())
 }
