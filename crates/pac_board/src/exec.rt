@@ -143,6 +143,7 @@ impl Board {
         requires nothing { due_outputs self.old ≡ [] }
         ensures { GoesTo S.took S.refused self.old limit sink.old result self.new sink.new }
     {
+        // (its bound, that of a u64, is what `run` asks of the count)
         self.made();
         self.run(limit, sink)
     }

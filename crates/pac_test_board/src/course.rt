@@ -21,6 +21,7 @@ fn course(alloc: Global, bytes: &[u8], script: &[u8]) -> Result<Course, AllocErr
     let Ok(script) = read_script(alloc, script) else {
         return Err(AllocError);
     };
+    // (says that a script is short, so that its run fits the board's time)
     script.frames();
     Ok(Course::new(board, script))
 }
