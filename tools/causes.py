@@ -1,0 +1,286 @@
+"""The likely cause of a fault in a source, for tools/explain: by the line, by the lines above it, and by words that other assemblers have.
+
+Lines are read by tools/judge_source.py, which was written from docs/ASSEMBLER.md. `causes(code, source, number)` gives sentences, none
+where nothing is sure.
+"""
+import difflib
+import pathlib
+import re
+
+import judge_source as judge
+
+PAGE = pathlib.Path(__file__).resolve().parent.parent / "docs/ASSEMBLER.md"
+OPERATIONS = judge.MNEMONICS | judge.DIRECTIVES
+
+# What stands where a character begins no token: from there on, and what to write.
+SIGNS = [
+    (r'"', "a text stands in single quotes: 'text'"),
+    (r"#(\w*)", "no sign stands before a number, and a hexadecimal one is written as 1FH"),
+    (r"&([0-9A-Fa-f]+)", "hexadecimal numbers end with H: {hex}"),
+    (r"%([01]+)", "binary numbers end with B: {0}B"),
+    (r"\.(\w+)", "directives and labels have no dot before them: DEFB, DEFW, DEFS, DEFM, ORG, EQU; each label has a name of its own"),
+    (r"[<>]{2}", "there is no shift: x*8 for x << 3, x/8 for x >> 3"),
+    (r"==?|[<>!]=?", "there is no sign to compare by: `IF A-B` counts where A and B differ; a name gets its number by `name EQU 1`"),
+    (r"[|&^~!%]", "the operators are + - * / alone"),
+    (r"[@?\\\[\]{}`]", "names have letters, digits and _ alone, and parentheses are ( and )"),
+    (r"[^\x00-\x7f]", "a letter outside of ASCII may stand in a comment alone"),
+    (r"[\x00-\x1f\x7f]", "a control character may stand in a comment alone"),
+]
+# Words that other assemblers have.
+FOREIGN = {
+    "MACRO ENDM MEND": "there are no macros",
+    "INCLUDE INCBIN": "there are no include files: a program is one source",
+    "REPT DUP EDUP ENDR WHILE": "there is no repetition",
+    "PUBLIC GLOBAL EXTERN EXTRN SECTION SEGMENT MODULE CSEG DSEG": "there is no linker: a program is one source",
+    "IFDEF IFNDEF ELSEIF ELIF": "conditions are IF, ELSE and ENDIF alone; IF within ELSE, and IF with a name that has a number",
+    "END": "there is no END: the source ends where the file ends",
+    "DEFL SET": "a name gets its number once, by `name EQU 5`",
+    "BYTE DEFC ASCII TEXT FCB": "bytes and texts are DEFB or DEFM",
+    "LOW HIGH": "x-x/256*256 is the low byte of x, and x/256 the high one",
+    "MOD SHL SHR NOT EQ NE LT GT GE LE": "the operators are + - * / alone",
+    "MOV": "to load is LD",
+    "SLL IXH IXL IYH IYL HX LX HY LY": "undocumented instructions are left out",
+}
+# Spellings of other assemblers, in capitals and without blanks between operands, and what is written here.
+SPELLINGS = [
+    (r"(ADD|ADC|SBC) ([^,]+)", "{0} A,{1}"),
+    (r"(SUB|AND|XOR|OR|CP) A,(.+)", "{0} {1}"),
+    (r"JP (HL|IX|IY)", "JP ({0})"),
+    (r"JP \((IX|IY)\+0\)", "JP ({0})"),
+    (r"EX AF,AF", "EX AF,AF'"),
+    (r"EX HL,DE", "EX DE,HL"),
+    (r"EX (HL|IX|IY),\(SP\)", "EX (SP),{0}"),
+    (r"LD ([BCDEHL]),\(([^,]+)\)", "LD A,({1}) and LD {0},A: only A is loaded from a place with an address of its own"),
+    (r"LD \(([^,]+)\),([BCDEHL])", "LD A,{1} and LD ({0}),A: only A is stored at a place with an address of its own"),
+    (r"LD ([BDH])([CEL]),([BDH])([CEL])", "LD {0},{2} and LD {1},{3}"),
+    (r"JR (PO|PE|P|M),(.+)", "JP {0},{1}: JR takes NZ, Z, NC and C alone"),
+    (r"DJNZ B,(.+)", "DJNZ {0}"),
+    (r"(?:DEFM|DM) (.*,.*)", "DEFB {0}: DEFM takes one text"),
+    (r"(PUSH|POP) (SP|[A-EHLIR])", "{0} with BC, DE, HL, AF, IX or IY"),
+    (r"OUT \(([^C].*)\),([B-EHL])", "OUT ({0}),A, or OUT (C),{1}"),
+    (r"IN ([B-EHL]),\(([^C].*)\)", "IN A,({1}), or IN {0},(C)"),
+]
+
+
+def hexadecimal(digits):
+    """A hexadecimal number as a source has it."""
+    return ("" if digits[:1].isdigit() else "0") + digits.upper() + "H"
+
+
+def filled(text, match):
+    """A sentence with what a pattern has found."""
+    groups = [group or "" for group in match.groups()]
+    return text.replace("{hex}", hexadecimal(groups[0]) if groups else "").format(*groups)
+
+
+def foreign(words):
+    """What is said of the first of some words that other assemblers have."""
+    for word in words:
+        for names, text in FOREIGN.items():
+            if word.upper() in names.split():
+                yield f"{word}: {text}"
+                return
+
+
+def near(word, names):
+    """The name that is most like a word; one of the same letters before others."""
+    found = difflib.get_close_matches(word.upper(), sorted(name.upper() for name in names), 3, 0.7)
+    found.sort(key=lambda name: sorted(name) != sorted(word.upper()))
+    return next((name for name in names if found and name.upper() == found[0]), None)
+
+
+def token_cause(code, line):
+    """The cause of a token fault."""
+    if code.endswith("L4"):
+        yield f"the line has {len(line)} bytes; 255 are the most, comment included"
+        return
+    text, at = line.decode("latin-1"), 0
+    while at < len(text):
+        match = judge.TOKEN.match(text, at)
+        kind = match.lastgroup if match else None
+        if match is None:
+            yield from (filled(says, found) for sign, says in SIGNS if (found := re.match(sign, text[at:])))
+            return
+        if kind == "open":
+            yield "the ' is never closed; inside a text two of them stand for one, and words with a ' belong after a ;"
+            return
+        if kind == "number":
+            try:
+                judge.number_of(match[0])
+            except judge.Fault:
+                yield from number_cause(match[0])
+                return
+        at = match.end()
+
+
+def number_cause(word):
+    """The cause of a number that is none."""
+    if word[:2].lower() == "0x":
+        yield f"hexadecimal numbers end with H: {hexadecimal(word[2:] or '0')}"
+    elif re.fullmatch("[0-9A-Fa-f]+", word) and re.search("[A-Fa-f]", word):
+        yield f"a hexadecimal number ends with H: {hexadecimal(word)}"
+    elif re.fullmatch("[0-9]+[Dd]?|[0-9A-Fa-f]+[Hh]", word):
+        yield f"{word} is above 65,535"
+    else:
+        yield f"{word} isn't a number: the last letter tells the base, H, B, O, Q or D, and a name begins with a letter or _"
+
+
+def form_cause(line):
+    """The cause of a line of another form."""
+    found = judge.tokens(line)
+    names = [word for kind, word in found if kind == "name"]
+    if not names or found[0][0] != "name":
+        yield "a line begins with a label or an operation; a name begins with a letter or _"
+        return
+    first, rest = names[0], found
+    if first.upper() not in OPERATIONS:
+        if first.upper() in judge.REGISTERS:
+            yield f"{first} is the name of a register, a pair or a condition, so it can't be a label: take a longer name"
+            return
+        rest = [token for token in found[1:] if token != ("sign", ":")]
+        if rest and (rest[0][0] != "name" or rest[0][1].upper() not in OPERATIONS):
+            said = list(foreign(names[:2]))
+            second = rest[0][1] if rest[0][0] == "name" else ""
+            guess = [(word, like) for word in (first, second) if word and (like := near(word, OPERATIONS))]
+            yield from said or [f"{word} is no operation; {like} is one" for word, like in guess[:1]]
+            yield from [] if said or guess else [f"{first} is no operation, so it is a label, and an operation should follow it"]
+            return
+        if rest and rest[0][1].upper() in ("ORG", "IF", "ELSE", "ENDIF"):
+            yield f"{rest[0][1]} takes no label"
+            return
+    yield from operand_cause(line, rest)
+
+
+def operand_cause(line, rest):
+    """The cause of operands that an operation doesn't take."""
+    operation = rest[0][1].upper()
+    code = re.sub(r"\s*([,()+*/-])\s*", r"\1", line.decode("latin-1").split(";")[0].upper())
+    code = re.sub(rf".*?\b{operation}\b\s*", f"{operation} ", code, count=1).strip()
+    said = [f"here it is {filled(text, found)}" for sign, text in SPELLINGS if (found := re.fullmatch(sign, code))][:1]
+    dollar = re.search(r"\$([0-9A-F]+)\b", code)
+    if dollar:
+        said = [f"$ is the address of the line; a hexadecimal number ends with H: {hexadecimal(dollar[1])}"]
+    said = said or list(foreign(word for kind, word in rest[1:] if kind == "name"))
+    if not said and operation == "EQU" and rest[1:]:
+        said = ["EQU takes a name before it and one number after it: `SIZE EQU 9`"]
+    if not said and ("sign", ":") in rest:
+        said = ["a line has one operation"]
+    yield from said
+    section = PAGE.read_text().partition("## Instructions")[2].partition("\n## ")[0]
+    forms = re.findall(rf"`({operation}(?: [^`]*)?)`", section)
+    if forms:
+        yield f"{operation} has these forms alone: {', '.join(forms)}"
+
+
+def first_phase(lines, number):
+    """What is known of the lines above one."""
+    assembly = judge.Assembly()
+    for line in lines[: number - 1]:
+        assembly.first_phase(line)
+    return assembly
+
+
+def definition(lines, name):
+    """The number of the first line that defines a name, or none."""
+    read = (judge.read_line(line) for line in lines)
+    return next((at for at, line in enumerate(read, 1) if not isinstance(line, str) and line.label == name), None)
+
+
+def name_cause(lines, number, tree_names, known):
+    """The cause of names that aren't defined."""
+    for name in sorted(tree_names - set(known)):
+        at = definition(lines, name)
+        like = next((other for other in known if other.upper() == name.upper()), None)
+        if at and at != number:
+            yield f"{name} is defined below, in line {at}: here it has to be defined in a line above"
+        elif at:
+            yield f"{name} is defined by itself"
+        elif re.fullmatch("[A-Fa-f][0-9A-Fa-f]*[Hh]", name):
+            yield f"{name} is a name, since it begins with a letter; the hexadecimal number is 0{name}"
+        elif like:
+            yield f"{like} in line {definition(lines, like)} is another name: capitals count"
+        elif text := list(foreign([name])):
+            yield from text
+        else:
+            like = near(name, known)
+            yield f"{name} is defined nowhere" + (f"; {like} is, in line {definition(lines, like)}" if like else "")
+
+
+def place_cause(code, lines, number):
+    """The cause of bytes at a place that they can't have, or of a name that has one already."""
+    assembly, line = first_phase(lines, number), judge.read_line(lines[number - 1])
+    if code == "A3":
+        at = definition(lines, line.label)
+        yield f"{line.label} is defined in line {at} already"
+        if line.operation is None and not re.search(rb"\w\s*:", lines[number - 1]):
+            yield f"{line.label} is no operation: a word that stands alone in a line is a label"
+    elif code == "A4":
+        yield from name_cause(lines, number, judge.names_of(line.at_once), assembly.symbols)
+    elif code == "A5":
+        value = assembly.at_once(line.at_once) if line.at_once else None
+        if line.operation == "ORG" and value and value > 0x4000:
+            yield f"the assembler makes the ROM alone, 0000H to 3FFFH; places in RAM get names by EQU: `SCORE EQU {hexadecimal(f'{value:X}')}`"
+        elif line.operation == "DEFS" and value is not None and not 0 <= value <= 0x4000:
+            yield f"the size is {value}"
+        else:
+            yield f"the bytes begin at {hexadecimal(f'{assembly.at:04X}')}, and the ROM ends at 3FFFH; RAM gets names by EQU"
+    elif code == "A6":
+        size = assembly.at_once(line.at_once) if line.operation == "DEFS" else line.size
+        spots = [(at, spot) for at, spot in enumerate(assembly.spots, 1) if isinstance(spot, tuple)]
+        for at, (begin, length) in spots:
+            if begin < assembly.at + size and assembly.at < begin + length:
+                yield f"line {at} has bytes from {hexadecimal(f'{begin:04X}')} on, and this line begins at {hexadecimal(f'{assembly.at:04X}')}"
+                return
+
+
+def value_cause(lines, number):
+    """The cause of a value that a place doesn't take."""
+    assembly = first_phase(lines, len(lines) + 1)
+    line, here = judge.read_line(lines[number - 1]), assembly.spots[number - 1][0]
+    takes = {"n": (-128, 255), "nn": (-32768, 65535), "d": (-128, 127), "e": (-128, 127)}
+    for kind, tree in line.places:
+        value = judge.value_of(tree, assembly.symbols, here)
+        if kind == "e" and not -128 <= value - here - 2 <= 127:
+            other = "DEC B and JP NZ go" if line.operation == "DJNZ" else "JP goes"
+            yield f"the target is {value - here - 2} away from the next instruction; -128 to 127 are taken, and {other} anywhere"
+        elif kind in takes and kind != "e" and not takes[kind][0] <= value <= takes[kind][1]:
+            yield f"the value is {value}; {takes[kind][0]} to {takes[kind][1]} are taken" + (
+                ": an address takes a pair, as HL" if kind == "n" and value > 255 and judge.names_of(tree) else "")
+        elif kind == "number" and value not in line.code:
+            yield f"the value is {value}; {line.operation} takes {', '.join(map(str, sorted(line.code)))}"
+
+
+def branch_cause(code, lines, number):
+    """The cause of an IF, ELSE or ENDIF that has no other."""
+    words = [(at, judge.first_word(line).decode()) for at, line in enumerate(lines, 1)]
+    if code == "A14":
+        after = next((at for at, line in enumerate(lines, 1) if re.match(rb"\s*\w+\s*:?\s+ENDIF\b", line, re.I)), None)
+        yield f"the ENDIF of line {after} stands after a label and ends nothing" if after else "an ENDIF for it stands nowhere"
+    else:
+        above = [at for at, word in words[: number - 1] if word in ("IF", "ELSE", "ENDIF")]
+        yield f"IF, ELSE and ENDIF stand above in the lines {', '.join(map(str, above))}" if above else "no IF stands above"
+
+
+def causes(code, source, number):
+    """Sentences about the cause of a fault in a line; none where nothing is sure."""
+    lines = judge.lines_of(source)
+    if not 1 <= number <= len(lines):
+        return []
+    try:
+        if code.startswith("A1 "):
+            return list(token_cause(code, lines[number - 1]))
+        if code == "A2":
+            return list(form_cause(lines[number - 1]))
+        if code in ("A3", "A4", "A5", "A6"):
+            return list(place_cause(code, lines, number))
+        if code == "A8":
+            assembly, line = first_phase(lines, len(lines) + 1), judge.read_line(lines[number - 1])
+            names = set().union(*(judge.names_of(tree) for _, tree in line.places))
+            return list(name_cause(lines, number, names, assembly.symbols))
+        if code == "A9":
+            return list(value_cause(lines, number))
+        if code in ("A12", "A13", "A14"):
+            return list(branch_cause(code, lines, number))
+    except (judge.Fault, TypeError, AttributeError, ValueError):
+        pass  # the line isn't the one that was refused, or the source has changed since
+    return []
