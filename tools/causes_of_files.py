@@ -116,11 +116,17 @@ def in_listing(_, said, content):
             best = (int(found[1], 16), int(found[1], 16) + len(found[2]) // 2, at, line)
     if best is None:
         return []
-    begin, end, at, line = best
+    _, end, at, _ = best
     if address < end:
         return [(at, ["the processor came here, to what is data or the middle of an instruction"])]
     place = "in RAM or at a port" if address >= 0x4000 else "where the source has no bytes"
     return [(at, [f"{address:04X}H is {place}; this is the last line with bytes below it"])]
+
+
+def source_line(content, row):
+    """The number of the source's line to which a row of a listing belongs."""
+    rows = content.decode("latin-1").split("\n")[:row]
+    return next(int(line[:5]) for line in reversed(rows) if line[:5].isdigit())
 
 
 KINDS = {"I": in_script, "M": in_manifest, "G": in_commands, "S": in_listing}
