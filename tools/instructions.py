@@ -1,0 +1,121 @@
+"""The instructions, read from the table that the assembler, the processor and the disassembler share, crates/pac_table/src/table.rt: their
+forms, codes, lengths, T-states and flags, for tools/make-instructions and tools/symbols.
+
+The table's effects say which flags an instruction changes by what they are; FLAGS says it in letters.
+"""
+import collections
+import pathlib
+import re
+
+TABLE = pathlib.Path(__file__).resolve().parent.parent / "crates/pac_table/src/table.rt"
+ROW = re.compile(r"^    row!\((\w+) 0x(\w\w) (\w+) (\w+) (\w+), (\w+) (\w+) (\w+), (\d+) (\d+), (.*)\),$", re.M)
+
+# A form as the source has it, its code's words, its T-states where it is taken or repeats and where not, its flags, and how many
+# documented codes it has. `page` and `opcodes` find it by a code's bytes.
+Form = collections.namedtuple("Form", "text code length ticks other flags page opcodes")
+
+# The prefix bytes of a page, and whether the displacement stands before the opcode byte.
+PAGES = {"Plain": "", "Cb": "CB", "Ed": "ED", "Dd": "DD", "Fd": "FD", "DdCb": "DD CB d", "FdCb": "FD CB d"}
+# The bytes that follow the opcode byte.
+IMMEDIATES = {"Absent": "", "Byte": "n", "Word": "nn", "Relative": "e", "Displacement": "d", "DisplacementByte": "d n"}
+SHAPES = dict(pair.split("=") for pair in (
+    "Accumulator=A FirstRegister=r SecondRegister=s Byte=n Word=nn Relative=e AtByte=(n) AtWord=(nn) AtBc=(BC) AtDe=(DE) AtHl=(HL) AtSp=(SP) "
+    "AtC=(C) AtIx=(IX) AtIy=(IY) IndexedIx=(IX+d) IndexedIy=(IY+d) De=DE Hl=HL Sp=SP Ix=IX Iy=IY Af=AF AlternateAf=AF' Pair=dd StackPair=qq "
+    "PairWithIx=pp PairWithIy=pp InterruptRegister=I RefreshRegister=R Condition=cc RelativeCondition=jj BitNumber=b RestartAddress=p ModeZero=0 "
+    "ModeOne=1 ModeTwo=2").split())
+# A field of an opcode byte: the worth of its lowest bit, its letters in the bits, and its values.
+REGISTERS = [0, 1, 2, 3, 4, 5, 7]
+FIELDS = {
+    "Absent": (1, "", [0]), "RegisterHigh": (8, "rrr", REGISTERS), "RegisterLow": (1, "sss", REGISTERS), "Pair": (16, "dd", range(4)),
+    "StackPair": (16, "qq", range(4)), "IndexPair": (16, "pp", range(4)), "Condition": (8, "ccc", range(8)), "RelativeCondition": (8, "jj", range(4)),
+    "BitNumber": (8, "bbb", range(8)), "RestartPlace": (8, "ppp", range(8)), "AluOperation": (8, "", range(8)), "ShiftOperation": (8, "", REGISTERS),
+}
+# The names of a family, by the value of its field.
+FAMILIES = {"Alu": ["ADD A,", "ADC A,", "SUB ", "SBC A,", "AND ", "XOR ", "OR ", "CP "], "Shift": ["RLC ", "RRC ", "RL ", "RR ", "SLA ", "SRA ", "", "SRL "]}
+
+# The flags S Z H P/V N C after an instruction: `*` by the result, P parity, V overflow, I the flip-flop IFF2, B whether the count isn't 0 yet, A all
+# of them at once; 0 and 1 as they say; `-` as before. UM0080 calls those of BIT and of block input and output that stand as `-` here unknown; this
+# profile keeps them. By the effect, the first that it begins with; of Alu by the operation.
+ALU = {"ADD": "***V0*", "ADC": "***V0*", "SUB": "***V1*", "SBC": "***V1*", "AND": "**1P00", "XOR": "**0P00", "OR ": "**0P00", "CP ": "***V1*"}
+FLAGS = [
+    ("ByteLoad(ByteLoad::LoadFromSpecial", "**0I0-"),
+    ("ByteArithmetic(ByteArithmetic::Increment", "***V0-"), ("ByteArithmetic(ByteArithmetic::Decrement(", "***V1-"),
+    ("ByteArithmetic(ByteArithmetic::DecimalAdjust", "***P-*"), ("ByteArithmetic(ByteArithmetic::Complement)", "--1-1-"),
+    ("ByteArithmetic(ByteArithmetic::Negate", "***V1*"), ("ByteArithmetic(ByteArithmetic::SetCarry", "--0-01"),
+    ("ByteArithmetic(ByteArithmetic::ComplementCarry", "--*-0*"),
+    ("WordArithmetic(WordArithmetic::AddPair(", "--*-0*"), ("WordArithmetic(WordArithmetic::AddPairWithCarry", "***V0*"),
+    ("WordArithmetic(WordArithmetic::SubtractPairWithCarry", "***V1*"), ("WordArithmetic(", "------"),
+    ("RotateAndShift(RotateAndShift::RotateAccumulator", "--0-0*"), ("RotateAndShift(RotateAndShift::Shift", "**0P0*"),
+    ("RotateAndShift(RotateAndShift::RotateDigit", "**0P0-"),
+    ("BitOperation(BitOperation::Test", "-*1-0-"), ("BitOperation(", "------"), ("Port(Port::Input)", "**0P0-"), ("Port(", "------"),
+    ("Exchange(Exchange::Af", "AAAAAA"), ("ByteLoad(", "------"), ("WordLoad(", "------"), ("Exchange(", "------"), ("Jump(", "------"),
+    ("Call(", "------"), ("Control(", "------"),
+    ("block!(Load", "--0B0-"), ("block!(Compare", "***B1-"), ("block!(Input", "-*--1-"), ("block!(Output", "-*--1-"),
+]
+
+
+def flags_of(effect, operation):
+    """The flags of an effect; those of Alu are those of its operation."""
+    if "ByteArithmetic::Alu" in effect:
+        return ALU[operation[:3]]
+    return next(flags for begin, flags in FLAGS if effect.removeprefix("Effect::").startswith(begin))
+
+
+def opcode_text(opcode, fields):
+    """An opcode byte: hexadecimal where it has no field, else its bits with the fields' letters."""
+    bits = list(f"{opcode:08b}")
+    for name in fields:
+        weight, letters, _ = FIELDS[name]
+        low = weight.bit_length() - 1
+        for place, letter in enumerate(letters):
+            bits[7 - low - (len(letters) - 1 - place)] = letter
+    return "".join(bits) if any(FIELDS[name][1] for name in fields) else f"{opcode:02X}"
+
+
+def expanded(page, opcode, first, second, immediate, mnemonic, left, right, ticks, other, effect):
+    """The forms of a row: one for each name of a family and each condition of a relative jump, which has its own code."""
+    values = FIELDS[first][2] if mnemonic in FAMILIES or first == "RelativeCondition" else [None]
+    for value in values:
+        at = opcode + (FIELDS[first][0] * value if value is not None else 0)
+        fields = [name for name in (first, second) if value is None or name != first]
+        shapes = [SHAPES[shape] for shape in (left, right) if shape != "Absent"]
+        if first == "RelativeCondition":
+            shapes[0] = "NZ Z NC C".split()[value]
+        operands = ",".join(shapes)
+        if "RegisterLow" in fields and "r" not in shapes:
+            operands = operands.replace("s", "r")
+        text = (FAMILIES[mnemonic][value] if mnemonic in FAMILIES else mnemonic.upper() + " ") + operands
+        shown = opcode_text(at, fields)
+        shown = shown if "rrr" in shown else shown.replace("sss", "rrr")
+        shown = f"{PAGES[page]} {shown}" if PAGES[page].endswith("d") else f"{PAGES[page]} {shown} {IMMEDIATES[immediate]}"
+        words = shown.split()
+        opcodes = [at + FIELDS[first][0] * (p if value is None else 0) + FIELDS[second][0] * q for p in (FIELDS[first][2] if value is None else [0])
+                   for q in FIELDS[second][2]]
+        yield Form(text.strip(), " ".join(words), len(words) + words.count("nn"), int(ticks), int(other), flags_of(effect, text), page, opcodes)
+
+
+def forms():
+    """All forms, in the order of the table."""
+    text = TABLE.read_text()
+    found = ROW.findall(text)
+    if len(found) != int(re.search(r"static ROWS: \[Row; (\d+)\]", text)[1]):
+        raise ValueError("table.rt: a row isn't of the form that this script reads")
+    return [form for row in found for form in expanded(row[0], int(row[1], 16), *row[2:])]
+
+
+def by_code():
+    """The forms by page and opcode byte."""
+    found = {}
+    for form in forms():
+        for opcode in form.opcodes:
+            found.setdefault((form.page, opcode), form)
+    return found
+
+
+def form_at(codes, code):
+    """The form with which bytes begin, or None where they are no documented instruction."""
+    prefix = {0xCB: "Cb", 0xED: "Ed", 0xDD: "Dd", 0xFD: "Fd"}.get(code[0])
+    if prefix in ("Dd", "Fd") and len(code) > 3 and code[1] == 0xCB:
+        return codes.get((f"{prefix}Cb", code[3]))
+    place = 1 if prefix else 0
+    return codes.get((prefix or "Plain", code[place])) if len(code) > place else None
