@@ -6,9 +6,12 @@ sentences.
 import difflib
 import re
 import tomllib
+import zlib
 
 import judge_run
 import judge_source
+
+NAMED = re.compile(rb"(?<![^ \t])@\w+")  # a symbol, for which tools/symbols puts its address
 
 
 def in_script(code, said, content):
@@ -81,6 +84,7 @@ def in_commands(code, said, content):
     session.place = lambda word: word
     session.back = None
     for number, line in enumerate(judge_source.lines_of(content), 1):
+        line = NAMED.sub(lambda found: b"%04X" % (zlib.crc32(found[0]) % 65536), line)
         words = judge_run.words_of(line)
         takes, _ = session.COMMANDS.get(words[0], (None, None)) if words else (None, None)
         is_back = bool(words) and words[0] == b"back" and len(words) == 2 and judge_run.number_of(words[1], 1_000_000)
@@ -108,25 +112,19 @@ def command_cause(code, said, words, takes):
 
 
 def in_listing(_, said, content):
-    """The line of a listing in which an address stands: the source's line with bytes there, or the last one before."""
-    address, best = int(said, 16), None
+    """The row of a listing in which an address stands; 0 where none has it."""
+    address = int(said, 16)
     for at, line in enumerate(content.decode("latin-1").split("\n"), 1):
         found = re.match(r"(?:\d{5}|     ) ([0-9A-F]{4}) ((?:[0-9A-F]{2}){1,4})", line)
-        if found and int(found[1], 16) <= address and (best is None or int(found[1], 16) >= best[0]):
-            best = (int(found[1], 16), int(found[1], 16) + len(found[2]) // 2, at, line)
-    if best is None:
-        return []
-    _, end, at, _ = best
-    if address < end:
-        return [(at, ["the processor came here, to what is data or the middle of an instruction"])]
-    place = "in RAM or at a port" if address >= 0x4000 else "where the source has no bytes"
-    return [(at, [f"{address:04X}H is {place}; this is the last line with bytes below it"])]
+        if found and 0 <= address - int(found[1], 16) < len(found[2]) // 2:
+            return [(at, ["the processor came to this address, to data or into the middle of an instruction"])]
+    return [(0, [f"{said}H is in RAM or at a port, where the program shouldn't have gone" if address >= 0x4000 else f"no line has bytes at {said}H"])]
 
 
 def source_line(content, row):
     """The number of the source's line to which a row of a listing belongs."""
     rows = content.decode("latin-1").split("\n")[:row]
-    return next(int(line[:5]) for line in reversed(rows) if line[:5].isdigit())
+    return next((int(line[:5]) for line in reversed(rows) if line[:5].isdigit()), 0)
 
 
 KINDS = {"I": in_script, "M": in_manifest, "G": in_commands, "S": in_listing}
