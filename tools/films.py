@@ -1,14 +1,17 @@
-"""Films and sounds as `pacboard run` writes them, and pictures as PNG or PPM: shared by tools/compare-films, tools/frame, tools/film-sheet
-and tools/check-programs.
+"""Films and sounds as `pacboard run` writes them, how two of them differ, and pictures as PNG or PPM: shared by tools/compare-films,
+tools/frame, tools/film-sheet and tools/check-programs.
 
 A film is PPM images (binary, P6) one after another, all of one size; a sound a WAV file of one channel with 16 bits a sample.
 """
 import array
+import itertools
 import os
 import struct
 import sys
+import time
 import zlib
 
+SAMPLES = 1584  # of a frame
 SCALE = 2  # how often a pixel of the board stands in a picture side by side, in each direction
 GREY = b"\x60\x60\x60"
 # The digits 0 to 9, 3 by 5 pixels each: a row of bits an octal digit, the upper row first.
@@ -125,3 +128,65 @@ def numbered(picture, number, scale=3):
             at = 3 * (picture.width * y + x)
             pixels[at : at + 3] = b"\0\0\0" if is_ink else b"\xff\xff\xff"
     return Picture(picture.width, picture.height, bytes(pixels))
+
+
+def pixels_apart(one, other):
+    """How many pixels of two pictures differ, and the first: its x and y."""
+    count, first = 0, None
+    for y in range(one.height):
+        row, beside = one.row(y), other.row(y)
+        if row != beside:
+            places = [x for x in range(one.width) if row[3 * x : 3 * x + 3] != beside[3 * x : 3 * x + 3]]
+            first = first or (places[0], y)
+            count += len(places)
+    return count, first
+
+
+def compare_films(one, other, picture):
+    """The lines about two films; none where they are alike."""
+    if (one.width, one.height) != (other.width, other.height):
+        return [f"pictures of {one.width} by {one.height} and of {other.width} by {other.height} pixels"]
+    told, frames, pixels, shown = [], 0, 0, time.monotonic()
+    for number in range(min(one.count, other.count)):
+        mine, theirs = one[number], other[number]
+        if mine.pixels == theirs.pixels:
+            continue
+        count, (x, y) = pixels_apart(mine, theirs)
+        if not frames:
+            told.append(f"the first is frame {number + 1}, pixel x {x} y {y}: {mine.colour(x, y)} and {theirs.colour(x, y)}")
+            if picture:
+                beside([mine, theirs, difference(mine, theirs)]).scaled(SCALE).save(picture)
+        frames, pixels = frames + 1, pixels + count
+        if time.monotonic() - shown > 2:
+            shown = time.monotonic()
+            print(f"compare-films: frame {number + 1} of {one.count}", file=sys.stderr, flush=True)
+    if frames:
+        told.insert(0, f"{frames} of {min(one.count, other.count)} frames differ, {pixels} pixels of all")
+    if one.count != other.count:
+        told.append(f"{one.count} and {other.count} frames")
+    return told
+
+
+def compare_sounds(one, other):
+    """The lines about two sounds; none where they are alike."""
+    apart = [at for at, (mine, theirs) in enumerate(itertools.zip_longest(one, other)) if mine != theirs and mine is not None and theirs is not None]
+    told = []
+    if apart:
+        at = apart[0]
+        told.append(f"{len(apart)} of {min(len(one), len(other))} samples differ")
+        told.append(f"the first is sample {at}, of frame {at // SAMPLES + 1}, at {at / 96000:.3f} s: {one[at]} and {other[at]}")
+    if len(one) != len(other):
+        told.append(f"{len(one)} and {len(other)} samples")
+    return told
+
+
+def compare(one, other, picture=None):
+    """The lines about two files; none where they are alike."""
+    empty = [path for path in (one, other) if os.path.getsize(path) == 0]
+    if empty:
+        return [] if len(empty) == 2 else [f"{empty[0]} is empty"]
+    with open(one, "rb") as file:
+        is_sound = file.read(4) == b"RIFF"
+    if is_sound:
+        return compare_sounds(samples(one), samples(other))
+    return compare_films(Film(one), Film(other), picture)
