@@ -52,6 +52,9 @@ SPELLINGS = [
     (r"EX (HL|IX|IY),\(SP\)", "EX (SP),{0}"),
     (r"LD ([BCDEHL]),\(([^,]+)\)", "LD A,({1}) and LD {0},A: only A is loaded from a place with an address of its own"),
     (r"LD \(([^,]+)\),([BCDEHL])", "LD A,{1} and LD ({0}),A: only A is stored at a place with an address of its own"),
+    (r"((?!JP).*)\(HL([+-].+)\)(.*)", "{0}(IX{1}){2}: HL takes no displacement, IX and IY do"),
+    (r"LD (HL|IX|IY),SP", "LD {0},0 and ADD {0},SP"),
+    (r"SUB HL,(BC|DE|HL|SP)", "OR A and SBC HL,{0}"),
     (r"LD ([BDH])([CEL]),([BDH])([CEL])", "LD {0},{2} and LD {1},{3}"),
     (r"JR (PO|PE|P|M),(.+)", "JP {0},{1}: JR takes NZ, Z, NC and C alone"),
     (r"DJNZ B,(.+)", "DJNZ {0}"),
@@ -104,6 +107,9 @@ def token_cause(code, line):
         if kind == "open":
             yield "the ' is never closed; inside a text two of them stand for one, and words with a ' belong after a ;"
             return
+        if kind == "text" and (wrong := re.search(r"[^\t\x20-\x7e]", match[0])):
+            yield from (says for sign, says in SIGNS if re.match(sign, wrong[0]))
+            return
         if kind == "number":
             try:
                 judge.number_of(match[0])
@@ -148,28 +154,64 @@ def form_cause(line):
         if rest and rest[0][1].upper() in ("ORG", "IF", "ELSE", "ENDIF"):
             yield f"{rest[0][1]} takes no label"
             return
-    yield from operand_cause(line, rest)
+    yield from operand_cause(line, first if rest is not found else None, rest)
 
 
-def operand_cause(line, rest):
+def operand_cause(line, label, rest):
     """The cause of operands that an operation doesn't take."""
-    operation = rest[0][1].upper()
+    operation, names = rest[0][1].upper(), [word for kind, word in rest[1:] if kind == "name"]
     code = re.sub(r"\s*([,()+*/-])\s*", r"\1", line.decode("latin-1").split(";")[0].upper())
     code = re.sub(rf".*?\b{operation}\b\s*", f"{operation} ", code, count=1).strip()
-    said = [f"here it is {filled(text, found)}" for sign, text in SPELLINGS if (found := re.fullmatch(sign, code))][:1]
     dollar = re.search(r"\$([0-9A-F]+)\b", code)
+    signs = [word for kind, word in rest if kind == "sign"]
     if dollar:
-        said = [f"$ is the address of the line; a hexadecimal number ends with H: {hexadecimal(dollar[1])}"]
-    said = said or list(foreign(word for kind, word in rest[1:] if kind == "name"))
-    if not said and operation == "EQU" and rest[1:]:
-        said = ["EQU takes a name before it and one number after it: `SIZE EQU 9`"]
-    if not said and ("sign", ":") in rest:
-        said = ["a line has one operation"]
-    yield from said
-    section = PAGE.read_text().partition("## Instructions")[2].partition("\n## ")[0]
+        yield f"$ is the address of the line; a hexadecimal number ends with H: {hexadecimal(dollar[1])}"
+    elif signs.count("(") != signs.count(")"):
+        yield "a parenthesis has no other"
+    elif ":" in signs or any(name.upper() in OPERATIONS for name in names):
+        yield "a line has one operation"
+    elif label and operation == "SET" or (said := list(foreign(names))):
+        yield f"SET: {FOREIGN['DEFL SET']}" if label and operation == "SET" else said[0]
+    elif said := [filled(text, found) for sign, text in SPELLINGS if (found := re.fullmatch(sign, code))][:1]:
+        yield f"here it is {said[0]}"
+    else:
+        yield from list_cause(rest[1:])
+    yield from form_list(operation, rest[1:])
+
+
+def list_cause(found):
+    """The cause of a list of operands that is none."""
+    for token, after in zip([("sign", ","), *found], [*found, ("sign", ",")]):
+        if token[0] != "sign" and after[0] != "sign":
+            yield f"a comma or an operator is missing before {after[1]}"
+        elif found and token == after == ("sign", ","):
+            yield "an operand is missing"
+        elif token[0] == "text" and len(token[1]) != 1:
+            yield "a text of one character is a number; another one stands in DEFB and DEFM alone"
+        else:
+            continue
+        return
+
+
+def form_list(operation, found):
+    """What an operation takes: after its first operand, or in all."""
+    if operation in judge.DIRECTIVES:
+        takes = {"EQU": "a name before it and one number after it", "DEFS": "a size, and a fill after a comma", "DEFM": "one text",
+                 "ELSE": "no operand", "ENDIF": "no operand", "DEFB": "numbers and texts", "DEFW": "numbers"}
+        name = {"DB": "DEFB", "DW": "DEFW", "DS": "DEFS", "DM": "DEFM"}.get(operation, operation)
+        yield f"{operation} takes {takes.get(name, 'one number')}"
+        return
+    try:
+        first = {shape for shape, _ in judge.shapes(judge.parted(found)[0])}
+        after = sorted({operands[1] for name, operands in judge.FORMS if name == operation and len(operands) == 2 and operands[0] in first})
+    except (judge.Fault, IndexError):
+        after = []
+    section = PAGE.read_text().partition("## Instructions")[2].partition("\nOther spellings")[0]
     forms = re.findall(rf"`({operation}(?: [^`]*)?)`", section)
-    if forms:
-        yield f"{operation} has these forms alone: {', '.join(forms)}"
+    if len(forms) <= 8:
+        yield f"{operation} has these forms alone: {' '.join(forms) if operation == forms[0] else ', '.join(forms)}"
+    elif after:
+        yield f"the second operand may be {' '.join(after)}"
 
 
 def first_phase(lines, number):
