@@ -161,7 +161,7 @@ def compare_films(one, other, picture):
             shown = time.monotonic()
             print(f"compare-films: frame {number + 1} of {one.count}", file=sys.stderr, flush=True)
     if frames:
-        told.insert(0, f"{frames} of {min(one.count, other.count)} frames differ, {pixels} pixels of all")
+        told.insert(0, f"{frames} of {min(one.count, other.count)} frames differ, in {pixels} pixels")
     if one.count != other.count:
         told.append(f"{one.count} and {other.count} frames")
     return told
