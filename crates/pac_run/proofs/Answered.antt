@@ -12,7 +12,6 @@ use Rattle.pac_roms_manifest.specs.Sets.{set_of}
 use Rattle.pac_roms_manifest.specs.declared.fault.SetFault.{SetFault}
 use Rattle.pac_asm.specs.Assembled.{Assembled}
 use Rattle.pac_board.specs.Output.{Output}
-use Rattle.pac_board.specs.State.{BoardValue}
 use Rattle.pac_run.specs.declared.fault.Output.{Output as Which}
 use Rattle.pac_run.specs.declared.fault.Output.TheVariants as which
 use Rattle.pac_run.specs.declared.fault.RunFault.{RunFault}
@@ -22,7 +21,7 @@ use Rattle.pac_run.specs.declared.outcome.Outcome.{Outcome}
 use Rattle.pac_run.specs.declared.plan.Prepared.{Prepared}
 use Rattle.pac_run.specs.Plan.{Plan, ◌>>=◌, plan_of, plan_with, program_in, source_in, program_told}
 use Rattle.pac_run.specs.Plan.{set_in, set_told, script_told, IsPrepared, Prepares}
-use Rattle.pac_run.specs.Plays.{run_of}
+use Rattle.pac_board_course.specs.Course.{CourseValue, begun, way_on}
 use Rattle.pac_run.specs.Recorded.{FilmStops, HasPlayed, outcome_at}
 use Rattle.pac_run.specs.Run.{Writers, IsUnwritten, TakesText, StopsInText, NothingWritten, FramesStop, WaveStops, Runs, IsRunWhole}
 use Rattle.pac_run.specs.Run.{IsCutAt}
@@ -146,7 +145,7 @@ module _ {F W L R : Type 0} (to : Writers F W L R) (inputs : RunInputs) where
         }
 
     abbrev outputs : List Output
-    outputs = (run_of prepared.board prepared.script).outputs
+    outputs = (way_on (begun prepared.board prepared.script)).outputs
 
     same : outputs ≡ (trace_of plan inputs.dip).outputs
     same = same-outputs inputs prepared ready
@@ -161,12 +160,12 @@ module _ {F W L R : Type 0} (to : Writers F W L R) (inputs : RunInputs) where
           holds = cut-at to plan inputs.dip outputs same listing output count broken report;
         }
 
-    module _ (new : BoardValue) (stop : Option Stop) (played : HasPlayed prepared.board prepared.script stop new)
+    module _ (new : CourseValue) (stop : Option Stop) (played : HasPlayed (begun prepared.board prepared.script) stop new)
         (frames : TakesText to.frames (text.images_text outputs))
         (wave : TakesText to.wave (text.wave_file_text (total_frames prepared.script) outputs))
         (listing : TakesText to.listing plan.listing)
         (frame_count : ℕ) (count_is : frame_count ≡ total_frames prepared.script) (outcome : Outcome)
-        (outcome_is : outcome ≡ outcome_at new.state.now stop) where
+        (outcome_is : outcome ≡ outcome_at new.board.state.now stop) where
       outcome-same : outcome ≡ outcome_of (trace_of plan inputs.dip)
       outcome-same = outcome_is ∙ same-outcome inputs prepared ready new stop played
 

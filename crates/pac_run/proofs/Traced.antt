@@ -3,14 +3,13 @@ use Rattle.std.proofs.Common.{◌≡◌, ℕ, ◌*◌, ◌/◌, ◌^◌, ◌<◌
 use Rattle.pac_board.specs.Stop.{Stop}
 use Rattle.pac_inputs.specs.Stretches.{total_frames, held, most_frames}
 use Rattle.pac_inputs.specs.declared.line.Stretch.{Stretch}
-use Rattle.pac_board.specs.Entry.{Hold}
 use Rattle.pac_asm.specs.Assembled.{Assembled}
 use Rattle.pac_board.specs.RomParts.{Parts, IsWhole}
 use Rattle.pac_board.specs.BoardView.{BoardView, power_on_board_view}
 use Rattle.pac_board.specs.Carried.{walk_view}
 use Rattle.pac_board.specs.History.{board_after_entries}
 use Rattle.pac_board.specs.Step.{Moment, frame_ticks}
-use Rattle.pac_board.specs.Trace.{by_history, by_view, play_step, power_on_moment, run_at, trace, frame_steps}
+use Rattle.pac_board.specs.Trace.{by_history, by_view, play_step, run_at, trace, frame_steps}
 use Rattle.pac_board.specs.Walk.{Walk}
 use Rattle.pac_board.proofs.Agreed.{runs-agree, power-on-board}
 use Rattle.pac_board.proofs.HostCarried.{steps-agree}
@@ -18,6 +17,8 @@ use Rattle.pac_board.proofs.Outputs.{outputs-timed}
 use Rattle.pac_board.proofs.Runs.{walk-near}
 use Rattle.pac_board.proofs.Walks.{play-timely}
 use Rattle.pac_board.specs.State.{BoardValue}
+use Rattle.pac_board_course.proofs.Begun.{courses-begin}
+use Rattle.pac_board_course.specs.Course.{CourseValue, FitsTime, FitsAsked, begun, end_of, held_in, next_in, way_on}
 use Rattle.pac_debug.specs.Motions.{IsOutcome}
 use Rattle.pac_debug.specs.Running.{play_of, whole_run}
 use Rattle.pac_debug.specs.Session.{SessionValue}
@@ -26,19 +27,8 @@ use Rattle.pac_run.specs.declared.inputs.RunInputs.{RunInputs}
 use Rattle.pac_run.specs.declared.plan.Prepared.{Prepared}
 use Rattle.pac_run.specs.Debugs.{IsReady, IsSeenThrough, setting_of_plan}
 use Rattle.pac_run.specs.Plan.{Plan, PlaysProgram, plan_with, program_items, IsPrepared}
-use Rattle.pac_run.specs.Plays.{IsUntouched, run_of}
 use Rattle.pac_run.specs.Recorded.{HasPlayed, outcome_at}
 use Rattle.pac_run.specs.Run.{trace_of, outcome_of}
-
--- a run ends less than a step past its last frame
-pub is-near : (board new : BoardValue) (script : _) (stop : Option Stop) → IsUntouched board → HasPlayed board script stop new
-    → total_frames script ≤ most_frames → new.state.now.time / frame_ticks < 2 ^ 32
-is-near board new script stop fresh played few =
-    let ask = by_view board.set in
-    let near = walk-near (play_step ask (held script)) (frame_ticks * total_frames script) (play-timely ask (held script))
-    (power_on_moment (ask.put board.state.now.board (Hold (held script 1)))) (frame_steps * total_frames script) (omega arith) in
-    let time = ap (λ (now : Moment BoardView). now.time) played.now in
-    omega (arith, near, time, few)
 
 -- what a plan's set, program and script come to on a board from power-on, told by the view, is its trace
 module _ (inputs : RunInputs) (program : Option Assembled) (set : Parts) (script : List Stretch) (whole : IsWhole set)
@@ -63,27 +53,47 @@ module _ (inputs : RunInputs) (program : Option Assembled) (set : Parts) (script
         let frames = ap (λ (now : Moment BoardView). now.time / frame_ticks) now ∙ sym blanks in
         λ i. record { frames = frames i; steps = (now i).steps; ticks = (now i).time; stop = met i }
 
+-- a board at power-on, on which a script is played
 module _ (inputs : RunInputs) (prepared : Prepared) (ready : IsPrepared inputs prepared) where
-  pub untouched-board : IsUntouched prepared.board
-  untouched-board = subst IsUntouched (sym ready.board) refl
+  abbrev course : CourseValue
+  course = begun prepared.board prepared.script
+
+  starts : (prepared.board.state.now.time ≡ 0) × (prepared.board.state.asked ≡ 0)
+  starts = (ap (λ (board : BoardValue). board.state.now.time) ready.board, ap (λ (board : BoardValue). board.state.asked) ready.board)
+
+  pub fits-time : total_frames prepared.script ≤ most_frames → FitsTime prepared.board prepared.script
+  fits-time few = omega (arith, starts.0, few)
+
+  pub fits-asked : total_frames prepared.script ≤ most_frames → FitsAsked prepared.board prepared.script
+  fits-asked few = omega (arith, starts.1, few)
+
+  -- its run ends less than a step past its last frame
+  pub is-near : (new : CourseValue) (stop : Option Stop) → HasPlayed course stop new → total_frames prepared.script ≤ most_frames
+      → new.board.state.now.time / frame_ticks < 2 ^ 32
+  is-near new stop played few =
+      let near = walk-near (next_in course) (end_of course) (play-timely (by_view course.board.set) (held_in course))
+      course.board.state.now (end_of course) (omega (arith, starts.0)) in
+      let time = ap (λ (course : CourseValue). course.board.state.now.time) played.course in
+      omega (arith, near, time, few, starts.0)
 
   -- its run is that of the plan's history
-  shown-run : run_of prepared.board prepared.script ≡ shown inputs prepared.program prepared.board.set prepared.script ready.whole ready.lie
-  shown-run = ap (λ (board : BoardValue). trace (by_view prepared.board.set) (play_of prepared.script) board.state.now.board) ready.board
+  shown-run : way_on course ≡ shown inputs prepared.program prepared.board.set prepared.script ready.whole ready.lie
+  shown-run =
+      ap (λ (board : BoardValue). way_on (begun board prepared.script)) ready.board
+      ∙ courses-begin prepared.board.set inputs.dip prepared.script
 
-  pub same-outputs : (run_of prepared.board prepared.script).outputs
+  pub same-outputs : (way_on course).outputs
       ≡ (trace_of (plan_with inputs prepared.program prepared.board.set prepared.script) inputs.dip).outputs
   same-outputs =
       ap (λ (run : Walk BoardView). run.outputs)
       (shown-run ∙ same-trace inputs prepared.program prepared.board.set prepared.script ready.whole ready.lie)
 
-  pub same-outcome : (new : BoardValue) (stop : Option Stop) → HasPlayed prepared.board prepared.script stop new
-      → outcome_at new.state.now stop
+  pub same-outcome : (new : CourseValue) (stop : Option Stop) → HasPlayed course stop new
+      → outcome_at new.board.state.now stop
       ≡ outcome_of (trace_of (plan_with inputs prepared.program prepared.board.set prepared.script) inputs.dip)
   same-outcome new stop played =
-      (λ i. outcome_at (played.now i) (played.stop_is i))
-      ∙ same-end inputs prepared.program prepared.board.set prepared.script ready.whole ready.lie (run_of prepared.board prepared.script)
-      shown-run
+      (λ i. outcome_at (played.course i).board.state.now (played.stop_is i))
+      ∙ same-end inputs prepared.program prepared.board.set prepared.script ready.whole ready.lie (way_on course) shown-run
 
 -- the same of a session's run
 module _ (inputs : RunInputs) (program : Option Assembled) (session : SessionValue) (frames : ℕ)

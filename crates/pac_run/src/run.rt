@@ -16,6 +16,7 @@ use crate::plan::{Prepared, prepare};
 use crate::report::put_report;
 use pac_asm::Program;
 use pac_board::{Board, FRAME_TICKS, Stop};
+use pac_board_course::Course;
 use pac_inputs::Script;
 use pac_listing::write_listing;
 use pac_media::{Counted, Image, Out, WriteFault};
@@ -81,16 +82,16 @@ fn outcome_of(board: &Board, stop: Option<Stop>) -> Outcome
 fn write_all<F: Out, W: Out, L: Out, R: Out>(
     inputs: &RunInputs,
     program: &Option<Program>,
-    script: &Script,
+    board: Board,
+    script: Script,
     image: Image,
-    board: &mut Board,
     frames: &mut F,
     wave: &mut W,
     listing: &mut L,
     report: &mut R,
 ) -> Result<Outcome, RunFault>
     requires { IsPrepared inputs.now
-        (record { program = program.now; board = board.old; script = script.now; image = image }) }
+        (record { program = program.now; board = board; script = script; image = image }) }
     ensures { Runs inputs.now (record {
       frames = record { took = F.took; refused = F.refused; old = frames.old; new = frames.new };
       wave = record { took = W.took; refused = W.refused; old = wave.old; new = wave.new };
@@ -102,11 +103,12 @@ fn write_all<F: Out, W: Out, L: Out, R: Out>(
     if let Err(fault) = list(listing, inputs.source, program) {
         return Err(RunFault::Write(Output::Listing, fault.count));
     }
-    let stop = match record_run(board, script, image, frames, wave) {
+    let mut course = Course::new(board, script);
+    let stop = match record_run(&mut course, image, frames, wave) {
         Ok(stop) => stop,
         Err(fault) => return Err(RunFault::Write(fault.output, fault.count)),
     };
-    let outcome = outcome_of(board, stop);
+    let outcome = outcome_of(course.board(), stop);
     match report_on(report, outcome, total) {
         Ok(()) => Ok(outcome),
         Err(fault) => Err(RunFault::Write(Output::Report, fault.count)),
@@ -134,11 +136,11 @@ pub fn run_all<F: Out, W: Out, L: Out, R: Out>(
 {
     let Prepared {
         program,
-        mut board,
+        board,
         script,
         image,
     } = prepare(alloc, inputs)?;
     write_all(
-        inputs, &program, &script, image, &mut board, frames, wave, listing, report,
+        inputs, &program, board, script, image, frames, wave, listing, report,
     )
 }

@@ -1,7 +1,7 @@
 use Rattle.std.proofs.Common.{◌≤◌, refl, subst}
 use Rattle.pac_inputs.specs.Stretches.{most_frames}
 use Rattle.pac_run.proofs.Lent.{writing}
-use Rattle.pac_run.proofs.Traced.{is-near, untouched-board}
+use Rattle.pac_run.proofs.Traced.{is-near, fits-time, fits-asked}
 use Rattle.pac_run.proofs.Answered.{media-broke, all-written, report-broke}
 use Rattle.pac_run.proofs.run.write_all.Goals as goal
 
@@ -19,12 +19,12 @@ returns-in-Err-record_run g c =
 
 pub outcome_of-outcome-requires : goal.outcome_of-outcome-requires
 outcome_of-outcome-requires g c =
-    is-near c.args.board.now c.record_run.new.board c.args.script.now c.in-Ok.stop (untouched-board c.args.inputs.now _ c.requires)
-    c.in-Ok.ensures.played (subst (λ frames. frames ≤ most_frames) c.frames-total.ensures.count c.frames-total.ensures.within)
+    is-near c.args.inputs.now _ c.requires c.record_run.new.course c.in-Ok.stop c.in-Ok.ensures.played
+    (subst (λ frames. frames ≤ most_frames) c.frames-total.ensures.count c.frames-total.ensures.within)
 
 pub returns-in-Ok-report_on : goal.returns-in-Ok-report_on
 returns-in-Ok-report_on g c =
-    all-written _ c.args.inputs.now _ c.requires c.record_run.new.board c.in-Ok.stop c.in-Ok.ensures.played c.in-Ok.ensures.texts.0
+    all-written _ c.args.inputs.now _ c.requires c.record_run.new.course c.in-Ok.stop c.in-Ok.ensures.played c.in-Ok.ensures.texts.0
     c.in-Ok.ensures.texts.1 c.in_default.ensures c.frames-total.result c.frames-total.ensures.count c.outcome_of-outcome.result
     c.outcome_of-outcome.ensures c.in-Ok-report_on.ensures
 
@@ -37,6 +37,14 @@ returns-in-Err-report_on g c =
       listing = writing g.L.Out.took g.L.Out.refused c.args.listing.now c.list.new.listing;
       report = writing g.R.Out.took g.R.Out.refused c.args.report.now c.report_on.new.report;
     })
-    c.args.inputs.now _ c.requires c.record_run.new.board c.in-Ok.stop c.in-Ok.ensures.played c.in-Ok.ensures.texts.0
+    c.args.inputs.now _ c.requires c.record_run.new.course c.in-Ok.stop c.in-Ok.ensures.played c.in-Ok.ensures.texts.0
     c.in-Ok.ensures.texts.1 c.in_default.ensures c.frames-total.result c.frames-total.ensures.count c.outcome_of-outcome.result
     c.outcome_of-outcome.ensures c.in-Err-report_on.fault.count c.in-Err-report_on.ensures
+
+pub new-course-requires-time : goal.new-course-requires-time
+new-course-requires-time g c =
+    fits-time c.args.inputs.now _ c.requires (subst (λ frames. frames ≤ most_frames) c.frames-total.ensures.count c.frames-total.ensures.within)
+
+pub new-course-requires-asked : goal.new-course-requires-asked
+new-course-requires-asked g c =
+    fits-asked c.args.inputs.now _ c.requires (subst (λ frames. frames ≤ most_frames) c.frames-total.ensures.count c.frames-total.ensures.within)
