@@ -95,7 +95,6 @@ module _ {S : Type 0} (took refused : S → Output → S → Type 0) (old : Cour
       let tries = frame_end old in
       let at = placed tries nothing_due gone_to.board closed scripts gones in
       let way = on-the-way-on old tries (frame-within old early) in
-      let open_yet = sym (ap (λ (w : Walk BoardView). w.stop) (sym way.1)) ∙ closed-stop old tries ∙ sym gone_to.stop_is in
       let exact =
       counted (next_in old) (end_of old) (play-timely (by_view old.board.set) (held_in old)) old.board.state.now way.0
       (ap (λ (w : Walk BoardView). w.stop) (sym way.1) ∙ closed-stop old tries ∙ sym gone_to.stop_is) in

@@ -41,20 +41,21 @@ module _ {Board : Type 0} (next : Moment Board → Next Board) (limit : ℕ) (ti
       choose false e = e
 
   -- a walk without a stop, by as many tries as it made steps
-  pub counted : (from : Moment Board) (n : ℕ) → (walk next limit from n).stop ≡ None
-      → (steps : ℕ) × (walk next limit from steps ≡ walk next limit from n)
-      × ((walk next limit from steps).now.steps ≡ from.steps + steps)
+  abbrev pub IsCounted : Moment Board → ℕ → Type 0
+  IsCounted from n =
+      (steps : ℕ) × (walk next limit from steps ≡ walk next limit from n) × ((walk next limit from steps).now.steps ≡ from.steps + steps)
+
+  counted-on : (from : Moment Board) (n : ℕ) (ended : Bool) → has_ended limit (walk next limit from n) ≡ ended
+      → (walk next limit from (suc n)).stop ≡ None → ((walk next limit from n).stop ≡ None → IsCounted from n) → IsCounted from (suc n)
+  counted-on from n true e open_yet so_far =
+      let same = ended-stays next limit (walk next limit from n) e in
+      let before = so_far (ap (λ (w : Walk Board). w.stop) (sym same) ∙ open_yet) in
+      (before.0, before.1 ∙ sym same, before.2)
+  counted-on from n false e open_yet so_far = (suc n, refl, (going-counted next limit timely from n e open_yet).steps)
+
+  pub counted : (from : Moment Board) (n : ℕ) → (walk next limit from n).stop ≡ None → IsCounted from n
   counted from zero open_yet = (zero, refl, omega arith)
-  counted from (suc n) open_yet = choose (has_ended limit (walk next limit from n)) refl
-    where
-      choose : (b : Bool) → has_ended limit (walk next limit from n) ≡ b
-          → (steps : ℕ) × (walk next limit from steps ≡ walk next limit from (suc n))
-          × ((walk next limit from steps).now.steps ≡ from.steps + steps)
-      choose true e =
-          let same = ended-stays next limit (walk next limit from n) e in
-          let before = counted from n (ap (λ (w : Walk Board). w.stop) (sym same) ∙ open_yet) in
-          (before.0, before.1 ∙ sym same, before.2)
-      choose false e = (suc n, refl, (going-counted next limit timely from n e open_yet).steps)
+  counted from (suc n) open_yet = counted-on from n (has_ended limit (walk next limit from n)) refl open_yet (counted from n)
 
 -- ---- two limits
 

@@ -181,7 +181,7 @@ module _ {S : Type 0} (took refused : S → Output → S → Type 0) (old : Cour
       }
 
   -- something was refused, so it was given
-  gave-something : (course : CourseValue) (taken left : List Output) (taker later : S) → [] ≡ taken ++ left
+  pub gave-something : (course : CourseValue) (taken left : List Output) (taker later : S) → [] ≡ taken ++ left
       → RefusesAt took refused taker taken left later → {A : Type 0} → A
   gave-something course [] left taker later none refuses = let is = none ∙ refuses.left_is in absurd (cc)
   gave-something course (output ∷ more) left taker later none refuses = absurd (cc)
