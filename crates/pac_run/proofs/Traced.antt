@@ -1,5 +1,5 @@
 -- A board that plays a plan, and the plan's trace.
-use Rattle.std.proofs.Common.{◌≡◌, ℕ, ◌*◌, ◌/◌, ◌^◌, ◌<◌, ◌≤◌, List, [], Option, refl, sym, ap, subst, ◌∙◌, arith}
+use Rattle.std.proofs.Common.{◌≡◌, ℕ, ◌*◌, ◌/◌, ◌^◌, ◌<◌, ◌≤◌, List, [], Option, Ok, refl, sym, ap, subst, ◌∙◌, arith}
 use Rattle.pac_board.specs.Stop.{Stop}
 use Rattle.pac_inputs.specs.Stretches.{total_frames, held, most_frames}
 use Rattle.pac_inputs.specs.declared.line.Stretch.{Stretch}
@@ -16,9 +16,9 @@ use Rattle.pac_board.proofs.HostCarried.{steps-agree}
 use Rattle.pac_board.proofs.Outputs.{outputs-timed}
 use Rattle.pac_board.proofs.Runs.{walk-near}
 use Rattle.pac_board.proofs.Walks.{play-timely}
-use Rattle.pac_board.specs.State.{BoardValue}
+use Rattle.pac_board.specs.State.{power_on_board}
 use Rattle.pac_board_course.proofs.Begun.{courses-begin}
-use Rattle.pac_board_course.specs.Course.{CourseValue, FitsTime, FitsAsked, begun, end_of, held_in, next_in, way_on}
+use Rattle.pac_board_course.specs.Course.{CourseValue, begun, end_of, held_in, next_in, way_on}
 use Rattle.pac_debug.specs.Motions.{IsOutcome}
 use Rattle.pac_debug.specs.Running.{play_of, whole_run}
 use Rattle.pac_debug.specs.Session.{SessionValue}
@@ -27,7 +27,7 @@ use Rattle.pac_run.specs.declared.inputs.RunInputs.{RunInputs}
 use Rattle.pac_run.specs.declared.plan.Prepared.{Prepared}
 use Rattle.pac_run.specs.Debugs.{IsReady, IsSeenThrough, setting_of_plan}
 use Rattle.pac_run.specs.Plan.{Plan, PlaysProgram, plan_with, program_items, IsPrepared}
-use Rattle.pac_run.specs.Recorded.{HasPlayed, outcome_at}
+use Rattle.pac_run.specs.Recorded.{IsAtStart, HasPlayed, outcome_at}
 use Rattle.pac_run.specs.Run.{trace_of, outcome_of}
 
 -- what a plan's set, program and script come to on a board from power-on, told by the view, is its trace
@@ -53,47 +53,52 @@ module _ (inputs : RunInputs) (program : Option Assembled) (set : Parts) (script
         let frames = ap (λ (now : Moment BoardView). now.time / frame_ticks) now ∙ sym blanks in
         λ i. record { frames = frames i; steps = (now i).steps; ticks = (now i).time; stop = met i }
 
--- a board at power-on, on which a script is played
-module _ (inputs : RunInputs) (prepared : Prepared) (ready : IsPrepared inputs prepared) where
-  abbrev course : CourseValue
-  course = begun prepared.board prepared.script
+-- the course of what was prepared is the plan's
+pub at-start : (inputs : RunInputs) (prepared : Prepared) (course : CourseValue) → IsPrepared inputs prepared
+    → course ≡ begun prepared.board prepared.script → IsAtStart inputs prepared.program course
+at-start inputs prepared course ready begins =
+    let set = ap (λ (course : CourseValue). course.board.set) begins in
+    let script = ap (λ (course : CourseValue). course.script) begins in
+    record {
+      plan_is =
+          ready.plan_is
+          ∙ ap (λ set. Ok (plan_with inputs prepared.program set prepared.script)) (sym set)
+          ∙ ap (λ script. Ok (plan_with inputs prepared.program course.board.set script)) (sym script);
+      course_is =
+          begins ∙ ap (λ board. begun board prepared.script) ready.board
+          ∙ ap (λ set. begun (power_on_board set inputs.dip) prepared.script) (sym set)
+          ∙ ap (begun (power_on_board course.board.set inputs.dip)) (sym script);
+      whole = subst IsWhole (sym set) ready.whole;
+      lie = subst (λ set. PlaysProgram set prepared.program) (sym set) ready.lie;
+    }
 
-  starts : (prepared.board.state.now.time ≡ 0) × (prepared.board.state.asked ≡ 0)
-  starts = (ap (λ (board : BoardValue). board.state.now.time) ready.board, ap (λ (board : BoardValue). board.state.asked) ready.board)
-
-  pub fits-time : total_frames prepared.script ≤ most_frames → FitsTime prepared.board prepared.script
-  fits-time few = omega (arith, starts.0, few)
-
-  pub fits-asked : total_frames prepared.script ≤ most_frames → FitsAsked prepared.board prepared.script
-  fits-asked few = omega (arith, starts.1, few)
-
+-- the course of a plan, from its beginning on
+module _ (inputs : RunInputs) (program : Option Assembled) (course : CourseValue) (ready : IsAtStart inputs program course) where
   -- its run ends less than a step past its last frame
-  pub is-near : (new : CourseValue) (stop : Option Stop) → HasPlayed course stop new → total_frames prepared.script ≤ most_frames
+  pub is-near : (new : CourseValue) (stop : Option Stop) → HasPlayed course stop new → total_frames course.script ≤ most_frames
       → new.board.state.now.time / frame_ticks < 2 ^ 32
   is-near new stop played few =
+      let starts = ap (λ (course : CourseValue). course.board.state.now.time) ready.course_is in
+      let gone = ap (λ (course : CourseValue). course.gone) ready.course_is in
       let near = walk-near (next_in course) (end_of course) (play-timely (by_view course.board.set) (held_in course))
-      course.board.state.now (end_of course) (omega (arith, starts.0)) in
+      course.board.state.now (end_of course) (omega (arith, starts)) in
       let time = ap (λ (course : CourseValue). course.board.state.now.time) played.course in
-      omega (arith, near, time, few, starts.0)
+      omega (arith, near, time, few, gone)
 
   -- its run is that of the plan's history
-  shown-run : way_on course ≡ shown inputs prepared.program prepared.board.set prepared.script ready.whole ready.lie
-  shown-run =
-      ap (λ (board : BoardValue). way_on (begun board prepared.script)) ready.board
-      ∙ courses-begin prepared.board.set inputs.dip prepared.script
+  shown-run : way_on course ≡ shown inputs program course.board.set course.script ready.whole ready.lie
+  shown-run = ap way_on ready.course_is ∙ courses-begin course.board.set inputs.dip course.script
 
-  pub same-outputs : (way_on course).outputs
-      ≡ (trace_of (plan_with inputs prepared.program prepared.board.set prepared.script) inputs.dip).outputs
+  pub same-outputs : (way_on course).outputs ≡ (trace_of (plan_with inputs program course.board.set course.script) inputs.dip).outputs
   same-outputs =
       ap (λ (run : Walk BoardView). run.outputs)
-      (shown-run ∙ same-trace inputs prepared.program prepared.board.set prepared.script ready.whole ready.lie)
+      (shown-run ∙ same-trace inputs program course.board.set course.script ready.whole ready.lie)
 
   pub same-outcome : (new : CourseValue) (stop : Option Stop) → HasPlayed course stop new
-      → outcome_at new.board.state.now stop
-      ≡ outcome_of (trace_of (plan_with inputs prepared.program prepared.board.set prepared.script) inputs.dip)
+      → outcome_at new.board.state.now stop ≡ outcome_of (trace_of (plan_with inputs program course.board.set course.script) inputs.dip)
   same-outcome new stop played =
       (λ i. outcome_at (played.course i).board.state.now (played.stop_is i))
-      ∙ same-end inputs prepared.program prepared.board.set prepared.script ready.whole ready.lie (way_on course) shown-run
+      ∙ same-end inputs program course.board.set course.script ready.whole ready.lie (way_on course) shown-run
 
 -- the same of a session's run
 module _ (inputs : RunInputs) (program : Option Assembled) (session : SessionValue) (frames : ℕ)

@@ -9,7 +9,12 @@ use Rattle.pac_media.specs.Sound as media
 use Rattle.pac_board.specs.BoardView.{BoardView}
 use Rattle.pac_board.specs.Output.{Output, Image, Sound, Show}
 use Rattle.pac_board.specs.Step.{Moment, frame_ticks}
-use Rattle.pac_board_course.specs.Course.{CourseValue, way_on, course_after}
+use Rattle.pac_board.specs.RomParts.{IsWhole as HasAllParts}
+use Rattle.pac_board.specs.State.{power_on_board}
+use Rattle.pac_board_course.specs.Course.{CourseValue, begun, way_on, course_after}
+use Rattle.pac_asm.specs.Assembled.{Assembled}
+use Rattle.pac_run.specs.declared.inputs.RunInputs.{RunInputs}
+use Rattle.pac_run.specs.Plan.{PlaysProgram, plan_of, plan_with}
 use Rattle.pac_run.specs.declared.fault.Output.{Output as Which}
 use Rattle.pac_run.specs.declared.fault.Output.TheVariants as which
 use Rattle.pac_run.specs.declared.fault.OutputFault.{OutputFault}
@@ -82,6 +87,13 @@ PerformsFilm took_f refused_f took_w refused_w outputs old (Err fault) new =
 abbrev pub GivesUp : {F W : Type 0} → (W → List ℕ → W → Type 0) → (W → W → Type 0) → Film F W → Which → Film F W → Type 0
 GivesUp took refused old which.Frames new = (new.frames ≡ old.frames) × IsFlushed took refused old.wave [] new.wave
 GivesUp took refused old other new = new ≡ old
+
+-- the course of a plan, at its beginning
+pub record IsAtStart (inputs : RunInputs) (program : Option Assembled) (course : CourseValue) : Type 0 where
+  pub plan_is : plan_of inputs ≡ Ok (plan_with inputs program course.board.set course.script)
+  pub course_is : course ≡ begun (power_on_board course.board.set inputs.dip) course.script
+  pub whole : HasAllParts course.board.set
+  pub lie : PlaysProgram course.board.set program
 
 -- a course that came to its end or to this stop
 pub record HasPlayed (old : CourseValue) (stop : Option Stop) (new : CourseValue) : Type 0 where
