@@ -1,5 +1,5 @@
 -- A board that plays a plan, and the plan's trace.
-use Rattle.std.proofs.Common.{◌≡◌, ℕ, ◌*◌, ◌/◌, ◌^◌, ◌<◌, ◌≤◌, List, [], Option, Ok, refl, sym, ap, subst, ◌∙◌, arith}
+use Rattle.std.proofs.Common.{◌≡◌, ℕ, ◌*◌, ◌/◌, ◌^◌, ◌<◌, ◌≤◌, List, [], Option, Ok, sym, ap, subst, ◌∙◌, arith}
 use Rattle.pac_board.specs.Stop.{Stop}
 use Rattle.pac_inputs.specs.Stretches.{total_frames, held, most_frames}
 use Rattle.pac_inputs.specs.declared.line.Stretch.{Stretch}
