@@ -1,6 +1,6 @@
 //! The board and the calls that make no step.
 
-ghost use Rattle.std.specs.Prelude.{◌≡◌, ◌≤◌, IfOk, IfErr};
+ghost use Rattle.std.specs.Prelude.{◌≡◌, ◌≤◌, ◌+◌, IfOk, IfErr};
 ghost use Rattle.pac_map.specs.Inputs.{mask};
 ghost use Rattle.pac_map.specs.Contents.{read_of};
 ghost use Rattle.pac_map.specs.View.{held_with, held_without};
@@ -92,6 +92,14 @@ impl Board {
             (held_without self.old.state.now.board.memory.held (mask inputs)) }
     {
         self.machine.input_clear(inputs);
+    }
+
+    /// Counts these microseconds as asked, and makes no step: for a caller that goes by time or by steps where another one calls `exec`.
+    pub fn count_asked(&mut self, microseconds: u64)
+        requires { self.old.state.asked + microseconds ≤ state.most_asked }
+        ensures { self.new ≡ state.with_more_asked self.old microseconds }
+    {
+        self.asked += microseconds;
     }
 
     /// The picture as it stands.

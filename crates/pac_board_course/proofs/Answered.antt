@@ -1,22 +1,28 @@
 -- What a frame's call answers, from what the board's call answered.
-use Rattle.std.proofs.Common.{◌≡◌, ℕ, suc, ◌-◌, ◌<◌, ◌≤◌, ◌⊎◌, inl, inr, ◌++◌, Option, None, Some, Result, Ok, Err}
+use Rattle.std.proofs.Common.{◌≡◌, ℕ, zero, suc, ◌+◌, ◌-◌, ◌<◌, ◌≤◌, ◌⊎◌, inl, inr, List, [], ◌++◌, Option, None, Some, Result, Ok, Err}
 use Rattle.std.proofs.Common.{refl, sym, ap, subst, ◌∙◌, arith}
+use mathlib.Core.List.{IsPrefix}
 use Rattle.pac_board.specs.Stop.{Stop}
 use Rattle.pac_board.specs.BoardView.{BoardView}
+use Rattle.pac_board.specs.Calls.{with_due}
 use Rattle.pac_board.specs.Output.{Output}
 use Rattle.pac_board.specs.Step.{Moment, step}
 use Rattle.pac_board.specs.Trace.{by_view}
-use Rattle.pac_board.specs.Walk.{Walk}
-use Rattle.pac_board.proofs.Walks.{open-is-late, walk-to-ends, step-timely}
+use Rattle.pac_board.specs.Walk.{Walk, walk}
+use Rattle.pac_board.specs.declared.due.Due.{Due}
+use Rattle.pac_board.proofs.Walks.{open-is-late, walk-to-ends, step-timely, play-timely}
 use Rattle.pac_board.specs.Sinks.{TookAll, RefusesAt}
-use Rattle.pac_board.specs.State.{BoardValue, board_with_inputs, due_outputs}
+use Rattle.pac_board.specs.State.{BoardValue, board_with_inputs, due_outputs, nothing_due, steps_counted}
 use Rattle.pac_board.specs.Turns.{GoesTo, HasGone, IsWayRefused, way, board_after_walk}
 use Rattle.pac_inputs.specs.Stretches.{held}
-use Rattle.pac_board_course.proofs.Framed.{frame_walk, moment_after, frames_ended, frame-stops, frame-now, closed-outputs, closed-stop}
-use Rattle.pac_board_course.proofs.Whole.{frame-goes-on, frame-within, held-after, not-held-yet}
-use Rattle.pac_board_course.specs.Course.{CourseValue, end_of}
-use Rattle.pac_board_course.specs.Frames.{IsFrameDone, PlaysFrameOn, frame_end}
-use Rattle.pac_board_course.specs.Plays.{IsSameRun, CourseGoesOn, IsCourseHeldUp}
+use Rattle.pac_inputs.specs.declared.line.Stretch.{Stretch}
+use Rattle.pac_board_course.proofs.Counted.{counted, going-if-counted, going-same, going-next}
+use Rattle.pac_board_course.proofs.Framed.{frame_walk, frame_closed, frames_ended, frame-stops, frame-now, frame-closed, on-the-way-on}
+use Rattle.pac_board_course.proofs.Framed.{closed-outputs, closed-stop}
+use Rattle.pac_board_course.proofs.Whole.{frame-within, held-after, not-held-yet, gave-something}
+use Rattle.pac_board_course.specs.Course.{CourseValue, end_of, next_in, held_in, way_on, way_walked, course_after, course_with_due}
+use Rattle.pac_board_course.specs.Frames.{IsUnderway, IsFrameDone, PlaysFrameOn, frame_end}
+use Rattle.pac_board_course.specs.Plays.{IsOver, IsCourseHeldUp}
 
 -- the inputs that are held after the frame under way
 abbrev pub next_mask : CourseValue → ℕ
@@ -28,125 +34,156 @@ IsClosed old board new =
     ((frame_end old ≤ board.state.now.time) × (new ≡ board_with_inputs board (next_mask old)))
     ⊎ ((board.state.now.time < frame_end old) × (new ≡ board))
 
--- where such a walk leaves a course
-record Standing (old : CourseValue) (tries : ℕ) (board : BoardValue) (new : CourseValue) : Type 0 where
-  pub run : IsSameRun old new
-  pub now : new.board.state.now ≡ moment_after old (frame_walk old tries).now
-  pub due : new.board.state.due ≡ board.state.due
-  pub outputs : due_outputs new.board ≡ due_outputs board
-  pub time : new.board.state.now.time ≡ board.state.now.time
+-- ---- where the frame's walk leaves the course
 
-record Walked (old : CourseValue) (tries : ℕ) (board : BoardValue) : Type 0 where
-  pub set : board.set ≡ old.board.set
-  pub asked : board.state.asked ≡ old.board.state.asked
-  pub now : board.state.now ≡ (frame_walk old tries).now
-
-standing : (old new : CourseValue) (tries : ℕ) (board : BoardValue) → Walked old tries board → IsClosed old board new.board
-    → new.script ≡ old.script → new.gone ≡ old.gone → Standing old tries board new
-standing old new tries board walked (inl closed) script gone =
-    let there = ap (λ (now : Moment BoardView). now.time) walked.now in
-    let ended : frame_end old ≤ (frame_walk old tries).now.time = subst (λ time. frame_end old ≤ time) there closed.0 in
-    record {
-      run = record {
-        set = ap (λ (b : BoardValue). b.set) closed.1 ∙ walked.set;
-        script = script;
-        gone = gone;
-        asked = ap (λ (b : BoardValue). b.state.asked) closed.1 ∙ walked.asked;
-      };
-      now =
-          ap (λ (b : BoardValue). b.state.now) closed.1
-          ∙ ap (λ set. (board_with_inputs (record board { set = set }) (next_mask old)).state.now) walked.set
-          ∙ ap (λ now.
-          (board_with_inputs (record { set = old.board.set; state = record board.state { now = now }; made = 0 })
-          (next_mask old)).state.now) walked.now
-          ∙ held-after old tries (next_mask old) ended refl;
-      due = ap (λ (b : BoardValue). b.state.due) closed.1;
-      outputs = ap due_outputs closed.1;
-      time = ap (λ (b : BoardValue). b.state.now.time) closed.1;
-    }
-standing old new tries board walked (inr closed) script gone =
-    let there = ap (λ (now : Moment BoardView). now.time) walked.now in
-    let early : (frame_walk old tries).now.time < frame_end old = subst (λ time. time < frame_end old) there closed.0 in
-    record {
-      run = record {
-        set = ap (λ (b : BoardValue). b.set) closed.1 ∙ walked.set;
-        script = script;
-        gone = gone;
-        asked = ap (λ (b : BoardValue). b.state.asked) closed.1 ∙ walked.asked;
-      };
-      now = ap (λ (b : BoardValue). b.state.now) closed.1 ∙ walked.now ∙ not-held-yet old tries early;
-      due = ap (λ (b : BoardValue). b.state.due) closed.1;
-      outputs = ap due_outputs closed.1;
-      time = ap (λ (b : BoardValue). b.state.now.time) closed.1;
-    }
-
-module _ {S : Type 0} (took refused : S → Output → S → Type 0) (old new : CourseValue) (board : BoardValue) (sink later : S) where
-  walked-whole : board ≡ board_after_walk old.board (way old.board (frame_end old)) → Walked old (frame_end old) board
-  walked-whole is = record {
-    set = ap (λ (b : BoardValue). b.set) is;
-    asked = ap (λ (b : BoardValue). b.state.asked) is;
-    now = ap (λ (b : BoardValue). b.state.now) is;
+module _ (old : CourseValue) (tries : ℕ) (due : Due) where
+  -- the board at a moment of the walk
+  abbrev board_at : Moment BoardView → BoardValue
+  board_at now = record {
+    set = old.board.set;
+    state = record { now = now; asked = old.board.state.asked; due = due };
+    made = steps_counted old.board.made (now.steps - old.board.state.now.steps);
   }
 
+  pub board-placed : (board new : BoardValue) → board ≡ with_due (board_after_walk old.board (frame_walk old tries)) due
+      → IsClosed old board new → new ≡ board_at (frame_closed old tries).now
+  board-placed board new walked (inl closed) =
+      let time = ap (λ (b : BoardValue). b.state.now.time) walked in
+      let ended : frame_end old ≤ (frame_walk old tries).now.time = subst (λ time. frame_end old ≤ time) time closed.0 in
+      closed.1 ∙ ap (λ b. board_with_inputs b (next_mask old)) walked
+      ∙ ap board_at (held-after old tries (next_mask old) ended refl ∙ sym (frame-now old tries))
+  board-placed board new walked (inr closed) =
+      let time = ap (λ (b : BoardValue). b.state.now.time) walked in
+      let early : (frame_walk old tries).now.time < frame_end old = subst (λ time. time < frame_end old) time closed.0 in
+      closed.1 ∙ walked ∙ ap board_at (not-held-yet old tries early ∙ sym (frame-now old tries))
+
+-- held inputs are no output
+due-kept : (old : CourseValue) (board new : BoardValue) → IsClosed old board new
+    → (due_outputs new ≡ due_outputs board) × (new.state.due ≡ board.state.due)
+    × (new.state.now.time ≡ board.state.now.time) × (new.state.now.steps ≡ board.state.now.steps)
+due-kept old board new (inl closed) = (
+  ap due_outputs closed.1,
+  ap (λ (b : BoardValue). b.state.due) closed.1,
+  ap (λ (b : BoardValue). b.state.now.time) closed.1,
+  ap (λ (b : BoardValue). b.state.now.steps) closed.1,
+)
+due-kept old board new (inr closed) = (
+  ap due_outputs closed.1,
+  ap (λ (b : BoardValue). b.state.due) closed.1,
+  ap (λ (b : BoardValue). b.state.now.time) closed.1,
+  ap (λ (b : BoardValue). b.state.now.steps) closed.1,
+)
+
+module _ {S : Type 0} (took refused : S → Output → S → Type 0) (old : CourseValue) (board new : BoardValue) (script : List Stretch)
+    (gone : ℕ) (sink later : S) where
+  -- the course, on its board
+  abbrev course : CourseValue
+  course = record { board = new; script = script; gone = gone }
+
+  placed : (tries : ℕ) (due : Due) → board ≡ with_due (board_after_walk old.board (frame_walk old tries)) due → IsClosed old board new
+      → script ≡ old.script → gone ≡ old.gone → course ≡ course_with_due (course_after old (frame_closed old tries)) due
+  placed tries due walked closed scripts gones =
+      ap (λ (script : List Stretch). record { board = new; script = script; gone = gone }) scripts
+      ∙ ap (λ (gone : ℕ). record { board = new; script = old.script; gone = gone }) gones
+      ∙ ap (λ (board : BoardValue). record { board = board; script = old.script; gone = old.gone })
+      (board-placed old tries due board new walked closed)
+
+  -- the frame came to its end
   played : old.board.state.now.time < end_of old → (stop : Option Stop) → HasGone took old.board (frame_end old) sink stop board later
-      → IsClosed old board new.board → new.script ≡ old.script → new.gone ≡ old.gone
-      → IsFrameDone took old sink stop new later
-  played early None gone_to closed script gone =
-      let walked = walked-whole gone_to.board in
-      let at = standing old new (frame_end old) board walked closed script gone in
-      let next = step (by_view old.board.set) in
+      → IsClosed old board new → script ≡ old.script → gone ≡ old.gone → IsFrameDone took old sink stop course later
+  played early None gone_to closed scripts gones =
+      let tries = frame_end old in
+      let at = placed tries nothing_due gone_to.board closed scripts gones in
+      let way = on-the-way-on old tries (frame-within old early) in
+      let exact =
+      counted (next_in old) (end_of old) (play-timely (by_view old.board.set) (held_in old)) old.board.state.now way.0
+      (ap (λ (w : Walk BoardView). w.stop) (sym way.1) ∙ closed-stop old tries ∙ sym gone_to.stop_is) in
+      let same = exact.1 ∙ sym way.1 in
       let ended =
-      open-is-late (frame_end old) (frame_walk old (frame_end old))
-      (walk-to-ends next (frame_end old) (step-timely (by_view old.board.set)) old.board.state.now) (sym gone_to.stop_is) in
-      let time = ap (λ (now : Moment BoardView). now.time) walked.now in
-      let same = at.time in
+      open-is-late (frame_end old) (frame_walk old tries)
+      (walk-to-ends (step (by_view old.board.set)) (frame_end old) (step-timely (by_view old.board.set)) old.board.state.now)
+      (sym gone_to.stop_is) in
+      let time = ap (λ (b : BoardValue). b.state.now.time) gone_to.board in
+      let kept = due-kept old board new closed in
       record {
-        given = (frame_walk old (frame_end old)).outputs;
-        goes_on = frame-goes-on old new (frame_end old) early at.run at.now;
-        later_is = omega arith;
-        nothing = at.due ∙ ap (λ (b : BoardValue). b.state.due) gone_to.board;
-        sink_is = gone_to.sink_is;
+        played = record {
+          steps = exact.0;
+          course = at ∙ ap (course_after old) (sym same);
+          all_steps =
+              ap (λ (c : CourseValue). c.board.state.now.steps) at ∙ ap (λ (w : Walk BoardView). w.now.steps) (sym same) ∙ exact.2;
+          open_yet = ap (λ (w : Walk BoardView). w.stop) same ∙ closed-stop old tries ∙ sym gone_to.stop_is;
+          sink_is =
+              subst (λ xs. TookAll took sink xs later)
+              (sym (ap (λ (w : Walk BoardView). w.outputs) same ∙ closed-outputs old tries)) gone_to.sink_is;
+        };
+        later_is = omega (arith, kept.2, time, ended);
       }
-  played early (Some stop) gone_to closed script gone =
-      let walked = walked-whole gone_to.board in
-      let at = standing old new (frame_end old) board walked closed script gone in
-      let whole = frame-stops old (frame_end old) stop (frame-within old early) (sym gone_to.stop_is) in
+  played early (Some stop) gone_to closed scripts gones =
+      let tries = frame_end old in
+      let at = placed tries nothing_due gone_to.board closed scripts gones in
+      let whole = frame-stops old tries stop (frame-within old early) (sym gone_to.stop_is) in
       record {
-        run = at.run;
-        now = at.now ∙ sym (frame-now old (frame_end old)) ∙ ap (λ (w : Walk BoardView). w.now) whole;
-        nothing = at.due ∙ ap (λ (b : BoardValue). b.state.due) gone_to.board;
-        stop_is = gone_to.stop_is ∙ sym (closed-stop old (frame_end old)) ∙ ap (λ (w : Walk BoardView). w.stop) whole;
+        course = at ∙ ap (course_after old) whole;
+        stop_is = gone_to.stop_is ∙ sym (closed-stop old tries) ∙ ap (λ (w : Walk BoardView). w.stop) whole;
         sink_is =
             subst (λ xs. TookAll took sink xs later)
-            (sym (closed-outputs old (frame_end old)) ∙ ap (λ (w : Walk BoardView). w.outputs) whole) gone_to.sink_is;
+            (sym (closed-outputs old tries) ∙ ap (λ (w : Walk BoardView). w.outputs) whole) gone_to.sink_is;
       }
 
-  held-up : old.board.state.now.time < end_of old → IsWayRefused took refused old.board (frame_end old) sink board later
-      → IsClosed old board new.board → new.script ≡ old.script → new.gone ≡ old.gone → IsCourseHeldUp took refused old sink new later
-  held-up early stays closed script gone =
-      let walked : Walked old stays.steps board = record {
-        set = ap (λ (b : BoardValue). b.set) stays.board;
-        asked = ap (λ (b : BoardValue). b.state.asked) stays.board;
-        now = ap (λ (b : BoardValue). b.state.now) stays.board;
-      } in
-      let at = standing old new stays.steps board walked closed script gone in
+  -- an output of the frame was refused
+  held-up : old.board.state.now.time < end_of old → (steps : ℕ) (stays : IsWayRefused took refused old.board (frame_end old) sink board later)
+      → stays.steps ≡ steps → IsClosed old board new → script ≡ old.script → gone ≡ old.gone
+      → IsCourseHeldUp took refused old sink course later
+  held-up early zero stays count closed scripts gones =
+      gave-something took refused old sink old stays.taken (due_outputs board) sink later
+      (ap (λ n. (frame_walk old n).outputs) (sym count) ∙ stays.parts) stays.refuses
+  held-up early (suc last) stays count closed scripts gones =
+      let next = next_in old in
+      let from = old.board.state.now in
+      let limit = frame_end old in
+      let within = frame-within old early in
+      let steps : ℕ = suc last in
+      let kept = due-kept old board new closed in
+      let walked = stays.board ∙ ap (λ n. with_due (board_after_walk old.board (frame_walk old n)) board.state.due) count in
+      let at = placed steps board.state.due walked closed scripts gones in
+      let all = kept.3 ∙ stays.all_steps ∙ ap (λ n. from.steps + n) count in
+      let to_frame = frame-closed old steps in
+      let exact : (walk next limit from steps).now.steps ≡ from.steps + steps =
+      ap (λ (w : Walk BoardView). w.now.steps) (sym to_frame) ∙ ap (λ (c : CourseValue). c.board.state.now.steps) (sym at) ∙ all in
+      let timely = play-timely (by_view old.board.set) (held_in old) in
+      let going = going-if-counted next limit timely from last exact in
+      let same = to_frame ∙ going-next next limit (end_of old) from last within going in
+      let before =
+      frame-closed old last ∙ going-same next limit (end_of old) from last within going in
       record {
+        steps = steps;
+        course =
+            at ∙ ap (λ w. course_with_due (course_after old w) board.state.due) same
+            ∙ ap (course_with_due (course_after old (way_walked old steps))) (sym kept.1);
+        all_steps = all;
         taken = stays.taken;
-        goes_on =
-            subst (λ given. CourseGoesOn old given new) (stays.parts ∙ ap (λ xs. stays.taken ++ xs) (sym at.outputs))
-            (frame-goes-on old new stays.steps early at.run at.now);
-        refuses = subst (λ left. RefusesAt took refused sink stays.taken left later) (sym at.outputs) stays.refuses;
+        parts =
+            ap (λ (w : Walk BoardView). w.outputs) (sym same) ∙ closed-outputs old steps
+            ∙ ap (λ n. (frame_walk old n).outputs) (sym count) ∙ stays.parts ∙ ap (λ xs. stays.taken ++ xs) (sym kept.0);
+        refuses = subst (λ left. RefusesAt took refused sink stays.taken left later) (sym kept.0) stays.refuses;
+        of_last = λ number is.
+            let number_is : last ≡ number = omega arith in
+            subst (λ xs. IsPrefix xs stays.taken)
+            (sym (closed-outputs old last) ∙ ap (λ (w : Walk BoardView). w.outputs) before
+            ∙ ap (λ n. (way_walked old n).outputs) number_is)
+            (stays.of_last last count);
       }
 
   -- the frame, by the board's answer
   pub frame-answered : {E : Type 0} (result : Result (Option Stop) E) (start : BoardValue) (limit : ℕ) → start ≡ old.board
       → limit ≡ frame_end old → old.board.state.now.time < end_of old → GoesTo took refused start limit sink result board later
-      → IsClosed old board new.board → new.script ≡ old.script → new.gone ≡ old.gone → PlaysFrameOn took refused old sink result new later
-  frame-answered (Ok stop) start limit begins ends early goes closed script gone =
+      → IsClosed old board new → script ≡ old.script → gone ≡ old.gone → PlaysFrameOn took refused old sink result course later
+  frame-answered (Ok stop) start limit begins ends early goes closed scripts gones =
       played early stop
       (subst (λ (b : BoardValue). HasGone took b (frame_end old) sink stop board later) begins
-      (subst (λ n. HasGone took start n sink stop board later) ends goes)) closed script gone
-  frame-answered (Err refusal) start limit begins ends early goes closed script gone =
-      held-up early
-      (subst (λ (b : BoardValue). IsWayRefused took refused b (frame_end old) sink board later) begins
-      (subst (λ n. IsWayRefused took refused start n sink board later) ends goes)) closed script gone
+      (subst (λ n. HasGone took start n sink stop board later) ends goes)) closed scripts gones
+  frame-answered (Err refusal) start limit begins ends early goes closed scripts gones =
+      let stays =
+      subst (λ (b : BoardValue). IsWayRefused took refused b (frame_end old) sink board later) begins
+      (subst (λ n. IsWayRefused took refused start n sink board later) ends goes) in
+      held-up early stays.steps stays refl closed scripts gones

@@ -6,9 +6,9 @@ use Rattle.pac_board.specs.Stop.{Stop}
 use Rattle.pac_board.specs.BoardView.{BoardView}
 use Rattle.pac_board.specs.Step.{Questions, Moment, frame_ticks, step}
 use Rattle.pac_board.specs.Trace.{by_view, moment_with_inputs}
-use Rattle.pac_board.specs.Walk.{Walk, walk, walk_to}
+use Rattle.pac_board.specs.Walk.{Walk, walk}
 use Rattle.pac_board.proofs.Runs.{closed, closed_if, walk-closed}
-use Rattle.pac_board.proofs.Walks.{joined, goes-on, on-the-way, ended-whole, stopped-has-ended, stopped-is-early, play-timely}
+use Rattle.pac_board.proofs.Walks.{on-the-way, ended-whole, stopped-has-ended, stopped-is-early, play-timely}
 use Rattle.pac_board_course.specs.Course.{CourseValue, held_in, end_of, next_in, way_on}
 use Rattle.pac_board_course.specs.Frames.{frame_end}
 
@@ -72,45 +72,17 @@ module _ (course : CourseValue) where
       let w = frame_walk course tries in (closed-rest w w.stop (nat_le (frame_end course) w.now.time)).1
 
   -- the closed walk is on the way on
-  on-the-way-on : (tries : ℕ) → frame_end course ≤ end_of course
+  pub frame-closed : (tries : ℕ) → frame_closed tries ≡ walk (next_in course) (frame_end course) course.board.state.now tries
+  frame-closed tries =
+      walk-closed ask (held_in course) (frames_ended course) course.board.state.now tries (omega arith) early-in-frame
+
+  pub on-the-way-on : (tries : ℕ) → frame_end course ≤ end_of course
       → (n : ℕ) × (frame_closed tries ≡ walk (next_in course) (end_of course) course.board.state.now n)
   on-the-way-on tries within =
-      let same = walk-closed ask (held_in course) (frames_ended course) course.board.state.now tries (omega arith) early-in-frame in
       let on = on-the-way (next_in course) (frame_end course) (end_of course) course.board.state.now tries within in
-      (on.0, same ∙ on.1)
+      (on.0, frame-closed tries ∙ on.1)
 
-  joined-on : (tries : ℕ) → frame_end course ≤ end_of course
-      → joined (next_in course) (end_of course) (frame_closed tries) (walk_to (next_in course) (end_of course) (frame_closed tries).now)
-      ≡ way_on course
-  joined-on tries within =
-      let on = on-the-way-on tries within in
-      ap (λ w. joined (next_in course) (end_of course) w (walk_to (next_in course) (end_of course) w.now)) on.1
-      ∙ goes-on (next_in course) (end_of course) (play-timely ask (held_in course)) course.board.state.now on.0
-
-  -- the way on from where the frame's walk came
-  abbrev pub way_from : ℕ → Walk BoardView
-  way_from tries = walk_to (next_in course) (end_of course) (moment_after course (frame_walk course tries).now)
-
-  -- what it gave and what is left are the whole
-  pub frame-outputs : (tries : ℕ) → frame_end course ≤ end_of course
-      → (frame_walk course tries).outputs ++ (way_from tries).outputs ≡ (way_on course).outputs
-  frame-outputs tries within =
-      let w = frame_walk course tries in
-      let rest = closed-rest w w.stop (nat_le (frame_end course) w.now.time) in
-      ap (λ xs. xs ++ (way_from tries).outputs) (sym rest.0)
-      ∙ ap (λ now. (frame_closed tries).outputs ++ (walk_to (next_in course) (end_of course) now).outputs) (sym (frame-now tries))
-      ∙ ap (λ (w : Walk BoardView). w.outputs) (joined-on tries within)
-
-  pub frame-ends : (tries : ℕ) → frame_end course ≤ end_of course
-      → ((way_from tries).now ≡ (way_on course).now) × ((way_from tries).stop ≡ (way_on course).stop)
-  frame-ends tries within =
-      let there = ap (walk_to (next_in course) (end_of course)) (sym (frame-now tries)) in
-      let whole = joined-on tries within in (
-        ap (λ (w : Walk BoardView). w.now) there ∙ ap (λ (w : Walk BoardView). w.now) whole,
-        ap (λ (w : Walk BoardView). w.stop) there ∙ ap (λ (w : Walk BoardView). w.stop) whole,
-      )
-
-  -- a stop that the frame's walk met ends the run
+  -- and, with a stop, the whole of it
   pub frame-stops : (tries : ℕ) (stop : Stop) → frame_end course ≤ end_of course → (frame_walk course tries).stop ≡ Some stop
       → frame_closed tries ≡ way_on course
   frame-stops tries stop within met =

@@ -1,3 +1,6 @@
+pub mod Counted
 pub mod Framed
 pub mod Whole
 pub mod Answered
+pub mod Begun
+pub mod Taken

@@ -1,83 +1,36 @@
 -- A course from frame to frame, to the end of its run.
-use Rattle.std.proofs.Common.{◌≡◌, ℕ, zero, suc, ◌+◌, ◌-◌, ◌*◌, ◌/◌, ◌<◌, ◌≤◌, List, [], ◌++◌, Option, None, Some, true, false}
+use Rattle.std.proofs.Common.{◌≡◌, ℕ, zero, suc, ◌+◌, ◌-◌, ◌/◌, ◌^◌, ◌<◌, ◌≤◌, List, [], ◌∷◌, ◌++◌, Option, None, Some, true, false}
 use Rattle.std.proofs.Common.{nat_le, is_some, refl, sym, ap, subst, ◌∙◌, append_assoc, if◌then◌else◌, arith}
 use Rattle.std.proofs.lemmas.Bool.Decides.{nat_tests}
-use Rattle.std.proofs.lemmas.List.{append-nil}
-use Rattle.pac_board.specs.RomParts.{Parts}
+use mathlib.Core.List.{IsPrefix}
 use Rattle.pac_board.specs.Stop.{Stop}
 use Rattle.pac_board.specs.BoardView.{BoardView, board_after}
 use Rattle.pac_board.specs.Entry.{Hold}
 use Rattle.pac_board.specs.Output.{Output}
-use Rattle.pac_board.specs.Step.{Moment, frame_ticks, step}
+use Rattle.pac_board.specs.Step.{Moment, Next, frame_ticks, step}
 use Rattle.pac_board.specs.Trace.{by_view, moment_with_inputs, play_step}
-use Rattle.pac_board.specs.Walk.{Walk, walk_to, walk_at_start}
+use Rattle.pac_board.specs.Walk.{Walk}
+use Rattle.pac_board.specs.declared.due.Due.{Due}
+use Rattle.pac_board.proofs.Pieces.{two-parts}
 use Rattle.pac_board.proofs.Runs.{walk-near}
 use Rattle.pac_board.proofs.Sinks.{took-both, refuses-after}
-use Rattle.pac_board.proofs.Walks.{ended-for-good, late-has-ended, step-timely}
-use Rattle.pac_board.specs.Sinks.{TookAll}
-use Rattle.pac_board.specs.State.{due_outputs, nothing_due}
-use Rattle.pac_inputs.specs.Stretches.{total_frames, held}
-use Rattle.pac_inputs.specs.declared.line.Stretch.{Stretch}
-use Rattle.pac_board_course.proofs.Framed.{frame_walk, moment_after, frames_ended, frame-outputs, frame-ends}
-use Rattle.pac_board_course.specs.Course.{CourseValue, held_in, end_of, next_in, way_on}
-use Rattle.pac_board_course.specs.Frames.{IsFramePlayed, IsFrameDone, frame_end}
-use Rattle.pac_board_course.specs.Plays.{IsSameRun, CourseGoesOn, IsOver, IsCourseHeldUp}
-
--- ---- what is left of a run, by its parts
-
-abbrev way_of : Parts → List Stretch → ℕ → Moment BoardView → Walk BoardView
-way_of set script gone now =
-    walk_to (play_step (by_view set) (λ frame. held script (frame - gone))) (frame_ticks * (gone + total_frames script)) now
-
-way-kept : (old new : CourseValue) (now : Moment BoardView) → IsSameRun old new → new.board.state.now ≡ now
-    → way_on new ≡ walk_to (next_in old) (end_of old) now
-way-kept old new now same there =
-    ap (λ set. way_of set new.script new.gone new.board.state.now) same.set
-    ∙ ap (λ script. way_of old.board.set script new.gone new.board.state.now) same.script
-    ∙ ap (λ gone. way_of old.board.set old.script gone new.board.state.now) same.gone
-    ∙ ap (way_of old.board.set old.script old.gone) there
-
--- ---- going on, and on
-
-pub same-run : (course : CourseValue) → IsSameRun course course
-same-run course = record { set = refl; script = refl; gone = refl; asked = refl }
-
-pub goes-on-here : (course : CourseValue) → CourseGoesOn course [] course
-goes-on-here course = record { run = same-run course; now = refl; stop = refl; outputs = refl }
-
-pub goes-on-twice : (first second third : CourseValue) (given more : List Output) → CourseGoesOn first given second
-    → CourseGoesOn second more third
-    → CourseGoesOn first (given ++ more) third
-goes-on-twice first second third given more a b = record {
-  run = record {
-    set = b.run.set ∙ a.run.set;
-    script = b.run.script ∙ a.run.script;
-    gone = b.run.gone ∙ a.run.gone;
-    asked = b.run.asked ∙ a.run.asked;
-  };
-  now = b.now ∙ a.now;
-  stop = b.stop ∙ a.stop;
-  outputs = append_assoc given more (way_on third).outputs ∙ ap (λ xs. given ++ xs) b.outputs ∙ a.outputs;
-}
+use Rattle.pac_board.proofs.Walked.{walked-after}
+use Rattle.pac_board.proofs.Walks.{joined, more-joined, goes-on, ended-whole, late-has-ended, step-timely, play-timely}
+use Rattle.pac_board.specs.ModelLaws.{IsTimely}
+use Rattle.pac_board.specs.Sinks.{TookAll, RefusesAt}
+use Rattle.pac_board.specs.State.{BoardValue, due_outputs, nothing_due, steps_counted}
+use Rattle.pac_inputs.specs.Stretches.{held}
+use Rattle.pac_board_course.proofs.Framed.{frame_walk, moment_after, frames_ended}
+use Rattle.pac_board_course.specs.Course.{CourseValue, held_in, end_of, next_in, way_on, way_walked, course_after, course_with_due}
+use Rattle.pac_board_course.specs.Frames.{IsUnderway, IsFramePlayed, IsFrameDone, frame_end}
+use Rattle.pac_board_course.specs.Laws.{CoursesGoOn}
+use Rattle.pac_board_course.specs.Plays.{IsOver, IsCourseHeldUp}
 
 -- ---- a frame
 
 -- the frame under way ends no later than the run
 pub frame-within : (course : CourseValue) → course.board.state.now.time < end_of course → frame_end course ≤ end_of course
 frame-within course early = omega arith
-
-pub frame-goes-on : (old new : CourseValue) (tries : ℕ) → old.board.state.now.time < end_of old → IsSameRun old new
-    → new.board.state.now ≡ moment_after old (frame_walk old tries).now → CourseGoesOn old (frame_walk old tries).outputs new
-frame-goes-on old new tries early same there =
-    let way = way-kept old new (moment_after old (frame_walk old tries).now) same there in
-    let within = frame-within old early in
-    let ends = frame-ends old tries within in
-    record {
-      run = same;
-      now = ap (λ (w : Walk BoardView). w.now) way ∙ ends.0;
-      stop = ap (λ (w : Walk BoardView). w.stop) way ∙ ends.1;
-      outputs = ap (λ (w : Walk BoardView). (frame_walk old tries).outputs ++ w.outputs) way ∙ frame-outputs old tries within;
-    }
 
 -- the frame's walk is less than a step past its end
 pub frame-near : (course : CourseValue) (tries : ℕ) → (frame_walk course tries).now.time < frame_end course + 23
@@ -107,77 +60,178 @@ not-held-yet course tries early =
     let not_late : nat_le (frame_end course) w.now.time ≡ false = grind (arith, nat_tests) in
     ap (λ b. if b then moment_with_inputs (by_view course.board.set) (held_in course) w.now else w.now) (sym not_late)
 
--- ---- the whole
+-- ---- a course that goes on from where a walk has brought it
 
--- a course that is over has nothing left
-late-way : (course : CourseValue) → end_of course ≤ course.board.state.now.time → way_on course ≡ walk_at_start course.board.state.now
-late-way course late =
-    ended-for-good (next_in course) (end_of course) course.board.state.now zero (end_of course) (end_of course) (omega arith)
-    (late-has-ended (end_of course) (walk_at_start course.board.state.now) late)
+timely : (course : CourseValue) (now : Moment BoardView) → IsTimely now (next_in course now)
+timely course = play-timely (by_view course.board.set) (held_in course)
 
--- so far has the run been played
-pub record IsUnderway {S : Type 0} (took : S → Output → S → Type 0) (old : CourseValue) (sink : S) (new : CourseValue) (later : S)
-    : Type 0 where
-  pub given : List Output
-  pub goes_on : CourseGoesOn old given new
-  pub nothing : new.board.state.due ≡ nothing_due
-  pub sink_is : TookAll took sink given later
+pub courses-go-on : CoursesGoOn
+courses-go-on course tries =
+    let whole = goes-on (next_in course) (end_of course) (timely course) course.board.state.now tries in
+    record {
+      now = ap (λ (w : Walk BoardView). w.now) whole;
+      stop = ap (λ (w : Walk BoardView). w.stop) whole;
+      outputs = ap (λ (w : Walk BoardView). w.outputs) whole;
+    }
+
+-- the course that a later walk brings about is that of both walks
+after-twice : (course : CourseValue) (first second : Walk BoardView) → course.board.state.now.steps ≤ first.now.steps
+    → first.now.steps ≤ second.now.steps → course_after (course_after course first) second ≡ course_after course second
+after-twice course first second less more =
+    ap (λ (board : BoardValue). record { board = board; script = course.script; gone = course.gone })
+    (two-parts course.board course.board.state.asked first.now second.now second.now less more refl)
 
 module _ {S : Type 0} (took refused : S → Output → S → Type 0) (old : CourseValue) (sink : S) where
-  pub underway-on : (now new : CourseValue) (taker later : S) → IsUnderway took old sink now taker → IsFramePlayed took now taker new later
+  abbrev first_now : Moment BoardView
+  first_now = old.board.state.now
+
+  abbrev both : Walk BoardView → Walk BoardView → Walk BoardView
+  both = joined (next_in old) (end_of old)
+
+  abbrev walked : ℕ → Walk BoardView
+  walked tries = way_walked old tries
+
+  abbrev there : ℕ → CourseValue
+  there tries = course_after old (walked tries)
+
+  pub underway-begins : old.board.state.due ≡ nothing_due → old.board.made < 2 ^ 64 → IsUnderway took old sink old sink
+  underway-begins none fits =
+      let same : old.board.made ≡ steps_counted old.board.made (first_now.steps - first_now.steps) = omega arith in
+      record {
+        steps = zero;
+        course =
+            ap (λ due. course_with_due old due) none
+            ∙ ap (λ made. record {
+              board = record {
+                set = old.board.set;
+                state = record { now = first_now; asked = old.board.state.asked; due = nothing_due };
+                made = made;
+              };
+              script = old.script;
+              gone = old.gone;
+            }) same;
+        all_steps = omega arith;
+        open_yet = refl;
+        sink_is = refl;
+      }
+
+  -- how many steps a course has behind it
+  steps-there : (now : CourseValue) (taker : S) (under : IsUnderway took old sink now taker)
+      → (walked under.steps).now.steps ≡ first_now.steps + under.steps
+  steps-there now taker under = ap (λ (course : CourseValue). course.board.state.now.steps) (sym under.course) ∙ under.all_steps
+
+  more-walked : (first second : ℕ) → (walked first).stop ≡ None
+      → both (walked first) (way_walked (there first) second) ≡ walked (first + second)
+  more-walked first second open_yet =
+      more-joined (next_in old) (end_of old) first_now first second (first + second) refl open_yet
+
+  pub underway-on : (now new : CourseValue) (taker later : S) → IsUnderway took old sink now taker → IsUnderway took now taker new later
       → IsUnderway took old sink new later
-  underway-on now new taker later under played = record {
-    given = under.given ++ played.given;
-    goes_on = goes-on-twice old now new under.given played.given under.goes_on played.goes_on;
-    nothing = played.nothing;
-    sink_is = took-both took under.given played.given sink taker later under.sink_is played.sink_is;
-  }
+  underway-on now new taker later under played =
+      let told = subst (λ course. IsUnderway took course taker new later) under.course played in
+      let w = walked under.steps in
+      let more = way_walked (there under.steps) told.steps in
+      let whole = more-walked under.steps told.steps under.open_yet in
+      let steps = steps-there now taker under in
+      let here = ap (λ (course : CourseValue). course.board.state.now.steps) told.course in
+      let last = told.all_steps in
+      record {
+        steps = under.steps + told.steps;
+        course =
+            told.course
+            ∙ after-twice old w more (omega (arith, steps)) (omega (arith, here, last))
+            ∙ ap (course_after old) whole;
+        all_steps = omega (arith, steps, last);
+        open_yet = ap (λ (w : Walk BoardView). w.stop) (sym whole) ∙ told.open_yet;
+        sink_is =
+            subst (λ (w : Walk BoardView). TookAll took sink w.outputs later) whole
+            (took-both took w.outputs more.outputs sink taker later under.sink_is told.sink_is);
+      }
 
   pub underway-ends : (now : CourseValue) (taker : S) → IsUnderway took old sink now taker
       → end_of now ≤ now.board.state.now.time → IsOver took old sink None now taker
-  underway-ends now taker under late =
-      let way = late-way now late in
-      let whole = under.goes_on in
-      let outputs : under.given ≡ (way_on old).outputs
-      = sym (append-nil under.given) ∙ ap (λ (w : Walk BoardView). under.given ++ w.outputs) (sym way) ∙ whole.outputs in
+  underway-ends now taker under over =
+      let late = subst (λ (course : CourseValue). end_of course ≤ course.board.state.now.time) under.course over in
+      let whole =
+      ended-whole (next_in old) (end_of old) (timely old) first_now under.steps (late-has-ended (end_of old) (walked under.steps) late) in
       record {
-        run = whole.run;
-        now = ap (λ (w : Walk BoardView). w.now) (sym way) ∙ whole.now;
-        nothing = under.nothing;
-        stop_is = ap (λ (w : Walk BoardView). w.stop) (sym way) ∙ whole.stop;
-        sink_is = subst (λ xs. TookAll took sink xs taker) outputs under.sink_is;
+        course = under.course ∙ ap (course_after old) whole;
+        stop_is = sym under.open_yet ∙ ap (λ (w : Walk BoardView). w.stop) whole;
+        sink_is = subst (λ (w : Walk BoardView). TookAll took sink w.outputs taker) whole under.sink_is;
       }
 
   pub underway-over : (now new : CourseValue) (stop : Option Stop) (taker later : S) → IsUnderway took old sink now taker
       → IsOver took now taker stop new later → IsOver took old sink stop new later
   underway-over now new stop taker later under over =
-      let whole = under.goes_on in
+      let told = subst (λ course. IsOver took course taker stop new later) under.course over in
+      let w = walked under.steps in
+      let rest = way_on (there under.steps) in
+      let whole = goes-on (next_in old) (end_of old) (timely old) first_now under.steps in
+      let steps = steps-there now taker under in
       record {
-        run = record {
-          set = over.run.set ∙ whole.run.set;
-          script = over.run.script ∙ whole.run.script;
-          gone = over.run.gone ∙ whole.run.gone;
-          asked = over.run.asked ∙ whole.run.asked;
-        };
-        now = over.now ∙ whole.now;
-        nothing = over.nothing;
-        stop_is = over.stop_is ∙ whole.stop;
+        course =
+            told.course
+            ∙ after-twice old w rest (omega (arith, steps))
+            (walked-after (next_in old) (end_of old) (timely old) w.now (end_of old)).steps
+            ∙ ap (course_after old) whole;
+        stop_is = told.stop_is ∙ ap (λ (w : Walk BoardView). w.stop) whole;
         sink_is =
-            subst (λ xs. TookAll took sink xs later) whole.outputs
-            (took-both took under.given (way_on now).outputs sink taker later under.sink_is over.sink_is);
+            subst (λ (w : Walk BoardView). TookAll took sink w.outputs later) whole
+            (took-both took w.outputs rest.outputs sink taker later under.sink_is told.sink_is);
       }
+
+  -- something was refused, so it was given
+  pub gave-something : (course : CourseValue) (taken left : List Output) (taker later : S) → [] ≡ taken ++ left
+      → RefusesAt took refused taker taken left later → {A : Type 0} → A
+  gave-something course [] left taker later none refuses = let is = none ∙ refuses.left_is in absurd (cc)
+  gave-something course (output ∷ more) left taker later none refuses = absurd (cc)
+
+  prefix-after : (first second whole : List Output) → IsPrefix second whole → IsPrefix (first ++ second) (first ++ whole)
+  prefix-after first second whole is = (is.0, append_assoc first second is.0 ∙ ap (λ xs. first ++ xs) is.1)
 
   pub underway-held-up : (now new : CourseValue) (taker later : S) → IsUnderway took old sink now taker
       → IsCourseHeldUp took refused now taker new later → IsCourseHeldUp took refused old sink new later
-  underway-held-up now new taker later under stays =
-      let on = goes-on-twice old now new under.given (stays.taken ++ due_outputs new.board) under.goes_on stays.goes_on in
+  underway-held-up now new taker later under held_up =
+      let told = subst (λ course. IsCourseHeldUp took refused course taker new later) under.course held_up in
+      let w = walked under.steps in
+      let more = way_walked (there under.steps) told.steps in
+      let whole = more-walked under.steps told.steps under.open_yet in
+      let steps = steps-there now taker under in
+      let here = ap (λ (course : CourseValue). course.board.state.now.steps) told.course in
+      let last = told.all_steps in
       record {
-        taken = under.given ++ stays.taken;
-        goes_on = subst (λ given. CourseGoesOn old given new) (sym (append_assoc under.given stays.taken (due_outputs new.board))) on;
-        refuses = refuses-after took refused under.given stays.taken (due_outputs new.board) sink taker later under.sink_is stays.refuses;
+        steps = under.steps + told.steps;
+        course =
+            told.course
+            ∙ ap (λ (course : CourseValue). course_with_due course new.board.state.due)
+            (after-twice old w more (omega (arith, steps)) (omega (arith, here, last)) ∙ ap (course_after old) whole);
+        all_steps = omega (arith, steps, last);
+        taken = w.outputs ++ told.taken;
+        parts =
+            ap (λ (w : Walk BoardView). w.outputs) (sym whole) ∙ ap (λ xs. w.outputs ++ xs) told.parts
+            ∙ sym (append_assoc w.outputs told.taken (due_outputs new.board));
+        refuses =
+            refuses-after took refused w.outputs told.taken (due_outputs new.board) sink taker later under.sink_is told.refuses;
+        of_last = λ before is. choose told.steps refl before is;
       }
+    where
+      told : IsCourseHeldUp took refused (there under.steps) taker new later
+      told = subst (λ course. IsCourseHeldUp took refused course taker new later) under.course held_up
 
-  -- a frame, by its answer
+      choose : (more : ℕ) → told.steps ≡ more → (before : ℕ) → under.steps + told.steps ≡ suc before
+          → IsPrefix (walked before).outputs ((walked under.steps).outputs ++ told.taken)
+      choose zero none before is =
+          gave-something old told.taken (due_outputs new.board) taker later
+          (ap (λ n. (way_walked (there under.steps) n).outputs) (sym none) ∙ told.parts) told.refuses
+      choose (suc last) count before is =
+          let same : before ≡ under.steps + last = omega arith in
+          let whole = more-walked under.steps last under.open_yet in
+          subst (λ xs. IsPrefix xs ((walked under.steps).outputs ++ told.taken))
+          (ap (λ (w : Walk BoardView). w.outputs) whole ∙ ap (λ n. (walked n).outputs) (sym same))
+          (prefix-after (walked under.steps).outputs (way_walked (there under.steps) last).outputs told.taken (told.of_last last count))
+
+  -- ---- a frame, by its answer
+
   pub underway-closed : (now new : CourseValue) (stop : Option Stop) (taker later : S) → IsUnderway took old sink now taker
       → is_some stop ≡ true → IsFrameDone took now taker stop new later → IsOver took old sink stop new later
   underway-closed now new None taker later under met played = cc
@@ -186,7 +240,7 @@ module _ {S : Type 0} (took refused : S → Output → S → Type 0) (old : Cour
   pub underway-more : (now new : CourseValue) (stop : Option Stop) (taker later : S) → IsUnderway took old sink now taker
       → is_some stop ≡ false → IsFrameDone took now taker stop new later → IsUnderway took old sink new later
   underway-more now new (Some stop) taker later under open_yet played = cc
-  underway-more now new None taker later under open_yet played = underway-on now new taker later under played
+  underway-more now new None taker later under open_yet played = underway-on now new taker later under played.played
 
   pub underway-later : (now new : CourseValue) (stop : Option Stop) (taker later : S) → is_some stop ≡ false
       → IsFrameDone took now taker stop new later → now.board.state.now.time < new.board.state.now.time

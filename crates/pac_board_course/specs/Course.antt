@@ -1,12 +1,14 @@
 -- To be believed: a course: a script that is played on a board, and what is left of its run.
-use Rattle.std.specs.Prelude.{◌≤◌, ℕ, ◌+◌, ◌-◌, ◌*◌, ◌/◌, List}
+use Rattle.std.specs.Prelude.{◌≤◌, ℕ, ◌+◌, ◌-◌, ◌*◌, ◌/◌, min, List}
 use Rattle.pac_inputs.specs.Stretches.{total_frames, held}
 use Rattle.pac_inputs.specs.declared.line.Stretch.{Stretch}
 use Rattle.pac_board.specs.BoardView.{BoardView}
 use Rattle.pac_board.specs.Step.{Moment, Next, frame_ticks}
 use Rattle.pac_board.specs.Trace.{by_view, play_step}
-use Rattle.pac_board.specs.Walk.{Walk, walk_to}
-use Rattle.pac_board.specs.State.{BoardValue, board_with_inputs, latest}
+use Rattle.pac_board.specs.Walk.{Walk, walk, walk_to}
+use Rattle.pac_board.specs.State.{BoardValue, board_with_inputs, with_more_asked, nothing_due, steps_counted, latest, most_asked}
+use Rattle.pac_board.specs.declared.due.Due.{Due}
+use Rattle.pac_board.specs.Calls.{with_due}
 
 -- a board, the script that is played on it, and the frames that had gone by before the script's first
 pub record CourseValue : Type 0 where
@@ -26,9 +28,27 @@ end_of course = frame_ticks * (course.gone + total_frames course.script)
 abbrev pub next_in : CourseValue → Moment BoardView → Next BoardView
 next_in course = play_step (by_view course.board.set) (held_in course)
 
--- what is left of the run: the walk from where the board is to the last frame's blank, or to a stop
+-- what is left of the run: the walk from where the board is to the last frame's blank, or to a stop; and that walk after so many tries
 abbrev pub way_on : CourseValue → Walk BoardView
 way_on course = walk_to (next_in course) (end_of course) course.board.state.now
+
+abbrev pub way_walked : CourseValue → ℕ → Walk BoardView
+way_walked course tries = walk (next_in course) (end_of course) course.board.state.now tries
+
+-- the course where a walk has brought it, nothing being due; and with something else due
+abbrev pub course_after : CourseValue → Walk BoardView → CourseValue
+course_after course walked = record {
+  board = record {
+    set = course.board.set;
+    state = record { now = walked.now; asked = course.board.state.asked; due = nothing_due };
+    made = steps_counted course.board.made (walked.now.steps - course.board.state.now.steps);
+  };
+  script = course.script;
+  gone = course.gone;
+}
+
+abbrev pub course_with_due : CourseValue → Due → CourseValue
+course_with_due course due = record { board = with_due course.board due; script = course.script; gone = course.gone }
 
 -- a course at its beginning: the inputs of the script's first frame are held
 abbrev pub begun : BoardValue → List Stretch → CourseValue
@@ -41,3 +61,21 @@ begun board script = record {
 -- the run ends while the board still makes steps
 abbrev pub FitsTime : BoardValue → List Stretch → Type 0
 FitsTime board script = frame_ticks * (board.state.now.time / frame_ticks + total_frames script) ≤ latest
+
+-- ---- microseconds asked
+
+-- the microseconds of a frame, which are its 50,688 T-states
+abbrev pub frame_microseconds : ℕ
+frame_microseconds = 16500
+
+-- so many frames can be asked of the board
+abbrev pub FitsAsked : BoardValue → List Stretch → Type 0
+FitsAsked board script = board.state.asked + frame_microseconds * total_frames script ≤ most_asked
+
+-- the frames of the script that have begun, the one under way too
+abbrev pub frames_begun : CourseValue → ℕ
+frames_begun course = min (total_frames course.script) (course.board.state.now.time / frame_ticks + 1 - course.gone)
+
+-- the board of a course, of which each frame that has begun was asked
+abbrev pub board_asked : CourseValue → BoardValue
+board_asked course = with_more_asked course.board (frame_microseconds * frames_begun course)

@@ -1,31 +1,38 @@
 -- For proofs: a course as it is kept, and one frame of it.
-use Rattle.std.specs.Prelude.{◌≡◌, ◌<◌, ◌≤◌, ℕ, suc, ◌*◌, ◌/◌, Option, None, Some, Result, Ok, Err, List}
+use Rattle.std.specs.Prelude.{◌≡◌, ◌<◌, ◌≤◌, ℕ, suc, ◌+◌, ◌*◌, ◌/◌, Option, None, Some, Result, Ok, Err}
 use Rattle.pac_board.specs.Stop.{Stop}
 use Rattle.pac_board.specs.Output.{Output}
 use Rattle.pac_board.specs.Step.{frame_ticks}
 use Rattle.pac_board.specs.Sinks.{TookAll}
-use Rattle.pac_board.specs.State.{nothing_due, latest}
+use Rattle.pac_board.specs.State.{latest}
 use Rattle.pac_inputs.specs.Stretches.{total_frames, most_frames}
-use Rattle.pac_board_course.specs.Course.{CourseValue, end_of}
-use Rattle.pac_board_course.specs.Plays.{CourseGoesOn, IsOver, IsCourseHeldUp}
+use Rattle.pac_board_course.specs.Course.{CourseValue, FitsAsked, end_of, way_walked, course_after}
+use Rattle.pac_board_course.specs.Plays.{IsOver, IsCourseHeldUp}
 
 -- what holds of each course
 pub record IsCourse (course : CourseValue) : Type 0 where
   pub ends : end_of course ≤ latest
   pub short : total_frames course.script ≤ most_frames
+  pub asked : FitsAsked course.board course.script
 
 -- the time of the blank that ends the frame under way
 abbrev pub frame_end : CourseValue → ℕ
 frame_end course = frame_ticks * suc (course.board.state.now.time / frame_ticks)
 
--- the frame under way was played, and the sink took what it gave
+-- so many steps were made, without a stop, and the sink took what they gave
+pub record IsUnderway {S : Type 0} (took : S → Output → S → Type 0) (old : CourseValue) (sink : S) (new : CourseValue) (later : S)
+    : Type 0 where
+  pub steps : ℕ
+  pub course : new ≡ course_after old (way_walked old steps)
+  pub all_steps : new.board.state.now.steps ≡ old.board.state.now.steps + steps
+  pub open_yet : (way_walked old steps).stop ≡ None
+  pub sink_is : TookAll took sink (way_walked old steps).outputs later
+
+-- the frame under way was played
 pub record IsFramePlayed {S : Type 0} (took : S → Output → S → Type 0) (old : CourseValue) (sink : S) (new : CourseValue) (later : S)
     : Type 0 where
-  pub given : List Output
-  pub goes_on : CourseGoesOn old given new
+  pub played : IsUnderway took old sink new later
   pub later_is : old.board.state.now.time < new.board.state.now.time
-  pub nothing : new.board.state.due ≡ nothing_due
-  pub sink_is : TookAll took sink given later
 
 abbrev pub IsFrameDone : {S : Type 0} → (S → Output → S → Type 0) → CourseValue → S → Option Stop → CourseValue → S → Type 0
 IsFrameDone took old sink None new later = IsFramePlayed took old sink new later

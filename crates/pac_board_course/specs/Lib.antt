@@ -1,4 +1,5 @@
 pub mod Course
 pub mod Plays
 pub mod Frames
+pub mod Laws
 pub use Rattle.pac_inputs.specs.Stretches

@@ -1,25 +1,12 @@
 -- To be believed: what playing a course leaves of it and of the sink.
-use Rattle.std.specs.Prelude.{◌≡◌, List, ◌++◌, Option, Result, Ok, Err}
+use Rattle.std.specs.Prelude.{◌≡◌, ℕ, suc, ◌+◌, List, ◌++◌, Option, Result, Ok, Err}
+use mathlib.Core.List.{IsPrefix}
 use Rattle.pac_board.specs.Stop.{Stop}
 use Rattle.pac_board.specs.Output.{Output}
 use Rattle.pac_board.specs.Calls.{Offers}
 use Rattle.pac_board.specs.Sinks.{TookAll, RefusesAt}
-use Rattle.pac_board.specs.State.{due_outputs, nothing_due}
-use Rattle.pac_board_course.specs.Course.{CourseValue, way_on}
-
--- the same run: the set, the script, the frames before it, and what was asked of the board
-pub record IsSameRun (old new : CourseValue) : Type 0 where
-  pub set : new.board.set ≡ old.board.set
-  pub script : new.script ≡ old.script
-  pub gone : new.gone ≡ old.gone
-  pub asked : new.board.state.asked ≡ old.board.state.asked
-
--- The run goes on as it would have: what was given out, and what is left of it now, is what was left of it before.
-pub record CourseGoesOn (old : CourseValue) (given : List Output) (new : CourseValue) : Type 0 where
-  pub run : IsSameRun old new
-  pub now : (way_on new).now ≡ (way_on old).now
-  pub stop : (way_on new).stop ≡ (way_on old).stop
-  pub outputs : given ++ (way_on new).outputs ≡ (way_on old).outputs
+use Rattle.pac_board.specs.State.{due_outputs}
+use Rattle.pac_board_course.specs.Course.{CourseValue, way_on, way_walked, course_after, course_with_due}
 
 -- ---- what is due
 
@@ -35,19 +22,22 @@ CourseOffers took refused old sink result new later =
 pub record IsOver {S : Type 0} (took : S → Output → S → Type 0) (old : CourseValue) (sink : S) (stop : Option Stop) (new : CourseValue)
     (later : S)
     : Type 0 where
-  pub run : IsSameRun old new
-  pub now : new.board.state.now ≡ (way_on old).now
-  pub nothing : new.board.state.due ≡ nothing_due
+  pub course : new ≡ course_after old (way_on old)
   pub stop_is : stop ≡ (way_on old).stop
   pub sink_is : TookAll took sink (way_on old).outputs later
 
--- The sink refused an output: it and what its step gave after it are due, all before was taken, and the run can be taken up from there.
+-- The sink refused an output: the course stands after the step that gave it, and that output and what the step gave after it are due.
+-- All that was given before was taken.
 pub record IsCourseHeldUp {S : Type 0} (took refused : S → Output → S → Type 0) (old : CourseValue) (sink : S) (new : CourseValue)
     (later : S)
     : Type 0 where
+  pub steps : ℕ
+  pub course : new ≡ course_with_due (course_after old (way_walked old steps)) new.board.state.due
+  pub all_steps : new.board.state.now.steps ≡ old.board.state.now.steps + steps
   pub taken : List Output
-  pub goes_on : CourseGoesOn old (taken ++ due_outputs new.board) new
+  pub parts : (way_walked old steps).outputs ≡ taken ++ due_outputs new.board
   pub refuses : RefusesAt took refused sink taken (due_outputs new.board) later
+  pub of_last : (before : ℕ) → steps ≡ suc before → IsPrefix (way_walked old before).outputs taken
 
 abbrev pub RunsToEnd : {S E : Type 0} → (S → Output → S → Type 0) → (S → Output → S → Type 0)
     → CourseValue → S → Result (Option Stop) E → CourseValue → S → Type 0

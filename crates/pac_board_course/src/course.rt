@@ -3,7 +3,8 @@
 ghost use Rattle.std.specs.Prelude.{◌≡◌, ◌<◌, ◌≤◌};
 ghost use Rattle.pac_board.specs.Inputs.{mask};
 ghost use Rattle.pac_board.specs.State as state;
-ghost use Rattle.pac_board_course.specs.Course.{FitsTime, begun, end_of};
+ghost use Rattle.pac_inputs.specs.Stretches.{most_frames, total_frames};
+ghost use Rattle.pac_board_course.specs.Course.{FitsTime, FitsAsked, begun, board_asked, end_of, frames_begun};
 ghost use Rattle.pac_board_course.specs.Frames.{PlaysFrameOn};
 ghost use Rattle.pac_board_course.specs.Plays.{CourseOffers, RunsToEnd};
 
@@ -31,6 +32,9 @@ impl Model for Course {
     ghost invariant = { λ course. IsCourse (record { board = course.board; script = course.script; gone = course.gone }) };
 }
 
+/// The microseconds of a frame: 16,500 of them are its 50,688 T-states.
+const FRAME_MICROSECONDS: u64 = 16_500;
+
 /// Holds these inputs, and no others.
 fn hold(board: &mut Board, inputs: Inputs)
     ensures { board.new ≡ state.board_with_inputs board.old (mask inputs) }
@@ -42,7 +46,8 @@ fn hold(board: &mut Board, inputs: Inputs)
 impl Course {
     /// The script is played from the board's frame on: the inputs of its first frame are held.
     pub fn new(mut board: Board, script: Script) -> Course
-        requires { FitsTime board script }
+        requires time { FitsTime board script }
+        requires asked { FitsAsked board script }
         ensures { result ≡ begun board script }
     {
         let gone = board.time() / FRAME_TICKS;
@@ -62,13 +67,22 @@ impl Course {
         &self.board
     }
 
+    /// The frames of the script, 0 to 36,000.
+    #[inline]
+    pub fn frames(&self) -> u32
+        ensures count { result ≡ total_frames self.now.script }
+        ensures within { result ≤ most_frames }
+    {
+        self.script.frames()
+    }
+
     /// The time at which the run is over, in T-states.
     #[inline]
     pub fn end(&self) -> u64
         ensures time { result ≡ end_of self.now }
         ensures bound { end_of self.now ≤ state.latest }
     {
-        FRAME_TICKS * (self.gone + u64::from(self.script.frames()))
+        FRAME_TICKS * (self.gone + u64::from(self.frames()))
     }
 
     /// Offers what is due to a sink, the sample before the picture. What it refuses stays due, with what comes after it.
@@ -78,15 +92,26 @@ impl Course {
         self.board.offer(sink)
     }
 
-    /// The board, where the course left it.
-    pub fn into_board(self) -> Board
-        ensures { result ≡ self.board }
+    /// The frames of the script that have begun, the one under way too.
+    fn frames_begun(&self) -> u64
+        ensures { result ≡ frames_begun self.now }
     {
+        let begun = (self.board.time() / FRAME_TICKS + 1).saturating_sub(self.gone);
+        begun.min(u64::from(self.frames()))
+    }
+
+    /// The board, where the course left it. The microseconds of each frame that has begun were asked of it then, as where `exec` is
+    /// called for each.
+    pub fn into_board(self) -> Board
+        ensures { result ≡ board_asked self }
+    {
+        let asked = FRAME_MICROSECONDS * self.frames_begun();
         let Course {
-            board,
+            mut board,
             script: _,
             gone: _,
         } = self;
+        board.count_asked(asked);
         board
     }
 
@@ -110,6 +135,8 @@ impl Course {
         requires nothing { self.old.board.state.due ≡ state.nothing_due }
         ensures { RunsToEnd S.took S.refused self.old sink.old result self.new sink.new }
     {
+        // (its bound, that of a u64, says that a count of no step is the count itself)
+        self.board.made();
         'frames: while self.board.time() < self.end() {
             let stop = self.play_frame(sink)?;
             if stop.is_some() {

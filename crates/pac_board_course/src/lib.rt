@@ -2,5 +2,7 @@
 #![tactic(auto)]
 
 mod course;
+mod laws;
 
 pub use course::Course;
+pub use laws::{courses_begin, courses_go_on};

@@ -12,18 +12,16 @@ use Rattle.pac_roms_manifest.specs.Sets.{set_of}
 use Rattle.pac_roms_manifest.specs.declared.fault.SetFault.{SetFault}
 use Rattle.pac_asm.specs.Assembled.{Assembled}
 use Rattle.pac_board.specs.Output.{Output}
-use Rattle.pac_board.specs.State.{BoardValue}
 use Rattle.pac_run.specs.declared.fault.Output.{Output as Which}
 use Rattle.pac_run.specs.declared.fault.Output.TheVariants as which
 use Rattle.pac_run.specs.declared.fault.RunFault.{RunFault}
 use Rattle.pac_run.specs.declared.fault.RunFault.TheVariants as fault
 use Rattle.pac_run.specs.declared.inputs.RunInputs.{RunInputs}
 use Rattle.pac_run.specs.declared.outcome.Outcome.{Outcome}
-use Rattle.pac_run.specs.declared.plan.Prepared.{Prepared}
 use Rattle.pac_run.specs.Plan.{Plan, ◌>>=◌, plan_of, plan_with, program_in, source_in, program_told}
-use Rattle.pac_run.specs.Plan.{set_in, set_told, script_told, IsPrepared, Prepares}
-use Rattle.pac_run.specs.Plays.{run_of}
-use Rattle.pac_run.specs.Recorded.{FilmStops, HasPlayed, outcome_at}
+use Rattle.pac_run.specs.Plan.{set_in, set_told, script_told, Prepares}
+use Rattle.pac_board_course.specs.Course.{CourseValue, way_on}
+use Rattle.pac_run.specs.Recorded.{IsAtStart, FilmStops, HasPlayed, outcome_at}
 use Rattle.pac_run.specs.Run.{Writers, IsUnwritten, TakesText, StopsInText, NothingWritten, FramesStop, WaveStops, Runs, IsRunWhole}
 use Rattle.pac_run.specs.Run.{IsCutAt}
 use Rattle.pac_run.specs.Run.{trace_of, outcome_of}
@@ -131,9 +129,9 @@ module _ {F W L R : Type 0} (to : Writers F W L R) (inputs : RunInputs) where
   refused (fault.Write output count) is none = absurd (subst NoWrite is (plan-writes inputs))
   refused fault.NoMemory is none = none
 
-  module _ (prepared : Prepared) (ready : IsPrepared inputs prepared) where
+  module _ (program : Option Assembled) (course : CourseValue) (ready : IsAtStart inputs program course) where
     abbrev plan : Plan
-    plan = plan_with inputs prepared.program prepared.board.set prepared.script
+    plan = plan_with inputs program course.board.set course.script
 
     pub listing-broke : (count : ℕ) → StopsInText to.listing plan.listing count → IsUnwritten to.frames → IsUnwritten to.wave →
         IsUnwritten to.report
@@ -146,12 +144,12 @@ module _ {F W L R : Type 0} (to : Writers F W L R) (inputs : RunInputs) where
         }
 
     abbrev outputs : List Output
-    outputs = (run_of prepared.board prepared.script).outputs
+    outputs = (way_on course).outputs
 
     same : outputs ≡ (trace_of plan inputs.dip).outputs
-    same = same-outputs inputs prepared ready
+    same = same-outputs inputs program course ready
 
-    pub media-broke : (output : Which) (count : ℕ) → FilmStops to.frames to.wave (total_frames prepared.script) outputs output count
+    pub media-broke : (output : Which) (count : ℕ) → FilmStops to.frames to.wave (total_frames course.script) outputs output count
         → TakesText to.listing plan.listing → IsUnwritten to.report
         → Runs inputs to (Err (fault.Write output count))
     media-broke output count broken listing report =
@@ -161,14 +159,14 @@ module _ {F W L R : Type 0} (to : Writers F W L R) (inputs : RunInputs) where
           holds = cut-at to plan inputs.dip outputs same listing output count broken report;
         }
 
-    module _ (new : BoardValue) (stop : Option Stop) (played : HasPlayed prepared.board prepared.script stop new)
+    module _ (new : CourseValue) (stop : Option Stop) (played : HasPlayed course stop new)
         (frames : TakesText to.frames (text.images_text outputs))
-        (wave : TakesText to.wave (text.wave_file_text (total_frames prepared.script) outputs))
+        (wave : TakesText to.wave (text.wave_file_text (total_frames course.script) outputs))
         (listing : TakesText to.listing plan.listing)
-        (frame_count : ℕ) (count_is : frame_count ≡ total_frames prepared.script) (outcome : Outcome)
-        (outcome_is : outcome ≡ outcome_at new.state.now stop) where
+        (frame_count : ℕ) (count_is : frame_count ≡ total_frames course.script) (outcome : Outcome)
+        (outcome_is : outcome ≡ outcome_at new.board.state.now stop) where
       outcome-same : outcome ≡ outcome_of (trace_of plan inputs.dip)
-      outcome-same = outcome_is ∙ same-outcome inputs prepared ready new stop played
+      outcome-same = outcome_is ∙ same-outcome inputs program course ready new stop played
 
       pub all-written : TakesText to.report (text.report outcome frame_count) → Runs inputs to (Ok outcome)
       all-written report =

@@ -1,5 +1,4 @@
 pub mod Planned
-pub mod Played
 pub mod Filmed
 pub mod Lent
 pub mod Traced

@@ -1,23 +1,24 @@
 -- A board that plays a plan, and the plan's trace.
-use Rattle.std.proofs.Common.{◌≡◌, ℕ, ◌*◌, ◌/◌, ◌^◌, ◌<◌, ◌≤◌, List, [], Option, refl, sym, ap, subst, ◌∙◌, arith}
+use Rattle.std.proofs.Common.{◌≡◌, ℕ, ◌*◌, ◌/◌, ◌^◌, ◌<◌, ◌≤◌, List, [], Option, Ok, sym, ap, subst, ◌∙◌, arith}
 use Rattle.pac_board.specs.Stop.{Stop}
 use Rattle.pac_inputs.specs.Stretches.{total_frames, held, most_frames}
 use Rattle.pac_inputs.specs.declared.line.Stretch.{Stretch}
-use Rattle.pac_board.specs.Entry.{Hold}
 use Rattle.pac_asm.specs.Assembled.{Assembled}
 use Rattle.pac_board.specs.RomParts.{Parts, IsWhole}
 use Rattle.pac_board.specs.BoardView.{BoardView, power_on_board_view}
 use Rattle.pac_board.specs.Carried.{walk_view}
 use Rattle.pac_board.specs.History.{board_after_entries}
 use Rattle.pac_board.specs.Step.{Moment, frame_ticks}
-use Rattle.pac_board.specs.Trace.{by_history, by_view, play_step, power_on_moment, run_at, trace, frame_steps}
+use Rattle.pac_board.specs.Trace.{by_history, by_view, play_step, run_at, trace, frame_steps}
 use Rattle.pac_board.specs.Walk.{Walk}
 use Rattle.pac_board.proofs.Agreed.{runs-agree, power-on-board}
 use Rattle.pac_board.proofs.HostCarried.{steps-agree}
 use Rattle.pac_board.proofs.Outputs.{outputs-timed}
 use Rattle.pac_board.proofs.Runs.{walk-near}
 use Rattle.pac_board.proofs.Walks.{play-timely}
-use Rattle.pac_board.specs.State.{BoardValue}
+use Rattle.pac_board.specs.State.{power_on_board}
+use Rattle.pac_board_course.proofs.Begun.{courses-begin}
+use Rattle.pac_board_course.specs.Course.{CourseValue, begun, end_of, held_in, next_in, way_on}
 use Rattle.pac_debug.specs.Motions.{IsOutcome}
 use Rattle.pac_debug.specs.Running.{play_of, whole_run}
 use Rattle.pac_debug.specs.Session.{SessionValue}
@@ -26,19 +27,8 @@ use Rattle.pac_run.specs.declared.inputs.RunInputs.{RunInputs}
 use Rattle.pac_run.specs.declared.plan.Prepared.{Prepared}
 use Rattle.pac_run.specs.Debugs.{IsReady, IsSeenThrough, setting_of_plan}
 use Rattle.pac_run.specs.Plan.{Plan, PlaysProgram, plan_with, program_items, IsPrepared}
-use Rattle.pac_run.specs.Plays.{IsUntouched, run_of}
-use Rattle.pac_run.specs.Recorded.{HasPlayed, outcome_at}
+use Rattle.pac_run.specs.Recorded.{IsAtStart, HasPlayed, outcome_at}
 use Rattle.pac_run.specs.Run.{trace_of, outcome_of}
-
--- a run ends less than a step past its last frame
-pub is-near : (board new : BoardValue) (script : _) (stop : Option Stop) → IsUntouched board → HasPlayed board script stop new
-    → total_frames script ≤ most_frames → new.state.now.time / frame_ticks < 2 ^ 32
-is-near board new script stop fresh played few =
-    let ask = by_view board.set in
-    let near = walk-near (play_step ask (held script)) (frame_ticks * total_frames script) (play-timely ask (held script))
-    (power_on_moment (ask.put board.state.now.board (Hold (held script 1)))) (frame_steps * total_frames script) (omega arith) in
-    let time = ap (λ (now : Moment BoardView). now.time) played.now in
-    omega (arith, near, time, few)
 
 -- what a plan's set, program and script come to on a board from power-on, told by the view, is its trace
 module _ (inputs : RunInputs) (program : Option Assembled) (set : Parts) (script : List Stretch) (whole : IsWhole set)
@@ -63,27 +53,52 @@ module _ (inputs : RunInputs) (program : Option Assembled) (set : Parts) (script
         let frames = ap (λ (now : Moment BoardView). now.time / frame_ticks) now ∙ sym blanks in
         λ i. record { frames = frames i; steps = (now i).steps; ticks = (now i).time; stop = met i }
 
-module _ (inputs : RunInputs) (prepared : Prepared) (ready : IsPrepared inputs prepared) where
-  pub untouched-board : IsUntouched prepared.board
-  untouched-board = subst IsUntouched (sym ready.board) refl
+-- the course of what was prepared is the plan's
+pub at-start : (inputs : RunInputs) (prepared : Prepared) (course : CourseValue) → IsPrepared inputs prepared
+    → course ≡ begun prepared.board prepared.script → IsAtStart inputs prepared.program course
+at-start inputs prepared course ready begins =
+    let set = ap (λ (course : CourseValue). course.board.set) begins in
+    let script = ap (λ (course : CourseValue). course.script) begins in
+    record {
+      plan_is =
+          ready.plan_is
+          ∙ ap (λ set. Ok (plan_with inputs prepared.program set prepared.script)) (sym set)
+          ∙ ap (λ script. Ok (plan_with inputs prepared.program course.board.set script)) (sym script);
+      course_is =
+          begins ∙ ap (λ board. begun board prepared.script) ready.board
+          ∙ ap (λ set. begun (power_on_board set inputs.dip) prepared.script) (sym set)
+          ∙ ap (begun (power_on_board course.board.set inputs.dip)) (sym script);
+      whole = subst IsWhole (sym set) ready.whole;
+      lie = subst (λ set. PlaysProgram set prepared.program) (sym set) ready.lie;
+    }
+
+-- the course of a plan, from its beginning on
+module _ (inputs : RunInputs) (program : Option Assembled) (course : CourseValue) (ready : IsAtStart inputs program course) where
+  -- its run ends less than a step past its last frame
+  pub is-near : (new : CourseValue) (stop : Option Stop) → HasPlayed course stop new → total_frames course.script ≤ most_frames
+      → new.board.state.now.time / frame_ticks < 2 ^ 32
+  is-near new stop played few =
+      let starts = ap (λ (course : CourseValue). course.board.state.now.time) ready.course_is in
+      let gone = ap (λ (course : CourseValue). course.gone) ready.course_is in
+      let near = walk-near (next_in course) (end_of course) (play-timely (by_view course.board.set) (held_in course))
+      course.board.state.now (end_of course) (omega (arith, starts)) in
+      let time = ap (λ (course : CourseValue). course.board.state.now.time) played.course in
+      omega (arith, near, time, few, gone)
 
   -- its run is that of the plan's history
-  shown-run : run_of prepared.board prepared.script ≡ shown inputs prepared.program prepared.board.set prepared.script ready.whole ready.lie
-  shown-run = ap (λ (board : BoardValue). trace (by_view prepared.board.set) (play_of prepared.script) board.state.now.board) ready.board
+  shown-run : way_on course ≡ shown inputs program course.board.set course.script ready.whole ready.lie
+  shown-run = ap way_on ready.course_is ∙ courses-begin course.board.set inputs.dip course.script
 
-  pub same-outputs : (run_of prepared.board prepared.script).outputs
-      ≡ (trace_of (plan_with inputs prepared.program prepared.board.set prepared.script) inputs.dip).outputs
+  pub same-outputs : (way_on course).outputs ≡ (trace_of (plan_with inputs program course.board.set course.script) inputs.dip).outputs
   same-outputs =
       ap (λ (run : Walk BoardView). run.outputs)
-      (shown-run ∙ same-trace inputs prepared.program prepared.board.set prepared.script ready.whole ready.lie)
+      (shown-run ∙ same-trace inputs program course.board.set course.script ready.whole ready.lie)
 
-  pub same-outcome : (new : BoardValue) (stop : Option Stop) → HasPlayed prepared.board prepared.script stop new
-      → outcome_at new.state.now stop
-      ≡ outcome_of (trace_of (plan_with inputs prepared.program prepared.board.set prepared.script) inputs.dip)
+  pub same-outcome : (new : CourseValue) (stop : Option Stop) → HasPlayed course stop new
+      → outcome_at new.board.state.now stop ≡ outcome_of (trace_of (plan_with inputs program course.board.set course.script) inputs.dip)
   same-outcome new stop played =
-      (λ i. outcome_at (played.now i) (played.stop_is i))
-      ∙ same-end inputs prepared.program prepared.board.set prepared.script ready.whole ready.lie (run_of prepared.board prepared.script)
-      shown-run
+      (λ i. outcome_at (played.course i).board.state.now (played.stop_is i))
+      ∙ same-end inputs program course.board.set course.script ready.whole ready.lie (way_on course) shown-run
 
 -- the same of a session's run
 module _ (inputs : RunInputs) (program : Option Assembled) (session : SessionValue) (frames : ℕ)

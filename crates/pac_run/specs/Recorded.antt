@@ -1,7 +1,6 @@
 -- For proofs: what recording a board's outputs leaves of the film and the wave file, side by side.
 use Rattle.std.specs.Prelude.{◌≡◌, ℕ, ◌/◌, ◌≤◌, List, [], ◌∷◌, ◌++◌, length, Option, Result, Ok, Err}
 use Rattle.pac_board.specs.Stop.{Stop}
-use Rattle.pac_inputs.specs.declared.line.Stretch.{Stretch}
 use Rattle.pac_media.specs.Counted.{HasTaken, Takes, Refuses, file_count}
 use Rattle.pac_media.specs.WriteFault.{WriteFault}
 use Rattle.pac_media.specs.Samples.{samples_text}
@@ -10,13 +9,17 @@ use Rattle.pac_media.specs.Sound as media
 use Rattle.pac_board.specs.BoardView.{BoardView}
 use Rattle.pac_board.specs.Output.{Output, Image, Sound, Show}
 use Rattle.pac_board.specs.Step.{Moment, frame_ticks}
-use Rattle.pac_board.specs.State.{BoardValue}
+use Rattle.pac_board.specs.RomParts.{IsWhole as HasAllParts}
+use Rattle.pac_board.specs.State.{power_on_board}
+use Rattle.pac_board_course.specs.Course.{CourseValue, begun, way_on, course_after}
+use Rattle.pac_asm.specs.Assembled.{Assembled}
+use Rattle.pac_run.specs.declared.inputs.RunInputs.{RunInputs}
+use Rattle.pac_run.specs.Plan.{PlaysProgram, plan_of, plan_with}
 use Rattle.pac_run.specs.declared.fault.Output.{Output as Which}
 use Rattle.pac_run.specs.declared.fault.Output.TheVariants as which
 use Rattle.pac_run.specs.declared.fault.OutputFault.{OutputFault}
 use Rattle.pac_run.specs.declared.film.Film.{Film}
 use Rattle.pac_run.specs.declared.outcome.Outcome.{Outcome}
-use Rattle.pac_run.specs.Plays.{run_of}
 use Rattle.pac_run.specs.Run.{Writing, TakesText, StopsInText, FramesStop, WaveStops}
 use Rattle.pac_run.specs.Texts as text
 
@@ -85,10 +88,17 @@ abbrev pub GivesUp : {F W : Type 0} → (W → List ℕ → W → Type 0) → (W
 GivesUp took refused old which.Frames new = (new.frames ≡ old.frames) × IsFlushed took refused old.wave [] new.wave
 GivesUp took refused old other new = new ≡ old
 
--- the board after a run that came to its end or to this stop
-pub record HasPlayed (old : BoardValue) (script : List Stretch) (stop : Option Stop) (new : BoardValue) : Type 0 where
-  pub stop_is : stop ≡ (run_of old script).stop
-  pub now : new.state.now ≡ (run_of old script).now
+-- the course of a plan, at its beginning
+pub record IsAtStart (inputs : RunInputs) (program : Option Assembled) (course : CourseValue) : Type 0 where
+  pub plan_is : plan_of inputs ≡ Ok (plan_with inputs program course.board.set course.script)
+  pub course_is : course ≡ begun (power_on_board course.board.set inputs.dip) course.script
+  pub whole : HasAllParts course.board.set
+  pub lie : PlaysProgram course.board.set program
+
+-- a course that came to its end or to this stop
+pub record HasPlayed (old : CourseValue) (stop : Option Stop) (new : CourseValue) : Type 0 where
+  pub course : new ≡ course_after old (way_on old)
+  pub stop_is : stop ≡ (way_on old).stop
 
 -- what a run came to that ended at this moment
 abbrev pub outcome_at : Moment BoardView → Option Stop → Outcome

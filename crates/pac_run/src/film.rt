@@ -3,13 +3,13 @@
 ghost use Rattle.std.specs.Prelude.{◌≡◌, Some, IsSome, IfOk};
 ghost use Rattle.pac_inputs.specs.Stretches.{total_frames};
 ghost use Rattle.pac_run.specs.Films.{film_took, film_refused};
-ghost use Rattle.pac_run.specs.Plays.{IsUntouched, run_of};
+ghost use Rattle.pac_board_course.specs.Course.{way_on};
+ghost use Rattle.pac_board.specs.State.{nothing_due};
 ghost use Rattle.pac_run.specs.Recorded.{GivesUp, HasPlayed, PerformsFilm, RecordsOutputs};
 
 use crate::fault::{Output, OutputFault};
-use crate::play::play;
-use pac_board::{Board, Picture, Refused, Sink, Stop};
-use pac_inputs::Script;
+use pac_board::{Picture, Refused, Sink, Stop};
+use pac_board_course::Course;
 use pac_media::{Frames, Image, Out, WaveFile};
 
 /// The film and the wave file of a run, and which of them refused, if one did.
@@ -74,15 +74,15 @@ impl<F: Out, W: Out> Film<F, W> {
         fault
     }
 
-    /// Plays the script: all that the board gives out is written, and zeros for the samples that never came.
+    /// Plays what is left of a course: all that the board gives out is written, and zeros for the samples that never came.
     /// Answers the stop, if there was one, or the output that refused.
-    fn perform(&mut self, board: &mut Board, script: &Script) -> Result<Option<Stop>, OutputFault>
-        requires { IsUntouched board.old }
-        ensures played { IfOk result (λ stop. HasPlayed board.old script.now stop board.new) }
+    fn perform(&mut self, course: &mut Course) -> Result<Option<Stop>, OutputFault>
+        requires { course.old.board.state.due ≡ nothing_due }
+        ensures played { IfOk result (λ stop. HasPlayed course.old stop course.new) }
         ensures film { PerformsFilm F.took F.refused W.took W.refused
-            (run_of board.old script.now).outputs self.old result self.new }
+            (way_on course.old).outputs self.old result self.new }
     {
-        match play(board, script, self) {
+        match course.run_to_end(self) {
             Ok(stop) => match self.wave.finish() {
                 Ok(()) => Ok(stop),
                 Err(fault) => Err(OutputFault {
@@ -95,23 +95,22 @@ impl<F: Out, W: Out> Film<F, W> {
     }
 }
 
-/// Writes the wave's header, then plays the script on a board at power-on and writes frames and samples as they come.
-/// Where the header is refused no frame is begun.
+/// Writes the wave's header, then plays what is left of a course and writes frames and samples as they come. Where the header is
+/// refused no frame is begun.
 pub fn record_run<F: Out, W: Out>(
-    board: &mut Board,
-    script: &Script,
+    course: &mut Course,
     image: Image,
     frames: &mut F,
     wave: &mut W,
 ) -> Result<Option<Stop>, OutputFault>
-    requires { IsUntouched board.old }
-    ensures played { IfOk result (λ stop. HasPlayed board.old script.now stop board.new) }
+    requires { course.old.board.state.due ≡ nothing_due }
+    ensures played { IfOk result (λ stop. HasPlayed course.old stop course.new) }
     ensures texts { RecordsOutputs
         (record { took = F.took; refused = F.refused; old = frames.old; new = frames.new })
         (record { took = W.took; refused = W.refused; old = wave.old; new = wave.new })
-        (total_frames script.now) (run_of board.old script.now).outputs result }
+        (total_frames course.old.script) (way_on course.old).outputs result }
 {
-    let mut wave = WaveFile::begin(wave, FRAME_SAMPLES * script.frames());
+    let mut wave = WaveFile::begin(wave, FRAME_SAMPLES * course.frames());
     if let Err(fault) = wave.flush() {
         let _ = wave.into_writer();
         return Err(OutputFault {
@@ -124,7 +123,7 @@ pub fn record_run<F: Out, W: Out>(
         wave,
         fault: None,
     };
-    let recorded = film.perform(board, script);
+    let recorded = film.perform(course);
     let Film {
         frames,
         wave,

@@ -7,7 +7,6 @@ mod film;
 mod inputs;
 mod outcome;
 mod plan;
-mod play;
 mod report;
 pub mod run;
 mod watch;

@@ -3,8 +3,9 @@
 ghost use Rattle.std.specs.Prelude.{◌≡◌, ◌/◌, ◌^◌, ◌<◌, option_copied};
 ghost use Rattle.pac_media.specs.Counted.{Puts};
 ghost use Rattle.pac_board.specs.Step.{frame_ticks};
-ghost use Rattle.pac_run.specs.Plan.{listing_in, IsPrepared};
-ghost use Rattle.pac_run.specs.Recorded.{WritesWholeText, outcome_at};
+ghost use Rattle.pac_board_course.specs.Course.{begun};
+ghost use Rattle.pac_run.specs.Plan.{listing_in};
+ghost use Rattle.pac_run.specs.Recorded.{IsAtStart, WritesWholeText, outcome_at};
 ghost use Rattle.pac_run.specs.Run.{Runs};
 ghost use Rattle.pac_run.specs.Texts as text;
 
@@ -16,6 +17,7 @@ use crate::plan::{Prepared, prepare};
 use crate::report::put_report;
 use pac_asm::Program;
 use pac_board::{Board, FRAME_TICKS, Stop};
+use pac_board_course::Course;
 use pac_inputs::Script;
 use pac_listing::write_listing;
 use pac_media::{Counted, Image, Out, WriteFault};
@@ -77,20 +79,29 @@ fn outcome_of(board: &Board, stop: Option<Stop>) -> Outcome
     }
 }
 
+/// A script on a board at power-on, at its beginning.
+fn begin(board: Board, script: Script) -> Course
+    requires time { board.state.now.time ≡ 0 }
+    requires asked { board.state.asked ≡ 0 }
+    ensures { result ≡ begun board script }
+{
+    // (says that a script is short, so that its run fits the board's time)
+    script.frames();
+    Course::new(board, script)
+}
+
 /// Writes all that a run gives out, in order: the listing, then wave and frames, then the report.
 fn write_all<F: Out, W: Out, L: Out, R: Out>(
     inputs: &RunInputs,
     program: &Option<Program>,
-    script: &Script,
+    course: &mut Course,
     image: Image,
-    board: &mut Board,
     frames: &mut F,
     wave: &mut W,
     listing: &mut L,
     report: &mut R,
 ) -> Result<Outcome, RunFault>
-    requires { IsPrepared inputs.now
-        (record { program = program.now; board = board.old; script = script.now; image = image }) }
+    requires { IsAtStart inputs.now program.now course.old }
     ensures { Runs inputs.now (record {
       frames = record { took = F.took; refused = F.refused; old = frames.old; new = frames.new };
       wave = record { took = W.took; refused = W.refused; old = wave.old; new = wave.new };
@@ -98,15 +109,15 @@ fn write_all<F: Out, W: Out, L: Out, R: Out>(
       report = record { took = R.took; refused = R.refused; old = report.old; new = report.new };
     }) result }
 {
-    let total = script.frames();
+    let total = course.frames();
     if let Err(fault) = list(listing, inputs.source, program) {
         return Err(RunFault::Write(Output::Listing, fault.count));
     }
-    let stop = match record_run(board, script, image, frames, wave) {
+    let stop = match record_run(course, image, frames, wave) {
         Ok(stop) => stop,
         Err(fault) => return Err(RunFault::Write(fault.output, fault.count)),
     };
-    let outcome = outcome_of(board, stop);
+    let outcome = outcome_of(course.board(), stop);
     match report_on(report, outcome, total) {
         Ok(()) => Ok(outcome),
         Err(fault) => Err(RunFault::Write(Output::Report, fault.count)),
@@ -134,11 +145,19 @@ pub fn run_all<F: Out, W: Out, L: Out, R: Out>(
 {
     let Prepared {
         program,
-        mut board,
+        board,
         script,
         image,
     } = prepare(alloc, inputs)?;
+    let mut course = begin(board, script);
     write_all(
-        inputs, &program, &script, image, &mut board, frames, wave, listing, report,
+        inputs,
+        &program,
+        &mut course,
+        image,
+        frames,
+        wave,
+        listing,
+        report,
     )
 }

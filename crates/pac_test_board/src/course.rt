@@ -21,7 +21,7 @@ fn course(alloc: Global, bytes: &[u8], script: &[u8]) -> Result<Course, AllocErr
     let Ok(script) = read_script(alloc, script) else {
         return Err(AllocError);
     };
-    // (says that a script is short, so that its run fits the board's time)
+    // (says that a script is short, so that its run fits the board's time, and the microseconds that are asked of it)
     script.frames();
     Ok(Course::new(board, script))
 }
@@ -46,6 +46,12 @@ fn offered(course: &mut Course, kept: &mut Kept) -> Result<(), AllocError>
     }
 }
 
+/// The time at which a course left its board, and the microseconds that were asked of it.
+fn left(course: Course) -> (u64, u64) {
+    let board = course.into_board();
+    (board.time(), board.fields().asked)
+}
+
 // NOPs, up to the port at 5000H, whose byte is an RST: 20,480 steps of 4 T-states, one of 11, and then 4,862 of 4 are 101,379, the first
 // time past the second blank. A frame has 1,584 samples and a picture.
 #[test]
@@ -54,8 +60,8 @@ fn two_frames_of_nops(rt: HostRuntime) -> Result<(), Fail> {
     let mut kept = Kept::new(rt.alloc(), 0);
     assert!(rt; played(&mut course, &mut kept)?.is_none());
     assert_eq!(rt; kept.taken().len(), 3170);
-    assert_eq!(rt; course.end(), 101_376);
-    assert_eq!(rt; course.into_board().time(), 101_379);
+    assert_eq!(rt; (course.frames(), course.end()), (2, 101_376));
+    assert_eq!(rt; left(course), (101_379, 33_000));
     Ok(())
 }
 
@@ -75,12 +81,13 @@ fn a_refused_sample_is_taken_up_again(rt: HostRuntime) -> Result<(), Fail> {
     Ok(())
 }
 
-// EDH, 00H is no documented instruction, so the run stops at once, and no later frame is begun.
+// EDH, 00H is no documented instruction, so the run stops at once, and no later frame is begun: the microseconds of one are asked.
 #[test]
 fn a_stop_ends_the_run(rt: HostRuntime) -> Result<(), Fail> {
     let mut course = course(rt.alloc(), &[0xED, 0x00], b"3 -")?;
     let mut kept = Kept::new(rt.alloc(), 0);
     assert!(rt; played(&mut course, &mut kept)?.is_some());
     assert_eq!(rt; (kept.taken().len(), course.board().time()), (0, 0));
+    assert_eq!(rt; left(course), (0, 16_500));
     Ok(())
 }

@@ -1,4 +1,4 @@
-use Rattle.std.proofs.Common.{None, ◌∙◌, arith, refl, sym}
+use Rattle.std.proofs.Common.{None, ◌∙◌, arith, refl}
 use Rattle.std.specs.Str.Lines.{lines}
 use Rattle.pac_inputs.specs.Stretches.{total_frames}
 use Rattle.pac_debug.specs.Running.{whole_run}

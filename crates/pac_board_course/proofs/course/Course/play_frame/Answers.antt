@@ -14,8 +14,7 @@ returns-then-time-frame g c =
     let held : c.hold.new.board ≡ board_with_inputs c.go_to-played.new.self (next_mask old) = search rules in
     let script : c.self.inside.script ≡ old.script = search rules in
     let gone : c.self.inside.gone ≡ old.gone = search rules in
-    frame-answered g.S.Sink.took g.S.Sink.refused old
-    (record { board = c.hold.new.board; script = c.self.inside.script; gone = c.self.inside.gone }) c.go_to-played.new.self
+    frame-answered g.S.Sink.took g.S.Sink.refused old c.go_to-played.new.self c.hold.new.board c.self.inside.script c.self.inside.gone
     c.args.sink.now c.go_to-played.new.sink c.go_to-played.result c.self.inside.board (50688 * (c.time.result / 50688 + 1)) begins ends
     c.requires.early c.go_to-played.ensures (inl (ended, held)) script gone
 
@@ -27,7 +26,6 @@ returns-else-time-frame g c =
     let early : c.go_to-played.new.self.state.now.time < frame_end old = search rules in
     let script : c.self.inside.script ≡ old.script = search rules in
     let gone : c.self.inside.gone ≡ old.gone = search rules in
-    frame-answered g.S.Sink.took g.S.Sink.refused old
-    (record { board = c.go_to-played.new.self; script = c.self.inside.script; gone = c.self.inside.gone }) c.go_to-played.new.self
-    c.args.sink.now c.go_to-played.new.sink c.go_to-played.result c.self.inside.board (50688 * (c.time.result / 50688 + 1)) begins ends
-    c.requires.early c.go_to-played.ensures (inr (early, refl)) script gone
+    frame-answered g.S.Sink.took g.S.Sink.refused old c.go_to-played.new.self c.go_to-played.new.self c.self.inside.script
+    c.self.inside.gone c.args.sink.now c.go_to-played.new.sink c.go_to-played.result c.self.inside.board
+    (50688 * (c.time.result / 50688 + 1)) begins ends c.requires.early c.go_to-played.ensures (inr (early, refl)) script gone

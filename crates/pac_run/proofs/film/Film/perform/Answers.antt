@@ -1,21 +1,23 @@
 use Rattle.std.proofs.Common.{refl}
-use Rattle.pac_run.specs.Plays.{run_of}
+use Rattle.pac_board.specs.State.{due_outputs}
+use Rattle.pac_board_course.proofs.Taken.{refused-among}
+use Rattle.pac_board_course.specs.Course.{way_on}
 use Rattle.pac_run.proofs.Filmed.{recorded, stops-among, stops-at-zeros}
 use Rattle.pac_run.proofs.film.Film.perform.Goals as goal
 
 pub returns-in-Ok-finish-clause-film : goal.returns-in-Ok-finish-clause-film
 returns-in-Ok-finish-clause-film g c =
-    recorded g.F.Out.took g.F.Out.refused g.W.Out.took g.W.Out.refused (run_of c.args.board.now c.args.script.now).outputs c.args.self.now
-    c.play.new.sink _ c.in-Ok-finish.field-0 c.in-Ok.ensures.sink_is c.in-Ok-finish.ensures.written refl
+    recorded g.F.Out.took g.F.Out.refused g.W.Out.took g.W.Out.refused (way_on c.args.course.now).outputs c.args.self.now
+    c.run_to_end.new.sink _ c.in-Ok-finish.field-0 c.in-Ok.ensures.sink_is c.in-Ok-finish.ensures.written refl
 
 pub returns-in-Err-finish-clause-film : goal.returns-in-Err-finish-clause-film
 returns-in-Err-finish-clause-film g c =
-    stops-at-zeros g.F.Out.took g.F.Out.refused g.W.Out.took g.W.Out.refused (run_of c.args.board.now c.args.script.now).outputs
-    c.args.self.now c.play.new.sink _ c.in-Err-finish.fault c.in-Ok.ensures.sink_is c.in-Err-finish.ensures.written refl
+    stops-at-zeros g.F.Out.took g.F.Out.refused g.W.Out.took g.W.Out.refused (way_on c.args.course.now).outputs c.args.self.now
+    c.run_to_end.new.sink _ c.in-Err-finish.fault c.in-Ok.ensures.sink_is c.in-Err-finish.ensures.written refl
 
 pub returns-in-Err-clause-film : goal.returns-in-Err-clause-film
 returns-in-Err-clause-film g c =
-    let played = c.in-Err.ensures in
-    stops-among g.F.Out.took g.F.Out.refused g.W.Out.took g.W.Out.refused (run_of c.args.board.now c.args.script.now).outputs played.taken
-    played.left c.args.self.now c.play.new.sink c.give_up.new.self c.give_up.result played.among played.refuses c.give_up.ensures.told
-    c.give_up.ensures.left
+    let held_up = c.in-Err.ensures in
+    stops-among g.F.Out.took g.F.Out.refused g.W.Out.took g.W.Out.refused (way_on c.args.course.now).outputs held_up.taken
+    (due_outputs c.run_to_end.new.self.board) c.args.self.now c.run_to_end.new.sink c.give_up.new.self c.give_up.result
+    (refused-among c.args.course.now (due_outputs c.run_to_end.new.self.board) held_up.steps held_up.taken held_up.parts) held_up.refuses c.give_up.ensures.told c.give_up.ensures.left

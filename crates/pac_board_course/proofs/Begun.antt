@@ -1,0 +1,53 @@
+-- A course from power-on is the trace of its script.
+use Rattle.std.proofs.Common.{◌≡◌, ℕ, zero, suc, ◌+◌, ◌-◌, ◌*◌, ◌/◌, ◌==◌, if◌then◌else◌, refl, sym, ap, ◌∙◌, arith}
+use Rattle.pac_board.specs.BoardView.{BoardView, power_on_board_view}
+use Rattle.pac_board.specs.Entry.{Hold}
+use Rattle.pac_board.specs.ModelLaws.{RunsEnd}
+use Rattle.pac_board.specs.RomParts.{Parts}
+use Rattle.pac_board.specs.Step.{Questions, Moment, Next, Goes, Ends, frame_ticks, step}
+use Rattle.pac_board.specs.State.{power_on_board}
+use Rattle.pac_board.specs.Trace.{Play, by_view, next_with_inputs, play_step, power_on_moment}
+use Rattle.pac_board.specs.Walk.{Walk, walk, walk_to, walk_onward}
+use Rattle.pac_board.proofs.Runs.{runs-end}
+use Rattle.pac_board.proofs.Walks.{walk-to-ends, play-timely}
+use Rattle.pac_inputs.specs.Stretches.{total_frames, held}
+use Rattle.pac_inputs.specs.declared.line.Stretch.{Stretch}
+use Rattle.pac_board_course.specs.Course.{CourseValue, begun, end_of, held_in, next_in, way_on}
+use Rattle.pac_board_course.specs.Laws.{CoursesBegin}
+
+-- ---- steps that come to the same make the same walk
+
+module _ {Board : Type 0} (one other : Moment Board → Next Board) (limit : ℕ) (same : (now : Moment Board) → one now ≡ other now) where
+  pub walk-same : (from : Moment Board) (n : ℕ) → walk one limit from n ≡ walk other limit from n
+  walk-same from zero = refl
+  walk-same from (suc n) =
+      let w = walk one limit from n in
+      ap (λ next. walk_onward (λ _. next) limit w) (same w.now) ∙ ap (walk_onward other limit) (walk-same from n)
+
+-- so do masks that are the same frame by frame
+module _ {Board : Type 0} (ask : Questions Board) (one other : ℕ → ℕ) (same : (frame : ℕ) → one frame ≡ other frame) where
+  inputs-same : (time : ℕ) (next : Next Board) → next_with_inputs ask one time next ≡ next_with_inputs ask other time next
+  inputs-same time (Goes now outputs kind) =
+      ap (λ mask. Goes
+      (if time / frame_ticks == now.time / frame_ticks then now else record now { board = ask.put now.board (Hold mask) }) outputs kind)
+      (same (now.time / frame_ticks + 1))
+  inputs-same time (Ends stop) = refl
+
+  pub play-same : (now : Moment Board) → play_step ask one now ≡ play_step ask other now
+  play-same now = inputs-same now.time (step ask now)
+
+-- ---- from power-on
+
+pub courses-begin : CoursesBegin
+courses-begin set switches script =
+    let course : CourseValue = begun (power_on_board set switches) script in
+    let ask = by_view set in
+    let from = course.board.state.now in
+    let frames = total_frames script in
+    let limit : end_of course ≡ frame_ticks * frames = omega arith in
+    let masks : (frame : ℕ) → held_in course frame ≡ held script frame = λ frame. ap (held script) (omega arith) in
+    ap (λ limit. walk_to (next_in course) limit from) limit
+    ∙ walk-same (next_in course) (play_step ask (held script)) (frame_ticks * frames) (play-same ask (held_in course) (held script) masks)
+    from (frame_ticks * frames)
+    ∙ (runs-end ask (record { frames = frames; held = held script }) (power_on_board_view switches) (frame_ticks * frames)).1
+    (walk-to-ends (play_step ask (held script)) (frame_ticks * frames) (play-timely ask (held script)) from)
