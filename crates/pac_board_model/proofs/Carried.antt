@@ -18,6 +18,7 @@ use Rattle.pac_board_model.specs.Step.{line_event, reset_event, watchdog_event}
 use Rattle.pac_board_model.specs.Step.{blank_event, at_moment, through, next_after_events, progress_after_cpu, after_cpu_step, step}
 use Rattle.pac_board_model.specs.Walk.{Walk, walk, walk_onward, onward_if, walk_after_step}
 use Rattle.pac_board_model.specs.Trace.{Play, moment_with_inputs, next_with_inputs, play_step, power_on_moment, run_at}
+use Rattle.pac_board_model.specs.Trace.{frames_gone, resumed_start, resumed_step, resumed_end, resumed_at}
 use Rattle.pac_board_model.specs.Carried.{Carries, moment_view, next_view, walk_view}
 
 -- a walk over any steps that carry over
@@ -191,3 +192,14 @@ module _ {From To : Type 0} (view : From → To) (ask : Questions From) (told : 
       walk-carried view (play_step ask play.held) (play_step told play.held) (play-step-carried play.held)
       (frame_ticks * play.frames) (power_on_moment (ask.put board first)) index
       ∙ ap (λ b. walk (play_step told play.held) (frame_ticks * play.frames) (power_on_moment b) index) (carries.put board first)
+
+  -- so is a play that is taken up
+  pub resumed-carried : (play : Play) (from : Moment From) (index : ℕ)
+      → walk_view view (resumed_at ask play from index) ≡ resumed_at told play (moment_view view from) index
+  resumed-carried play from index =
+      let gone = frames_gone from in
+      let first = Hold (play.held 1) in
+      walk-carried view (resumed_step ask play gone) (resumed_step told play gone) (play-step-carried (λ frame. play.held (frame - gone)))
+      (resumed_end play gone) (resumed_start ask play from) index
+      ∙ ap (λ b. walk (resumed_step told play gone) (resumed_end play gone)
+      (record { regs = from.regs; board = b; time = from.time; steps = from.steps }) index) (carries.put from.board first)

@@ -12,6 +12,8 @@ pub mod Composing
 pub mod Walks
 pub mod Runs
 pub mod RunsKeep
+pub mod Resumed
+pub mod ResumedTimes
 pub mod Outputs
 pub mod LinesPlaced
 pub mod LinesComposed

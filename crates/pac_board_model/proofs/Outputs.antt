@@ -1,17 +1,19 @@
 -- What a run gives out is what its history says: each sample, each picture, and how many of them by when.
 use Rattle.std.proofs.Common.{◌≡◌, ◌≢◌, ℕ, suc, ◌/◌, ◌%◌, true}
 use Rattle.std.proofs.Common.{List, [], ◌∷◌, ◌++◌, refl, sym, ap, ◌∙◌, append_assoc, arith}
+use Rattle.std.proofs.lemmas.List.{append-nil}
 use Rattle.pac_cpu.specs.PlacedItems.{Item}
 use Rattle.pac_map.specs.RomParts.{Parts}
 use Rattle.pac_map.specs.Entry.{Entry, Sample, Line, Blank}
 use Rattle.pac_board_model.specs.BoardView.{BoardView, power_on_board_view}
 use Rattle.pac_board_model.specs.Laws.{OutputsAreOfTheHistory, OutputsAreTimed}
 use Rattle.pac_board_model.specs.Output.{Output, Sound, Show}
+use Rattle.pac_board_model.specs.Resumed.{ResumedOutputsAreOfTheHistory}
 use Rattle.pac_board_model.specs.Shown.{history_outputs, sample_count, blank_count}
 use Rattle.pac_board_model.specs.Step.{Questions, StepProgress, sample_event, line_event, at_moment}
 use Rattle.pac_board_model.specs.Step.{sample_ticks, frame_ticks}
 use Rattle.pac_board_model.specs.Trace.{by_history}
-use Rattle.pac_board_model.proofs.RunsKeep.{is_quiet, sampled-holds, lined-holds, blanked-holds, run-told}
+use Rattle.pac_board_model.proofs.RunsKeep.{is_quiet, sampled-holds, lined-holds, blanked-holds, run-told, resumed-told}
 use Rattle.pac_board_model.proofs.Walks.{not-both}
 
 module _ (set : Parts) (items : List Item) (start : BoardView) where
@@ -57,6 +59,18 @@ outputs-of-history set items start index play =
     (λ time given entries entry quiet h. h ∙ sym (quiet-told set items start entry entries quiet))
     (λ time moment given met next h. moment-told set items start moment given met h) play [] index refl
 
+pub resumed-outputs : ResumedOutputsAreOfTheHistory
+unfolding IsTold
+resumed-outputs set items start play from index =
+    let before = history_outputs set start from.board in
+    resumed-told (by_history set items start) (λ time given entries. before ++ given ≡ history_outputs set start entries)
+    (λ time given entries entry quiet h. h ∙ sym (quiet-told set items start entry entries quiet))
+    (λ time moment given met next h.
+    let after = at_moment (by_history set items start) moment met in
+    sym (append_assoc before given after.outputs)
+    ∙ moment-told set items start moment (before ++ given) met (append_assoc before given met.outputs ∙ h)) play from index
+    (append-nil before)
+
 -- ---- how many by when
 
 pub quiet-samples : (entry : Entry) (entries : List Entry) → is_quiet entry ≡ true → sample_count (entry ∷ entries) ≡ sample_count entries
@@ -68,16 +82,16 @@ quiet-blanks (Blank frame) entries h = not-both (sym h)
 quiet-blanks entry entries h = refl
 
 -- from one moment to the next the count of samples, or of frames, grows where one ends
-sample-ends : (time moment : ℕ) → moment ≡ suc time → moment % sample_ticks ≡ 0 → suc (time / sample_ticks) ≡ moment / sample_ticks
+pub sample-ends : (time moment : ℕ) → moment ≡ suc time → moment % sample_ticks ≡ 0 → suc (time / sample_ticks) ≡ moment / sample_ticks
 sample-ends time moment next ends = omega arith
 
 pub sample-lasts : (time moment : ℕ) → moment ≡ suc time → moment % sample_ticks ≢ 0 → time / sample_ticks ≡ moment / sample_ticks
 sample-lasts time moment next lasts = omega arith
 
-frame-ends : (time moment : ℕ) → moment ≡ suc time → moment % frame_ticks ≡ 0 → suc (time / frame_ticks) ≡ moment / frame_ticks
+pub frame-ends : (time moment : ℕ) → moment ≡ suc time → moment % frame_ticks ≡ 0 → suc (time / frame_ticks) ≡ moment / frame_ticks
 frame-ends time moment next ends = omega arith
 
-frame-lasts : (time moment : ℕ) → moment ≡ suc time → moment % frame_ticks ≢ 0 → time / frame_ticks ≡ moment / frame_ticks
+pub frame-lasts : (time moment : ℕ) → moment ≡ suc time → moment % frame_ticks ≢ 0 → time / frame_ticks ≡ moment / frame_ticks
 frame-lasts time moment next lasts = omega arith
 
 module _ (set : Parts) (items : List Item) (start : BoardView) where

@@ -40,22 +40,26 @@ runs-are-joined ask play board index more =
 -- ---- a walk of steps that each take their time is less than a step past its limit
 
 module _ {Board : Type 0} (next : Moment Board → Next Board) (limit : ℕ) (timely : (now : Moment Board) → IsTimely now (next now)) where
-  step-near : (w : Walk Board) (h : Next Board) → IsTimely w.now h → w.now.time < limit →
-      (walk_after_step w h).now.time < limit + most_ticks
-  step-near w (Goes now outputs kind) times early = let most = times.1 in omega arith
-  step-near w (Ends stop) times early = omega arith
+  module _ (bound : ℕ) (within : limit + most_ticks ≤ bound) where
+    step-below : (w : Walk Board) (h : Next Board) → IsTimely w.now h → w.now.time < limit → (walk_after_step w h).now.time < bound
+    step-below w (Goes now outputs kind) times early = let most = times.1 in omega arith
+    step-below w (Ends stop) times early = omega arith
 
-  onward-near : (w : Walk Board) (stop : Option Stop) (late : Bool) → nat_le limit w.now.time ≡ late
-      → w.now.time < limit + most_ticks → (onward_if next w stop late).now.time < limit + most_ticks
-  onward-near w (Some stop) late e near = near
-  onward-near w None true e near = near
-  onward-near w None false e near =
-      let early : w.now.time < limit = grind (arith, nat_tests) in step-near w (next w.now) (timely w.now) early
+    onward-below : (w : Walk Board) (stop : Option Stop) (late : Bool) → nat_le limit w.now.time ≡ late → w.now.time < bound
+        → (onward_if next w stop late).now.time < bound
+    onward-below w (Some stop) late e below = below
+    onward-below w None true e below = below
+    onward-below w None false e below =
+        let early : w.now.time < limit = grind (arith, nat_tests) in step-below w (next w.now) (timely w.now) early
+
+    -- a walk stays below what is a step past its limit at least
+    pub walk-below : (from : Moment Board) (n : ℕ) → from.time < bound → (walk next limit from n).now.time < bound
+    walk-below from zero below = below
+    walk-below from (suc n) below =
+        let w = walk next limit from n in onward-below w w.stop (nat_le limit w.now.time) refl (walk-below from n below)
 
   pub walk-near : (from : Moment Board) (n : ℕ) → from.time < limit + most_ticks → (walk next limit from n).now.time < limit + most_ticks
-  walk-near from zero near = near
-  walk-near from (suc n) near =
-      let w = walk next limit from n in onward-near w w.stop (nat_le limit w.now.time) refl (walk-near from n near)
+  walk-near from n near = walk-below (limit + most_ticks) (omega arith) from n near
 
 -- ---- a frame
 

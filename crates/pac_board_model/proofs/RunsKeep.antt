@@ -18,6 +18,7 @@ use Rattle.pac_board_model.specs.Step.{surroundings, after_cpu_step, step, note,
 use Rattle.pac_board_model.specs.Step.{watchdog_event, blank_event}
 use Rattle.pac_board_model.specs.Step.{scan_line, scan_frame, sample_ticks, line_ticks, frame_ticks, hidden_lines}
 use Rattle.pac_board_model.specs.Trace.{Play, moment_with_inputs, next_with_inputs, play_step, power_on_moment, run_at}
+use Rattle.pac_board_model.specs.Trace.{frames_gone, resumed_start, resumed_end, resumed_at}
 use Rattle.pac_board_model.specs.Walk.{Walk, walk, onward_if, walk_after_step}
 
 -- whether an entry is none of the three that the clock makes
@@ -173,19 +174,33 @@ module _ {Board : Type 0} (ask : Questions Board) (Told : ℕ → List Output �
       step-told w (play_step ask held w.now)
       (played-told held w.now.time w.outputs (step ask w.now) (cpu-step-told w.now w.outputs part told)) told
 
-  walk-told : (held : ℕ → ℕ) (limit : ℕ) (from : Moment Board) (n : ℕ) → Told from.time [] from.board
+  walk-kept : (held : ℕ → ℕ) (limit : ℕ) (from : Moment Board) (n : ℕ) → Told from.time [] from.board
       → WalkTold (walk (play_step ask held) limit from n)
   unfolding WalkTold
-  walk-told held limit from zero told = told
-  walk-told held limit from (suc n) told =
+  walk-kept held limit from zero told = told
+  walk-kept held limit from (suc n) told =
       let w = walk (play_step ask held) limit from n in
-      onward-told held w w.stop (nat_le limit w.now.time) (walk-told held limit from n told)
+      onward-told held w w.stop (nat_le limit w.now.time) (walk-kept held limit from n told)
 
-  -- a run keeps it, at each index
+  -- so a walk keeps it, from any moment on and at each index
+  pub walk-told : (held : ℕ → ℕ) (limit : ℕ) (from : Moment Board) (n : ℕ) → Told from.time [] from.board
+      → let w = walk (play_step ask held) limit from n in
+      Told w.now.time w.outputs w.now.board
+  unfolding WalkTold
+  walk-told held limit from n told = walk-kept held limit from n told
+
+  -- and so do a run and a play that is taken up
   pub run-told : (play : Play) (board : Board) (index : ℕ) → Told 0 [] board
       → let run = run_at ask play board index in
       Told run.now.time run.outputs run.now.board
-  unfolding WalkTold
   run-told play board index told =
       walk-told play.held (frame_ticks * play.frames) (power_on_moment (ask.put board (Hold (play.held 1)))) index
       (quiet 0 [] board (Hold (play.held 1)) refl told)
+
+  pub resumed-told : (play : Play) (from : Moment Board) (index : ℕ) → Told from.time [] from.board
+      → let run = resumed_at ask play from index in
+      Told run.now.time run.outputs run.now.board
+  resumed-told play from index told =
+      let gone = frames_gone from in
+      walk-told (λ frame. play.held (frame - gone)) (resumed_end play gone) (resumed_start ask play from) index
+      (quiet from.time [] from.board (Hold (play.held 1)) refl told)

@@ -9,3 +9,4 @@ pub mod Carried
 pub mod Trace
 pub mod Host
 pub mod Laws
+pub mod Resumed

@@ -1,0 +1,38 @@
+//! Laws of steps, walks and runs.
+
+ghost use Rattle.pac_board_model.specs.Laws.{StepsAreTimely, RunsEnd, RunsAreJoined, WalksEnd, WalksJoin, WalksGoOn, RunsGoByFrames};
+
+/// A step that goes on takes 4 to 23 T-states.
+pub fn steps_are_timely<Board>()
+    ensures { StepsAreTimely Board }
+{}
+
+/// A run of as many steps as its frames can have has ended, and where it has ended it has one state.
+pub fn runs_end<Board>()
+    ensures { RunsEnd Board }
+{}
+
+/// The outputs of a run up to a step are a prefix of those up to a later one.
+pub fn runs_are_joined<Board>()
+    ensures { RunsAreJoined Board }
+{}
+
+/// A walk to a limit ends there.
+pub fn walks_end<Board>()
+    ensures { WalksEnd Board }
+{}
+
+/// A walk to a limit and on to a later one is the walk to the later one.
+pub fn walks_join<Board>()
+    ensures { WalksJoin Board }
+{}
+
+/// A walk that is taken up again goes on as it would have.
+pub fn walks_go_on<Board>()
+    ensures { WalksGoOn Board }
+{}
+
+/// A run is its frames, one played after another.
+pub fn runs_go_by_frames<Board>()
+    ensures { RunsGoByFrames Board }
+{}
