@@ -2,8 +2,8 @@
 use Rattle.std.specs.Prelude.{◌≡◌, ℕ, ◌++◌, List}
 use Rattle.pac_board.specs.BoardView.{power_on_board_view}
 use Rattle.pac_board.specs.RomParts.{Parts}
-use Rattle.pac_board.specs.State.{power_on_board}
-use Rattle.pac_board.specs.Trace.{by_view, trace}
+use Rattle.pac_board.specs.State.{BoardValue, power_on_board}
+use Rattle.pac_board.specs.Trace.{by_view, resumed, trace}
 use Rattle.pac_inputs.specs.Stretches.{total_frames, held}
 use Rattle.pac_inputs.specs.declared.line.Stretch.{Stretch}
 use Rattle.pac_board_course.specs.Course.{CourseValue, begun, way_on, way_walked, course_after}
@@ -24,3 +24,10 @@ CoursesBegin =
     (set : Parts) (switches : ℕ) (script : List Stretch)
     → way_on (begun (power_on_board set switches) script)
     ≡ trace (by_view set) (record { frames = total_frames script; held = held script }) (power_on_board_view switches)
+
+-- What a course has left, wherever it begins, is the run of its script taken up there.
+abbrev pub CoursesAreResumed : Type 0
+CoursesAreResumed =
+    (board : BoardValue) (script : List Stretch)
+    → way_on (begun board script)
+    ≡ resumed (by_view board.set) (record { frames = total_frames script; held = held script }) board.state.now

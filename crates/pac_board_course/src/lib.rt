@@ -5,4 +5,4 @@ mod course;
 mod laws;
 
 pub use course::Course;
-pub use laws::{courses_begin, courses_go_on};
+pub use laws::{courses_are_resumed, courses_begin, courses_go_on};
