@@ -131,7 +131,8 @@ module _ {S : Type 0} (took refused : S → Output → S → Type 0) (old : Cour
       }
 
   -- an output of the frame was refused
-  held-up : old.board.state.now.time < end_of old → (steps : ℕ) (stays : IsWayRefused took refused old.board (frame_end old) sink board later)
+  held-up : old.board.state.now.time < end_of old → (steps : ℕ)
+      (stays : IsWayRefused took refused old.board (frame_end old) sink board later)
       → stays.steps ≡ steps → IsClosed old board new → script ≡ old.script → gone ≡ old.gone
       → IsCourseHeldUp took refused old sink course later
   held-up early zero stays count closed scripts gones =

@@ -6,70 +6,31 @@ ghost use Rattle.pac_table_names.specs.Names.{operation_name};
 
 use pac_table::Mnemonic;
 
+/// The name of an operation: the one that is listed, or that which a function tells by the value.
+macro_rules! name_by_operation {
+    ($mnemonic:ident $value:ident, $($named:ident $name:literal),*; $($family:ident $name_at:ident),*) => {
+        match $mnemonic {
+            $(Mnemonic::$named => Some($name),)*
+            $(Mnemonic::$family => $name_at($value),)*
+        }
+    };
+}
+
 /// The name of an operation whose first field holds a value. The value tells the name of a family,
 /// where 6 is no shift.
 pub fn operation_name(mnemonic: Mnemonic, value: u8) -> Option<&'static str>
     ensures { option_copied result ≡ operation_name mnemonic value }
 {
-    match mnemonic {
-        Mnemonic::Adc => Some("ADC"),
-        Mnemonic::Add => Some("ADD"),
-        Mnemonic::Alu => alu_name(value),
-        Mnemonic::Bit => Some("BIT"),
-        Mnemonic::Call => Some("CALL"),
-        Mnemonic::Ccf => Some("CCF"),
-        Mnemonic::Cpd => Some("CPD"),
-        Mnemonic::Cpdr => Some("CPDR"),
-        Mnemonic::Cpi => Some("CPI"),
-        Mnemonic::Cpir => Some("CPIR"),
-        Mnemonic::Cpl => Some("CPL"),
-        Mnemonic::Daa => Some("DAA"),
-        Mnemonic::Dec => Some("DEC"),
-        Mnemonic::Di => Some("DI"),
-        Mnemonic::Djnz => Some("DJNZ"),
-        Mnemonic::Ei => Some("EI"),
-        Mnemonic::Ex => Some("EX"),
-        Mnemonic::Exx => Some("EXX"),
-        Mnemonic::Halt => Some("HALT"),
-        Mnemonic::Im => Some("IM"),
-        Mnemonic::In => Some("IN"),
-        Mnemonic::Inc => Some("INC"),
-        Mnemonic::Ind => Some("IND"),
-        Mnemonic::Indr => Some("INDR"),
-        Mnemonic::Ini => Some("INI"),
-        Mnemonic::Inir => Some("INIR"),
-        Mnemonic::Jp => Some("JP"),
-        Mnemonic::Jr => Some("JR"),
-        Mnemonic::Ld => Some("LD"),
-        Mnemonic::Ldd => Some("LDD"),
-        Mnemonic::Lddr => Some("LDDR"),
-        Mnemonic::Ldi => Some("LDI"),
-        Mnemonic::Ldir => Some("LDIR"),
-        Mnemonic::Neg => Some("NEG"),
-        Mnemonic::Nop => Some("NOP"),
-        Mnemonic::Otdr => Some("OTDR"),
-        Mnemonic::Otir => Some("OTIR"),
-        Mnemonic::Out => Some("OUT"),
-        Mnemonic::Outd => Some("OUTD"),
-        Mnemonic::Outi => Some("OUTI"),
-        Mnemonic::Pop => Some("POP"),
-        Mnemonic::Push => Some("PUSH"),
-        Mnemonic::Res => Some("RES"),
-        Mnemonic::Ret => Some("RET"),
-        Mnemonic::Reti => Some("RETI"),
-        Mnemonic::Retn => Some("RETN"),
-        Mnemonic::Rla => Some("RLA"),
-        Mnemonic::Rlca => Some("RLCA"),
-        Mnemonic::Rld => Some("RLD"),
-        Mnemonic::Rra => Some("RRA"),
-        Mnemonic::Rrca => Some("RRCA"),
-        Mnemonic::Rrd => Some("RRD"),
-        Mnemonic::Rst => Some("RST"),
-        Mnemonic::Sbc => Some("SBC"),
-        Mnemonic::Scf => Some("SCF"),
-        Mnemonic::Set => Some("SET"),
-        Mnemonic::Shift => shift_name(value),
-    }
+    name_by_operation!(mnemonic value,
+        Adc "ADC", Add "ADD", Bit "BIT", Call "CALL", Ccf "CCF", Cpd "CPD", Cpdr "CPDR", Cpi "CPI",
+        Cpir "CPIR", Cpl "CPL", Daa "DAA", Dec "DEC", Di "DI", Djnz "DJNZ", Ei "EI", Ex "EX",
+        Exx "EXX", Halt "HALT", Im "IM", In "IN", Inc "INC", Ind "IND", Indr "INDR", Ini "INI",
+        Inir "INIR", Jp "JP", Jr "JR", Ld "LD", Ldd "LDD", Lddr "LDDR", Ldi "LDI", Ldir "LDIR",
+        Neg "NEG", Nop "NOP", Otdr "OTDR", Otir "OTIR", Out "OUT", Outd "OUTD", Outi "OUTI",
+        Pop "POP", Push "PUSH", Res "RES", Ret "RET", Reti "RETI", Retn "RETN", Rla "RLA",
+        Rlca "RLCA", Rld "RLD", Rra "RRA", Rrca "RRCA", Rrd "RRD", Rst "RST", Sbc "SBC", Scf "SCF",
+        Set "SET";
+        Alu alu_name, Shift shift_name)
 }
 
 /// The name of one of the eight operations with A.

@@ -1,4 +1,4 @@
-//! Tests of the program's runs and of its command lines: each module is named like the crate that it tests, but for what two of them use.
+//! Tests of the program's runs and of its command line: each module is named like the crate that it tests, but for what two of them use.
 #![tactic(auto)]
 
 #[cfg(test)]

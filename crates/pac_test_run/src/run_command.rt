@@ -1,10 +1,5 @@
-//! Nothing but tests of command lines, over the files of folders, held against what `pac_run_command` does with them.
+//! Tests of what command lines do in one process with the test; tools/command-lines tries them on the built program.
 
 mod console;
 mod folder;
-mod lines;
 mod memory;
-mod refusals;
-mod runs;
-mod sessions;
-mod texts;

@@ -40,13 +40,6 @@ pub const LATE_GREEN_TILE: Picture = Picture {
     right: BLACK,
 };
 
-/// A green and a red tile.
-pub const GREEN_AND_RED: Picture = Picture {
-    top: 0,
-    left: GREEN,
-    right: RED,
-};
-
 /// A blue and a red tile.
 pub const BLUE_AND_RED: Picture = Picture {
     top: 0,
@@ -67,7 +60,7 @@ impl Picture {
     }
 
     /// Whether an image shows it.
-    pub fn is_shown(&self, image: &[u8]) -> bool {
+    fn is_shown(&self, image: &[u8]) -> bool {
         let mut is_right = image.len() == IMAGE && image.starts_with(b"P6\n288 224\n255\n");
         for (place, level) in image.iter().skip(15).enumerate() {
             let colour = self.colour(place / 3 % 288, place / 864);

@@ -2,7 +2,6 @@
 
 ghost use Rattle.std.specs.Prelude.{◌≤◌, length, IfOk};
 
-use super::lines::ANY_TEXT;
 use arrayvec::ArrayString;
 use pac_out::Out;
 use pac_out::memory::MemoryWriter;
@@ -46,30 +45,6 @@ fn add_printed<D: Display + Drop>(
     Ok(())
 }
 
-/// Whether bytes are these pieces, one after another; `ANY_TEXT` is any text to the end.
-fn is_joined(bytes: &[u8], pieces: &[&str]) -> bool {
-    let mut rest = bytes;
-    for piece in pieces {
-        if *piece == ANY_TEXT {
-            return !rest.is_empty();
-        }
-        match rest.strip_prefix(piece.as_bytes()) {
-            Some(after) => rest = after,
-            None => return false,
-        }
-    }
-    rest.is_empty()
-}
-
-/// Whether bytes are this text, or any but none where that is wanted.
-fn is_text(bytes: &[u8], wanted: &str) -> bool {
-    if wanted == ANY_TEXT {
-        !bytes.is_empty()
-    } else {
-        bytes == wanted.as_bytes()
-    }
-}
-
 impl Console {
     /// One whose standard output takes so many bytes, and standard error so many.
     pub fn new(alloc: Global, room: usize, error_room: usize) -> Result<Console, AllocError> {
@@ -79,10 +54,11 @@ impl Console {
         })
     }
 
-    /// Whether standard output has these pieces, and standard error this text.
-    pub fn has(&self, output: &[&str], error: &str) -> bool {
+    /// Whether standard output has nothing, and standard error this text.
+    pub fn has_told(&self, text: &str) -> bool {
         match (self.output.try_borrow(), self.error.try_borrow()) {
-            (Ok(out), Ok(err)) => is_joined(out.bytes(), output) && is_text(err.bytes(), error),
+            (Ok(output), Ok(error)) => output.bytes().is_empty()
+                && error.bytes() == text.as_bytes(),
             _ => false,
         }
     }

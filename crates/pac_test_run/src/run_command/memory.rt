@@ -1,10 +1,12 @@
 //! Want of memory: a command line under every amount of it.
 
 use super::console::Console;
-use super::folder::{is_left, lay_set, status_of, words_of};
-use super::lines::Left;
+use super::folder::lay_set;
+use pac_run_command::run_words;
 use pac_test_memory::Hoard;
+use std::alloc::{AllocError, Global};
 use std::fs;
+use std::io::ErrorKind;
 use std::rt::Files;
 
 /// The most blocks that a run needs.
@@ -13,25 +15,52 @@ const MOST_BLOCKS: usize = 4000;
 /// More runs than are refused.
 const MOST_REFUSALS: usize = 3999;
 
-/// A run over a folder.
-const WORDS: &str = "run --set @/set.toml --script @/one.script --source @/cell.asm";
+/// A run over a folder, the program's name first.
+static WORDS: [&str; 14] = [
+    "pacboard",
+    "run",
+    "--set",
+    "scarce/set.toml",
+    "--script",
+    "scarce/one.script",
+    "--source",
+    "scarce/cell.asm",
+    "--frames",
+    "scarce/f",
+    "--wave",
+    "scarce/w",
+    "--listing",
+    "scarce/l",
+];
 
-/// Its outputs.
-const OUTPUTS: &str = "--frames @/f --wave @/w --listing @/l";
+/// The words of that run.
+fn words_of(alloc: Global) -> Result<Vec<String>, AllocError> {
+    let mut words = Vec::new(alloc);
+    for word in &WORDS {
+        words.push(String::from_str(alloc, word)?)?;
+    }
+    Ok(words)
+}
 
-/// Whether a file of the folder is empty, or isn't there.
-fn has_nothing(rt: &(impl Files + AllocGlobal), name: &str) -> bool {
-    is_left(rt, "scarce", name, &Left::Absent) || is_left(rt, "scarce", name, &Left::Bytes(b""))
+/// The bytes of a file, where that can be told without memory; None where it isn't there.
+fn length_of(rt: &impl Files, path: &str) -> Option<u64> {
+    match fs::metadata(rt, path) {
+        Ok(found) => Some(found.len()),
+        Err(error) if error.kind() == ErrorKind::NotFound => None,
+        Err(_) => Some(u64::MAX),
+    }
+}
+
+/// Whether none of the outputs has a byte.
+fn is_unwritten(rt: &impl Files) -> bool {
+    ["scarce/f", "scarce/w", "scarce/l"]
+        .iter()
+        .all(|path| matches!(length_of(rt, path), None | Some(0)))
 }
 
 /// Whether a first refusal has told that there is no memory; what later ones tell follows it.
 fn is_told(console: &Console, turn: usize) -> bool {
-    turn != 0 || console.has(&[], "out of memory\n")
-}
-
-/// Whether none of the outputs has a byte.
-fn is_unwritten(rt: &(impl Files + AllocGlobal)) -> bool {
-    has_nothing(rt, "f") && has_nothing(rt, "w") && has_nothing(rt, "l")
+    turn != 0 || console.has_told("out of memory\n")
 }
 
 /// Runs words with a little more memory each time, until all is done; the count of runs before that one, each of which told
@@ -43,7 +72,7 @@ fn refusals(
     hoard: &mut Hoard,
 ) -> Option<usize> {
     for turn in 0..MOST_BLOCKS {
-        let status = status_of(rt, console, words);
+        let status = run_words(rt, console, words);
         if status == 0 {
             return Some(turn);
         }
@@ -66,9 +95,9 @@ fn refusals_from_nothing(
     }
 }
 
-/// The count of runs that find no memory, for the words of `run` over a console.
+/// The count of runs that find no memory, over a console.
 fn refusals_of_a_run(rt: &(impl Files + AllocGlobal)) -> Option<usize> {
-    let words = words_of(rt.alloc(), "scarce", WORDS, OUTPUTS).ok()?;
+    let words = words_of(rt.alloc()).ok()?;
     match Console::new(rt.alloc(), 200, 4000) {
         Ok(console) => refusals_from_nothing(rt, &console, &words),
         Err(_) => None,
@@ -81,6 +110,6 @@ fn refusals_of_a_run(rt: &(impl Files + AllocGlobal)) -> Option<usize> {
 fn memory_that_is_refused(rt: HostRuntime) {
     assert!(rt; lay_set(&rt, "scarce"));
     assert!(rt; matches!(refusals_of_a_run(&rt), Some(51..MOST_REFUSALS)));
-    assert!(rt; is_left(&rt, "scarce", "f", &Left::Length(193_551)));
+    assert!(rt; length_of(&rt, "scarce/f") == Some(193_551));
     assert!(rt; fs::remove_dir_all(&rt, "scarce").is_ok());
 }

@@ -20,4 +20,5 @@ returns-in-Err-clause-film g c =
     let held_up = c.in-Err.ensures in
     stops-among g.F.Out.took g.F.Out.refused g.W.Out.took g.W.Out.refused (way_on c.args.course.now).outputs held_up.taken
     (due_outputs c.run_to_end.new.self.board) c.args.self.now c.run_to_end.new.sink c.give_up.new.self c.give_up.result
-    (refused-among c.args.course.now (due_outputs c.run_to_end.new.self.board) held_up.steps held_up.taken held_up.parts) held_up.refuses c.give_up.ensures.told c.give_up.ensures.left
+    (refused-among c.args.course.now (due_outputs c.run_to_end.new.self.board) held_up.steps held_up.taken held_up.parts) held_up.refuses
+    c.give_up.ensures.told c.give_up.ensures.left
