@@ -88,6 +88,22 @@ def value_cause(lines, number):
             yield f"the value is {value}; {line.operation} takes {', '.join(map(str, sorted(line.code)))}"
 
 
+def arithmetic_cause(lines, number):
+    """The cause of an expression without a result: the innermost part that has none."""
+    line = judge.read_line(lines[number - 1])
+    assembly = first_phase(lines, number if line.at_once else len(lines) + 1)
+    here = assembly.at if line.at_once else assembly.spots[number - 1][0]
+    parts = [line.at_once] if line.at_once else [tree for _, tree in line.places]
+    for tree in parts:
+        parts += [part for part in tree[1:] if isinstance(part, tuple)]
+    for tree in reversed(parts):
+        try:
+            judge.value_of(tree, assembly.symbols, here)
+        except judge.Fault:
+            yield "the divisor is 0" if tree[0] == "/" and judge.value_of(tree[2], assembly.symbols, here) == 0 else "a result is past 32 bits"
+            return
+
+
 def branch_cause(code, lines, number):
     """The cause of an IF, ELSE or ENDIF that has no other."""
     words = [(at, judge.first_word(line).decode()) for at, line in enumerate(lines, 1)]
@@ -117,6 +133,8 @@ def causes(code, source, number):
             return list(name_cause(lines, number, names, assembly.symbols))
         if code == "A9":
             return list(value_cause(lines, number))
+        if code == "A10":
+            return list(arithmetic_cause(lines, number))
         if code in ("A12", "A13", "A14"):
             return list(branch_cause(code, lines, number))
     except (judge.Fault, TypeError, AttributeError, ValueError):

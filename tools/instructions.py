@@ -55,9 +55,11 @@ FLAGS = [
 
 
 def flags_of(effect, operation):
-    """The flags of an effect; those of Alu are those of its operation."""
+    """The flags of an effect; those of Alu are those of its operation, and SRL, which shifts a 0 into bit 7, never gives S."""
     if "ByteArithmetic::Alu" in effect:
         return ALU[operation[:3]]
+    if operation.startswith("SRL "):
+        return "0*0P0*"
     return next(flags for begin, flags in FLAGS if effect.removeprefix("Effect::").startswith(begin))
 
 
