@@ -1,8 +1,9 @@
 //! A course: a board, and the script that is played on it.
 
-ghost use Rattle.std.specs.Prelude.{◌≡◌, ◌<◌, ◌≤◌};
+ghost use Rattle.std.specs.Prelude.{◌≡◌, ◌<◌, ◌≤◌, ◌+◌, ◌*◌};
 ghost use Rattle.pac_board.specs.Inputs.{mask};
 ghost use Rattle.pac_board.specs.State as state;
+ghost use Rattle.pac_board.specs.Step.{frame_ticks};
 ghost use Rattle.pac_inputs.specs.Stretches.{most_frames, total_frames};
 ghost use Rattle.pac_board_course.specs.Course.{FitsTime, FitsAsked, begun, board_asked, end_of, frames_begun};
 ghost use Rattle.pac_board_course.specs.Frames.{PlaysFrameOn};
@@ -36,7 +37,7 @@ impl Model for Course {
 const FRAME_MICROSECONDS: u64 = 16_500;
 
 /// Holds these inputs, and no others.
-fn hold(board: &mut Board, inputs: Inputs)
+pub fn hold(board: &mut Board, inputs: Inputs)
     ensures { board.new ≡ state.board_with_inputs board.old (mask inputs) }
 {
     board.input_clear(Inputs::from_bits_retain(0xFFFF));
@@ -52,6 +53,17 @@ impl Course {
     {
         let gone = board.time() / FRAME_TICKS;
         hold(&mut board, script.held(1));
+        Course::taken_up(board, script, gone)
+    }
+
+    /// A script that is taken up in the midst of its run: the inputs of the frame under way are held, and so many frames had gone by before
+    /// the script's first one.
+    pub fn taken_up(board: Board, script: Script, gone: u64) -> Course
+        requires time { frame_ticks * (gone + total_frames script) ≤ state.latest }
+        requires short { total_frames script ≤ most_frames }
+        requires asked { FitsAsked board script }
+        ensures { result ≡ record { board = board; script = script; gone = gone } }
+    {
         Course {
             board,
             script,

@@ -4,5 +4,5 @@
 mod course;
 mod laws;
 
-pub use course::Course;
+pub use course::{Course, hold};
 pub use laws::{courses_are_resumed, courses_begin, courses_go_on};

@@ -212,3 +212,12 @@ abbrev pub WatchesSession : {S W : Type 0} → (took refused : S → Output → 
 WatchesSession took refused wrote balked lines old (Ok outcome) new = IsSessionWatched took wrote lines old outcome new
 WatchesSession took refused wrote balked lines old (Err faults.Refused) new = IsWatchRefused took refused wrote lines old new
 WatchesSession took refused wrote balked lines old (Err (faults.Text fault)) new = IsWatchUntold took wrote balked lines old fault new
+
+-- The session is used up: so it was left in the end.
+pub record WatchesThrough {S W : Type 0} (took refused : S → Output → S → Type 0) (wrote : W → List ℕ → W → Type 0)
+    (balked : W → W → Type 0) (asked : List (List ℕ)) (old : Scene S W) (result : Result RunTotals CommandFault) (later : S)
+    (text : Counted W)
+    : Type 0 where
+  pub left : SessionValue
+  pub watched :
+      WatchesSession took refused wrote balked asked old result (record { session = left; sink = later; text = text })

@@ -69,6 +69,9 @@ module _ (board new : BoardValue) (script : List Stretch) (switches : ℕ) (same
   new-due : new.state.due ≡ nothing_due
   new-due = ap (λ (b : BoardValue). b.state.due) hold ∙ ap (λ (s : BoardState). s.due) fresh
 
+  pub new-asked : new.state.asked ≡ 0
+  new-asked = ap (λ (b : BoardValue). b.state.asked) hold ∙ ap (λ (s : BoardState). s.asked) fresh
+
   new-steps : new.state.now.steps ≡ 0
   new-steps = ap (λ (b : BoardValue). b.state.now.steps) hold ∙ ap (λ (s : BoardState). s.now.steps) fresh
 

@@ -6,4 +6,6 @@ pub mod Backwards
 pub mod Slots
 pub mod Begun
 pub mod Finished
+pub mod Ends
+pub mod PlayedOn
 pub mod Rings

@@ -122,9 +122,9 @@ module _ (board : BoardValue) (switches : ℕ) (script : List Stretch) (history 
     pub checkpoints : AreCheckpoints setting after.taken after.kept
 
   left-if : (here : Bool) → (index == checkpoint_steps * ring.taken) ≡ here
-      → IsStanding setting board.state.now history furthest ring → board.state.due ≡ nothing_due
+      → IsStanding setting board.state.now history furthest ring → board.state.due ≡ nothing_due → board.state.asked ≡ 0
       → IsLeft (if here then ring_with_checkpoint ring (kept_of board history) else ring)
-  left-if true e stands nothing =
+  left-if true e stands nothing unasked =
       let same : index ≡ checkpoint_steps * ring.taken = grind (arith, nat_tests) in
       let within = stands.within in
       let enough = stands.enough in
@@ -138,10 +138,11 @@ module _ (board : BoardValue) (switches : ℕ) (script : List Stretch) (history 
             checkpoints-more setting ring.taken ring.kept (kept_of board history) all stands.checkpoints (record {
               now = stands.now_is ∙ ap (now_at setting) same;
               nothing = nothing;
+              unasked = unasked;
               history = stands.history_is ∙ ap (told_at setting) same;
             });
       }
-  left-if false e stands nothing =
+  left-if false e stands nothing unasked =
       let within = stands.within in
       let enough = stands.enough in
       let few = stands.few in
@@ -153,8 +154,9 @@ module _ (board : BoardValue) (switches : ℕ) (script : List Stretch) (history 
         checkpoints = stands.checkpoints;
       }
 
-  left : IsStanding setting board.state.now history furthest ring → board.state.due ≡ nothing_due → IsLeft ring_after
-  left stands nothing = left-if (index == checkpoint_steps * ring.taken) refl stands nothing
+  left : IsStanding setting board.state.now history furthest ring → board.state.due ≡ nothing_due → board.state.asked ≡ 0
+      → IsLeft ring_after
+  left stands nothing unasked = left-if (index == checkpoint_steps * ring.taken) refl stands nothing unasked
 
   -- what the step comes to is what it comes to in the run
   next-is : IsStanding setting board.state.now history furthest ring → next_on script board ≡ next_at setting index
@@ -227,6 +229,7 @@ module _ (board : BoardValue) (switches : ℕ) (script : List Stretch) (history 
 
   pub record HasMade (steps : List PastStep) (new : BoardValue) : Type 0 where
     pub set : new.set ≡ board.set
+    pub asked : new.state.asked ≡ board.state.asked
     pub standing :
         IsStanding (record { set = new.set; switches = switches; script = script }) new.state.now steps (max furthest new.state.now.steps)
         ring_after
@@ -242,6 +245,7 @@ module _ (board : BoardValue) (switches : ℕ) (script : List Stretch) (history 
       let on = stands-on now outputs kind steps stands gone early is told in
       record {
         set = refl;
+        asked = refl;
         standing = on.0;
         value = λ breakpoints slots replayed.
             ap (λ n. record {
@@ -261,6 +265,7 @@ module _ (board : BoardValue) (switches : ℕ) (script : List Stretch) (history 
       let same : max furthest index ≡ furthest = omega arith in
       record {
         set = refl;
+        asked = refl;
         standing =
             subst (λ xs. IsStanding setting board.state.now xs (max furthest index) ring_after) (sym told) (stands-still stands gone);
         value = λ breakpoints slots replayed.
@@ -270,9 +275,10 @@ module _ (board : BoardValue) (switches : ℕ) (script : List Stretch) (history 
       }
 
   pub made-step : (once : Once) (new : BoardValue) (steps : List PastStep)
-      → IsStanding setting board.state.now history furthest ring → board.state.due ≡ nothing_due → is_late setting index ≡ false
-      → PlaysStep script board once new → steps ≡ told_after history index board.state.now.regs.pc once → HasMade steps new
-  made-step once new steps stands nothing early played told =
+      → IsStanding setting board.state.now history furthest ring → board.state.due ≡ nothing_due → board.state.asked ≡ 0
+      → is_late setting index ≡ false → PlaysStep script board once new
+      → steps ≡ told_after history index board.state.now.regs.pc once → HasMade steps new
+  made-step once new steps stands nothing unasked early played told =
       let h = next_at setting index in
       let is = next-is stands in
       let same : new ≡ board_after_step h board new.state.due
@@ -280,7 +286,7 @@ module _ (board : BoardValue) (switches : ℕ) (script : List Stretch) (history 
       let once_is : once ≡ once_at h board.state.now.time
       = played.once_is ∙ ap (λ next. once_at next board.state.now.time) is in
       subst (HasMade steps) (sym same)
-      (made-by h refl stands (left stands nothing) early new.state.due steps
+      (made-by h refl stands (left stands nothing unasked) early new.state.due steps
       (told ∙ ap (told_after history index board.state.now.regs.pc) once_is) nothing)
 
   -- its answer and its outputs

@@ -50,6 +50,8 @@ pub record AreSlotsRight (setting : Setting) (furthest : ℕ) (slots : List Slot
 pub record IsInsideRight (inside : Inside) : Type 0 where
   pub limit : inside.limit ≡ limit (session_setting inside)
   pub short : total_frames inside.script ≤ most_frames
+  -- a session goes by steps, and asks its board for no microseconds
+  pub unasked : inside.board.state.asked ≡ 0
   pub standing : IsStanding (session_setting inside) inside.board.state.now inside.history inside.furthest inside.checkpoints
   pub slots : AreSlotsRight (session_setting inside) inside.furthest inside.slots.items
   pub breakpoints : length inside.breakpoints.items ≤ most_breakpoints

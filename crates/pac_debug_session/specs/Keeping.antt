@@ -28,10 +28,11 @@ ring_after_index index ring kept = if index == checkpoint_steps * ring.taken the
 
 -- ---- what is right
 
--- what is kept is that of an index, with nothing due
+-- what is kept is that of an index, with nothing due and nothing asked
 pub record IsKeptAt (setting : Setting) (index : ℕ) (kept : SessionSnapshot) : Type 0 where
   pub now : kept.snapshot.now ≡ now_at setting index
   pub nothing : kept.snapshot.due ≡ nothing_due
+  pub unasked : kept.snapshot.asked ≡ 0
   pub history : kept.history ≡ told_at setting index
 
 -- The checkpoints of a ring after so many were taken: where 16 more than n were, the first of them is that of index 4,096 n, and the

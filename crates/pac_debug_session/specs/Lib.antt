@@ -5,6 +5,7 @@ pub mod Motions
 pub mod Keeping
 pub mod Steps
 pub mod Inside
+pub mod Playing
 pub mod Silent
 pub mod Laws
 pub use Rattle.pac_inputs.specs.Stretches

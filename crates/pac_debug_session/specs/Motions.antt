@@ -206,6 +206,13 @@ FinishesRun took refused old sink (Ok outcome) new later = IsFinished took old s
 FinishesRun took refused old sink (Err refusal) new later =
     IsSessionOfferRefused took refused old sink new later ⊎ IsFinishRefused took refused old sink new later
 
+-- The session is used up: so it was left in the end.
+pub record PlaysOn {S E : Type 0} (took refused : S → Output → S → Type 0) (old : SessionValue) (sink : S) (result : Result RunTotals E)
+    (later : S)
+    : Type 0 where
+  pub left : SessionValue
+  pub finishes : FinishesRun took refused old sink result left later
+
 -- ---- back
 
 -- a checkpoint is kept each 4,096 steps, and the last 16 of them are (this profile)

@@ -50,7 +50,7 @@ impl Session {
     }
 
     /// Does the steps up to an index again.
-    fn replay(&mut self, index: u64)
+    pub(crate) fn replay(&mut self, index: u64)
         requires before { self.old.index ≤ index }
         requires seen { index ≤ self.old.furthest }
         requires nothing { self.old.due ≡ state.nothing_due }

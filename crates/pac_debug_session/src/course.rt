@@ -2,22 +2,14 @@
 
 ghost use Rattle.std.specs.Prelude.{◌≡◌, ◌<◌, ◌≤◌, ◌*◌, []};
 ghost use Rattle.pac_board.specs.State as state;
-ghost use Rattle.pac_inputs.specs.Inputs.{mask};
 ghost use Rattle.pac_inputs.specs.Stretches.{total_frames, most_frames};
 ghost use Rattle.pac_board.specs.Step.{frame_ticks};
 ghost use Rattle.pac_debug_session.specs.Steps.{PlaysStep, told_after};
 
 use crate::history::{History, PastStep};
 use pac_board::{Board, FRAME_TICKS, Once};
-use pac_inputs::{Flags, Inputs, Script};
-
-/// Holds these inputs, and no others.
-pub fn hold(board: &mut Board, inputs: Inputs)
-    ensures { board.new ≡ state.board_with_inputs board.old (mask inputs) }
-{
-    board.input_clear(Inputs::from_bits_retain(0xFFFF));
-    board.input_set(inputs);
-}
+use pac_board_course::hold;
+use pac_inputs::Script;
 
 /// The step of a board that has nothing due and whose run isn't over, and after a blank the next frame's inputs. What it gives is due.
 #[inline]

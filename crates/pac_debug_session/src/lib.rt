@@ -9,6 +9,7 @@ mod history;
 mod kept;
 pub mod laws;
 mod motion;
+mod playing;
 mod session;
 mod silent;
 mod travel;

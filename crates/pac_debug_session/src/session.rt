@@ -11,11 +11,11 @@ ghost use Rattle.pac_debug_session.specs.Session.{IsSession, IsNew, session_at_s
 ghost use Rattle.pac_debug_session.specs.Motions.{checkpoint_count, ReturnsTo, session_with_slot};
 
 use crate::checkpoints::Checkpoints;
-use crate::course::hold;
 use crate::history::{History, PastStep};
 use crate::kept::SlotContents;
 use arrayvec::ArrayVec;
 use pac_board::{Board, FRAME_TICKS};
+use pac_board_course::hold;
 use pac_inputs::Script;
 use std::alloc::{AllocError, Global};
 use std::marker::Model;

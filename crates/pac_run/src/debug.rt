@@ -42,7 +42,7 @@ fn write_watched<F: Out, W: Out, L: Out, R: Out, T: Out>(
     inputs: &RunInputs,
     commands: &[u8],
     program: &Option<Program>,
-    session: &mut Session,
+    session: Session,
     total: u32,
     image: Image,
     frames: &mut F,
@@ -51,7 +51,7 @@ fn write_watched<F: Out, W: Out, L: Out, R: Out, T: Out>(
     report: &mut R,
     text: &mut T,
 ) -> Result<Outcome, RunFault>
-    requires { IsReady inputs.now program.now session.old total }
+    requires { IsReady inputs.now program.now session total }
     ensures { Debugs inputs.now commands.now (record {
       frames = record { took = F.took; refused = F.refused; old = frames.old; new = frames.new };
       wave = record { took = W.took; refused = W.refused; old = wave.old; new = wave.new };
@@ -144,21 +144,11 @@ pub fn debug_all<F: Out, W: Out, L: Out, R: Out, T: Out>(
 {
     let Ready {
         program,
-        mut session,
+        session,
         total,
         image,
     } = make_ready(alloc, inputs)?;
     write_watched(
-        inputs,
-        commands,
-        &program,
-        &mut session,
-        total,
-        image,
-        frames,
-        wave,
-        listing,
-        report,
-        text,
+        inputs, commands, &program, session, total, image, frames, wave, listing, report, text,
     )
 }

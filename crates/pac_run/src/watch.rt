@@ -18,13 +18,13 @@ impl<F: Out, W: Out> Film<F, W> {
     /// do, and zeros for the samples that never came. Answers what the run came to, or the output that refused.
     fn watch<T: Out>(
         &mut self,
-        session: &mut Session,
+        session: Session,
         commands: &[u8],
         text: &mut Counted<T>,
     ) -> Result<RunTotals, OutputFault>
-        requires { session.old ≡ session_at_start session.old.setting 0 }
-        ensures outcome { IfOk result (IsOutcome session.old) }
-        ensures film { Films F.took F.refused W.took W.refused T.took T.refused session.old.setting
+        requires { session ≡ session_at_start session.setting 0 }
+        ensures outcome { IfOk result (IsOutcome session) }
+        ensures film { Films F.took F.refused W.took W.refused T.took T.refused session.setting
             (lines commands.now)
             self.old text.old result self.new text.new }
     {
@@ -51,21 +51,21 @@ impl<F: Out, W: Out> Film<F, W> {
 /// Writes the wave's header, then does a session's commands, goes on to the end of its run, and writes frames, samples and text as
 /// they come. Where the header is refused no frame is begun, and nothing is told.
 pub fn watch_run<F: Out, W: Out, T: Out>(
-    session: &mut Session,
+    session: Session,
     commands: &[u8],
     image: Image,
     frames: &mut F,
     wave: &mut W,
     text: &mut T,
 ) -> Result<RunTotals, OutputFault>
-    requires { session.old ≡ session_at_start session.old.setting 0 }
-    ensures outcome { IfOk result (IsOutcome session.old) }
+    requires { session ≡ session_at_start session.setting 0 }
+    ensures outcome { IfOk result (IsOutcome session) }
     ensures texts { WatchesOutputs
         (record { took = F.took; refused = F.refused; old = frames.old; new = frames.new })
         (record { took = W.took; refused = W.refused; old = wave.old; new = wave.new })
         (record { took = T.took; refused = T.refused; old = text.old; new = text.new })
-        (total_frames session.old.setting.script)
-        (whole_run session.old.setting).outputs session.old.setting (lines commands.now) result }
+        (total_frames session.setting.script)
+        (whole_run session.setting).outputs session.setting (lines commands.now) result }
 {
     let mut wave = WaveFile::begin(wave, FRAME_SAMPLES * session.frames());
     if let Err(fault) = wave.flush() {

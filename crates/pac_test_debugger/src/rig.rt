@@ -5,7 +5,7 @@ ghost use Rattle.pac_debug_session.specs.Session.{IsNew};
 
 use pac_board::kept::Kept;
 use pac_board::{Board, Raw, RomSet};
-use pac_debug_session::Session;
+use pac_debug_session::{RunTotals, Session};
 use pac_inputs::read_script;
 use std::alloc::{AllocError, Global};
 use std::marker::Model;
@@ -20,6 +20,31 @@ pub const INTERRUPT: [u8; 58] = [
     0x00, 0x00, 0x00, 0x00, 0x00, 0x00, 0x00, 0x00, 0x00, 0x00, 0x00, 0x00, 0x00, 0x00, 0x00, 0x00,
     0x00, 0x00, 0x00, 0x00, 0x00, 0x00, 0x00, 0x00, 0xED, 0x4D,
 ];
+
+/// LD A,1 / LD (5000H),A / EI / HALT.
+pub const NO_MODE: [u8; 7] = [0x3E, 0x01, 0x32, 0x00, 0x50, 0xFB, 0x76];
+
+/// What two frames of `CELL` come to: 20 T-states of its first two instructions, and then 4 a step.
+pub const TOTALS: RunTotals = RunTotals {
+    frames: 2,
+    steps: 25_341,
+    ticks: 101_376,
+    stop: None,
+};
+
+/// Whether a run came to this, without a stop, and its sink has so many outputs.
+pub fn is_total(ended: Option<(RunTotals, usize)>, wanted: RunTotals, outputs: usize) -> bool {
+    match ended {
+        Some((totals, taken)) => {
+            totals.frames == wanted.frames
+                && totals.steps == wanted.steps
+                && totals.ticks == wanted.ticks
+                && totals.stop.is_none()
+                && taken == outputs
+        }
+        None => false,
+    }
+}
 
 /// A board at power-on whose program begins with these bytes.
 pub fn board(alloc: Global, bytes: &[u8]) -> Result<Board, AllocError>
@@ -83,6 +108,12 @@ impl Rig {
         let kept = Kept::new(alloc, 0);
         let session = session(alloc, bytes, script)?;
         Ok(Rig { session, kept })
+    }
+
+    /// The session, and its sink.
+    pub fn into_parts(self) -> (Session, Kept) {
+        let Rig { session, kept } = self;
+        (session, kept)
     }
 
     /// Has a new sink from now on, which refuses the offer of this number.

@@ -1,7 +1,7 @@
 //! How sessions answer command lines.
 
 use crate::rig::Rig;
-use pac_debug::{CommandFault, command, commands};
+use pac_debug::{CommandFault, RunTotals, command, commands, watch};
 use pac_out::counted::Counted;
 use pac_out::faulty::Faulty;
 use pac_out::memory::MemoryWriter;
@@ -34,6 +34,16 @@ impl Rig {
     /// Does what the lines of a text of commands ask; whether all were answered.
     fn obey_all(&mut self, lines: &str, text: &mut Counted<MemoryWriter>) -> bool {
         commands(&mut self.session, lines.as_bytes(), &mut self.kept, text).is_ok()
+    }
+
+    /// Does what the lines of a text ask, goes on to the end of the run, and tells what it came to and how many outputs the sink has then.
+    pub fn watch(self, alloc: Global, lines: &str) -> Option<(RunTotals, usize)> {
+        let mut text = text_of(alloc, 1000)?;
+        let (session, mut kept) = self.into_parts();
+        match watch(session, lines.as_bytes(), &mut kept, &mut text) {
+            Ok(totals) => Some((totals, kept.taken().len())),
+            Err(_) => None,
+        }
     }
 
     /// Whether each of these command lines is answered, one after another, and all of them by this text.

@@ -1,7 +1,8 @@
 //! Worked sessions: programs, scripts and command lines, and what is told.
 
 use super::answers::{Telling, is_told, is_told_of_text};
-use crate::rig::{CELL, INTERRUPT};
+use crate::rig::{CELL, INTERRUPT, NO_MODE, Rig, TOTALS, is_total};
+use std::test::Fail;
 
 /// Sessions, whose lines are done one by one.
 static SESSIONS: [Telling; 6] = [
@@ -55,7 +56,7 @@ static SESSIONS: [Telling; 6] = [
     // LD A,1 / LD (5000H),A / EI / HALT: in mode 0 the interrupt's vector 0 is no RST, so the first blank is followed by a
     // stop
     Telling {
-        program: &[0x3E, 0x01, 0x32, 0x00, 0x50, 0xFB, 0x76],
+        program: &NO_MODE,
         script: b"2 -",
         lines: "continue\nstep 1",
         text: "stop 12669 50688 0007 HALTED\nstop 12669 50688 0007 HALTED\n",
@@ -94,4 +95,13 @@ static COMMANDS: Telling = Telling {
 #[test]
 fn a_text_of_commands(rt: HostRuntime) {
     assert!(rt; is_told_of_text(rt.alloc(), &COMMANDS));
+}
+
+// Commands go forth, back, and to a slot; then the run goes on to its end. The sink has each output once.
+#[test]
+fn a_session_to_its_end(rt: HostRuntime) -> Result<(), Fail> {
+    let rig = Rig::new(rt.alloc(), &CELL, b"2 -")?;
+    let lines = "step 3\nkeep 1\nframes 1\nstep 5000\nback 5000\nreturn 1";
+    assert!(rt; is_total(rig.watch(rt.alloc(), lines), TOTALS, 2 * 1585));
+    Ok(())
 }

@@ -1,6 +1,6 @@
 //! Worked sessions.
 
-use crate::rig::{CELL, Rig};
+use crate::rig::{CELL, NO_MODE, Rig, TOTALS, is_total};
 use pac_debug_session::Motion;
 use std::test::Fail;
 
@@ -76,6 +76,38 @@ fn a_refused_sample(rt: HostRuntime) -> Result<(), Fail> {
     assert!(rt; rig.is_at(5, 32, 0x0006) && rig.outputs() == 0);
     assert!(rt; rig.steps(8));
     assert!(rt; rig.is_at(13, 64, 0x0006) && rig.outputs() == 2);
+    Ok(())
+}
+
+// Forth and back and to a slot, and then to the end, step by step and at once: 2 frames of 1,584 samples and a picture.
+#[test]
+fn to_the_end(rt: HostRuntime) -> Result<(), Fail> {
+    let mut rig = Rig::new(rt.alloc(), &CELL, b"2 -")?;
+    assert!(rt; rig.steps(3) && rig.keep() && rig.steps(20_000));
+    assert!(rt; rig.goes_back(5_000) && rig.go_to_kept());
+    assert!(rt; rig.index() == 3 && rig.furthest() == 20_003);
+    assert!(rt; is_total(rig.play_on(), TOTALS, 2 * 1585));
+    let mut rig = Rig::new(rt.alloc(), &CELL, b"2 -")?;
+    assert!(rt;
+        is_total(
+            rig.finish().map(|totals| (totals, rig.outputs())),
+            TOTALS,
+            2 * 1585
+        )
+    );
+    Ok(())
+}
+
+// In mode 0 the vector 0 is no RST, so the first blank is followed by a stop; a sink that refuses ends the run, too.
+#[test]
+fn ends_on_the_way(rt: HostRuntime) -> Result<(), Fail> {
+    let rig = Rig::new(rt.alloc(), &NO_MODE, b"2 -")?;
+    assert!(rt;
+        matches!(rig.play_on(), Some((totals, 1585)) if totals.stop.is_some() && totals.steps == 12_669)
+    );
+    let mut rig = Rig::new(rt.alloc(), &CELL, b"2 -")?;
+    rig.refuse(rt.alloc(), 3170);
+    assert!(rt; rig.play_on().is_none());
     Ok(())
 }
 

@@ -8,28 +8,42 @@ use Rattle.pac_debug.proofs.whole.watch.Goals as goal
 pub returns-in_err-commands : goal.returns-in_err-commands
 returns-in_err-commands g c =
     let old : Scene g.row.S.Denot g.row.W.Denot
-    = record { session = c.args.session.now; sink = c.args.sink.now; text = c.args.text.now } in
+    = record { session = c.args.session; sink = c.args.sink.now; text = c.args.text.now } in
     let mid : Scene g.row.S.Denot g.row.W.Denot
     = record { session = c.commands.new.session; sink = c.commands.new.sink; text = c.commands.new.text } in
     let told = err_from_is_err_and c.from_residual.result c.from_residual.ensures.1 in
     rw (told.1, told.2)
-    (ended-early g.S.Sink.took g.S.Sink.refused g.W.Out.took g.W.Out.refused (lines c.args.bytes.now) old mid c.in_err-commands.field-0.0
-    c.in_err-commands.ensures.obeys c.in_err-commands.ensures.given)
+    (record {
+      left = mid.session;
+      watched =
+          ended-early g.S.Sink.took g.S.Sink.refused g.W.Out.took g.W.Out.refused (lines c.args.bytes.now) old mid
+          c.in_err-commands.field-0.0 c.in_err-commands.ensures.obeys c.in_err-commands.ensures.given;
+    })
 
 pub returns-in-Ok : goal.returns-in-Ok
 returns-in-Ok g c =
     let old : Scene g.row.S.Denot g.row.W.Denot
-    = record { session = c.args.session.now; sink = c.args.sink.now; text = c.args.text.now } in
+    = record { session = c.args.session; sink = c.args.sink.now; text = c.args.text.now } in
     let mid : Scene g.row.S.Denot g.row.W.Denot
     = record { session = c.commands.new.session; sink = c.commands.new.sink; text = c.commands.new.text } in
-    finished g.S.Sink.took g.S.Sink.refused g.W.Out.took g.W.Out.refused (lines c.args.bytes.now) old mid c.in_ok-commands.field-0
-    c.in_ok-commands.ensures.obeys c.in_ok-commands.ensures.given _ _ _ c.in-Ok.ensures
+    record {
+      left = c.in-Ok.ensures.left;
+      watched =
+          finished g.S.Sink.took g.S.Sink.refused g.W.Out.took g.W.Out.refused (lines c.args.bytes.now) old mid
+          c.in_ok-commands.field-0 c.in_ok-commands.ensures.obeys c.in_ok-commands.ensures.given _ c.in-Ok.ensures.left _
+          c.in-Ok.ensures.finishes;
+    }
 
 pub returns-in-Err : goal.returns-in-Err
 returns-in-Err g c =
     let old : Scene g.row.S.Denot g.row.W.Denot
-    = record { session = c.args.session.now; sink = c.args.sink.now; text = c.args.text.now } in
+    = record { session = c.args.session; sink = c.args.sink.now; text = c.args.text.now } in
     let mid : Scene g.row.S.Denot g.row.W.Denot
     = record { session = c.commands.new.session; sink = c.commands.new.sink; text = c.commands.new.text } in
-    held-up g.S.Sink.took g.S.Sink.refused g.W.Out.took g.W.Out.refused (lines c.args.bytes.now) old mid c.in_ok-commands.field-0
-    c.in_ok-commands.ensures.obeys c.in_ok-commands.ensures.given _ _ c.in-Err.ensures
+    record {
+      left = c.in-Err.ensures.left;
+      watched =
+          held-up g.S.Sink.took g.S.Sink.refused g.W.Out.took g.W.Out.refused (lines c.args.bytes.now) old mid
+          c.in_ok-commands.field-0 c.in_ok-commands.ensures.obeys c.in_ok-commands.ensures.given c.in-Err.ensures.left _
+          c.in-Err.ensures.finishes;
+    }

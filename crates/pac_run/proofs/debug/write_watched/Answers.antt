@@ -13,7 +13,7 @@ returns-in-Err g c =
       report = writing g.R.Out.took g.R.Out.refused c.args.report.now c.args.report.now;
     })
     (writing g.T.Out.took g.T.Out.refused c.args.text.now c.args.text.now)
-    c.args.program.now c.args.session.now c.args.total c.requires c.in-Err.fault.count c.in-Err.ensures refl refl refl refl
+    c.args.program.now c.args.session c.args.total c.requires c.in-Err.fault.count c.in-Err.ensures refl refl refl refl
 
 pub returns-in-Err-watch_run : goal.returns-in-Err-watch_run
 returns-in-Err-watch_run g c =
@@ -25,7 +25,7 @@ returns-in-Err-watch_run g c =
       report = writing g.R.Out.took g.R.Out.refused c.args.report.now c.args.report.now;
     })
     (writing g.T.Out.took g.T.Out.refused c.args.text.now c.watch_run.new.text)
-    c.args.program.now c.args.session.now c.args.total c.requires c.in-Err-watch_run.fault.output c.in-Err-watch_run.fault.count
+    c.args.program.now c.args.session c.args.total c.requires c.in-Err-watch_run.fault.output c.in-Err-watch_run.fault.count
     c.in-Err-watch_run.ensures.texts c.in_default.ensures refl
 
 pub returns-in-Ok-report_on : goal.returns-in-Ok-report_on
@@ -38,7 +38,7 @@ returns-in-Ok-report_on g c =
       report = writing g.R.Out.took g.R.Out.refused c.args.report.now c.report_on.new.report;
     })
     (writing g.T.Out.took g.T.Out.refused c.args.text.now c.watch_run.new.text)
-    c.args.program.now c.args.session.now c.args.total c.requires _ c.in-Ok.ensures.outcome
+    c.args.program.now c.args.session c.args.total c.requires _ c.in-Ok.ensures.outcome
     c.in-Ok.ensures.texts c.in_default.ensures c.outcome_of-outcome.result c.outcome_of-outcome.ensures
     c.in-Ok-report_on.ensures
 
@@ -52,6 +52,6 @@ returns-in-Err-report_on g c =
       report = writing g.R.Out.took g.R.Out.refused c.args.report.now c.report_on.new.report;
     })
     (writing g.T.Out.took g.T.Out.refused c.args.text.now c.watch_run.new.text)
-    c.args.program.now c.args.session.now c.args.total c.requires _ c.in-Ok.ensures.outcome
+    c.args.program.now c.args.session c.args.total c.requires _ c.in-Ok.ensures.outcome
     c.in-Ok.ensures.texts c.in_default.ensures c.outcome_of-outcome.result c.outcome_of-outcome.ensures
     c.in-Err-report_on.fault.count c.in-Err-report_on.ensures

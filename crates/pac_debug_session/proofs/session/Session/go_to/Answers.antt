@@ -1,6 +1,6 @@
 -- The session stands at what the slot keeps.
 use Rattle.std.proofs.Common.{◌≡◌, ℕ, ◌<◌, true, None, Some, Option, Ok, length, map, get_or, refl, ap, subst, sym, ◌∙◌, arith}
-use Rattle.pac_board.specs.State.{nothing_due}
+use Rattle.pac_board.specs.State.{BoardValue, nothing_due}
 use Rattle.pac_debug_session.specs.declared.session.Empty.{Empty}
 use Rattle.pac_debug_session.specs.Inside.{session_setting}
 use Rattle.pac_debug_session.specs.Keeping.{mark_of}
@@ -27,6 +27,7 @@ invariant_of-self c =
     record {
       limit = c.self.invariant.limit;
       short = c.self.invariant.short;
+      unasked = ap (λ (b : BoardValue). b.state.asked) c.put_back.ensures.board ∙ full.kept.unasked;
       standing =
           standing-there inside.switches inside.script inside.board c.put_back.new.board c.put_back.new.history slot.kept inside.furthest
           c.put_back.ensures.board c.put_back.ensures.history inside.checkpoints there.0;

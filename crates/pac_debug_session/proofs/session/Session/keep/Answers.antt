@@ -21,13 +21,19 @@ invariant_of-self c =
     record {
       limit = c.self.invariant.limit;
       short = c.self.invariant.short;
+      unasked = c.self.invariant.unasked;
       standing = stands;
       slots =
           subst (λ (k : SessionSnapshot). AreSlotsRight (session_setting inside) inside.furthest
           (set inside.slots.items c.args.slot (record { kept = k; filled = true }))) kept
           (right-set (session_setting inside) inside.furthest inside.slots.items c.args.slot
           (record { kept = kept_of board inside.history; filled = true }) c.self.invariant.slots
-          (λ filled. record { now = stands.now_is; nothing = nothing; history = stands.history_is }) stands.within);
+          (λ filled. record {
+            now = stands.now_is;
+            nothing = nothing;
+            unasked = c.self.invariant.unasked;
+            history = stands.history_is;
+          }) stands.within);
       breakpoints = c.self.invariant.breakpoints;
     }
 

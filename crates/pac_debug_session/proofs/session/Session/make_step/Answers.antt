@@ -35,7 +35,7 @@ invariant_of-self c =
     board.state.now.regs c.play_step-once.result c.tell.ensures c.steps-index.ensures c.regs-pc.ensures refl in
     let made =
     made-step board inside.switches inside.script inside.history inside.furthest inside.checkpoints c.play_step-once.result new
-    c.tell.new.history c.self.invariant.standing nothing early c.play_step-once.ensures told in
+    c.tell.new.history c.self.invariant.standing nothing c.self.invariant.unasked early c.play_step-once.ensures told in
     let far : max inside.furthest new.state.now.steps ≡ c.max-self-inside.result
     = sym (c.max-self-inside.ensures ∙ ap (λ n. max inside.furthest n) c.steps.ensures) in
     let ring : ring_after_index board.state.now.steps inside.checkpoints (kept_of board inside.history) ≡ c.take_at.new.checkpoints
@@ -43,6 +43,7 @@ invariant_of-self c =
     record {
       limit = c.self.invariant.limit;
       short = c.self.invariant.short;
+      unasked = made.asked ∙ c.self.invariant.unasked;
       standing =
           subst (λ n. IsStanding (record { set = new.set; switches = inside.switches; script = inside.script }) new.state.now
           c.tell.new.history n c.take_at.new.checkpoints) far
@@ -70,7 +71,7 @@ returns c =
     board.state.now.regs c.play_step-once.result c.tell.ensures c.steps-index.ensures c.regs-pc.ensures refl in
     let made =
     made-step board inside.switches inside.script inside.history inside.furthest inside.checkpoints c.play_step-once.result new
-    c.tell.new.history c.self.invariant.standing nothing early c.play_step-once.ensures told in
+    c.tell.new.history c.self.invariant.standing nothing c.self.invariant.unasked early c.play_step-once.ensures told in
     let far : max inside.furthest new.state.now.steps ≡ c.max-self-inside.result
     = sym (c.max-self-inside.ensures ∙ ap (λ n. max inside.furthest n) c.steps.ensures) in
     subst (λ (s : SessionValue). MakesStep s once

@@ -3,7 +3,7 @@ use Rattle.std.proofs.Common.{◌≡◌, ◌*◌, [], length, map, ap, ◌∙◌
 use Rattle.pac_inputs.specs.Stretches.{held}
 use Rattle.pac_board.specs.State.{board_with_inputs}
 use Rattle.pac_debug_session.specs.Keeping.{mark_of}
-use Rattle.pac_debug_session.proofs.Begun.{stands-first, right-empty, value-first}
+use Rattle.pac_debug_session.proofs.Begun.{new-asked, stands-first, right-empty, value-first}
 use Rattle.pac_debug_session.proofs.Steppings.{with_board}
 use Rattle.pac_debug_session.proofs.session.Session.new.Goals as goal
 
@@ -20,6 +20,7 @@ invariant_of-result c =
     record {
       limit = ap (λ n. 50688 * n) (frames ∙ count);
       short = omega arith;
+      unasked = new-asked board c.hold.new.board c.args.script c.peek-switches.result switches c.requires hold;
       standing =
           stands-first board c.hold.new.board c.args.script c.peek-switches.result switches c.requires hold c.in-Ok.history
           c.in-Ok.checkpoints c.in-Ok.ensures.0 c.in-Ok.ensures.1 c.in-Ok.ensures.2;

@@ -1,6 +1,6 @@
 -- The session stands at the checkpoint.
 use Rattle.std.proofs.Common.{◌≡◌, ◌+◌, ◌-◌, ◌*◌, map, ap, subst, ◌∙◌, arith}
-use Rattle.pac_board.specs.State.{nothing_due}
+use Rattle.pac_board.specs.State.{BoardValue, nothing_due}
 use Rattle.pac_debug_session.specs.Inside.{session_setting}
 use Rattle.pac_debug_session.specs.Keeping.{mark_of, IsKeptAt}
 use Rattle.pac_debug_session.specs.Motions.{checkpoint_steps, checkpoint_count}
@@ -30,6 +30,7 @@ invariant_of-self c =
     record {
       limit = c.self.invariant.limit;
       short = c.self.invariant.short;
+      unasked = ap (λ (b : BoardValue). b.state.asked) c.put_back.ensures.board ∙ at.unasked;
       standing =
           standing-there inside.switches inside.script inside.board c.put_back.new.board c.put_back.new.history kept inside.furthest
           c.put_back.ensures.board c.put_back.ensures.history ring there.0;

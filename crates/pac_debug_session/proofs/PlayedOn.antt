@@ -1,0 +1,200 @@
+-- A session's run from its furthest index on is the way on of its course.
+use Rattle.std.proofs.Common.{◌≡◌, ℕ, zero, suc, ◌+◌, ◌*◌, ◌/◌, ◌≤◌, Option, List, [], ◌∷◌, ◌++◌, length, drop}
+use Rattle.std.proofs.Common.{refl, sym, ap, subst, ◌∙◌, append_assoc, arith}
+use Rattle.std.proofs.Math.Seq.{drop-append_seam}
+use Rattle.pac_inputs.specs.Stretches.{total_frames, held, most_frames}
+use Rattle.pac_board.specs.BoardView.{BoardView, power_on_board_view}
+use Rattle.pac_board.specs.Output.{Output}
+use Rattle.pac_board.specs.Step.{Moment, Next, frame_ticks}
+use Rattle.pac_board.specs.Stop.{Stop}
+use Rattle.pac_board.specs.Trace.{by_view, frame_steps}
+use Rattle.pac_board.specs.Walk.{Walk, walk, walk_to}
+use Rattle.pac_board.proofs.Runs.{runs-end}
+use Rattle.pac_board.proofs.Sinks.{took-both, refuses-after}
+use Rattle.pac_board.proofs.Walks.{joined, more-joined, goes-on, walk-to-ends}
+use Rattle.pac_board.specs.Sinks.{TookAll, RefusesAt}
+use Rattle.pac_board.specs.State.{nothing_due, due_outputs, due_outputs_in}
+use Rattle.pac_board_course.proofs.Begun.{walk-same, play-same}
+use Rattle.pac_board_course.specs.Course.{CourseValue, end_of, held_in, next_in, way_on, way_walked}
+use Rattle.pac_board_course.specs.Plays.{IsOver, IsCourseHeldUp}
+use Rattle.pac_debug_session.specs.declared.motion.RunTotals.{RunTotals}
+use Rattle.pac_debug_session.specs.Motions.{IsFinished, IsFinishRefused, moved_to, replayed_to}
+use Rattle.pac_debug_session.specs.Playing.{course_of, totals_at}
+use Rattle.pac_debug_session.specs.Running.{play_of, run, whole_run, now_at, next_from, limit, outputs_between, outputs_from}
+use Rattle.pac_debug_session.specs.Session.{SessionValue, IsSession, session_due_outputs}
+use Rattle.pac_debug_session.proofs.Ends.{start, run-ends, goes-if-counted}
+use Rattle.pac_debug_session.proofs.Indices.{IsOpen, open-up-to, timely, between}
+use Rattle.pac_debug_session.proofs.Travelled.{time-near}
+
+-- ---- the course's walks are the run's
+
+module _ (s : SessionValue) (opened : IsOpen s.setting s.index) where
+  abbrev course : CourseValue
+  course = course_of s
+
+  abbrev here : Walk BoardView
+  here = run s.setting s.index
+
+  abbrev next : Moment BoardView → Next BoardView
+  next = next_from s.setting
+
+  abbrev after_here : Walk BoardView → Walk BoardView
+  after_here w = joined next (limit s.setting) here w
+
+  limits : end_of course ≡ limit s.setting
+  limits = omega arith
+
+  steps-same : (now : Moment BoardView) → next_in course now ≡ next now
+  steps-same now =
+      let masks : (frame : ℕ) → held_in course frame ≡ held s.setting.script frame = λ frame. ap (held s.setting.script) (omega arith) in
+      play-same (by_view s.setting.set) (held_in course) (held s.setting.script) masks now
+
+  walked-same : (tries : ℕ) → way_walked course tries ≡ walk next (limit s.setting) here.now tries
+  walked-same tries =
+      ap (λ limit. walk (next_in course) limit here.now tries) limits
+      ∙ walk-same (next_in course) next (limit s.setting) steps-same here.now tries
+
+  -- up to a later index, and to the end
+  pub run-walked : (tries : ℕ) → after_here (way_walked course tries) ≡ run s.setting (s.index + tries)
+  run-walked tries =
+      ap after_here (walked-same tries)
+      ∙ more-joined next (limit s.setting) (start s.setting) s.index tries (s.index + tries) refl opened.open_yet
+
+  pub run-on : after_here (way_on course) ≡ whole_run s.setting
+  run-on =
+      ap after_here
+      (ap (λ limit. walk_to (next_in course) limit here.now) limits
+      ∙ walk-same (next_in course) next (limit s.setting) steps-same here.now (limit s.setting))
+      ∙ goes-on next (limit s.setting) (timely s.setting) (start s.setting) s.index
+      ∙ (runs-end (by_view s.setting.set) (play_of s.setting.script) (power_on_board_view s.setting.switches) (limit s.setting)).1
+      (walk-to-ends next (limit s.setting) (timely s.setting) (start s.setting))
+
+  pub given-walked : (tries : ℕ) → outputs_between s.setting s.index (s.index + tries) ≡ (way_walked course tries).outputs
+  given-walked tries =
+      between s.setting s.index (s.index + tries) (way_walked course tries).outputs
+      (ap (λ (w : Walk BoardView). w.outputs) (sym (run-walked tries)))
+
+  pub given-on : outputs_from s.setting s.index ≡ (way_on course).outputs
+  given-on =
+      ap (drop (length here.outputs)) (ap (λ (w : Walk BoardView). w.outputs) (sym run-on))
+      ∙ drop-append_seam here.outputs (way_on course).outputs
+
+-- ---- a session that plays on
+
+module _ {S : Type 0} (took refused : S → Output → S → Type 0) (old : SessionValue) (facts : IsSession old) (sink between_sinks : S)
+    (before : TookAll took sink (session_due_outputs old) between_sinks) where
+  -- what was due is taken, and what was done before is done again
+  abbrev at_furthest : SessionValue
+  at_furthest = replayed_to (record old { due = nothing_due; replayed = 0 }) old.furthest
+
+  pub opened-there : IsOpen at_furthest.setting at_furthest.index
+  opened-there = open-up-to old.setting old.furthest facts.goes
+
+  pub stands-there : (mid new : SessionValue) (index : ℕ) → mid ≡ record old { due = nothing_due; replayed = 0 } → index ≡ mid.furthest
+      → new ≡ replayed_to mid index → new ≡ at_furthest
+  stands-there mid new index mid_is furthest is =
+      is ∙ ap (replayed_to mid) furthest ∙ ap (λ (s : SessionValue). replayed_to s s.furthest) mid_is
+
+  abbrev due : List Output
+  due = session_due_outputs old
+
+  -- the run came to its end
+  pub played : (from after : CourseValue) (stop : Option Stop) (later : S) (outcome : RunTotals) → from ≡ course_of at_furthest
+      → IsOver took from between_sinks stop after later → outcome ≡ totals_at after.board stop
+      → (left : SessionValue) × IsFinished took old sink outcome left later
+  played from after stop later outcome begins is_over totals =
+      let over = subst (λ course. IsOver took course between_sinks stop after later) begins is_over in
+      let end = run-ends old.setting old.index (λ earlier less. let within = facts.within in facts.goes earlier (omega arith)) in
+      let whole = run-on at_furthest opened-there in
+      let now : after.board.state.now ≡ (whole_run old.setting).now
+      = ap (λ (course : CourseValue). course.board.state.now) over.course ∙ ap (λ (w : Walk BoardView). w.now) whole in
+      let time = ap (λ (m : Moment BoardView). m.time) now in (
+        record (moved_to old end.0) { replayed = 0 },
+        record {
+          rest = end.1;
+          outcome_is = record {
+            frames = ap (λ (t : RunTotals). t.frames) totals ∙ ap (λ time. time / frame_ticks) time;
+            steps = ap (λ (t : RunTotals). t.steps) totals ∙ ap (λ (m : Moment BoardView). m.steps) now;
+            ticks = ap (λ (t : RunTotals). t.ticks) totals ∙ time;
+            stop = ap (λ (t : RunTotals). t.stop) totals ∙ over.stop_is ∙ ap (λ (w : Walk BoardView). w.stop) whole;
+          };
+          session = refl;
+          sink_is =
+              subst (λ xs. TookAll took sink (due ++ xs) later) (sym (given-on at_furthest opened-there))
+              (took-both took due (way_on (course_of at_furthest)).outputs sink between_sinks later before over.sink_is);
+        },
+      )
+
+  -- the time at its end
+  pub ends-near : (from after : CourseValue) (stop : Option Stop) (later : S) → from ≡ course_of at_furthest
+      → IsOver took from between_sinks stop after later → after.board.state.now.time ≤ frame_ticks * (most_frames + 1)
+  ends-near from after stop later begins is_over =
+      let over = subst (λ course. IsOver took course between_sinks stop after later) begins is_over in
+      let whole = run-on at_furthest opened-there in
+      let time = ap (λ (course : CourseValue). course.board.state.now.time) over.course ∙ ap (λ (w : Walk BoardView). w.now.time) whole in
+      let near = time-near old.setting (frame_steps * total_frames old.setting.script) in
+      let short = facts.short in
+      omega (arith, time, near, short)
+
+  -- an output was refused, after one step at least
+  gave-none : {A : Type 0} (taken left : List Output) (later : S) → [] ≡ taken ++ left → RefusesAt took refused between_sinks taken left later
+      → A
+  gave-none [] left later none refuses = let is = none ∙ refuses.left_is in absurd (cc)
+  gave-none (output ∷ more) left later none refuses = absurd (cc)
+
+  held-there : (after : CourseValue) (later : S) (steps : ℕ)
+      → (held : IsCourseHeldUp took refused (course_of at_furthest) between_sinks after later) → held.steps ≡ steps
+      → (left : SessionValue) × IsFinishRefused took refused old sink left later
+  held-there after later zero held count =
+      gave-none held.taken (due_outputs after.board) later
+      (ap (λ n. (way_walked (course_of at_furthest) n).outputs) (sym count) ∙ held.parts) held.refuses
+  held-there after later (suc more) held count =
+      let last : ℕ = old.furthest + more in
+      let index : ℕ = old.furthest + suc more in
+      let next : index ≡ suc last = omega arith in
+      let walked = way_walked (course_of at_furthest) (suc more) in
+      let at : after.board.state.now ≡ now_at old.setting index
+      = ap (λ (course : CourseValue). course.board.state.now) held.course
+      ∙ ap (λ n. (way_walked (course_of at_furthest) n).now) count
+      ∙ ap (λ (w : Walk BoardView). w.now) (run-walked at_furthest opened-there (suc more)) in
+      let set : after.board.set ≡ old.setting.set = ap (λ (course : CourseValue). course.board.set) held.course in
+      let all = held.all_steps in
+      let first = opened-there.steps in
+      let here = ap (λ (m : Moment BoardView). m.steps) at in
+      let there = ap (λ n. (now_at old.setting n).steps) next in
+      let counted : (now_at old.setting (suc last)).steps ≡ suc last = omega (arith, all, count, first, here, there) in
+      let left : SessionValue = record (moved_to old index) { due = after.board.state.due; replayed = 0 } in
+      let still : due_outputs after.board ≡ session_due_outputs left
+      = ap (λ set. due_outputs_in set after.board.state.now.board after.board.state.due) set
+      ∙ ap (λ (m : Moment BoardView). due_outputs_in old.setting.set m.board after.board.state.due) at in
+      let given : outputs_between old.setting old.furthest index ≡ held.taken ++ session_due_outputs left
+      = given-walked at_furthest opened-there (suc more)
+      ∙ ap (λ n. (way_walked (course_of at_furthest) n).outputs) (sym count)
+      ∙ held.parts ∙ ap (λ xs. held.taken ++ xs) still in
+      let most = held.of_last more count in (
+        left,
+        record {
+          last = last;
+          index = omega arith;
+          fresh = omega arith;
+          restless = λ earlier from less. goes-if-counted old.setting last counted earlier less;
+          session = refl;
+          taken = due ++ held.taken;
+          parts = ap (λ xs. due ++ xs) given ∙ sym (append_assoc due held.taken (session_due_outputs left));
+          of_last = (
+            most.0,
+            append_assoc due (outputs_between old.setting old.furthest last) most.0
+                ∙ ap (λ xs. due ++ (xs ++ most.0)) (given-walked at_furthest opened-there more) ∙ ap (λ xs. due ++ xs) most.1,
+          );
+          refuses =
+              subst (λ left. RefusesAt took refused sink (due ++ held.taken) left later) still
+              (refuses-after took refused due held.taken (due_outputs after.board) sink between_sinks later before held.refuses);
+        },
+      )
+
+  pub held-up : (from after : CourseValue) (later : S) → from ≡ course_of at_furthest
+      → IsCourseHeldUp took refused from between_sinks after later
+      → (left : SessionValue) × IsFinishRefused took refused old sink left later
+  held-up from after later begins held =
+      let told = subst (λ course. IsCourseHeldUp took refused course between_sinks after later) begins held in
+      held-there after later told.steps told refl

@@ -1,0 +1,60 @@
+//! What is left of a session's run, at once: as a course, which keeps no history and takes no checkpoint.
+
+ghost use Rattle.std.specs.Prelude.{◌≡◌, ◌≤◌, ◌*◌, ◌+◌};
+ghost use Rattle.pac_board.specs.Step.{frame_ticks};
+ghost use Rattle.pac_inputs.specs.Stretches.{most_frames};
+ghost use Rattle.pac_debug_session.specs.Motions.{PlaysOn};
+ghost use Rattle.pac_debug_session.specs.Playing.{course_of, totals_at};
+
+use crate::motion::RunTotals;
+use crate::session::Session;
+use pac_board::{Board, FRAME_TICKS, Refused, Sink, Stop};
+use pac_board_course::Course;
+
+/// What a run came to that ended here.
+fn totals(board: &Board, stop: Option<Stop>) -> RunTotals
+    requires { board.now.state.now.time ≤ frame_ticks * (most_frames + 1) }
+    ensures { result ≡ totals_at board.now stop }
+{
+    RunTotals {
+        frames: (board.time() / FRAME_TICKS) as u32,
+        steps: board.steps(),
+        ticks: board.time(),
+        stop,
+    }
+}
+
+impl Session {
+    /// The course of the run, from the session's index on.
+    fn into_course(self) -> Course
+        ensures { result ≡ course_of self }
+    {
+        let Session {
+            board,
+            script,
+            switches: _,
+            limit: _,
+            furthest: _,
+            breakpoints: _,
+            history: _,
+            checkpoints: _,
+            slots: _,
+            replayed: _,
+        } = self;
+        Course::taken_up(board, script, 0)
+    }
+
+    /// Offers what is due, goes to the end of the run, and says what the run came to, as `finish` does, for a session that is needed no
+    /// more: from the furthest index on nothing is kept to go back to.
+    pub fn play_on<S: Sink>(mut self, sink: &mut S) -> Result<RunTotals, Refused>
+        ensures { PlaysOn S.took S.refused self sink.old result sink.new }
+    {
+        self.facts();
+        self.offer(sink)?;
+        let furthest = self.furthest();
+        self.replay(furthest);
+        let mut course = self.into_course();
+        let stop = course.run_to_end(sink)?;
+        Ok(totals(course.board(), stop))
+    }
+}
