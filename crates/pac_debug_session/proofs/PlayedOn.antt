@@ -137,7 +137,8 @@ module _ {S : Type 0} (took refused : S → Output → S → Type 0) (old : Sess
       omega (arith, time, near, short)
 
   -- an output was refused, after one step at least
-  gave-none : {A : Type 0} (taken left : List Output) (later : S) → [] ≡ taken ++ left → RefusesAt took refused between_sinks taken left later
+  gave-none : {A : Type 0} (taken left : List Output) (later : S) → [] ≡ taken ++ left
+      → RefusesAt took refused between_sinks taken left later
       → A
   gave-none [] left later none refuses = let is = none ∙ refuses.left_is in absurd (cc)
   gave-none (output ∷ more) left later none refuses = absurd (cc)
