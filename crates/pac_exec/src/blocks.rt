@@ -65,8 +65,7 @@ fn count_byte(direction: Direction, regs: &mut Regs) -> bool
 fn take_in<B: Bus>(direction: Direction, regs: &mut Regs, bus: &mut B) -> bool
     ensures { DoesIteration B.after (blocks.input_iteration direction regs.old (B.input_at bus.old)) bus.old regs.new bus.new result }
 {
-    let byte = bus.input(regs.c);
-    bus.write(regs.hl(), byte);
+    bus.write(regs.hl(), bus.input(regs.c));
     count_byte(direction, regs)
 }
 
@@ -74,8 +73,7 @@ fn take_in<B: Bus>(direction: Direction, regs: &mut Regs, bus: &mut B) -> bool
 fn give_out<B: Bus>(direction: Direction, regs: &mut Regs, bus: &mut B) -> bool
     ensures { DoesIteration B.after (blocks.output_iteration direction regs.old (B.byte_at bus.old)) bus.old regs.new bus.new result }
 {
-    let byte = bus.read(regs.hl());
-    bus.output(regs.c, byte);
+    bus.output(regs.c, bus.read(regs.hl()));
     count_byte(direction, regs)
 }
 

@@ -8,6 +8,7 @@ mod failure;
 mod given;
 mod play;
 mod program;
+mod standard;
 mod teller;
 
 pub use asm::write_program;

@@ -5,7 +5,7 @@ ghost use Rattle.clap.specs.Words.{fault_of, kind_of};
 ghost use Rattle.pac_run_options.specs.CommandLine.{pacboard, request_of};
 ghost use Rattle.pac_run_command.specs.Endings.{FailureEnds, WordsEnd, WorkEnds};
 ghost use Rattle.pac_run_command.specs.Failures as told;
-ghost use Rattle.pac_run_command.specs.Machine.{Hears, IsUnheard, RunsOn, WorksOn};
+ghost use Rattle.pac_run_command.specs.Machine.{IsUnheard, RunsOn, WorksOn};
 ghost use Rattle.pac_run_command.specs.Programs.{Assembles, PerformsRun, PerformsWatched};
 ghost use Rattle.pac_run_command.specs.Texts.{WritesDisassembly};
 ghost use Rattle.pac_run_command.specs.Works.{Works, WorksUnkept, without_output};
@@ -17,10 +17,11 @@ use crate::debug::debug;
 use crate::dis::dis;
 use crate::failure::{Failure, Target};
 use crate::play::play;
+use crate::standard::run_heard;
 use crate::teller::{HostConsole, Teller};
 use clap::error::ErrorKind;
 use pac_run::{Out, Output, Through};
-use pac_run_files::{FileSystem, HostFiles, keep_standard};
+use pac_run_files::{FileSystem, HostFiles};
 use pac_run_options::{Request, options};
 use std::alloc::Global;
 use std::rt::{Env, Files};
@@ -72,39 +73,9 @@ fn tell_words<C: Teller>(console: &mut C, kind: io::ErrorKind) -> u8
     tell(console, Failure::Words)
 }
 
-/// Does what these words ask, over the files of `rt`, with no file in the place of a standard stream.
-fn run_heard<R: Files + Print + Eprint + AllocGlobal>(rt: &R, words: &[String]) -> u8
-    ensures status { result ≤ told.most_status }
-    ensures hears { Hears (record {
-      finds = ⟦<HostFiles<'static, R> as FileSystem>⟧.finds;
-      handling = record {
-        creates = ⟦<HostFiles<'static, R> as FileSystem>⟧.creates;
-        closes = ⟦<HostFiles<'static, R> as FileSystem>⟧.closes;
-      };
-      file_took = ⟦<Through<R::File> as Out>⟧.took;
-      file_refused = ⟦<Through<R::File> as Out>⟧.refused;
-      stream_took = ⟦<Through<io::Printer<'static, R>> as Out>⟧.took;
-      stream_refused = ⟦<Through<io::Printer<'static, R>> as Out>⟧.refused;
-      tells = ⟦<HostConsole<'static, R> as Teller>⟧.tells;
-      explains = ⟦<HostConsole<'static, R> as Teller>⟧.explains;
-    }) (map string_bytes words.now) result }
-{
-    let Ok(places) = keep_standard(rt) else {
-        return work_unkept(
-            rt.alloc(),
-            &mut HostFiles { rt },
-            &mut HostConsole { console: rt },
-            words,
-        );
-    };
-    let status = run_words(rt, rt, words);
-    drop(places);
-    status
-}
-
 /// Does what words ask where a file that is created might stand in the place of a standard stream: work that writes to standard
 /// output isn't begun, and its report or text is told as refused.
-fn work_unkept<D: FileSystem, C: Teller>(
+pub(crate) fn work_unkept<D: FileSystem, C: Teller>(
     alloc: Global,
     disk: &mut D,
     console: &mut C,

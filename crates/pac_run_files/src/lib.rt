@@ -5,10 +5,8 @@ mod files;
 mod given;
 mod names;
 mod parts;
-mod standard;
 
 pub use files::{FileKind, FileSystem, HostFiles, ReadError, read_whole};
 pub use given::{Given, ReadFault, read_file, read_given, read_watched};
 pub use names::{Told, is_within};
 pub use parts::{NamedFile, manifest_in, parts_of, read_parts};
-pub use standard::{Places, keep_standard};

@@ -1,5 +1,5 @@
 use Rattle.std.proofs.Common.{inr}
-use Rattle.pac_run_command.proofs.program.run_heard.Goals as goal
+use Rattle.pac_run_command.proofs.standard.run_heard.Goals as goal
 
 pub returns-in_default-clause-hears : goal.returns-in_default-clause-hears
 returns-in_default-clause-hears g c = inr (record {
