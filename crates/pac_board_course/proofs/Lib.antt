@@ -4,3 +4,8 @@ pub mod Whole
 pub mod Answered
 pub mod Begun
 pub mod Taken
+pub use Rattle.pac_board.proofs.Agreed
+pub use Rattle.pac_board.proofs.HostCarried
+pub use Rattle.pac_board.proofs.Outputs
+pub use Rattle.pac_board.proofs.Runs
+pub use Rattle.pac_board.proofs.Walks

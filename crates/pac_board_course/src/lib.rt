@@ -6,3 +6,6 @@ mod laws;
 
 pub use course::{Course, hold};
 pub use laws::{courses_are_resumed, courses_begin, courses_go_on};
+pub use pac_board::{
+    Board, Cause, FRAME_SAMPLES, FRAME_TICKS, Picture, Refused, RomSet, Sink, Stop,
+};

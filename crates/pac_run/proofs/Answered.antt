@@ -2,7 +2,7 @@
 use Rattle.std.proofs.Common.{◌≡◌, ℕ, List, Option, None, Some, Result, Ok, Err, subst, ◌∙◌}
 use Rattle.pac_asm.specs.declared.fault.AsmFault.{AsmFault}
 use Rattle.pac_asm.specs.Programs.{program_of}
-use Rattle.pac_board.specs.Stop.{Stop}
+use Rattle.pac_board_course.specs.Stop.{Stop}
 use Rattle.pac_inputs.specs.Script.{script_of}
 use Rattle.pac_inputs.specs.Stretches.{total_frames}
 use Rattle.pac_inputs.specs.declared.line.Stretch.{Stretch}
@@ -11,7 +11,7 @@ use Rattle.pac_roms_manifest.specs.Manifests.{manifest_of}
 use Rattle.pac_roms_manifest.specs.Sets.{set_of}
 use Rattle.pac_roms_manifest.specs.declared.fault.SetFault.{SetFault}
 use Rattle.pac_asm.specs.Assembled.{Assembled}
-use Rattle.pac_board.specs.Output.{Output}
+use Rattle.pac_board_course.specs.Output.{Output}
 use Rattle.pac_run.specs.declared.fault.Output.{Output as Which}
 use Rattle.pac_run.specs.declared.fault.Output.TheVariants as which
 use Rattle.pac_run.specs.declared.fault.RunFault.{RunFault}

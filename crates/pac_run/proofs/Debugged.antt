@@ -3,8 +3,8 @@ use Rattle.std.proofs.Common.{◌≡◌, ℕ, List, Option, Ok, Err, refl, sym, 
 use Rattle.std.specs.Str.Lines.{lines}
 use Rattle.pac_inputs.specs.Stretches.{total_frames}
 use Rattle.pac_asm.specs.Assembled.{Assembled}
-use Rattle.pac_board.specs.Output.{Output}
-use Rattle.pac_board.specs.State.{BoardValue}
+use Rattle.pac_board_course.specs.Output.{Output}
+use Rattle.pac_board_course.specs.State.{BoardValue}
 use Rattle.pac_debug.specs.Motions.{IsOutcome}
 use Rattle.pac_debug.specs.Running.{whole_run}
 use Rattle.pac_debug.specs.Session.{SessionValue, session_at_start}

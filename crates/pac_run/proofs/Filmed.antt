@@ -13,8 +13,8 @@ use Rattle.pac_media.specs.Samples.{sample_text, samples_text}
 use Rattle.pac_media.specs.Sound.{HasText, Gains, Delivers, SoundFails, FinishesSound}
 use Rattle.pac_media.specs.Sound as media
 use Rattle.pac_media.proofs.Gathered.{fails-within, finishes-after}
-use Rattle.pac_board.specs.Output.{Output, Image, Sound, Show}
-use Rattle.pac_board.specs.Sinks.{TookAll, RefusesAt}
+use Rattle.pac_board_course.specs.Output.{Output, Image, Sound, Show}
+use Rattle.pac_board_course.specs.Sinks.{TookAll, RefusesAt}
 use Rattle.pac_run.specs.declared.fault.OutputFault.{OutputFault}
 use Rattle.pac_run.specs.declared.fault.Output.TheVariants as which
 use Rattle.pac_run.specs.declared.film.Film.{Film}

@@ -12,8 +12,8 @@ use Rattle.pac_debug.specs.Watched.{given_by}
 use Rattle.pac_media.specs.Samples.{wav_header, samples_text, header_size}
 use Rattle.pac_media.specs.Sound.{HasText, Delivers, SoundFails, FinishesSound}
 use Rattle.pac_media.specs.Sound as media
-use Rattle.pac_board.specs.ModelLaws.{frame_samples}
-use Rattle.pac_board.specs.Output.{Output, Sound, Show}
+use Rattle.pac_board_course.specs.ModelLaws.{frame_samples}
+use Rattle.pac_board_course.specs.Output.{Output, Sound, Show}
 use Rattle.pac_run.specs.declared.fault.Output.{Output as Which}
 use Rattle.pac_run.specs.declared.fault.OutputFault.{OutputFault}
 use Rattle.pac_run.specs.declared.fault.Output.TheVariants as which

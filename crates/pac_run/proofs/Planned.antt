@@ -14,13 +14,13 @@ use Rattle.pac_roms_manifest.specs.declared.fault.SetError.TheVariants as readin
 use Rattle.pac_roms_manifest.specs.declared.manifest.Manifest.{Manifest}
 use Rattle.pac_roms_manifest.specs.declared.part.Part.{Part}
 use Rattle.pac_asm.specs.Assembled.{Assembled, items_of}
-use Rattle.pac_board.specs.RomParts.{Parts}
+use Rattle.pac_board_course.specs.RomParts.{Parts}
 use Rattle.pac_run.specs.declared.fault.RunFault.{RunFault}
 use Rattle.pac_run.specs.declared.fault.RunFault.TheVariants as fault
 use Rattle.pac_inputs.specs.Script.{script_of}
 use Rattle.pac_inputs.specs.declared.line.Stretch.{Stretch}
-use Rattle.pac_board.specs.RomParts.{IsWhole}
-use Rattle.pac_board.specs.State.{BoardValue, power_on_board}
+use Rattle.pac_board_course.specs.RomParts.{IsWhole}
+use Rattle.pac_board_course.specs.State.{BoardValue, power_on_board}
 use Rattle.pac_run.specs.declared.inputs.RunInputs.{RunInputs}
 use Rattle.pac_run.specs.Plan.{◌>>=◌, set_told, set_in, fault_told, script_told, program_items, LieIn, Judges, IsPrepared}
 use Rattle.pac_run.specs.Plan.{program_in, source_in, plan_of, plan_with}

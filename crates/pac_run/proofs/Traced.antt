@@ -1,22 +1,22 @@
 -- A board that plays a plan, and the plan's trace.
 use Rattle.std.proofs.Common.{◌≡◌, ℕ, ◌*◌, ◌/◌, ◌^◌, ◌<◌, ◌≤◌, List, [], Option, Ok, sym, ap, subst, ◌∙◌, arith}
-use Rattle.pac_board.specs.Stop.{Stop}
+use Rattle.pac_board_course.specs.Stop.{Stop}
 use Rattle.pac_inputs.specs.Stretches.{total_frames, held, most_frames}
 use Rattle.pac_inputs.specs.declared.line.Stretch.{Stretch}
 use Rattle.pac_asm.specs.Assembled.{Assembled}
-use Rattle.pac_board.specs.RomParts.{Parts, IsWhole}
-use Rattle.pac_board.specs.BoardView.{BoardView, power_on_board_view}
-use Rattle.pac_board.specs.Carried.{walk_view}
-use Rattle.pac_board.specs.History.{board_after_entries}
-use Rattle.pac_board.specs.Step.{Moment, frame_ticks}
-use Rattle.pac_board.specs.Trace.{by_history, by_view, play_step, run_at, trace, frame_steps}
-use Rattle.pac_board.specs.Walk.{Walk}
-use Rattle.pac_board.proofs.Agreed.{runs-agree, power-on-board}
-use Rattle.pac_board.proofs.HostCarried.{steps-agree}
-use Rattle.pac_board.proofs.Outputs.{outputs-timed}
-use Rattle.pac_board.proofs.Runs.{walk-near}
-use Rattle.pac_board.proofs.Walks.{play-timely}
-use Rattle.pac_board.specs.State.{power_on_board}
+use Rattle.pac_board_course.specs.RomParts.{Parts, IsWhole}
+use Rattle.pac_board_course.specs.BoardView.{BoardView, power_on_board_view}
+use Rattle.pac_board_course.specs.Carried.{walk_view}
+use Rattle.pac_board_course.specs.History.{board_after_entries}
+use Rattle.pac_board_course.specs.Step.{Moment, frame_ticks}
+use Rattle.pac_board_course.specs.Trace.{by_history, by_view, play_step, run_at, trace, frame_steps}
+use Rattle.pac_board_course.specs.Walk.{Walk}
+use Rattle.pac_board_course.proofs.Agreed.{runs-agree, power-on-board}
+use Rattle.pac_board_course.proofs.HostCarried.{steps-agree}
+use Rattle.pac_board_course.proofs.Outputs.{outputs-timed}
+use Rattle.pac_board_course.proofs.Runs.{walk-near}
+use Rattle.pac_board_course.proofs.Walks.{play-timely}
+use Rattle.pac_board_course.specs.State.{power_on_board}
 use Rattle.pac_board_course.proofs.Begun.{courses-begin}
 use Rattle.pac_board_course.specs.Course.{CourseValue, begun, end_of, held_in, next_in, way_on}
 use Rattle.pac_debug.specs.Motions.{IsOutcome}

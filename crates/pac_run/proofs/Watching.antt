@@ -5,8 +5,8 @@ use Rattle.pac_media.specs.CountedFile.{Counted}
 use Rattle.pac_media.specs.Counted.{Takes}
 use Rattle.pac_media.specs.Sound.{FinishesSound}
 use Rattle.pac_media.proofs.Gathered.{finishes-after}
-use Rattle.pac_board.specs.Output.{Output, Sound, Show}
-use Rattle.pac_board.specs.Sinks.{TookAll}
+use Rattle.pac_board_course.specs.Output.{Output, Sound, Show}
+use Rattle.pac_board_course.specs.Sinks.{TookAll}
 use Rattle.pac_debug.specs.Running.{Setting, whole_run}
 use Rattle.pac_debug.specs.Session.{SessionValue, session_at_start}
 use Rattle.pac_debug.specs.RunTotals as told

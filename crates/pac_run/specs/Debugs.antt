@@ -3,18 +3,18 @@ use Rattle.std.specs.Prelude.{◌≡◌, ℕ, ◌<◌, ◌≤◌, List, [], Opti
 use Rattle.std.specs.Str.Lines.{lines}
 use Rattle.pac_inputs.specs.Stretches.{total_frames, held}
 use Rattle.pac_media.specs.Samples.{header_size}
-use Rattle.pac_board.specs.Entry.{Entry}
+use Rattle.pac_board_course.specs.Entry.{Entry}
 use Rattle.pac_asm.specs.Assembled.{Assembled}
-use Rattle.pac_board.specs.RomParts.{IsWhole as HasAllParts}
+use Rattle.pac_board_course.specs.RomParts.{IsWhole as HasAllParts}
 use Rattle.pac_debug.specs.Running.{Setting, play_of, run, next_at}
 use Rattle.pac_debug.specs.Session.{SessionValue, session_at_start}
-use Rattle.pac_board.specs.BoardView.{power_on_board_view}
-use Rattle.pac_board.specs.Carried.{next_view, walk_view}
-use Rattle.pac_board.specs.History.{board_after_entries}
-use Rattle.pac_board.specs.Output.{Output as Given}
-use Rattle.pac_board.specs.Step.{Next}
-use Rattle.pac_board.specs.Trace.{by_history, run_at, play_step}
-use Rattle.pac_board.specs.Walk.{Walk}
+use Rattle.pac_board_course.specs.BoardView.{power_on_board_view}
+use Rattle.pac_board_course.specs.Carried.{next_view, walk_view}
+use Rattle.pac_board_course.specs.History.{board_after_entries}
+use Rattle.pac_board_course.specs.Output.{Output as Given}
+use Rattle.pac_board_course.specs.Step.{Next}
+use Rattle.pac_board_course.specs.Trace.{by_history, run_at, play_step}
+use Rattle.pac_board_course.specs.Walk.{Walk}
 use Rattle.pac_run.specs.declared.fault.Output.{Output}
 use Rattle.pac_run.specs.declared.fault.Output.TheVariants.{Frames, Wave, Listing, Report, Text}
 use Rattle.pac_run.specs.declared.fault.RunFault.{RunFault}

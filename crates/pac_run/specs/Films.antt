@@ -5,7 +5,7 @@ use Rattle.pac_media.specs.WriteFault.{WriteFault}
 use Rattle.pac_media.specs.Images.{ppm_of}
 use Rattle.pac_media.specs.Samples.{sample_text}
 use Rattle.pac_media.specs.Sound.{Gains, SoundFails}
-use Rattle.pac_board.specs.Output.{Output, Image, Sound, Show}
+use Rattle.pac_board_course.specs.Output.{Output, Image, Sound, Show}
 use Rattle.pac_run.specs.declared.fault.Output.TheVariants as which
 use Rattle.pac_run.specs.declared.film.Film.{Film}
 

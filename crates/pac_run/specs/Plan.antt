@@ -14,8 +14,8 @@ use Rattle.pac_roms_manifest.specs.declared.fault.SetError.{SetError}
 use Rattle.pac_roms_manifest.specs.declared.fault.SetError.TheVariants as reading
 use Rattle.pac_roms_manifest.specs.declared.part.Part.{Part}
 use Rattle.pac_asm.specs.Assembled.{Assembled, items_of}
-use Rattle.pac_board.specs.RomParts.{Parts, IsWhole}
-use Rattle.pac_board.specs.State.{power_on_board}
+use Rattle.pac_board_course.specs.RomParts.{Parts, IsWhole}
+use Rattle.pac_board_course.specs.State.{power_on_board}
 use Rattle.pac_run.specs.declared.inputs.RunInputs.{RunInputs}
 use Rattle.pac_run.specs.declared.plan.Prepared.{Prepared}
 use Rattle.pac_run.specs.declared.fault.RunFault.{RunFault}

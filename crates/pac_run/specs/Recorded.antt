@@ -1,16 +1,16 @@
 -- For proofs: what recording a board's outputs leaves of the film and the wave file, side by side.
 use Rattle.std.specs.Prelude.{◌≡◌, ℕ, ◌/◌, ◌≤◌, List, [], ◌∷◌, ◌++◌, length, Option, Result, Ok, Err}
-use Rattle.pac_board.specs.Stop.{Stop}
+use Rattle.pac_board_course.specs.Stop.{Stop}
 use Rattle.pac_media.specs.Counted.{HasTaken, Takes, Refuses, file_count}
 use Rattle.pac_media.specs.WriteFault.{WriteFault}
 use Rattle.pac_media.specs.Samples.{samples_text}
 use Rattle.pac_media.specs.Sound.{Delivers, SoundFails, FinishesSound}
 use Rattle.pac_media.specs.Sound as media
-use Rattle.pac_board.specs.BoardView.{BoardView}
-use Rattle.pac_board.specs.Output.{Output, Image, Sound, Show}
-use Rattle.pac_board.specs.Step.{Moment, frame_ticks}
-use Rattle.pac_board.specs.RomParts.{IsWhole as HasAllParts}
-use Rattle.pac_board.specs.State.{power_on_board}
+use Rattle.pac_board_course.specs.BoardView.{BoardView}
+use Rattle.pac_board_course.specs.Output.{Output, Image, Sound, Show}
+use Rattle.pac_board_course.specs.Step.{Moment, frame_ticks}
+use Rattle.pac_board_course.specs.RomParts.{IsWhole as HasAllParts}
+use Rattle.pac_board_course.specs.State.{power_on_board}
 use Rattle.pac_board_course.specs.Course.{CourseValue, begun, way_on, course_after}
 use Rattle.pac_asm.specs.Assembled.{Assembled}
 use Rattle.pac_run.specs.declared.inputs.RunInputs.{RunInputs}

@@ -3,13 +3,13 @@ use Rattle.std.specs.Prelude.{◌≡◌, ℕ, ◌<◌, ◌≤◌, List, [], ◌�
 use Rattle.pac_media.specs.Counted.{file_count}
 use Rattle.pac_media.specs.Writes.{StopsAfter}
 use Rattle.pac_inputs.specs.Stretches.{total_frames}
-use Rattle.pac_board.specs.Entry.{Entry}
+use Rattle.pac_board_course.specs.Entry.{Entry}
 use Rattle.pac_media.specs.Samples.{header_size}
-use Rattle.pac_board.specs.BoardView.{power_on_board_view}
-use Rattle.pac_board.specs.Output.{Output, Image, Sound, Show}
-use Rattle.pac_board.specs.Shown.{blank_count}
-use Rattle.pac_board.specs.Trace.{by_history, trace}
-use Rattle.pac_board.specs.Walk.{Walk}
+use Rattle.pac_board_course.specs.BoardView.{power_on_board_view}
+use Rattle.pac_board_course.specs.Output.{Output, Image, Sound, Show}
+use Rattle.pac_board_course.specs.Shown.{blank_count}
+use Rattle.pac_board_course.specs.Trace.{by_history, trace}
+use Rattle.pac_board_course.specs.Walk.{Walk}
 use Rattle.pac_debug.specs.Running.{play_of}
 use Rattle.pac_run.specs.declared.fault.Output.{Output as Which}
 use Rattle.pac_run.specs.declared.fault.Output.TheVariants.{Frames, Wave, Listing, Report, Text}

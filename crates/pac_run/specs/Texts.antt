@@ -3,13 +3,13 @@ use Rattle.std.specs.Prelude.{ℕ, ℤ, pos, ◌*◌, ◌-◌, length, replicate
 use Rattle.std.specs.List.{flat_map}
 use Rattle.pac_listing.specs.Hexadecimal.{hex_byte, hex_word}
 use Rattle.pac_media.specs.Pieces.{joined_pieces}
-use Rattle.pac_board.specs.Stop.{Stop}
-use Rattle.pac_board.specs.Cause.{Cause}
-use Rattle.pac_board.specs.CauseVariants.{Opcode, Vector}
+use Rattle.pac_board_course.specs.Stop.{Stop}
+use Rattle.pac_board_course.specs.Cause.{Cause}
+use Rattle.pac_board_course.specs.CauseVariants.{Opcode, Vector}
 use Rattle.pac_media.specs.Images.{ppm_of}
 use Rattle.pac_media.specs.Samples.{wav_header, samples_text}
-use Rattle.pac_board.specs.ModelLaws.{frame_samples}
-use Rattle.pac_board.specs.Output.{Output, Image, Sound, Show}
+use Rattle.pac_board_course.specs.ModelLaws.{frame_samples}
+use Rattle.pac_board_course.specs.Output.{Output, Image, Sound, Show}
 use Rattle.pac_run.specs.declared.outcome.Outcome.{Outcome}
 
 -- the pictures and the samples among outputs, in order

@@ -8,7 +8,7 @@ use Rattle.pac_media.specs.Samples.{header_size, samples_text}
 use Rattle.pac_debug.specs.Running.{Setting, whole_run}
 use Rattle.pac_debug.specs.Session.{SessionValue, session_at_start}
 use Rattle.pac_debug.specs.Watched.{TellsOfLine, TellsAll, ToldUpTo, given_by}
-use Rattle.pac_board.specs.Output.{Output}
+use Rattle.pac_board_course.specs.Output.{Output}
 use Rattle.pac_run.specs.declared.fault.Output.{Output as Which}
 use Rattle.pac_run.specs.declared.fault.Output.TheVariants as which
 use Rattle.pac_run.specs.declared.fault.OutputFault.{OutputFault}

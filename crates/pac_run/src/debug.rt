@@ -13,7 +13,7 @@ use crate::plan::{Prepared, prepare};
 use crate::run::{list, report_on};
 use crate::watch::watch_run;
 use pac_asm::Program;
-use pac_board::Board;
+use pac_board_course::Board;
 use pac_debug::Session;
 use pac_inputs::Script;
 use pac_media::{Image, Out};

@@ -4,12 +4,11 @@ ghost use Rattle.std.specs.Prelude.{◌≡◌, Some, IsSome, IfOk};
 ghost use Rattle.pac_inputs.specs.Stretches.{total_frames};
 ghost use Rattle.pac_run.specs.Films.{film_took, film_refused};
 ghost use Rattle.pac_board_course.specs.Course.{way_on};
-ghost use Rattle.pac_board.specs.State.{nothing_due};
+ghost use Rattle.pac_board_course.specs.State.{nothing_due};
 ghost use Rattle.pac_run.specs.Recorded.{GivesUp, HasPlayed, PerformsFilm, RecordsOutputs};
 
 use crate::fault::{Output, OutputFault};
-use pac_board::{Picture, Refused, Sink, Stop};
-use pac_board_course::Course;
+use pac_board_course::{Course, Picture, Refused, Sink, Stop};
 use pac_media::{Frames, Image, Out, WaveFile};
 
 /// The film and the wave file of a run, and which of them refused, if one did.
@@ -58,7 +57,7 @@ impl<F: Out, W: Out> Sink for Film<F, W> {
 }
 
 /// The samples of a frame.
-pub(crate) const FRAME_SAMPLES: u32 = pac_board::FRAME_SAMPLES as u32;
+pub(crate) const FRAME_SAMPLES: u32 = pac_board_course::FRAME_SAMPLES as u32;
 
 impl<F: Out, W: Out> Film<F, W> {
     /// The output that refused. Where that is the film, the samples that came before are still written.

@@ -15,7 +15,7 @@ pub use debug::debug_all;
 pub use fault::{Output, RunFault};
 pub use inputs::RunInputs;
 pub use outcome::Outcome;
-pub use pac_board::Stop;
+pub use pac_board_course::Stop;
 pub use pac_inputs::ScriptFault;
 pub use pac_media::{Counted, Out, Through, WriteFault};
 pub use pac_roms_manifest::{Part, SetFault};

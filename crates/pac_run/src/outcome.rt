@@ -1,6 +1,6 @@
 //! What a run came to.
 
-use pac_board::Stop;
+use pac_board_course::Stop;
 
 /// What a run came to.
 #[derive(Clone, Copy, Debug, PartialEq, Eq)]

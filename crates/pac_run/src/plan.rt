@@ -1,17 +1,17 @@
 //! What a run plays, made from what it is given. All of its memory is found here.
 
 ghost use Rattle.std.specs.Prelude.{◌≡◌, length, option_map, option_copied, IfOk, IfErr, IfSome};
-ghost use Rattle.pac_board.specs.State.{power_on_board};
+ghost use Rattle.pac_board_course.specs.State.{power_on_board};
 ghost use Rattle.pac_inputs.specs.Script.{script_of};
 ghost use Rattle.pac_asm.specs.Assembled.{Assembled};
-ghost use Rattle.pac_board.specs.RomParts.{IsWhole, program_size};
+ghost use Rattle.pac_board_course.specs.RomParts.{IsWhole, program_size};
 ghost use Rattle.pac_run.specs.declared.fault.RunFault.TheVariants.{NoMemory};
 ghost use Rattle.pac_run.specs.Plan.{program_in, set_in, script_told, fault_told, Judges, LieIn, Prepares};
 
 use crate::fault::RunFault;
 use crate::inputs::RunInputs;
 use pac_asm::{AsmError, Program, assemble};
-use pac_board::{Board, RomSet};
+use pac_board_course::{Board, RomSet};
 use pac_inputs::{Script, ScriptError, read_script};
 use pac_media::Image;
 use pac_roms_manifest::{Part, SetError, load_set, read_manifest};

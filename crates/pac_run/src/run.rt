@@ -2,7 +2,7 @@
 
 ghost use Rattle.std.specs.Prelude.{◌≡◌, ◌/◌, ◌^◌, ◌<◌, option_copied};
 ghost use Rattle.pac_media.specs.Counted.{Puts};
-ghost use Rattle.pac_board.specs.Step.{frame_ticks};
+ghost use Rattle.pac_board_course.specs.Step.{frame_ticks};
 ghost use Rattle.pac_board_course.specs.Course.{begun};
 ghost use Rattle.pac_run.specs.Plan.{listing_in};
 ghost use Rattle.pac_run.specs.Recorded.{IsAtStart, WritesWholeText, outcome_at};
@@ -16,8 +16,7 @@ use crate::outcome::Outcome;
 use crate::plan::{Prepared, prepare};
 use crate::report::put_report;
 use pac_asm::Program;
-use pac_board::{Board, FRAME_TICKS, Stop};
-use pac_board_course::Course;
+use pac_board_course::{Board, Course, FRAME_TICKS, Stop};
 use pac_inputs::Script;
 use pac_listing::write_listing;
 use pac_media::{Counted, Image, Out, WriteFault};

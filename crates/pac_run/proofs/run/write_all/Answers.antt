@@ -1,6 +1,6 @@
 use Rattle.std.proofs.Common.{◌≤◌, ◌∙◌, ◌/◌, ◌^◌, ◌<◌, ap, refl, subst, sym}
-use Rattle.pac_board.specs.Step.{frame_ticks}
-use Rattle.pac_board.specs.State.{BoardValue}
+use Rattle.pac_board_course.specs.Step.{frame_ticks}
+use Rattle.pac_board_course.specs.State.{BoardValue}
 use Rattle.pac_inputs.specs.Stretches.{most_frames}
 use Rattle.pac_run.specs.Recorded.{outcome_at}
 use Rattle.pac_run.proofs.Lent.{writing}

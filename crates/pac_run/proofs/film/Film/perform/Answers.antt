@@ -1,5 +1,5 @@
 use Rattle.std.proofs.Common.{refl}
-use Rattle.pac_board.specs.State.{due_outputs}
+use Rattle.pac_board_course.specs.State.{due_outputs}
 use Rattle.pac_board_course.proofs.Taken.{refused-among}
 use Rattle.pac_board_course.specs.Course.{way_on}
 use Rattle.pac_run.proofs.Filmed.{recorded, stops-among, stops-at-zeros}

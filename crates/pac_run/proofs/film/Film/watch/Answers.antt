@@ -1,7 +1,7 @@
 use Rattle.std.proofs.Common.{◌++◌, refl, subst}
 use mathlib.Core.List.{IsPrefix}
 use Rattle.std.specs.Str.Lines.{lines}
-use Rattle.pac_board.specs.Sinks.{TookAll}
+use Rattle.pac_board_course.specs.Sinks.{TookAll}
 use Rattle.pac_debug.specs.Running.{whole_run}
 use Rattle.pac_run.specs.Films.{film_took, film_refused}
 use Rattle.pac_run.proofs.Filmed.{recorded, stops-among, stops-at-zeros}
