@@ -6,4 +6,3 @@ pub mod ToTheEnd
 pub mod Sole
 pub mod Resting
 pub mod HeldUp
-pub mod LatchBytes

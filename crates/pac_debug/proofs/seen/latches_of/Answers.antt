@@ -5,7 +5,7 @@ use Rattle.pac_board.specs.Fields.{moment_of}
 use Rattle.pac_board.specs.State.{BoardState}
 use Rattle.pac_debug_text.specs.declared.registers.Latches.{Latches}
 use Rattle.pac_debug.specs.Answers.{session_moment, latches_in}
-use Rattle.pac_debug.proofs.LatchBytes.{byte_of-bits_of}
+use Rattle.pac_board.proofs.LatchBytes.{byte_of-bits_of}
 use Rattle.pac_debug.proofs.seen.latches_of.Goals as goal
 
 abbrev with_latch : ℕ → ℕ → ℕ → Latches
