@@ -1,5 +1,5 @@
 """The instructions, read from the table that the assembler, the processor and the disassembler share, crates/pac_table/src/table.rt: their
-forms, codes, lengths, T-states and flags, for tools/make-instructions and tools/symbols.
+forms, codes, lengths, T-states and flags, for tools/make-instructions, tools/make-tables and tools/symbols.
 
 The table's effects say which flags an instruction changes by what they are; FLAGS says it in letters.
 """
@@ -23,7 +23,7 @@ SHAPES = dict(pair.split("=") for pair in (
     "RestartAddress=p ModeZero=0 ModeOne=1 ModeTwo=2 Condition=cc RelativeCondition=jj AtByte=(n) AtWord=(nn) AtBc=(BC) AtDe=(DE) "
     "AtHl=(HL) AtSp=(SP) AtC=(C) AtIx=(IX) AtIy=(IY) IndexedIx=(IX+d) IndexedIy=(IY+d) De=DE Hl=HL Sp=SP Ix=IX Iy=IY Af=AF "
     "AlternateAf=AF' Pair=dd StackPair=qq PairWithIx=pp PairWithIy=pp").split())
-# A field of an opcode byte: the worth of its lowest bit, its letters in the bits, and its values.
+# A field of an opcode byte: the worth of its lowest bit, its letters in the bits, and its values (UM0080 lists them; a register is never 6).
 REGISTERS = [0, 1, 2, 3, 4, 5, 7]
 FIELDS = {
     "Absent": (1, "", [0]),
