@@ -57,7 +57,7 @@ def place_cause(code, lines, number):
     elif code == "A5":
         value = assembly.at_once(line.at_once) if line.at_once else None
         if line.operation == "ORG" and value and value > 0x4000:
-            yield f"the assembler makes the ROM alone, 0000H to 3FFFH; places in RAM get names by EQU: `SCORE EQU {hexadecimal(f'{value:X}')}`"
+            yield f"the assembler makes the ROM alone, 0000H to 3FFFH; RAM gets names by EQU: `SCORE EQU {hexadecimal(f'{value:X}')}`"
         elif line.operation == "DEFS" and value is not None and not 0 <= value <= 0x4000:
             yield f"the size is {value}"
         else:
@@ -67,7 +67,8 @@ def place_cause(code, lines, number):
         spots = [(at, spot) for at, spot in enumerate(assembly.spots, 1) if isinstance(spot, tuple)]
         for at, (begin, length) in spots:
             if begin < assembly.at + size and assembly.at < begin + length:
-                yield f"line {at} has bytes from {hexadecimal(f'{begin:04X}')} on, and this line begins at {hexadecimal(f'{assembly.at:04X}')}"
+                places = [hexadecimal(f"{place:04X}") for place in (begin, assembly.at)]
+                yield f"line {at} has bytes from {places[0]} on, and this line begins at {places[1]}"
                 return
 
 
@@ -100,7 +101,8 @@ def arithmetic_cause(lines, number):
         try:
             judge.value_of(tree, assembly.symbols, here)
         except judge.Fault:
-            yield "the divisor is 0" if tree[0] == "/" and judge.value_of(tree[2], assembly.symbols, here) == 0 else "a result is past 32 bits"
+            is_divided = tree[0] == "/" and judge.value_of(tree[2], assembly.symbols, here) == 0
+            yield "the divisor is 0" if is_divided else "a result is past 32 bits"
             return
 
 

@@ -59,7 +59,8 @@ def in_manifest(code, said, content):
     if code == "M1":
         try:
             part = misformed(tomllib.loads(text)) or ""
-            causes = [f"{part} isn't a table with `file` and `sha1` as texts, 40 digits for the latter (`program`: four tables)"] if part else []
+            told = f"{part} isn't a table with `file` and `sha1` as texts, 40 digits for the latter (`program`: four tables)"
+            causes = [told] if part else []
         except tomllib.TOMLDecodeError as error:
             found = re.search(r"at line (\d+)", str(error))
             return [(int(found[1]) if found else len(lines), [f"TOML: {error}"])]
@@ -118,7 +119,8 @@ def in_listing(_, said, content):
         found = re.match(r"(?:\d{5}|     ) ([0-9A-F]{4}) ((?:[0-9A-F]{2}){1,4})", line)
         if found and 0 <= address - int(found[1], 16) < len(found[2]) // 2:
             return [(at, ["the processor came to this address, to data or into the middle of an instruction"])]
-    return [(0, [f"{said}H is in RAM or at a port, where the program shouldn't have gone" if address >= 0x4000 else f"no line has bytes at {said}H"])]
+    place = "is in RAM or at a port, where the program shouldn't have gone" if address >= 0x4000 else "is in no line"
+    return [(0, [f"{said}H {place}"])]
 
 
 def source_line(content, row):

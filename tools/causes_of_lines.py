@@ -1,5 +1,5 @@
-"""The likely cause of a fault that a line of a source has by itself, a token (A1) or its form (A2), for tools/explain: by words and spellings
-that other assemblers have, and by what an operation takes.
+"""The likely cause of a fault that a line of a source has by itself, a token (A1) or its form (A2), for tools/explain: by words and
+spellings that other assemblers have, and by what an operation takes.
 """
 import difflib
 import pathlib

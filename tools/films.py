@@ -4,7 +4,6 @@ tools/frame, tools/film-sheet and tools/check-programs.
 A film is PPM images (binary, P6) one after another, all of one size; a sound a WAV file of one channel with 16 bits a sample.
 """
 import array
-import itertools
 import os
 import struct
 import sys
@@ -48,7 +47,8 @@ class Picture:
         else:
             head = struct.pack(">IIBBBBB", self.width, self.height, 8, 2, 0, 0, 0)
             rows = b"".join(b"\0" + self.row(y) for y in range(self.height))
-            content = b"\x89PNG\r\n\x1a\n" + b"".join(chunk(*part) for part in ((b"IHDR", head), (b"IDAT", zlib.compress(rows)), (b"IEND", b"")))
+            parts = ((b"IHDR", head), (b"IDAT", zlib.compress(rows)), (b"IEND", b""))
+            content = b"\x89PNG\r\n\x1a\n" + b"".join(chunk(*part) for part in parts)
         with open(path, "wb") as file:
             file.write(content)
 
@@ -169,7 +169,7 @@ def compare_films(one, other, picture):
 
 def compare_sounds(one, other):
     """The lines about two sounds; none where they are alike."""
-    apart = [at for at, (mine, theirs) in enumerate(itertools.zip_longest(one, other)) if mine != theirs and mine is not None and theirs is not None]
+    apart = [at for at, (mine, theirs) in enumerate(zip(one, other)) if mine != theirs]
     told = []
     if apart:
         at = apart[0]

@@ -1,5 +1,5 @@
 """The instructions, read from the table that the assembler, the processor and the disassembler share, crates/pac_table/src/table.rt: their
-forms, codes, lengths, T-states and flags, for tools/make-instructions and tools/symbols.
+forms, codes, lengths, T-states and flags, for tools/make-instructions, tools/make-tables and tools/symbols.
 
 The table's effects say which flags an instruction changes by what they are; FLAGS says it in letters.
 """
@@ -19,24 +19,38 @@ PAGES = {"Plain": "", "Cb": "CB", "Ed": "ED", "Dd": "DD", "Fd": "FD", "DdCb": "D
 # The bytes that follow the opcode byte.
 IMMEDIATES = {"Absent": "", "Byte": "n", "Word": "nn", "Relative": "e", "Displacement": "d", "DisplacementByte": "d n"}
 SHAPES = dict(pair.split("=") for pair in (
-    "Accumulator=A FirstRegister=r SecondRegister=s Byte=n Word=nn Relative=e AtByte=(n) AtWord=(nn) AtBc=(BC) AtDe=(DE) AtHl=(HL) AtSp=(SP) "
-    "AtC=(C) AtIx=(IX) AtIy=(IY) IndexedIx=(IX+d) IndexedIy=(IY+d) De=DE Hl=HL Sp=SP Ix=IX Iy=IY Af=AF AlternateAf=AF' Pair=dd StackPair=qq "
-    "PairWithIx=pp PairWithIy=pp InterruptRegister=I RefreshRegister=R Condition=cc RelativeCondition=jj BitNumber=b RestartAddress=p ModeZero=0 "
-    "ModeOne=1 ModeTwo=2").split())
-# A field of an opcode byte: the worth of its lowest bit, its letters in the bits, and its values.
+    "Accumulator=A FirstRegister=r SecondRegister=s InterruptRegister=I RefreshRegister=R Byte=n Word=nn Relative=e BitNumber=b "
+    "RestartAddress=p ModeZero=0 ModeOne=1 ModeTwo=2 Condition=cc RelativeCondition=jj AtByte=(n) AtWord=(nn) AtBc=(BC) AtDe=(DE) "
+    "AtHl=(HL) AtSp=(SP) AtC=(C) AtIx=(IX) AtIy=(IY) IndexedIx=(IX+d) IndexedIy=(IY+d) De=DE Hl=HL Sp=SP Ix=IX Iy=IY Af=AF "
+    "AlternateAf=AF' Pair=dd StackPair=qq PairWithIx=pp PairWithIy=pp").split())
+# A field of an opcode byte: the worth of its lowest bit, its letters in the bits, and its values (UM0080 lists them; a register is never 6).
 REGISTERS = [0, 1, 2, 3, 4, 5, 7]
 FIELDS = {
-    "Absent": (1, "", [0]), "RegisterHigh": (8, "rrr", REGISTERS), "RegisterLow": (1, "sss", REGISTERS), "Pair": (16, "dd", range(4)),
-    "StackPair": (16, "qq", range(4)), "IndexPair": (16, "pp", range(4)), "Condition": (8, "ccc", range(8)), "RelativeCondition": (8, "jj", range(4)),
-    "BitNumber": (8, "bbb", range(8)), "RestartPlace": (8, "ppp", range(8)), "AluOperation": (8, "", range(8)), "ShiftOperation": (8, "", REGISTERS),
+    "Absent": (1, "", [0]),
+    "RegisterHigh": (8, "rrr", REGISTERS),
+    "RegisterLow": (1, "sss", REGISTERS),
+    "Pair": (16, "dd", range(4)),
+    "StackPair": (16, "qq", range(4)),
+    "IndexPair": (16, "pp", range(4)),
+    "Condition": (8, "ccc", range(8)),
+    "RelativeCondition": (8, "jj", range(4)),
+    "BitNumber": (8, "bbb", range(8)),
+    "RestartPlace": (8, "ppp", range(8)),
+    "AluOperation": (8, "", range(8)),
+    "ShiftOperation": (8, "", REGISTERS),
 }
 # The names of a family, by the value of its field.
-FAMILIES = {"Alu": ["ADD A,", "ADC A,", "SUB ", "SBC A,", "AND ", "XOR ", "OR ", "CP "], "Shift": ["RLC ", "RRC ", "RL ", "RR ", "SLA ", "SRA ", "", "SRL "]}
+FAMILIES = {
+    "Alu": ["ADD A,", "ADC A,", "SUB ", "SBC A,", "AND ", "XOR ", "OR ", "CP "],
+    "Shift": ["RLC ", "RRC ", "RL ", "RR ", "SLA ", "SRA ", "", "SRL "],
+}
 
-# The flags S Z H P/V N C after an instruction: `*` by the result, P parity, V overflow, I the flip-flop IFF2, B whether the count isn't 0 yet, A all
-# of them at once; 0 and 1 as they say; `-` as before. UM0080 calls those of BIT and of block input and output that stand as `-` here unknown; this
-# profile keeps them. By the effect, the first that it begins with; of Alu by the operation.
-ALU = {"ADD": "***V0*", "ADC": "***V0*", "SUB": "***V1*", "SBC": "***V1*", "AND": "**1P00", "XOR": "**0P00", "OR ": "**0P00", "CP ": "***V1*"}
+# The flags S Z H P/V N C after an instruction: `*` by the result, P parity, V overflow, I the flip-flop IFF2, B whether the count isn't 0
+# yet, A all of them at once; 0 and 1 as they say; `-` as before. UM0080 calls those of BIT and of block input and output that stand as `-`
+# here unknown; this profile keeps them. By the effect, the first that it begins with; of Alu by the operation.
+ALU = {
+    "ADD": "***V0*", "ADC": "***V0*", "SUB": "***V1*", "SBC": "***V1*", "AND": "**1P00", "XOR": "**0P00", "OR ": "**0P00", "CP ": "***V1*",
+}
 FLAGS = [
     ("ByteLoad(ByteLoad::LoadFromSpecial", "**0I0-"),
     ("ByteArithmetic(ByteArithmetic::Increment", "***V0-"), ("ByteArithmetic(ByteArithmetic::Decrement(", "***V1-"),
@@ -91,9 +105,10 @@ def expanded(page, opcode, first, second, immediate, mnemonic, left, right, tick
         shown = shown if "rrr" in shown else shown.replace("sss", "rrr")
         shown = f"{PAGES[page]} {shown}" if PAGES[page].endswith("d") else f"{PAGES[page]} {shown} {IMMEDIATES[immediate]}"
         words = shown.split()
-        opcodes = [at + FIELDS[first][0] * (p if value is None else 0) + FIELDS[second][0] * q for p in (FIELDS[first][2] if value is None else [0])
-                   for q in FIELDS[second][2]]
-        yield Form(text.strip(), " ".join(words), len(words) + words.count("nn"), int(ticks), int(other), flags_of(effect, text), page, opcodes)
+        firsts = FIELDS[first][2] if value is None else [0]
+        opcodes = [at + FIELDS[first][0] * p + FIELDS[second][0] * q for p in firsts for q in FIELDS[second][2]]
+        flags, length = flags_of(effect, text), len(words) + words.count("nn")
+        yield Form(text.strip(), " ".join(words), length, int(ticks), int(other), flags, page, opcodes)
 
 
 def forms():
