@@ -15,7 +15,7 @@ SIZE    EQU 400H
 WORK    EQU 4C00H               ; the work RAM
 SPRITES EQU 4FF0H               ; its last 16 bytes: code * 4 + flips and palette of eight sprites
 PLACES  EQU 5060H               ; y + 31 and 272 - x of each: a greater x byte is further to the left
-INTERRUPT EQU 5000H             ; written: 1 lets the vertical blank request an interrupt
+INTERRUPT EQU 5000H             ; written: 1 lets the vertical blank request an interrupt, 0 takes a request back
 SOUND   EQU 5001H               ; written: 1 lets the voices sound
 JOYSTICK EQU 5000H              ; read: what is held is 0
 BUTTONS EQU 5040H
@@ -166,6 +166,10 @@ FRAME:  PUSH AF
         CALL RING
         ENDIF
         LD (WATCHDOG),A         ; any byte will do
+        XOR A                   ; 0 takes the request back. Here its acceptance has done so; on MAME's board and, as far
+        LD (INTERRUPT),A        ; as is known, on the cabinet it stands until then, and would interrupt again after EI
+        INC A
+        LD (INTERRUPT),A        ; the next blank may request
         POP HL
         POP DE
         POP BC

@@ -20,7 +20,7 @@ COLOURS EQU 4400H               ; the colour RAM, 400H after the tiles
 WORK    EQU 4C00H               ; the work RAM
 SPRITES EQU 4FF0H               ; code * 4 + flips and palette of eight sprites
 PLACES  EQU 5060H               ; y + 31 and 272 - x of each
-INTERRUPT EQU 5000H             ; written: 1 lets the vertical blank request an interrupt
+INTERRUPT EQU 5000H             ; written: 1 lets the vertical blank request an interrupt, 0 takes a request back
 SOUND   EQU 5001H               ; written: 1 lets the voices sound
 FLIP    EQU 5003H               ; written: 1 turns the picture by half a circle
 JOYSTICK EQU 5000H              ; read: UP is bit 0, DOWN bit 3; what is held is 0
@@ -88,8 +88,11 @@ FRAME:  LD (SAVED),SP           ; 20
         XOR A                   ; 4
         LD (FLIP),A             ; 13  the sky is upright
         LD (WATCHDOG),A         ; 13
+        LD (INTERRUPT),A        ; 13  takes the request back, for boards that keep it after its acceptance
+        INC A                   ; 4
+        LD (INTERRUPT),A        ; 13  and lets the next blank request
         LD HL,CLOCK             ; 10
-        INC (HL)                ; 11  = 71
+        INC (HL)                ; 11  = 101
 
         LD A,(JOYSTICK)         ; 13  the sun goes by -1, 0 or 1
         CPL                     ; 4   what is held is now 1
@@ -271,11 +274,11 @@ MOVE1:  LD (IX),D               ; 19
         DJNZ MOVE1              ; 13  = 147 a sprite, but for the last 142
         RET                     ; 10
 
-; From 38H to UPPER: JP FRAME, the parts above, MOVE twice, then WAIT. Of WAIT's rounds as many are done as fit, so that
-; UPPER is reached 8 to 11 T-states after line 7 was drawn.
+; From 38H to UPPER: JP FRAME, the parts above, MOVE twice, then WAIT. Of WAIT's rounds as few are done as reach line 7:
+; UPPER is reached 12 to 15 T-states after that line was drawn.
 MOVES   EQU 7+147*4-5+10
-BEFORE  EQU 10+71+142+110+84+2*MOVES+65+31+241*13-5
-DELAY   EQU (TOP+7*LINE+20-13-BEFORE-49-5-10)/26
+BEFORE  EQU 10+101+142+110+84+2*MOVES+65+31+241*13-5
+DELAY   EQU (TOP+7*LINE-13-BEFORE-5-49+25)/26
 
 ; What sprites 4 to 7 become as soon as each row of cells from 0 to 12 is drawn: gulls in the sky, boats at the horizon,
 ; and after the last row that has boats the boats in the mirror.
