@@ -1,5 +1,7 @@
 #!/usr/bin/env python3
-"""Times GNU's assembler for the Z80 on the three sources that the program `pacbench` assembles: bench/assembler.py [ROUNDS].
+"""Times GNU's assembler for the Z80 on the three sources that the program `pacbench` assembles.
+
+    bench/assembler.py [ROUNDS]
 
 It needs `z80-unknown-coff-as`, in Debian's package binutils-z80. Each source has 65,535 lines. gas can't divide a number
 that rests on an address, so the second has a 0 where pacbench has `$`. It warns of each space of no bytes, of which the
@@ -9,6 +11,7 @@ Of a longer line gas lists the first 100 bytes alone.
 """
 import os
 import resource
+import shutil
 import subprocess
 import sys
 import tempfile
@@ -44,6 +47,14 @@ def timed(words):
 
 
 def main():
+    if "--help" in sys.argv[1:]:
+        return print(__doc__.strip())
+    if len(sys.argv) > 2 or not "".join(sys.argv[1:] or "1").isdigit():
+        print("assembler.py: usage: bench/assembler.py [ROUNDS]; --help tells more", file=sys.stderr)
+        return 2
+    if not shutil.which(ASSEMBLER):
+        print(f"assembler.py: {ASSEMBLER} isn't there; Debian's package binutils-z80 has it", file=sys.stderr)
+        return 2
     rounds = int(sys.argv[1]) if len(sys.argv) > 1 else 1
     with tempfile.TemporaryDirectory() as folder:
         source, listing, code = (os.path.join(folder, name) for name in ("source.s", "listing", "code.o"))
@@ -56,4 +67,4 @@ def main():
                 print(f"{name}, {how}: {clock:.3f} seconds, {user:.3f} in user mode, {LINES / clock:,.0f} lines a second")
 
 
-main()
+sys.exit(main())

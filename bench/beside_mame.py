@@ -361,12 +361,16 @@ def main():
         return 0
     program = os.path.realpath(next((word for word in words if "/" in word), f"{ROOT}/crates/pacboard/out/pacboard"))
     names = [word for word in words if "/" not in word] or NAMES
+    wrong = None
     if not set(names) <= set(NAMES):
-        sys.exit(f"beside_mame: the names are {', '.join(NAMES)}")
-    if not os.access(program, os.X_OK):
-        sys.exit(f"beside_mame: {program} isn't there; ./run-example --proved builds it")
-    if not MAME:
-        sys.exit("beside_mame: mame isn't there; on Debian `apt-get install mame` gives it")
+        wrong = f"the names are {', '.join(NAMES)}"
+    elif not os.access(program, os.X_OK):
+        wrong = f"{program} isn't there; ./run-example --proved builds it"
+    elif not MAME:
+        wrong = "mame isn't there; on Debian `apt-get install mame` gives it"
+    if wrong:
+        print(f"beside_mame.py: {wrong}", file=sys.stderr)
+        return 2
     passed, failed = 0, 0
     with tempfile.TemporaryDirectory() as folder:
         for name in names:

@@ -1,5 +1,7 @@
 #!/usr/bin/env python3
-"""Times `pacboard run` and plain Rust on one film: bench/film.py PLAIN PACBOARD [ROUNDS].
+"""Times `pacboard run` and plain Rust on one film.
+
+    bench/film.py PLAIN PACBOARD [ROUNDS]
 
 PLAIN is what bench/bench.rs was compiled to, PACBOARD the built program. Both write 1,200 frames of the mixed program, with
 their samples, into a folder of a file system in memory. Frames and wave are compared: a difference ends the script. Printed are
@@ -43,7 +45,16 @@ def lay(folder, name, data):
 
 
 def main():
-    plain, pacboard = sys.argv[1:3]
+    if "--help" in sys.argv[1:]:
+        return print(__doc__.strip())
+    if len(sys.argv) not in (3, 4) or not "".join(sys.argv[3:] or "1").isdigit():
+        print("film.py: usage: bench/film.py PLAIN PACBOARD [ROUNDS]; --help tells more", file=sys.stderr)
+        return 2
+    plain, pacboard = map(os.path.abspath, sys.argv[1:3])
+    for program in (plain, pacboard):
+        if not os.access(program, os.X_OK):
+            print(f"film.py: {program} isn't there", file=sys.stderr)
+            return 2
     rounds = int(sys.argv[3]) if len(sys.argv) > 3 else 1
     with tempfile.TemporaryDirectory(dir="/dev/shm") as folder:
         for name, (size, factor) in SIZES.items():
@@ -63,4 +74,4 @@ def main():
                 sys.exit(f"film.py: the files of kind {kind} differ")
 
 
-main()
+sys.exit(main())

@@ -1,7 +1,7 @@
 #!/usr/bin/env python3
 """Makes the ROM set of this folder's programs, beside this script: tiles, sprites, colours, sounds and the manifest.
 
-    python3 make_set.py
+    examples/make_set.py
 
 writes tiles.rom, sprites.rom, colours.prom, lookup.prom, wave.prom and set.toml, the same bytes each time. It needs
 Python's standard library alone. All pictures and sounds are ours, and stand below as text: a pixel is one of four
@@ -10,6 +10,7 @@ program shows the tile or the sprite. docs/FORMATS.md tells how each part is lai
 """
 import hashlib
 import os
+import sys
 
 # ---- Colours: red and green from 0 to 7, blue from 0 to 3. A palette names four of these sixteen.
 
@@ -706,6 +707,9 @@ def parts():
 
 
 def main():
+    if sys.argv[1:]:
+        print(__doc__.strip())
+        return 0 if sys.argv[1:] == ['--help'] else 2
     here = os.path.dirname(os.path.abspath(__file__))
     manifest = ['# The ROM set of this folder\'s programs, made by make_set.py.']
     for table, name, content in parts():
@@ -714,7 +718,9 @@ def main():
         manifest += ['', f'[{table}]', f'file = "{name}"', f'sha1 = "{hashlib.sha1(content).hexdigest()}"']
     with open(os.path.join(here, 'set.toml'), 'w', encoding='ascii', newline='\n') as file:
         file.write('\n'.join(manifest) + '\n')
+    print('the set is written: {} and set.toml, in {}'.format(', '.join(name for _, name, _ in parts()), here))
+    return 0
 
 
 if __name__ == '__main__':
-    main()
+    sys.exit(main())

@@ -611,6 +611,8 @@ def disassembly(code):
 
 def main():
     """Prints the listing of a source, or its fault."""
+    if len(sys.argv) != 2 or sys.argv[1] == "--help":
+        sys.exit(print(__doc__.strip()) if "--help" in sys.argv else "judge_source.py: it takes one source; --help tells more")
     with open(sys.argv[1], "rb") as file:
         source = file.read()
     assembly, fault = assemble(source)
