@@ -112,13 +112,14 @@ def command_cause(code, said, words, takes):
     return [f"its form is `{word} {forms}`".rstrip(" `") + "`: addresses have four hexadecimal digits, numbers are decimal"]
 
 
-def in_listing(_, said, content):
+def in_listing(code, said, content):
     """The row of a listing in which an address stands; 0 where none has it."""
     address = int(said, 16)
     for at, line in enumerate(content.decode("latin-1").split("\n"), 1):
         found = re.match(r"(?:\d{5}|     ) ([0-9A-F]{4}) ((?:[0-9A-F]{2}){1,4})", line)
         if found and 0 <= address - int(found[1], 16) < len(found[2]) // 2:
-            return [(at, ["the processor came to this address, to data or into the middle of an instruction"])]
+            came = "the processor came to this address, to data or into the middle of an instruction"
+            return [(at, [came if code == "S1" else "the interrupt came before this instruction"])]
     place = "is in RAM or at a port, where the program shouldn't have gone" if address >= 0x4000 else "is in no line"
     return [(0, [f"{said}H {place}"])]
 
