@@ -95,12 +95,35 @@ def in_commands(code, said, content):
     return found
 
 
+def refused_commands(content, session):
+    """The numbers of the commands that a session has refused, each with its answer, by the text of the session."""
+    answers, at, index = session.decode().splitlines(), 0, 0
+    for number, line in enumerate(judge_source.lines_of(content), 1):
+        words = judge_run.words_of(line)
+        if not words or at >= len(answers):
+            continue
+        name, count = words[0], judge_run.number_of(words[-1], 256) or 1
+        is_history = name == b"history" and len(words) == 2
+        if is_history and not index:
+            continue
+        if answers[at].startswith("refused"):
+            yield number, answers[at]
+            count = 1
+        elif name in (b"step", b"continue", b"frames", b"back", b"return"):
+            index, count = int(answers[at].split()[1]), 1
+        elif is_history:
+            count = min(count, index)
+        elif name != b"dis":
+            count = {b"mem": (count + 15) // 16, b"regs": 2}.get(name, 1)
+        at += count
+
+
 def command_cause(code, said, words, takes):
     """Why a command is refused."""
     word = words[0].decode(errors="replace")
     names = [name.decode() for name in judge_run.Session.COMMANDS]
     if code == "G2":
-        return [f"if it goes to before step {said}: the last sixteen checkpoints reach back to there, each 4,096 steps one"]
+        return [f"step {said} is the oldest that can be reached: each 4,096 steps is a checkpoint, and the last sixteen are kept"]
     if code == "G3":
         return ["no `keep` with this number stands above"]
     if code == "G4":
