@@ -10,6 +10,7 @@ standard library alone.
 """
 import struct
 import sys
+import time
 
 WIDTH, HEIGHT = 288, 224
 HEAD = b"P6\n288 224\n255\n"
@@ -89,8 +90,8 @@ def main():
     if words == ["--help"]:
         print(__doc__, end="")
         return
-    if len(words) not in (2, 5):
-        sys.exit("usage: docs/animation.py FRAMES.ppm OUT.gif [FIRST COUNT STEP]")
+    if len(words) not in (2, 5) or not all(word.isdigit() for word in words[2:]):
+        sys.exit("animation.py: usage: docs/animation.py FRAMES.ppm OUT.gif [FIRST COUNT STEP]; --help tells more")
     first, count, step = map(int, words[2:] or (0, 100, 3))
     colours, film = {}, []
     for picture in pictures(words[0], first, count, step):
@@ -99,11 +100,18 @@ def main():
     palette = b"".join(colours).ljust(3 << bits, b"\0")
     out = b"GIF89a" + struct.pack("<HHBBB", WIDTH, HEIGHT, 0xF0 | bits - 1, 0, 0) + palette
     out += b"\x21\xff\x0bNETSCAPE2.0\x03\x01\x00\x00\x00"
+    told = time.monotonic()
     for at, picture in enumerate(film):
+        if time.monotonic() - told > 1:
+            told = time.monotonic()
+            print(f"animation.py: picture {at} of {count}", file=sys.stderr, flush=True)
         out += image(picture, film[at - 1] if at else None, len(colours), bits, round(100 * step / FRAMES_A_SECOND))
     with open(words[1], "wb") as file:
         file.write(out + b"\x3b")
     print(f"{words[1]}: {count} pictures, {len(colours)} colours, {len(out) + 1} bytes")
 
 
-main()
+try:
+    main()
+except OSError as fault:
+    sys.exit(f"animation.py: {fault.filename}: {fault.strerror}")

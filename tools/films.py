@@ -53,6 +53,11 @@ class Picture:
             file.write(content)
 
 
+def fault_text(fault):
+    """A fault as it is told: of a file its name and why, of anything else its words."""
+    return f"{fault.filename}: {fault.strerror}" if isinstance(fault, OSError) else str(fault)
+
+
 def chunk(kind, content):
     """A part of a PNG file."""
     return struct.pack(">I", len(content)) + kind + content + struct.pack(">I", zlib.crc32(kind + content))
