@@ -1,20 +1,25 @@
 -- An image that is made of pieces of one length, of which some are written over.
-use Rattle.std.proofs.Common.{◌≡◌, ℕ, zero, suc, ◌+◌, ◌-◌, ◌*◌, ◌<◌, ◌≤◌, List, [], ◌∷◌, ◌++◌, length, take, drop, get_or, set}
-use Rattle.std.proofs.Common.{slice_index, refl, sym, ap, ◌∙◌, arith, append_assoc, append-nil, EachIndex}
-use Rattle.std.proofs.Common.{◌≢◌, Bool, false, true≢false, not, eqb, below_more, get_or-set_other, get_or-set_same, length-append, length-drop}
+use Rattle.std.proofs.Common.{◌≡◌, ◌≢◌, ℕ, zero, suc, ◌+◌, ◌-◌, ◌*◌, ◌%◌, ◌<◌, ◌≤◌, max, List, [], ◌∷◌, ◌++◌}
+use Rattle.std.proofs.Common.{length, take, drop, get_or, set}
+use Rattle.std.proofs.Common.{slice_index, refl, sym, ap, subst, ◌∙◌, arith, append_assoc, append-nil, EachIndex}
+use Rattle.std.proofs.Common.{false, true≢false, not, eqb}
+use Rattle.std.proofs.Common.{below_more, get_or-set_other, get_or-set_same, length-append, length-take, length-drop}
 use Rattle.std.proofs.Math.Seq.{take-append-add, drop-append-add, drop-cons}
-use Rattle.std.proofs.lemmas.Bool.{cases_lt, cases_Bool}
-use Rattle.std.proofs.lemmas.Slice.Eq.{bytes_eq-Decides}
-use Rattle.std.specs.Cmp.Lexicographic.{pointwise}
-use Rattle.std.proofs.lemmas.List.{take_at, take_all, take-take, drop-take, drop-drop, drop_all, take-append-drop, set_split, length-take-le}
-use Rattle.std.proofs.lemmas.List.{get_or-take, get_or-drop, get_or_append_left, get_or-append_right, flat_map_more, take_more, same_lists, get_or_default}
+use Rattle.std.proofs.lemmas.Bool.{cases_lt, cases_Bool, eqb-true}
+use Rattle.std.proofs.lemmas.List.{take_at, take_all, take-take, drop-take, drop-drop, take-append-drop, set_split, length-take-le}
+use Rattle.std.proofs.lemmas.List.{get_or-take, get_or-drop, get_or_append_left, get_or-append_right}
+use Rattle.std.proofs.lemmas.List.{flat_map_more, take_more, same_lists, get_or_default}
+use Rattle.std.proofs.lemmas.Slice.{take-put_mid}
+use Rattle.std.proofs.lemmas.Nat.Bits.{bit_at_or, bit_at_xor, bit_at-zero, bit_at-lt, same_from_bits}
 use mathlib.Core.Logic.{inl, inr}
 use borrow.Rule.Slice.PartMut.{put_mid}
+use Rattle.std.specs.Int.{w64, to_le_bytes, bit_at}
+use Rattle.std.specs.Int.RustNames.{bit_or, bit_xor}
 use Rattle.std.specs.List.{flat_map}
 use Rattle.std.proofs.lemmas.Grind.{flat_map-append}
 use Rattle.pac_picture.specs.State.{IsPicture}
 use Rattle.pac_media.specs.Images.{palette_colour, header, ppm_of}
-use Rattle.pac_media.specs.Drawn.{AreColours, with_blocks}
+use Rattle.pac_media.specs.Drawn.{AreColours, IsDrawnTo}
 
 -- a list in two parts
 take-more : {X : Type 0} (n m : ℕ) (xs : List X) → take (n + m) xs ≡ take n xs ++ take m (drop n xs)
@@ -61,112 +66,163 @@ drop-pieces f size other (x ∷ xs) (suc count) each fits =
 
 -- some pieces written over by others
 put-pieces : {X Y : Type 0} (f : X → List Y) (size : ℕ) (other : X) (xs ys : List X) (at count : ℕ) → ArePieces f size other xs →
-    at + count ≤ length xs →
-    put_mid (size * at) (size * count) (flat_map f xs) (flat_map f ys) ≡ flat_map f (take at xs ++ (ys ++ drop (at + count) xs))
+    at + count ≤ length xs → put_mid (size * at) (size * count) (flat_map f xs) (flat_map f ys) ≡ flat_map f (put_mid at count xs ys)
 put-pieces f size other xs ys at count each fits =
     let both : size * at + size * count ≡ size * (at + count) = omega arith in
     let before = take-pieces f size other xs at each (omega (arith, fits)) in
-    let after : drop (size * count) (drop (size * at) (flat_map f xs)) ≡ flat_map f (drop (at + count) xs) =
+    let after : drop (size * count) (drop (size * at) (flat_map f xs)) ≡ flat_map f (drop count (drop at xs)) =
     drop-drop (size * count) (size * at) (flat_map f xs)
-    ∙ (ap (λ n. drop n (flat_map f xs)) both ∙ drop-pieces f size other xs (at + count) each fits) in
+    ∙ (ap (λ n. drop n (flat_map f xs)) both
+    ∙ (drop-pieces f size other xs (at + count) each fits ∙ ap (flat_map f) (sym (drop-drop count at xs)))) in
     ap (λ front. front ++ (flat_map f ys ++ drop (size * count) (drop (size * at) (flat_map f xs)))) before
     ∙ (ap (λ back. flat_map f (take at xs) ++ (flat_map f ys ++ back)) after
-    ∙ (ap (λ back. flat_map f (take at xs) ++ back) (sym (flat_map-append f ys (drop (at + count) xs)))
-    ∙ sym (flat_map-append f (take at xs) (ys ++ drop (at + count) xs))))
+    ∙ (ap (λ back. flat_map f (take at xs) ++ back) (sym (flat_map-append f ys (drop count (drop at xs))))
+    ∙ sym (flat_map-append f (take at xs) (ys ++ drop count (drop at xs)))))
 
--- one block more of a line is the other one's
-blocks-more : (count : ℕ) (numbers line : List ℕ) → 8 * count + 8 ≤ length numbers →
-    with_blocks (count + 1) numbers line
-    ≡ take (8 * count) (with_blocks count numbers line)
-    ++ (take 8 (drop (8 * count) numbers) ++ drop (8 * count + 8) (with_blocks count numbers line))
-blocks-more count numbers line fits =
-    let start = 8 * count in
-    let before : length (take (8 * count) numbers) ≡ 8 * count = length-take-le (8 * count) numbers (omega (arith, fits)) in
-    let next : 8 * (count + 1) ≡ 8 * count + 8 = omega arith in
-    let past : 8 * count + 8 ≡ length (take (8 * count) numbers) + 8 = omega (arith, before) in
-    let front : take (8 * count) (with_blocks count numbers line) ≡ take (8 * count) numbers =
-    take_at (take (8 * count) numbers) (drop (8 * count) line) (8 * count) before in
-    let back : drop (8 * count + 8) (with_blocks count numbers line) ≡ drop (8 * count + 8) line =
-    ap (λ n. drop n (with_blocks count numbers line)) past
-    ∙ (drop-append-add (take (8 * count) numbers) (drop (8 * count) line) 8 ∙ drop-drop 8 (8 * count) line) in
-    ap (λ n. take n numbers ++ drop n line) next
-    ∙ (ap (λ all. all ++ drop (8 * count + 8) line) (take-more (8 * count) 8 numbers)
-    ∙ (append_assoc (take (8 * count) numbers) (take 8 (drop (8 * count) numbers)) (drop (8 * count + 8) line)
-    ∙ rw (front, back) refl))
+-- colour numbers
+abbrev AreNumbers : List ℕ → Type 0
+AreNumbers numbers = EachIndex numbers (λ x. slice_index numbers x < 16)
 
--- where that block is the same, the line is
-pub block-same : (count : ℕ) (numbers line : List ℕ) → take 8 (drop (8 * count) numbers) ≡ take 8 (drop (8 * count) line) →
-    with_blocks count numbers line ≡ with_blocks (count + 1) numbers line
-block-same count numbers line same =
-    let next : 8 * (count + 1) ≡ 8 * count + 8 = omega arith in
-    let rest : drop (8 * count) line ≡ take 8 (drop (8 * count) line) ++ drop (8 * count + 8) line =
-    sym (ap (λ back. take 8 (drop (8 * count) line) ++ back) (sym (drop-drop 8 (8 * count) line))
-    ∙ take-append-drop 8 (drop (8 * count) line)) in
-    sym (ap (λ n. take n numbers ++ drop n line) next
-    ∙ (ap (λ all. all ++ drop (8 * count + 8) line) (take-more (8 * count) 8 numbers)
-    ∙ (append_assoc (take (8 * count) numbers) (take 8 (drop (8 * count) numbers)) (drop (8 * count + 8) line)
-    ∙ (ap (λ block. take (8 * count) numbers ++ (block ++ drop (8 * count + 8) line)) same
-    ∙ ap (λ back. take (8 * count) numbers ++ back) (sym rest)))))
+numbers-append : (xs ys : List ℕ) → AreNumbers xs → AreNumbers ys → AreNumbers (xs ++ ys)
+numbers-append xs ys one other k inside =
+    let sum = length-append xs ys in
+    elim (cases_lt k (length xs)) [
+      | inl first ↦ rw (get_or_append_left xs ys 0 k first) (one k first)
+      | inr later ↦
+          rw (get_or-append_right xs ys (length xs) k 0 refl later)
+          (other (k - length xs) (omega (arith, inside, sum, later)))
+    ]
 
--- the colours of a line have three bytes each, and so have those of a line of blocks of two
+numbers-take : (n : ℕ) (xs : List ℕ) → AreNumbers xs → AreNumbers (take n xs)
+numbers-take n xs all k inside =
+    let long = length-take n xs in
+    let first : k < n = omega (arith, inside, long) in
+    rw (get_or-take n xs k 0 first) (all k (omega (arith, inside, long)))
+
+numbers-drop : (n : ℕ) (xs : List ℕ) → AreNumbers xs → AreNumbers (drop n xs)
+numbers-drop n xs all k inside =
+    let long = length-drop n xs in
+    rw (get_or-drop n xs k 0) (all (n + k) (omega (arith, inside, long)))
+
+-- the colours of a line have three bytes each
 pub line-pieces : (palette : List (List ℕ)) (numbers : List ℕ) → AreColours palette → EachIndex numbers (λ x. slice_index numbers x < 16) →
     ArePieces (palette_colour palette) 3 0 numbers
 line-pieces palette numbers three below k inside = three (get_or numbers k 0) (below k inside)
 
-blocks-below : (count : ℕ) (numbers line : List ℕ) → 8 * count ≤ length numbers → length line ≡ length numbers →
-    EachIndex numbers (λ x. slice_index numbers x < 16) → EachIndex line (λ x. slice_index line x < 16) →
-    EachIndex (with_blocks count numbers line) (λ x. slice_index (with_blocks count numbers line) x < 16)
-blocks-below count numbers line fits long below kept k inside =
-    let before : length (take (8 * count) numbers) ≡ 8 * count = length-take-le (8 * count) numbers fits in
-    let after = length-drop (8 * count) line in
-    let sum = length-append (take (8 * count) numbers) (drop (8 * count) line) in
-    elim (cases_lt k (8 * count)) [
-      | inl first ↦
-          let within : k < length (take (8 * count) numbers) = omega (arith, first, before) in
-          rw (get_or_append_left (take (8 * count) numbers) (drop (8 * count) line) 0 k within, get_or-take (8 * count) numbers k 0 first)
-          (below k (omega (arith, first, fits)))
-      | inr later ↦
-          let place : 8 * count + (k - 8 * count) ≡ k = omega (arith, later) in
-          rw (
-            get_or-append_right (take (8 * count) numbers) (drop (8 * count) line) (8 * count) k 0 before later,
-            get_or-drop (8 * count) line (k - 8 * count) 0,
-            place,
-          )
-          (kept k (omega (arith, inside, sum, before, after, long, later)))
+-- a block of a line drawn again and kept
+pub block-drawn : (palette : List (List ℕ)) (numbers pixels kept block piece : List ℕ) (start part size : ℕ) → AreColours palette →
+    EachIndex numbers (λ x. slice_index numbers x < 16) → length numbers ≡ 288 → length kept ≡ 288 → start + 8 ≤ 288 →
+    part ≡ 24 → size ≡ 8 →
+    IsDrawnTo palette start numbers pixels kept → block ≡ take 8 (drop start numbers) → piece ≡ flat_map (palette_colour palette) block →
+    IsDrawnTo palette (start + 8) numbers (put_mid (3 * start) part pixels piece) (put_mid start size kept block)
+block-drawn palette numbers pixels kept block piece start part size three below long same inside is_part is_size was is coloured =
+    let f : ℕ → List ℕ = palette_colour palette in
+    let eight : length block ≡ 8 =
+    ap length is ∙ length-take-le 8 (drop start numbers) (omega (arith, length-drop start numbers, long, inside)) in
+    let threes : part ≡ 3 * 8 = omega (arith, is_part) in
+    let within : start + 8 ≤ length kept = omega (arith, same, inside) in
+    let fits : start ≤ length kept = omega (arith, within) in
+    let stop : start + 8 ≡ start + length block = omega (arith, eight) in
+    let block_below : AreNumbers block =
+    subst AreNumbers (sym is) (numbers-take 8 (drop start numbers) (numbers-drop start numbers below)) in
+    let put : put_mid start size kept block ≡ put_mid start 8 kept block = ap (λ n. put_mid start n kept block) is_size in
+    record {
+      below = subst AreNumbers (sym put)
+          (numbers-append (take start kept) (block ++ drop 8 (drop start kept)) (numbers-take start kept was.below)
+          (numbers-append block (drop 8 (drop start kept)) block_below
+          (numbers-drop 8 (drop start kept) (numbers-drop start kept was.below))));
+      drawn = ap (λ n. put_mid (3 * start) n pixels piece) threes
+          ∙ (ap (λ (all : List ℕ). put_mid (3 * start) (3 * 8) all piece) was.drawn
+          ∙ (ap (λ (one : List ℕ). put_mid (3 * start) (3 * 8) (flat_map f kept) one) coloured
+          ∙ (put-pieces f 3 0 kept block start 8 (line-pieces palette kept three was.below) within ∙ ap (flat_map f) (sym put))));
+      same = ap (take (start + 8)) put
+          ∙ (take-put_mid start 8 kept block (start + 8) stop fits
+          ∙ (ap (λ front. front ++ block) was.same
+          ∙ (ap (λ back. take start numbers ++ back) is ∙ sym (take-more start 8 numbers))));
+    }
+
+-- a part of a line that is the same
+pub part-same : (palette : List (List ℕ)) (numbers pixels kept : List ℕ) (start count : ℕ) →
+    take count (drop start numbers) ≡ take count (drop start kept) → IsDrawnTo palette start numbers pixels kept →
+    IsDrawnTo palette (start + count) numbers pixels kept
+part-same palette numbers pixels kept start count equal was = record {
+  below = was.below;
+  drawn = was.drawn;
+  same = take-more start count kept
+      ∙ (ap (λ front. front ++ take count (drop start kept)) was.same
+      ∙ (ap (λ back. take start numbers ++ back) (sym equal) ∙ sym (take-more start count numbers)));
+}
+
+-- all of a line
+pub all-kept : (palette : List (List ℕ)) (numbers pixels kept : List ℕ) (count : ℕ) → count ≡ 288 → AreColours palette →
+    length numbers ≡ 288 → length pixels ≡ 864 → IsDrawnTo palette count numbers pixels kept → kept ≡ numbers
+all-kept palette numbers pixels kept count all three long size is =
+    let pieces = length-pieces (palette_colour palette) 3 0 kept (line-pieces palette kept three is.below) in
+    let same : length pixels ≡ 3 * length kept = ap length is.drawn ∙ pieces in
+    let one : length kept ≤ count = omega (arith, all, same, size) in
+    let other : length numbers ≤ count = omega (arith, all, long) in
+    sym (take_all count kept one) ∙ (is.same ∙ take_all count numbers other)
+
+-- 32 numbers by their blocks
+in-blocks : (start : ℕ) (xs : List ℕ) → take 32 (drop start xs)
+    ≡ take 8 (drop start xs) ++ (take 8 (drop (start + 8) xs) ++ (take 8 (drop (start + 16) xs) ++ take 8 (drop (start + 24) xs)))
+in-blocks start xs =
+    let second : start + 8 + 8 ≡ start + 16 = omega arith in
+    let third : start + 16 + 8 ≡ start + 24 = omega arith in
+    take-more 8 24 (drop start xs)
+    ∙ ap (λ rest. take 8 (drop start xs) ++ rest)
+    (ap (take 24) (drop-drop 8 start xs)
+    ∙ (take-more 8 16 (drop (start + 8) xs)
+    ∙ ap (λ rest. take 8 (drop (start + 8) xs) ++ rest)
+    (ap (take 16) (drop-drop 8 (start + 8) xs ∙ ap (λ n. drop n xs) second)
+    ∙ (take-more 8 8 (drop (start + 16) xs)
+    ∙ ap (λ rest. take 8 (drop (start + 16) xs) ++ take 8 rest) (drop-drop 8 (start + 16) xs ∙ ap (λ n. drop n xs) third)))))
+
+parts-same : (one other : List ℕ) (start : ℕ) → take 8 (drop start one) ≡ take 8 (drop start other) →
+    take 8 (drop (start + 8) one) ≡ take 8 (drop (start + 8) other) → take 8 (drop (start + 16) one) ≡ take 8 (drop (start + 16) other) →
+    take 8 (drop (start + 24) one) ≡ take 8 (drop (start + 24) other) → take 32 (drop start one) ≡ take 32 (drop start other)
+parts-same one other start first second third fourth =
+    in-blocks start one ∙ (rw (first, second, third, fourth) refl ∙ sym (in-blocks start other))
+
+-- what four pairs of words tell that don't differ
+or-none : (a b : ℕ) → bit_or a b ≡ 0 → (a ≡ 0) × (b ≡ 0)
+or-none a b none =
+    let each : (i : ℕ) → (bit_at a i ≡ 0) × (bit_at b i ≡ 0) =
+    λ i.
+    let joined : bit_at (bit_or a b) i ≡ max (bit_at a i) (bit_at b i) = bit_at_or a b i in
+    let zeros : bit_at (bit_or a b) i ≡ 0 = ap (λ n. bit_at n i) none ∙ bit_at-zero i in
+    (omega (arith, joined, zeros), omega (arith, joined, zeros)) in
+    (same_from_bits a 0 (λ i. (each i).0 ∙ sym (bit_at-zero i)), same_from_bits b 0 (λ i. (each i).1 ∙ sym (bit_at-zero i)))
+
+xor-none : (a b : ℕ) → bit_xor a b ≡ 0 → a ≡ b
+xor-none a b none =
+    same_from_bits a b (λ i.
+    let joined : bit_at (bit_xor a b) i ≡ (bit_at a i + bit_at b i) % 2 = bit_at_xor a b i in
+    let zeros : bit_at (bit_xor a b) i ≡ 0 = ap (λ n. bit_at n i) none ∙ bit_at-zero i in
+    omega (arith, joined, zeros, bit_at-lt a i, bit_at-lt b i))
+
+pub no-bits : (bits : ℕ) → not (eqb bits 0) ≡ false → bits ≡ 0
+no-bits bits off =
+    elim (cases_Bool (eqb bits 0)) [
+      | inl none ↦ eqb-true bits 0 none
+      | inr some ↦ absurd (true≢false (sym (ap not some) ∙ off))
     ]
 
--- one block drawn again
-pub block-drawn : (palette : List (List ℕ)) (numbers line pixels piece : List ℕ) (count part : ℕ) → AreColours palette →
-    EachIndex numbers (λ x. slice_index numbers x < 16) → EachIndex line (λ x. slice_index line x < 16) →
-    length numbers ≡ 288 → length line ≡ 288 → count < 36 → part ≡ 24 →
-    pixels ≡ flat_map (palette_colour palette) (with_blocks count numbers line) →
-    piece ≡ flat_map (palette_colour palette) (take 8 (drop (8 * count) numbers)) →
-    put_mid (3 * (8 * count)) part pixels piece ≡ flat_map (palette_colour palette) (with_blocks (count + 1) numbers line)
-block-drawn palette numbers line pixels piece count part three below kept long same inside is drawn coloured =
-    let mixed = with_blocks count numbers line in
-    let f : ℕ → List ℕ = palette_colour palette in
-    let size : part ≡ 3 * 8 = omega (arith, is) in
-    let fits : 8 * count ≤ length numbers = omega (arith, long, inside) in
-    let room : 8 * count + 8 ≤ length numbers = omega (arith, long, inside) in
-    let before : length (take (8 * count) numbers) ≡ 8 * count = length-take-le (8 * count) numbers fits in
-    let after = length-drop (8 * count) line in
-    let sum = length-append (take (8 * count) numbers) (drop (8 * count) line) in
-    let mixed_below = blocks-below count numbers line fits (same ∙ sym long) below kept in
-    let within : 8 * count + 8 ≤ length mixed = omega (arith, sum, before, after, same, inside) in
-    ap (λ n. put_mid (3 * (8 * count)) n pixels piece) size
-    ∙ (ap (λ (all : List ℕ). put_mid (3 * (8 * count)) (3 * 8) all piece) drawn
-    ∙ (ap (λ (one : List ℕ). put_mid (3 * (8 * count)) (3 * 8) (flat_map f mixed) one) coloured
-    ∙ (put-pieces f 3 0 mixed (take 8 (drop (8 * count) numbers)) (8 * count) 8 (line-pieces palette mixed three mixed_below) within
-    ∙ ap (flat_map f) (sym (blocks-more count numbers line room)))))
-
--- all blocks
-pub all-blocks : (count : ℕ) (numbers line : List ℕ) → count ≡ 36 → length numbers ≡ 288 → length line ≡ 288 →
-    with_blocks count numbers line ≡ numbers
-all-blocks count numbers line all long same =
-    let whole : length numbers ≤ 8 * count = omega (arith, all, long) in
-    let none : length line ≤ 8 * count = omega (arith, all, same) in
-    ap (λ front. front ++ drop (8 * count) line) (take_all (8 * count) numbers whole)
-    ∙ (ap (λ back. numbers ++ back) (drop_all (8 * count) line none) ∙ append-nil numbers)
+pub four-same : (one other : List ℕ) (start a b c d p q r s : ℕ) →
+    to_le_bytes w64 a ≡ take 8 (drop start one) → to_le_bytes w64 p ≡ take 8 (drop start other) →
+    to_le_bytes w64 b ≡ take 8 (drop (start + 8) one) → to_le_bytes w64 q ≡ take 8 (drop (start + 8) other) →
+    to_le_bytes w64 c ≡ take 8 (drop (start + 16) one) → to_le_bytes w64 r ≡ take 8 (drop (start + 16) other) →
+    to_le_bytes w64 d ≡ take 8 (drop (start + 24) one) → to_le_bytes w64 s ≡ take 8 (drop (start + 24) other) →
+    bit_or (bit_or (bit_or (bit_xor a p) (bit_xor b q)) (bit_xor c r)) (bit_xor d s) ≡ 0 →
+    take 32 (drop start one) ≡ take 32 (drop start other)
+four-same one other start a b c d p q r s is_a is_p is_b is_q is_c is_r is_d is_s none =
+    let last = or-none _ _ none in
+    let third = or-none _ _ last.0 in
+    let second = or-none _ _ third.0 in
+    let same : (m n : ℕ) (xs ys : List ℕ) → bit_xor m n ≡ 0 → to_le_bytes w64 m ≡ xs → to_le_bytes w64 n ≡ ys → xs ≡ ys =
+    λ m n xs ys equal read also. sym read ∙ (ap (to_le_bytes w64) (xor-none m n equal) ∙ also) in
+    parts-same one other start (same _ _ _ _ second.0 is_a is_p) (same _ _ _ _ second.1 is_b is_q) (same _ _ _ _ third.1 is_c is_r)
+    (same _ _ _ _ last.1 is_d is_s)
 
 -- each line of a picture has 864 bytes
 pub picture-pieces : (palette lines : List (List ℕ)) → AreColours palette → IsPicture lines →
@@ -224,7 +280,10 @@ line-drawn palette lines image pixels numbers y part three picture below is draw
     ∙ append_assoc header (take (864 * y) all) (pixels ++ drop 864 (drop (864 * y) all))) in
     let written : put_mid (864 * y) 864 all pixels ≡ flat_map f (set lines y numbers) =
     ap (λ (bytes : List ℕ). put_mid (864 * y) 864 all bytes) piece
-    ∙ (put ∙ ap (flat_map f) (ap (λ n. take y lines ++ numbers ∷ drop n lines) next ∙ sym (set_split lines y numbers inside))) in
+    ∙ (put
+    ∙ ap (flat_map f)
+    (ap (λ rest. take y lines ++ numbers ∷ rest) (drop-drop 1 y lines ∙ ap (λ n. drop n lines) next)
+    ∙ sym (set_split lines y numbers inside))) in
     ap (λ n. put_mid (15 + 864 * y) n image pixels) is
     ∙ (ap (λ (bytes : List ℕ). put_mid (15 + 864 * y) 864 bytes pixels) drawn ∙ (moved ∙ ap (λ rest. header ++ rest) written))
 
@@ -253,14 +312,6 @@ part-more f numbers image new start pixels count stop appended is coloured drawn
     ∙ (append_assoc start (flat_map f before) (flat_map f block)
     ∙ ap (λ all. start ++ all)
     (sym (flat_map-append f before block) ∙ ap (flat_map f) (sym (ap (λ n. take n numbers) next ∙ take-more (8 * count) 8 numbers))))))
-
--- what the test of two lines tells where it fails
-pub same-numbers : (one other : List ℕ) (differ : Bool) → differ ≡ not (pointwise eqb one other) → differ ≡ false → one ≡ other
-same-numbers one other differ is off =
-    elim (cases_Bool (pointwise eqb one other)) [
-      | inl same ↦ (bytes_eq-Decides one other).0 same
-      | inr apart ↦ absurd (true≢false (sym (is ∙ rw apart refl) ∙ off))
-    ]
 
 -- one line more is kept
 pub lines-step : (kept new lines : List (List ℕ)) (numbers : List ℕ) (y : ℕ) → length kept ≡ 224 → y < 224 → new ≡ set kept y numbers →

@@ -1,5 +1,6 @@
 -- For proofs: what an image was drawn from, and the tables that it is drawn with.
-use Rattle.std.specs.Prelude.{◌≡◌, ℕ, ◌*◌, ◌/◌, ◌%◌, ◌<◌, List, [], ◌++◌, length, take, drop, slice_index_or}
+use Rattle.std.specs.Prelude.{◌≡◌, ℕ, ◌/◌, ◌%◌, ◌<◌, List, [], ◌++◌, length, take, slice_index, slice_index_or, EachIndex}
+use Rattle.std.specs.List.{flat_map}
 use Rattle.pac_media.specs.Images.{palette_colour, ppm_of}
 
 -- two pixels side by side, by one number of both colour numbers: the left one sixteen times, and the right one
@@ -20,9 +21,11 @@ pub record IsPalette (colours pairs : List (List ℕ)) : Type 0 where
   pub size : length pairs ≡ 256
   pub made : ArePairs colours pairs
 
--- a line whose first blocks, of eight colour numbers each, are those of another one
-abbrev pub with_blocks : ℕ → List ℕ → List ℕ → List ℕ
-with_blocks count numbers line = take (8 * count) numbers ++ drop (8 * count) line
+-- the pixels of a line are those of the kept numbers, of which so many are the new ones
+pub record IsDrawnTo (palette : List (List ℕ)) (count : ℕ) (numbers pixels kept : List ℕ) : Type 0 where
+  pub below : EachIndex kept (λ x. slice_index kept x < 16)
+  pub drawn : pixels ≡ flat_map (palette_colour palette) kept
+  pub same : take count kept ≡ take count numbers
 
 -- no image, or that of these lines in this palette
 abbrev pub IsDrawn : List ℕ → List (List ℕ) → List (List ℕ) → Type 0

@@ -1,13 +1,14 @@
 //! The image of a picture, in the binary PPM format.
 
-ghost use Rattle.std.specs.Prelude.{◌≡◌, ◌<◌, ◌≤◌, ◌++◌, ◌+◌, ◌*◌, ◌↔◌, IsTrue, [], length, take, drop, slice_index, slice_set};
+ghost use Rattle.std.specs.Prelude.{◌≡◌, ◌<◌, ◌≤◌, ◌++◌, ◌+◌, ◌*◌, [], false, length, take, drop, slice_index};
 ghost use Rattle.std.specs.Prelude.{vec_len, vec_capacity, EachIndex, IfOk};
 ghost use Rattle.std.specs.Int.{w64, to_le_bytes};
 ghost use Rattle.std.specs.List.{flat_map};
 ghost use Rattle.pac_tiles.specs.Tiles as tile;
 ghost use Rattle.pac_colour.specs.Colours.{numbers as colour_numbers};
 ghost use Rattle.pac_media.specs.Images.{image_size, palette_colour, ppm_of};
-ghost use Rattle.pac_media.specs.Drawn.{AreColours, IsDrawn, with_blocks};
+ghost use Rattle.pac_picture.specs.State.{IsPicture, black};
+ghost use Rattle.pac_media.specs.Drawn.{AreColours, IsDrawn, IsDrawnTo};
 
 use crate::palette::Palette;
 use pac_picture::{HEIGHT, Lines, Picture, WIDTH};
@@ -23,11 +24,16 @@ const LINE: usize = 3 * WIDTH;
 /// The bytes of an image.
 const SIZE: usize = HEADER + HEIGHT as usize * LINE;
 
-/// The blocks of a line, of eight pixels each.
+/// The blocks of a line, of eight pixels each, and its parts, of 32.
 const BLOCKS: usize = WIDTH / 8;
 
+const PARTS: usize = WIDTH / 32;
+
+/// The colour numbers of a line.
+type Numbers = [u8; WIDTH];
+
 /// Appends the pixels of a line to an image that has room for them.
-fn append_line(image: &mut Vec<u8>, palette: &Palette, numbers: &[u8; WIDTH])
+fn append_line(image: &mut Vec<u8>, palette: &Palette, numbers: &Numbers)
     requires room { vec_len image.old + 3 * tile.width ≤ vec_capacity image.old }
     requires below { EachIndex numbers.now (λ x. slice_index numbers.now x < colour_numbers) }
     ensures items { image.new.items ≡ image.old.items ++ flat_map (palette_colour palette.now) numbers.now }
@@ -42,21 +48,23 @@ fn append_line(image: &mut Vec<u8>, palette: &Palette, numbers: &[u8; WIDTH])
 }
 
 /// Puts the image of some lines in place of what a buffer holds that has room for it.
-fn draw(image: &mut Vec<u8>, palette: &Palette, lines: &Lines)
-    requires { image_size ≤ vec_capacity image.old }
+fn draw(image: &mut Vec<u8>, palette: &Palette, lines: &[Numbers])
+    requires room { image_size ≤ vec_capacity image.old }
+    requires lines { IsPicture lines.now }
     ensures image { image.new.items ≡ ppm_of lines.now palette.now }
     ensures room { image_size ≤ vec_capacity image.new }
 {
     image.clear();
     image.extend_from_slice(b"P6\n288 224\n255\n").unwrap();
-    for y in 0..HEIGHT {
-        append_line(image, palette, lines.row(y));
+    for y in 0..HEIGHT as usize {
+        append_line(image, palette, &lines[y]);
     }
 }
 
 /// Draws the image of some lines in these colours, unless it is there.
-fn begin(image: &mut Vec<u8>, palette: &mut Palette, lines: &Lines, colours: &[[u8; 3]])
+fn begin(image: &mut Vec<u8>, palette: &mut Palette, lines: &[Numbers], colours: &[[u8; 3]])
     requires room { image_size ≤ vec_capacity image.old }
+    requires lines { IsPicture lines.now }
     requires colours { length colours.now ≡ colour_numbers }
     requires drawn { IsDrawn image.old.items lines.now palette.old }
     ensures drawn { image.new.items ≡ ppm_of lines.now colours.now }
@@ -72,7 +80,7 @@ fn begin(image: &mut Vec<u8>, palette: &mut Palette, lines: &Lines, colours: &[[
 
 /// Eight colour numbers of a line as one number.
 #[inline]
-fn word(numbers: &[u8; WIDTH], start: usize) -> u64
+fn word(numbers: &Numbers, start: usize) -> u64
     requires { start + 8 ≤ tile.width }
     ensures { to_le_bytes w64 result ≡ take 8 (drop start numbers.now) }
 {
@@ -81,79 +89,126 @@ fn word(numbers: &[u8; WIDTH], start: usize) -> u64
     u64::from_le_bytes(eight)
 }
 
-/// Draws a block of a line again where its numbers changed: the blocks before it are drawn already.
+/// Whether 32 colour numbers of two lines differ, told without looking at single ones.
+#[inline]
+fn differ(one: &Numbers, other: &Numbers, start: usize) -> bool
+    requires { start + 32 ≤ tile.width }
+    ensures { result ≡ false → take 32 (drop start one.now) ≡ take 32 (drop start other.now) }
+{
+    let first = word(one, start) ^ word(other, start);
+    let second = word(one, start + 8) ^ word(other, start + 8);
+    let third = word(one, start + 16) ^ word(other, start + 16);
+    let fourth = word(one, start + 24) ^ word(other, start + 24);
+    first | second | third | fourth != 0
+}
+
+/// Draws eight pixels of a line again where their numbers changed, and keeps these.
 #[inline]
 fn redraw_block(
     pixels: &mut [u8],
+    kept: &mut Numbers,
     palette: &Palette,
-    kept: &[u8; WIDTH],
-    numbers: &[u8; WIDTH],
-    block: usize,
+    numbers: &Numbers,
+    start: usize,
 )
-    requires block { block < tile.columns }
+    requires start { start + 8 ≤ tile.width }
     requires size { length pixels.old ≡ 3 * tile.width }
     requires colours { AreColours palette.now }
-    requires kept { EachIndex kept.now (λ x. slice_index kept.now x < colour_numbers) }
     requires numbers { EachIndex numbers.now (λ x. slice_index numbers.now x < colour_numbers) }
-    requires drawn { pixels.old ≡ flat_map (palette_colour palette.now) (with_blocks block numbers.now kept.now) }
-    ensures { pixels.new ≡ flat_map (palette_colour palette.now) (with_blocks (block + 1) numbers.now kept.now) }
+    requires drawn { IsDrawnTo palette.now start numbers.now pixels.old kept.old }
+    ensures { IsDrawnTo palette.now (start + 8) numbers.now pixels.new kept.new }
 {
-    let start = 8 * block;
     if word(numbers, start) != word(kept, start) {
-        palette.colour(
-            &numbers[start..start + 8],
-            &mut pixels[3 * start..3 * start + 24],
-        );
+        let block = &numbers[start..start + 8];
+        palette.colour(block, &mut pixels[3 * start..3 * start + 24]);
+        kept[start..start + 8].copy_from_slice(block);
     }
 }
 
-/// Draws those blocks of a line again whose numbers changed.
-fn redraw_blocks(pixels: &mut [u8], palette: &Palette, kept: &[u8; WIDTH], numbers: &[u8; WIDTH])
+/// Draws those of 32 pixels of a line again whose numbers changed. A call of its own, which most pixels don't need, so that
+/// the loop over a line stays short.
+#[inline(never)]
+fn redraw_blocks(
+    pixels: &mut [u8],
+    kept: &mut Numbers,
+    palette: &Palette,
+    numbers: &Numbers,
+    start: usize,
+)
+    requires start { start + 32 ≤ tile.width }
     requires size { length pixels.old ≡ 3 * tile.width }
     requires colours { AreColours palette.now }
-    requires kept { EachIndex kept.now (λ x. slice_index kept.now x < colour_numbers) }
     requires numbers { EachIndex numbers.now (λ x. slice_index numbers.now x < colour_numbers) }
-    requires drawn { pixels.old ≡ flat_map (palette_colour palette.now) kept.now }
-    ensures { pixels.new ≡ flat_map (palette_colour palette.now) numbers.now }
+    requires drawn { IsDrawnTo palette.now start numbers.now pixels.old kept.old }
+    ensures { IsDrawnTo palette.now (start + 32) numbers.now pixels.new kept.new }
 {
-    for block in 0..BLOCKS {
-        redraw_block(pixels, palette, kept, numbers, block);
+    for block in 0..4usize {
+        redraw_block(pixels, kept, palette, numbers, start + 8 * block);
     }
 }
 
-/// Draws line y of an image again where its numbers changed, and keeps these.
+/// Draws 32 pixels of a line again where some of their numbers changed.
 #[inline]
-fn redraw_line(image: &mut [u8], kept: &mut Lines, palette: &Palette, y: u8, numbers: &[u8; WIDTH])
-    requires y { y < tile.height }
+fn redraw_part(
+    pixels: &mut [u8],
+    kept: &mut Numbers,
+    palette: &Palette,
+    numbers: &Numbers,
+    start: usize,
+)
+    requires start { start + 32 ≤ tile.width }
+    requires size { length pixels.old ≡ 3 * tile.width }
     requires colours { AreColours palette.now }
     requires numbers { EachIndex numbers.now (λ x. slice_index numbers.now x < colour_numbers) }
-    requires drawn { image.old ≡ ppm_of kept.old palette.now }
-    ensures drawn { image.new ≡ ppm_of kept.new palette.now }
-    ensures kept { kept.new ≡ slice_set kept.old y numbers.now }
-    ensures high { length kept.old ≡ tile.height }
+    requires drawn { IsDrawnTo palette.now start numbers.now pixels.old kept.old }
+    ensures { IsDrawnTo palette.now (start + 32) numbers.now pixels.new kept.new }
 {
-    if kept.row(y) != numbers {
-        let start = HEADER + LINE * y as usize;
-        redraw_blocks(
-            &mut image[start..start + LINE],
-            palette,
-            kept.row(y),
-            numbers,
-        );
-        kept.set_row(y, numbers);
+    if differ(numbers, kept, start) {
+        redraw_blocks(pixels, kept, palette, numbers, start);
+    }
+}
+
+/// Draws those pixels of a line again whose numbers changed, and keeps these.
+#[inline]
+fn redraw_line(pixels: &mut [u8], kept: &mut Numbers, palette: &Palette, numbers: &Numbers)
+    requires size { length pixels.old ≡ 3 * tile.width }
+    requires colours { AreColours palette.now }
+    requires numbers { EachIndex numbers.now (λ x. slice_index numbers.now x < colour_numbers) }
+    requires kept { EachIndex kept.old (λ x. slice_index kept.old x < colour_numbers) }
+    requires drawn { pixels.old ≡ flat_map (palette_colour palette.now) kept.old }
+    ensures drawn { pixels.new ≡ flat_map (palette_colour palette.now) numbers.now }
+    ensures kept { kept.new ≡ numbers.now }
+{
+    for part in 0..PARTS {
+        redraw_part(pixels, kept, palette, numbers, 32 * part);
     }
 }
 
 /// Draws those pixels of an image again that differ in a picture of other lines, and keeps these.
-fn redraw(image: &mut [u8], kept: &mut Lines, palette: &Palette, lines: &Lines)
+fn redraw(image: &mut [u8], kept: &mut [Numbers], palette: &Palette, lines: &Lines)
     requires colours { AreColours palette.now }
+    requires kept { IsPicture kept.old }
     requires drawn { image.old ≡ ppm_of kept.old palette.now }
     ensures drawn { image.new ≡ ppm_of lines.now palette.now }
     ensures kept { kept.new ≡ lines.now }
+    ensures picture { IsPicture lines.now }
 {
     for y in 0..HEIGHT {
-        redraw_line(image, kept, palette, y, lines.row(y));
+        let start = HEADER + LINE * y as usize;
+        let pixels = &mut image[start..start + LINE];
+        redraw_line(pixels, &mut kept[y as usize], palette, lines.row(y));
     }
+}
+
+/// Lines of colour number 0 alone.
+fn black_lines(alloc: Global) -> Result<Vec<Numbers>, AllocError>
+    ensures { IfOk result (λ lines. lines.items ≡ black) }
+{
+    let mut lines = Vec::with_capacity(alloc, HEIGHT as usize)?;
+    for _ in 0..HEIGHT {
+        lines.push([0; WIDTH])?;
+    }
+    Ok(lines)
 }
 
 /// Room for the bytes of one image, and the lines and the palette that it was drawn from, so that another picture costs
@@ -161,12 +216,13 @@ fn redraw(image: &mut [u8], kept: &mut Lines, palette: &Palette, lines: &Lines)
 #[derive(Drop)]
 pub struct Image {
     bytes: Vec<u8>,
-    lines: Lines,
+    lines: Vec<Numbers>,
     palette: Palette,
 }
 
 impl Model for Image {
     ghost use Rattle.std.specs.Prelude.{ℕ, List, ◌≤◌, vec_capacity};
+    ghost use Rattle.pac_picture.specs.State.{IsPicture};
     ghost use Rattle.pac_media.specs.Images.{image_size};
     ghost use Rattle.pac_media.specs.Drawn.{IsDrawn};
 
@@ -176,7 +232,8 @@ impl Model for Image {
 
     ghost invariant = { λ image. record {
       room : image_size ≤ vec_capacity image.bytes;
-      drawn : IsDrawn image.bytes.items image.lines image.palette;
+      lines : IsPicture image.lines.items;
+      drawn : IsDrawn image.bytes.items image.lines.items image.palette;
     } };
 }
 
@@ -186,7 +243,7 @@ impl Image {
         ensures { IfOk result (λ image. image ≡ []) }
     {
         let bytes = Vec::with_capacity(alloc, SIZE)?;
-        let lines = Lines::new(alloc)?;
+        let lines = black_lines(alloc)?;
         let palette = Palette::new(alloc)?;
         Ok(Image {
             bytes,

@@ -8,7 +8,8 @@ pub loop-k-preserved : goal.loop-k-preserved
 loop-k-preserved c =
     let first : 2 * c.loop-k.k < length c.args.numbers.now = omega (arith, c.requires.size, c.loop-k-test.true) in
     let second : 2 * c.loop-k.k + 1 < length c.args.numbers.now = omega (arith, c.requires.size, c.loop-k-test.true) in
-    let two = pair-pixels c.args.self.now c.self.inside.colours.items c.self.inside.pairs.items c.as_slice-pairs.result.now c.pair-two.result
+    let two = pair-pixels c.args.self.now c.self.inside.colours.items c.self.inside.pairs.items c.as_slice-pairs.result.now
+    c.pair-two.result
     (slice_index c.args.numbers.now (2 * c.loop-k.k)) (slice_index c.args.numbers.now (2 * c.loop-k.k + 1)) c.self.view_is
     c.self.invariant.made c.as_slice-pairs.ensures.value c.pair-two.ensures (c.requires.below (2 * c.loop-k.k) first)
     (c.requires.below (2 * c.loop-k.k + 1) second) in
@@ -16,7 +17,8 @@ loop-k-preserved c =
       long = search (rules, places);
       filled = pixels-step (palette_colour c.args.self.now) c.args.numbers.now c.loop-k.pixels _ c.loop-k.k _
           (ap (take 6) c.copy_from_slice.ensures.after ∙ two)
-          (search (rules, places)) (omega (arith, c.loop-k.invariant.long, c.loop-k-test.true)) (omega (arith, c.requires.size, c.loop-k-test.true))
+          (search (rules, places)) (omega (arith, c.loop-k.invariant.long, c.loop-k-test.true))
+          (omega (arith, c.requires.size, c.loop-k-test.true))
           c.loop-k.invariant.filled;
     }
 
@@ -25,7 +27,8 @@ returns c =
     let all : c.loop-k.k ≡ 3 = omega (arith, c.loop-k-test.false, c.loop-k.auto.k-end) in
     let sixth : 6 < length c.args.numbers.now = omega (arith, c.requires.size) in
     let seventh : 7 < length c.args.numbers.now = omega (arith, c.requires.size) in
-    let last = pair-pixels c.args.self.now c.self.inside.colours.items c.self.inside.pairs.items c.as_slice-pairs.result.now c.pair-last.result
+    let last = pair-pixels c.args.self.now c.self.inside.colours.items c.self.inside.pairs.items c.as_slice-pairs.result.now
+    c.pair-last.result
     (slice_index c.args.numbers.now 6) (slice_index c.args.numbers.now 7) c.self.view_is
     c.self.invariant.made c.as_slice-pairs.ensures.value c.pair-last.ensures (c.requires.below 6 sixth) (c.requires.below 7 seventh) in
     all-pixels (palette_colour c.args.self.now) c.args.numbers.now c.loop-k.pixels c.copy_from_slice-2.new.self c.pair-last.result _
