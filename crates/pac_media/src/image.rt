@@ -252,7 +252,9 @@ impl Image {
         })
     }
 
-    /// Draws a picture's image; it takes no memory.
+    /// Draws a picture's image; it takes no memory. A call of its own, so that a sample, which is offered far more often,
+    /// doesn't pay for it.
+    #[inline(never)]
     pub fn draw(&mut self, picture: &Picture)
         ensures { self.new ≡ ppm_of picture.now.lines picture.now.palette }
     {
