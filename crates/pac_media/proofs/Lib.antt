@@ -1,3 +1,4 @@
+pub mod Blocks
 pub mod Gathered
-pub mod ImageLines
+pub mod Pixels
 pub use Rattle.pac_out.proofs.Files

@@ -1,3 +1,4 @@
+pub mod Drawn
 pub mod Images
 pub mod Samples
 pub mod Sound

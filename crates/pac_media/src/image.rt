@@ -1,117 +1,240 @@
 //! The image of a picture, in the binary PPM format.
 
-ghost use Rattle.std.specs.Prelude.{◌≡◌, ◌<◌, ◌≤◌, ◌++◌, ◌+◌, ◌*◌, ◌/◌, ℕ, [], length, slice_index, slice_index_or, take};
+ghost use Rattle.std.specs.Prelude.{◌≡◌, ◌<◌, ◌≤◌, ◌++◌, ◌+◌, ◌*◌, [], false, length, take, drop, slice_index};
 ghost use Rattle.std.specs.Prelude.{vec_len, vec_capacity, EachIndex, IfOk};
+ghost use Rattle.std.specs.Int.{w64, to_le_bytes};
 ghost use Rattle.std.specs.List.{flat_map};
-ghost use Rattle.pac_num.specs.Tabulate.{tabulate};
 ghost use Rattle.pac_tiles.specs.Tiles as tile;
-ghost use Rattle.pac_colour.specs.Colours.{numbers as colours};
-ghost use Rattle.pac_media.specs.Images.{image_size, pair_number, pair_in, ppm_of};
+ghost use Rattle.pac_colour.specs.Colours.{numbers as colour_numbers};
+ghost use Rattle.pac_media.specs.Images.{image_size, palette_colour, ppm_of};
+ghost use Rattle.pac_picture.specs.State.{IsPicture, black};
+ghost use Rattle.pac_media.specs.Drawn.{AreColours, IsDrawn, IsDrawnTo};
 
-use pac_picture::{HEIGHT, Picture, WIDTH};
+use crate::palette::Palette;
+use pac_picture::{HEIGHT, Lines, Picture, WIDTH};
 use std::alloc::{AllocError, Global};
 use std::marker::Model;
 
-/// The bytes of an image.
-const SIZE: usize = 15 + HEIGHT as usize * LINE;
+/// The bytes of an image before its pixels.
+const HEADER: usize = 15;
 
 /// The bytes of a line's pixels.
 const LINE: usize = 3 * WIDTH;
 
-/// The bytes of two pixels side by side, and two bytes more, so that a pair is copied in one move.
-type TwoPixels = [u8; 8];
+/// The bytes of an image.
+const SIZE: usize = HEADER + HEIGHT as usize * LINE;
 
-/// Two pixels side by side.
-#[inline]
-fn side_by_side(left: [u8; 3], right: [u8; 3]) -> TwoPixels
-    ensures { take 6 result ≡ left ++ right }
-{
-    let [red, green, blue] = left;
-    let [next_red, next_green, next_blue] = right;
-    [red, green, blue, next_red, next_green, next_blue, 0, 0]
-}
+/// The blocks of a line, of eight pixels each, and its parts, of 32.
+const BLOCKS: usize = WIDTH / 8;
 
-/// The pixels of any two colour numbers side by side, sixteen pairs for each left one.
-fn pairs_of(palette: &[[u8; 3]]) -> [TwoPixels; 256]
-    requires { length palette.now ≡ colours }
-    ensures { (number : ℕ) → number < 256 → take 6 (slice_index_or result number []) ≡ pair_in palette.now number }
-{
-    let mut pairs = [[0; 8]; 256];
-    for number in 0..256usize {
-        pairs[number] = side_by_side(palette[number / 16], palette[number % 16]);
-    }
-    pairs
-}
+const PARTS: usize = WIDTH / 32;
 
-/// The pair of two colour numbers, by value: a copy can't overlap the line, which is written without a test for that.
-#[inline(always)]
-fn pair(pairs: &[TwoPixels; 256], left: u8, right: u8) -> TwoPixels
-    requires left { left < colours }
-    requires right { right < colours }
-    ensures { result ≡ slice_index_or pairs.now (16 * left + right) [] }
-{
-    pairs[16 * left as usize + right as usize]
-}
+/// The colour numbers of a line.
+type Numbers = [u8; WIDTH];
 
-/// Puts the pixels of a line, two at a time: the two bytes more of a pair are written over by the next one. A call of its
-/// own, so that the table's place is kept in a register.
-#[inline(never)]
-fn colour_line(pairs: &[TwoPixels; 256], line: &[u8], out: &mut [u8; LINE + 2])
-    requires size { length line.now ≡ tile.width }
-    requires below { EachIndex line.now (λ x. slice_index line.now x < colours) }
-    ensures { take (3 * tile.width) out.new
-        ≡ flat_map (take 6) (tabulate (tile.width / 2) (λ k. slice_index_or pairs.now (pair_number line.now k) [])) }
-{
-    for k in 0..WIDTH / 2 {
-        let pair = pair(pairs, line[2 * k], line[2 * k + 1]);
-        out[6 * k..6 * k + 8].copy_from_slice(&pair);
-    }
-}
-
-/// Puts a line's pixels after what an image has that has room for them.
-#[inline(always)]
-fn append_line(image: &mut Vec<u8>, pixels: &[u8; LINE + 2])
-    requires { vec_len image.old + 3 * tile.width ≤ vec_capacity image.old }
-    ensures items { image.new.items ≡ image.old.items ++ take (3 * tile.width) pixels.now }
+/// Appends the pixels of a line to an image that has room for them.
+fn append_line(image: &mut Vec<u8>, palette: &Palette, numbers: &Numbers)
+    requires room { vec_len image.old + 3 * tile.width ≤ vec_capacity image.old }
+    requires below { EachIndex numbers.now (λ x. slice_index numbers.now x < colour_numbers) }
+    ensures items { image.new.items ≡ image.old.items ++ flat_map (palette_colour palette.now) numbers.now }
     ensures len { vec_len image.new ≡ vec_len image.old + 3 * tile.width }
     ensures room { vec_capacity image.old ≤ vec_capacity image.new }
 {
-    image.extend_from_slice(&pixels[..LINE]).unwrap();
+    let mut pixels = [0; 24];
+    for block in 0..BLOCKS {
+        palette.colour(&numbers[8 * block..8 * block + 8], &mut pixels);
+        image.extend_from_slice(&pixels).unwrap();
+    }
 }
 
-/// Puts the image of a picture in place of what a buffer holds that has room for it. A call of its own, so that a sample,
-/// which is offered far more often, doesn't pay for its tables.
-#[inline(never)]
-fn draw(image: &mut Vec<u8>, picture: &Picture)
-    requires { image_size ≤ vec_capacity image.old }
-    ensures image { image.new.items ≡ ppm_of picture.now.lines picture.now.palette }
+/// Puts the image of some lines in place of what a buffer holds that has room for it.
+fn draw(image: &mut Vec<u8>, palette: &Palette, lines: &[Numbers])
+    requires room { image_size ≤ vec_capacity image.old }
+    requires lines { IsPicture lines.now }
+    ensures image { image.new.items ≡ ppm_of lines.now palette.now }
     ensures room { image_size ≤ vec_capacity image.new }
 {
     image.clear();
     image.extend_from_slice(b"P6\n288 224\n255\n").unwrap();
-    let pairs = pairs_of(picture.palette());
-    let mut pixels = [0; LINE + 2];
-    for y in 0..HEIGHT {
-        colour_line(&pairs, picture.row(y), &mut pixels);
-        append_line(image, &pixels);
+    for y in 0..HEIGHT as usize {
+        append_line(image, palette, &lines[y]);
     }
 }
 
-/// Room for the bytes of one image. Clauses see the bytes of the image that it holds.
+/// Draws the image of some lines in these colours, unless it is there.
+fn begin(image: &mut Vec<u8>, palette: &mut Palette, lines: &[Numbers], colours: &[[u8; 3]])
+    requires room { image_size ≤ vec_capacity image.old }
+    requires lines { IsPicture lines.now }
+    requires colours { length colours.now ≡ colour_numbers }
+    requires drawn { IsDrawn image.old.items lines.now palette.old }
+    ensures drawn { image.new.items ≡ ppm_of lines.now colours.now }
+    ensures palette { palette.new ≡ colours.now }
+    ensures colours { AreColours colours.now }
+    ensures room { image_size ≤ vec_capacity image.new }
+{
+    if image.is_empty() || !palette.is_of(colours) {
+        palette.set(colours);
+        draw(image, palette, lines);
+    }
+}
+
+/// Eight colour numbers of a line as one number.
+#[inline]
+fn word(numbers: &Numbers, start: usize) -> u64
+    requires { start + 8 ≤ tile.width }
+    ensures { to_le_bytes w64 result ≡ take 8 (drop start numbers.now) }
+{
+    let mut eight = [0; 8];
+    eight.copy_from_slice(&numbers[start..start + 8]);
+    u64::from_le_bytes(eight)
+}
+
+/// Whether 32 colour numbers of two lines differ, told without looking at single ones.
+#[inline]
+fn differ(one: &Numbers, other: &Numbers, start: usize) -> bool
+    requires { start + 32 ≤ tile.width }
+    ensures { result ≡ false → take 32 (drop start one.now) ≡ take 32 (drop start other.now) }
+{
+    let first = word(one, start) ^ word(other, start);
+    let second = word(one, start + 8) ^ word(other, start + 8);
+    let third = word(one, start + 16) ^ word(other, start + 16);
+    let fourth = word(one, start + 24) ^ word(other, start + 24);
+    first | second | third | fourth != 0
+}
+
+/// Draws eight pixels of a line again where their numbers changed, and keeps these.
+#[inline]
+fn redraw_block(
+    pixels: &mut [u8],
+    kept: &mut Numbers,
+    palette: &Palette,
+    numbers: &Numbers,
+    start: usize,
+)
+    requires start { start + 8 ≤ tile.width }
+    requires size { length pixels.old ≡ 3 * tile.width }
+    requires colours { AreColours palette.now }
+    requires numbers { EachIndex numbers.now (λ x. slice_index numbers.now x < colour_numbers) }
+    requires drawn { IsDrawnTo palette.now start numbers.now pixels.old kept.old }
+    ensures { IsDrawnTo palette.now (start + 8) numbers.now pixels.new kept.new }
+{
+    if word(numbers, start) != word(kept, start) {
+        let block = &numbers[start..start + 8];
+        palette.colour(block, &mut pixels[3 * start..3 * start + 24]);
+        kept[start..start + 8].copy_from_slice(block);
+    }
+}
+
+/// Draws those of 32 pixels of a line again whose numbers changed. A call of its own, which most pixels don't need, so that
+/// the loop over a line stays short.
+#[inline(never)]
+fn redraw_blocks(
+    pixels: &mut [u8],
+    kept: &mut Numbers,
+    palette: &Palette,
+    numbers: &Numbers,
+    start: usize,
+)
+    requires start { start + 32 ≤ tile.width }
+    requires size { length pixels.old ≡ 3 * tile.width }
+    requires colours { AreColours palette.now }
+    requires numbers { EachIndex numbers.now (λ x. slice_index numbers.now x < colour_numbers) }
+    requires drawn { IsDrawnTo palette.now start numbers.now pixels.old kept.old }
+    ensures { IsDrawnTo palette.now (start + 32) numbers.now pixels.new kept.new }
+{
+    for block in 0..4usize {
+        redraw_block(pixels, kept, palette, numbers, start + 8 * block);
+    }
+}
+
+/// Draws 32 pixels of a line again where some of their numbers changed.
+#[inline]
+fn redraw_part(
+    pixels: &mut [u8],
+    kept: &mut Numbers,
+    palette: &Palette,
+    numbers: &Numbers,
+    start: usize,
+)
+    requires start { start + 32 ≤ tile.width }
+    requires size { length pixels.old ≡ 3 * tile.width }
+    requires colours { AreColours palette.now }
+    requires numbers { EachIndex numbers.now (λ x. slice_index numbers.now x < colour_numbers) }
+    requires drawn { IsDrawnTo palette.now start numbers.now pixels.old kept.old }
+    ensures { IsDrawnTo palette.now (start + 32) numbers.now pixels.new kept.new }
+{
+    if differ(numbers, kept, start) {
+        redraw_blocks(pixels, kept, palette, numbers, start);
+    }
+}
+
+/// Draws those pixels of a line again whose numbers changed, and keeps these.
+#[inline]
+fn redraw_line(pixels: &mut [u8], kept: &mut Numbers, palette: &Palette, numbers: &Numbers)
+    requires size { length pixels.old ≡ 3 * tile.width }
+    requires colours { AreColours palette.now }
+    requires numbers { EachIndex numbers.now (λ x. slice_index numbers.now x < colour_numbers) }
+    requires kept { EachIndex kept.old (λ x. slice_index kept.old x < colour_numbers) }
+    requires drawn { pixels.old ≡ flat_map (palette_colour palette.now) kept.old }
+    ensures drawn { pixels.new ≡ flat_map (palette_colour palette.now) numbers.now }
+    ensures kept { kept.new ≡ numbers.now }
+{
+    for part in 0..PARTS {
+        redraw_part(pixels, kept, palette, numbers, 32 * part);
+    }
+}
+
+/// Draws those pixels of an image again that differ in a picture of other lines, and keeps these.
+fn redraw(image: &mut [u8], kept: &mut [Numbers], palette: &Palette, lines: &Lines)
+    requires colours { AreColours palette.now }
+    requires kept { IsPicture kept.old }
+    requires drawn { image.old ≡ ppm_of kept.old palette.now }
+    ensures drawn { image.new ≡ ppm_of lines.now palette.now }
+    ensures kept { kept.new ≡ lines.now }
+    ensures picture { IsPicture lines.now }
+{
+    for y in 0..HEIGHT {
+        let start = HEADER + LINE * y as usize;
+        let pixels = &mut image[start..start + LINE];
+        redraw_line(pixels, &mut kept[y as usize], palette, lines.row(y));
+    }
+}
+
+/// Lines of colour number 0 alone.
+fn black_lines(alloc: Global) -> Result<Vec<Numbers>, AllocError>
+    ensures { IfOk result (λ lines. lines.items ≡ black) }
+{
+    let mut lines = Vec::with_capacity(alloc, HEIGHT as usize)?;
+    for _ in 0..HEIGHT {
+        lines.push([0; WIDTH])?;
+    }
+    Ok(lines)
+}
+
+/// Room for the bytes of one image, and the lines and the palette that it was drawn from, so that another picture costs
+/// what differs in it. Clauses see the bytes of the image that it holds.
 #[derive(Drop)]
 pub struct Image {
     bytes: Vec<u8>,
+    lines: Vec<Numbers>,
+    palette: Palette,
 }
 
 impl Model for Image {
     ghost use Rattle.std.specs.Prelude.{ℕ, List, ◌≤◌, vec_capacity};
+    ghost use Rattle.pac_picture.specs.State.{IsPicture};
     ghost use Rattle.pac_media.specs.Images.{image_size};
+    ghost use Rattle.pac_media.specs.Drawn.{IsDrawn};
 
     ghost Value = { List ℕ };
 
     ghost view = { λ image. image.bytes.items };
 
-    ghost invariant = { λ image. image_size ≤ vec_capacity image.bytes };
+    ghost invariant = { λ image. record {
+      room : image_size ≤ vec_capacity image.bytes;
+      lines : IsPicture image.lines.items;
+      drawn : IsDrawn image.bytes.items image.lines.items image.palette;
+    } };
 }
 
 impl Image {
@@ -120,14 +243,29 @@ impl Image {
         ensures { IfOk result (λ image. image ≡ []) }
     {
         let bytes = Vec::with_capacity(alloc, SIZE)?;
-        Ok(Image { bytes })
+        let lines = black_lines(alloc)?;
+        let palette = Palette::new(alloc)?;
+        Ok(Image {
+            bytes,
+            lines,
+            palette,
+        })
     }
 
-    /// Draws a picture's image; it takes no memory.
+    /// Draws a picture's image; it takes no memory. A call of its own, so that a sample, which is offered far more often,
+    /// doesn't pay for it.
+    #[inline(never)]
     pub fn draw(&mut self, picture: &Picture)
         ensures { self.new ≡ ppm_of picture.now.lines picture.now.palette }
     {
-        draw(&mut self.bytes, picture);
+        let lines = picture.lines();
+        begin(
+            &mut self.bytes,
+            &mut self.palette,
+            &self.lines,
+            picture.palette(),
+        );
+        redraw(&mut self.bytes, &mut self.lines, &self.palette, lines);
     }
 
     /// The bytes of the image.

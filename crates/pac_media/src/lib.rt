@@ -3,6 +3,7 @@
 
 mod frames;
 mod image;
+mod palette;
 mod wave_file;
 
 pub use frames::Frames;

@@ -40,7 +40,7 @@ fn sound_size(alloc: Global, writer: Faulty) -> usize {
     }
 }
 
-// The image's room is one block of memory. Where it is there, nothing more is asked for.
+// The image's room is asked for where it is made. Where it is there, nothing more is.
 #[test]
 fn an_image_in_scarce_memory(rt: HostRuntime) -> Result<(), Fail> {
     let picture = colourful(rt.alloc())?;

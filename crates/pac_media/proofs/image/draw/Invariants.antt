@@ -1,12 +1,11 @@
-use Rattle.std.proofs.Common.{◌≡◌, ◌≤◌, ◌<◌, ◌+◌, ◌*◌, ◌++◌, length, take, vec_len, vec_capacity}
+use Rattle.std.proofs.Common.{◌≡◌, ◌≤◌, ◌+◌, ◌*◌, ◌++◌, take, vec_len, vec_capacity}
 use Rattle.std.specs.List.{flat_map}
 use Rattle.pac_media.specs.Images.{palette_colour, header, image_size}
 use Rattle.pac_media.proofs.image.draw.Given as goal
 
 abbrev pub invariant-loop-y : goal.invariant-loop-y
 invariant-loop-y l = record {
-  drawn : l.image.items ≡ header ++ flat_map (flat_map (palette_colour l.picture.palette)) (take l.y l.picture.lines);
+  drawn : l.image.items ≡ header ++ flat_map (flat_map (palette_colour l.palette)) (take l.y l.lines);
   long : vec_len l.image ≡ 15 + 864 * l.y;
-  high : 0 < l.y → length l.picture.lines ≡ 224;
   room : image_size ≤ vec_capacity l.image;
 }

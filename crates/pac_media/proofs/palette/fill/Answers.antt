@@ -1,6 +1,6 @@
 use Rattle.std.proofs.Common.{◌≡◌, ◌<◌, length, rules, arith}
-use Rattle.pac_media.proofs.ImageLines.{pair-step}
-use Rattle.pac_media.proofs.image.pairs_of.Goals as goal
+use Rattle.pac_media.proofs.Pixels.{pair-step}
+use Rattle.pac_media.proofs.palette.fill.Goals as goal
 
 pub loop-number-preserved : goal.loop-number-preserved
 loop-number-preserved c =

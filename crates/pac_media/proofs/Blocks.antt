@@ -1,0 +1,335 @@
+-- An image that is made of pieces of one length, of which some are written over.
+use Rattle.std.proofs.Common.{◌≡◌, ◌≢◌, ℕ, zero, suc, ◌+◌, ◌-◌, ◌*◌, ◌%◌, ◌<◌, ◌≤◌, max, List, [], ◌∷◌, ◌++◌}
+use Rattle.std.proofs.Common.{length, take, drop, get_or, set}
+use Rattle.std.proofs.Common.{slice_index, refl, sym, ap, subst, ◌∙◌, arith, append_assoc, append-nil, EachIndex}
+use Rattle.std.proofs.Common.{false, true≢false, not, eqb}
+use Rattle.std.proofs.Common.{below_more, get_or-set_other, get_or-set_same, length-append, length-take, length-drop}
+use Rattle.std.proofs.Math.Seq.{take-append-add, drop-append-add, drop-cons}
+use Rattle.std.proofs.lemmas.Bool.{cases_lt, cases_Bool, eqb-true}
+use Rattle.std.proofs.lemmas.List.{take_at, take_all, take-take, drop-take, drop-drop, take-append-drop, set_split, length-take-le}
+use Rattle.std.proofs.lemmas.List.{get_or-take, get_or-drop, get_or_append_left, get_or-append_right}
+use Rattle.std.proofs.lemmas.List.{flat_map_more, take_more, same_lists, get_or_default}
+use Rattle.std.proofs.lemmas.Slice.{take-put_mid}
+use Rattle.std.proofs.lemmas.Nat.Bits.{bit_at_or, bit_at_xor, bit_at-zero, bit_at-lt, same_from_bits}
+use mathlib.Core.Logic.{inl, inr}
+use borrow.Rule.Slice.PartMut.{put_mid}
+use Rattle.std.specs.Int.{w64, to_le_bytes, bit_at}
+use Rattle.std.specs.Int.RustNames.{bit_or, bit_xor}
+use Rattle.std.specs.List.{flat_map}
+use Rattle.std.proofs.lemmas.Grind.{flat_map-append}
+use Rattle.pac_picture.specs.State.{IsPicture}
+use Rattle.pac_media.specs.Images.{palette_colour, header, ppm_of}
+use Rattle.pac_media.specs.Drawn.{AreColours, IsDrawnTo}
+
+-- a list in two parts
+take-more : {X : Type 0} (n m : ℕ) (xs : List X) → take (n + m) xs ≡ take n xs ++ take m (drop n xs)
+take-more n m xs =
+    let short : n ≤ n + m = omega arith in
+    sym (take-append-drop n (take (n + m) xs))
+    ∙ (ap (λ front. front ++ drop n (take (n + m) xs)) (take-take n (n + m) xs short) ∙ ap (λ back. take n xs ++ back) (drop-take n m xs))
+
+-- what each of these gives has one length
+abbrev pub ArePieces : {X Y : Type 0} → (X → List Y) → ℕ → X → List X → Type 0
+ArePieces f size other xs = (k : ℕ) → k < length xs → length (f (get_or xs k other)) ≡ size
+
+rest-pieces : {X Y : Type 0} (f : X → List Y) (size : ℕ) (other x : X) (xs : List X) → ArePieces f size other (x ∷ xs) →
+    ArePieces f size other xs
+rest-pieces f size other x xs each k below = each (suc k) (omega (arith, below))
+
+pub length-pieces : {X Y : Type 0} (f : X → List Y) (size : ℕ) (other : X) (xs : List X) → ArePieces f size other xs →
+    length (flat_map f xs) ≡ size * length xs
+length-pieces f size other [] each = omega arith
+length-pieces f size other (x ∷ xs) each =
+    let first : length (f x) ≡ size = each 0 (omega arith) in
+    let rest = length-pieces f size other xs (rest-pieces f size other x xs each) in
+    omega (arith, length-append (f x) (flat_map f xs), first, rest)
+
+take-pieces : {X Y : Type 0} (f : X → List Y) (size : ℕ) (other : X) (xs : List X) (count : ℕ) → ArePieces f size other xs →
+    count ≤ length xs → take (size * count) (flat_map f xs) ≡ flat_map f (take count xs)
+take-pieces f size other xs zero each fits = let none : size * 0 ≡ 0 = omega arith in rw none refl
+take-pieces f size other [] (suc count) each fits = absurd (omega (arith, fits))
+take-pieces f size other (x ∷ xs) (suc count) each fits =
+    let first : length (f x) ≡ size = each 0 (omega arith) in
+    let sum : size * suc count ≡ length (f x) + size * count = omega (arith, first) in
+    let rest = take-pieces f size other xs count (rest-pieces f size other x xs each) (omega (arith, fits)) in
+    rw sum (take-append-add (f x) (flat_map f xs) (size * count) ∙ ap (λ all. f x ++ all) rest)
+
+drop-pieces : {X Y : Type 0} (f : X → List Y) (size : ℕ) (other : X) (xs : List X) (count : ℕ) → ArePieces f size other xs →
+    count ≤ length xs → drop (size * count) (flat_map f xs) ≡ flat_map f (drop count xs)
+drop-pieces f size other xs zero each fits = let none : size * 0 ≡ 0 = omega arith in rw none refl
+drop-pieces f size other [] (suc count) each fits = absurd (omega (arith, fits))
+drop-pieces f size other (x ∷ xs) (suc count) each fits =
+    let first : length (f x) ≡ size = each 0 (omega arith) in
+    let sum : size * suc count ≡ length (f x) + size * count = omega (arith, first) in
+    let rest = drop-pieces f size other xs count (rest-pieces f size other x xs each) (omega (arith, fits)) in
+    rw sum (drop-append-add (f x) (flat_map f xs) (size * count) ∙ rest)
+
+-- some pieces written over by others
+put-pieces : {X Y : Type 0} (f : X → List Y) (size : ℕ) (other : X) (xs ys : List X) (at count : ℕ) → ArePieces f size other xs →
+    at + count ≤ length xs → put_mid (size * at) (size * count) (flat_map f xs) (flat_map f ys) ≡ flat_map f (put_mid at count xs ys)
+put-pieces f size other xs ys at count each fits =
+    let both : size * at + size * count ≡ size * (at + count) = omega arith in
+    let before = take-pieces f size other xs at each (omega (arith, fits)) in
+    let after : drop (size * count) (drop (size * at) (flat_map f xs)) ≡ flat_map f (drop count (drop at xs)) =
+    drop-drop (size * count) (size * at) (flat_map f xs)
+    ∙ (ap (λ n. drop n (flat_map f xs)) both
+    ∙ (drop-pieces f size other xs (at + count) each fits ∙ ap (flat_map f) (sym (drop-drop count at xs)))) in
+    ap (λ front. front ++ (flat_map f ys ++ drop (size * count) (drop (size * at) (flat_map f xs)))) before
+    ∙ (ap (λ back. flat_map f (take at xs) ++ (flat_map f ys ++ back)) after
+    ∙ (ap (λ back. flat_map f (take at xs) ++ back) (sym (flat_map-append f ys (drop count (drop at xs))))
+    ∙ sym (flat_map-append f (take at xs) (ys ++ drop count (drop at xs)))))
+
+-- colour numbers
+abbrev AreNumbers : List ℕ → Type 0
+AreNumbers numbers = EachIndex numbers (λ x. slice_index numbers x < 16)
+
+numbers-append : (xs ys : List ℕ) → AreNumbers xs → AreNumbers ys → AreNumbers (xs ++ ys)
+numbers-append xs ys one other k inside =
+    let sum = length-append xs ys in
+    elim (cases_lt k (length xs)) [
+      | inl first ↦ rw (get_or_append_left xs ys 0 k first) (one k first)
+      | inr later ↦
+          rw (get_or-append_right xs ys (length xs) k 0 refl later)
+          (other (k - length xs) (omega (arith, inside, sum, later)))
+    ]
+
+numbers-take : (n : ℕ) (xs : List ℕ) → AreNumbers xs → AreNumbers (take n xs)
+numbers-take n xs all k inside =
+    let long = length-take n xs in
+    let first : k < n = omega (arith, inside, long) in
+    rw (get_or-take n xs k 0 first) (all k (omega (arith, inside, long)))
+
+numbers-drop : (n : ℕ) (xs : List ℕ) → AreNumbers xs → AreNumbers (drop n xs)
+numbers-drop n xs all k inside =
+    let long = length-drop n xs in
+    rw (get_or-drop n xs k 0) (all (n + k) (omega (arith, inside, long)))
+
+-- the colours of a line have three bytes each
+pub line-pieces : (palette : List (List ℕ)) (numbers : List ℕ) → AreColours palette → EachIndex numbers (λ x. slice_index numbers x < 16) →
+    ArePieces (palette_colour palette) 3 0 numbers
+line-pieces palette numbers three below k inside = three (get_or numbers k 0) (below k inside)
+
+-- a block of a line drawn again and kept
+pub block-drawn : (palette : List (List ℕ)) (numbers pixels kept block piece : List ℕ) (start part size : ℕ) → AreColours palette →
+    EachIndex numbers (λ x. slice_index numbers x < 16) → length numbers ≡ 288 → length kept ≡ 288 → start + 8 ≤ 288 →
+    part ≡ 24 → size ≡ 8 →
+    IsDrawnTo palette start numbers pixels kept → block ≡ take 8 (drop start numbers) → piece ≡ flat_map (palette_colour palette) block →
+    IsDrawnTo palette (start + 8) numbers (put_mid (3 * start) part pixels piece) (put_mid start size kept block)
+block-drawn palette numbers pixels kept block piece start part size three below long same inside is_part is_size was is coloured =
+    let f : ℕ → List ℕ = palette_colour palette in
+    let eight : length block ≡ 8 =
+    ap length is ∙ length-take-le 8 (drop start numbers) (omega (arith, length-drop start numbers, long, inside)) in
+    let threes : part ≡ 3 * 8 = omega (arith, is_part) in
+    let within : start + 8 ≤ length kept = omega (arith, same, inside) in
+    let fits : start ≤ length kept = omega (arith, within) in
+    let stop : start + 8 ≡ start + length block = omega (arith, eight) in
+    let block_below : AreNumbers block =
+    subst AreNumbers (sym is) (numbers-take 8 (drop start numbers) (numbers-drop start numbers below)) in
+    let put : put_mid start size kept block ≡ put_mid start 8 kept block = ap (λ n. put_mid start n kept block) is_size in
+    record {
+      below = subst AreNumbers (sym put)
+          (numbers-append (take start kept) (block ++ drop 8 (drop start kept)) (numbers-take start kept was.below)
+          (numbers-append block (drop 8 (drop start kept)) block_below
+          (numbers-drop 8 (drop start kept) (numbers-drop start kept was.below))));
+      drawn = ap (λ n. put_mid (3 * start) n pixels piece) threes
+          ∙ (ap (λ (all : List ℕ). put_mid (3 * start) (3 * 8) all piece) was.drawn
+          ∙ (ap (λ (one : List ℕ). put_mid (3 * start) (3 * 8) (flat_map f kept) one) coloured
+          ∙ (put-pieces f 3 0 kept block start 8 (line-pieces palette kept three was.below) within ∙ ap (flat_map f) (sym put))));
+      same = ap (take (start + 8)) put
+          ∙ (take-put_mid start 8 kept block (start + 8) stop fits
+          ∙ (ap (λ front. front ++ block) was.same
+          ∙ (ap (λ back. take start numbers ++ back) is ∙ sym (take-more start 8 numbers))));
+    }
+
+-- a part of a line that is the same
+pub part-same : (palette : List (List ℕ)) (numbers pixels kept : List ℕ) (start count : ℕ) →
+    take count (drop start numbers) ≡ take count (drop start kept) → IsDrawnTo palette start numbers pixels kept →
+    IsDrawnTo palette (start + count) numbers pixels kept
+part-same palette numbers pixels kept start count equal was = record {
+  below = was.below;
+  drawn = was.drawn;
+  same = take-more start count kept
+      ∙ (ap (λ front. front ++ take count (drop start kept)) was.same
+      ∙ (ap (λ back. take start numbers ++ back) (sym equal) ∙ sym (take-more start count numbers)));
+}
+
+-- all of a line
+pub all-kept : (palette : List (List ℕ)) (numbers pixels kept : List ℕ) (count : ℕ) → count ≡ 288 → AreColours palette →
+    length numbers ≡ 288 → length pixels ≡ 864 → IsDrawnTo palette count numbers pixels kept → kept ≡ numbers
+all-kept palette numbers pixels kept count all three long size is =
+    let pieces = length-pieces (palette_colour palette) 3 0 kept (line-pieces palette kept three is.below) in
+    let same : length pixels ≡ 3 * length kept = ap length is.drawn ∙ pieces in
+    let one : length kept ≤ count = omega (arith, all, same, size) in
+    let other : length numbers ≤ count = omega (arith, all, long) in
+    sym (take_all count kept one) ∙ (is.same ∙ take_all count numbers other)
+
+-- 32 numbers by their blocks
+in-blocks : (start : ℕ) (xs : List ℕ) → take 32 (drop start xs)
+    ≡ take 8 (drop start xs) ++ (take 8 (drop (start + 8) xs) ++ (take 8 (drop (start + 16) xs) ++ take 8 (drop (start + 24) xs)))
+in-blocks start xs =
+    let second : start + 8 + 8 ≡ start + 16 = omega arith in
+    let third : start + 16 + 8 ≡ start + 24 = omega arith in
+    take-more 8 24 (drop start xs)
+    ∙ ap (λ rest. take 8 (drop start xs) ++ rest)
+    (ap (take 24) (drop-drop 8 start xs)
+    ∙ (take-more 8 16 (drop (start + 8) xs)
+    ∙ ap (λ rest. take 8 (drop (start + 8) xs) ++ rest)
+    (ap (take 16) (drop-drop 8 (start + 8) xs ∙ ap (λ n. drop n xs) second)
+    ∙ (take-more 8 8 (drop (start + 16) xs)
+    ∙ ap (λ rest. take 8 (drop (start + 16) xs) ++ take 8 rest) (drop-drop 8 (start + 16) xs ∙ ap (λ n. drop n xs) third)))))
+
+parts-same : (one other : List ℕ) (start : ℕ) → take 8 (drop start one) ≡ take 8 (drop start other) →
+    take 8 (drop (start + 8) one) ≡ take 8 (drop (start + 8) other) → take 8 (drop (start + 16) one) ≡ take 8 (drop (start + 16) other) →
+    take 8 (drop (start + 24) one) ≡ take 8 (drop (start + 24) other) → take 32 (drop start one) ≡ take 32 (drop start other)
+parts-same one other start first second third fourth =
+    in-blocks start one ∙ (rw (first, second, third, fourth) refl ∙ sym (in-blocks start other))
+
+-- what four pairs of words tell that don't differ
+or-none : (a b : ℕ) → bit_or a b ≡ 0 → (a ≡ 0) × (b ≡ 0)
+or-none a b none =
+    let each : (i : ℕ) → (bit_at a i ≡ 0) × (bit_at b i ≡ 0) =
+    λ i.
+    let joined : bit_at (bit_or a b) i ≡ max (bit_at a i) (bit_at b i) = bit_at_or a b i in
+    let zeros : bit_at (bit_or a b) i ≡ 0 = ap (λ n. bit_at n i) none ∙ bit_at-zero i in
+    (omega (arith, joined, zeros), omega (arith, joined, zeros)) in
+    (same_from_bits a 0 (λ i. (each i).0 ∙ sym (bit_at-zero i)), same_from_bits b 0 (λ i. (each i).1 ∙ sym (bit_at-zero i)))
+
+xor-none : (a b : ℕ) → bit_xor a b ≡ 0 → a ≡ b
+xor-none a b none =
+    same_from_bits a b (λ i.
+    let joined : bit_at (bit_xor a b) i ≡ (bit_at a i + bit_at b i) % 2 = bit_at_xor a b i in
+    let zeros : bit_at (bit_xor a b) i ≡ 0 = ap (λ n. bit_at n i) none ∙ bit_at-zero i in
+    omega (arith, joined, zeros, bit_at-lt a i, bit_at-lt b i))
+
+pub no-bits : (bits : ℕ) → not (eqb bits 0) ≡ false → bits ≡ 0
+no-bits bits off =
+    elim (cases_Bool (eqb bits 0)) [
+      | inl none ↦ eqb-true bits 0 none
+      | inr some ↦ absurd (true≢false (sym (ap not some) ∙ off))
+    ]
+
+pub four-same : (one other : List ℕ) (start a b c d p q r s : ℕ) →
+    to_le_bytes w64 a ≡ take 8 (drop start one) → to_le_bytes w64 p ≡ take 8 (drop start other) →
+    to_le_bytes w64 b ≡ take 8 (drop (start + 8) one) → to_le_bytes w64 q ≡ take 8 (drop (start + 8) other) →
+    to_le_bytes w64 c ≡ take 8 (drop (start + 16) one) → to_le_bytes w64 r ≡ take 8 (drop (start + 16) other) →
+    to_le_bytes w64 d ≡ take 8 (drop (start + 24) one) → to_le_bytes w64 s ≡ take 8 (drop (start + 24) other) →
+    bit_or (bit_or (bit_or (bit_xor a p) (bit_xor b q)) (bit_xor c r)) (bit_xor d s) ≡ 0 →
+    take 32 (drop start one) ≡ take 32 (drop start other)
+four-same one other start a b c d p q r s is_a is_p is_b is_q is_c is_r is_d is_s none =
+    let last = or-none _ _ none in
+    let third = or-none _ _ last.0 in
+    let second = or-none _ _ third.0 in
+    let same : (m n : ℕ) (xs ys : List ℕ) → bit_xor m n ≡ 0 → to_le_bytes w64 m ≡ xs → to_le_bytes w64 n ≡ ys → xs ≡ ys =
+    λ m n xs ys equal read also. sym read ∙ (ap (to_le_bytes w64) (xor-none m n equal) ∙ also) in
+    parts-same one other start (same _ _ _ _ second.0 is_a is_p) (same _ _ _ _ second.1 is_b is_q) (same _ _ _ _ third.1 is_c is_r)
+    (same _ _ _ _ last.1 is_d is_s)
+
+-- each line of a picture has 864 bytes
+pub picture-pieces : (palette lines : List (List ℕ)) → AreColours palette → IsPicture lines →
+    ArePieces (flat_map (palette_colour palette)) 864 [] lines
+picture-pieces palette lines three picture y inside =
+    let line = get_or lines y [] in
+    let high : y < 224 = omega (arith, inside, picture.high) in
+    let wide : length line ≡ 288 = picture.wide y high in
+    let long = length-pieces (palette_colour palette) 3 0 line (line-pieces palette line three (λ x _. picture.below x y)) in
+    omega (arith, long, wide)
+
+pub image-length : (palette lines : List (List ℕ)) → AreColours palette → IsPicture lines → length (ppm_of lines palette) ≡ 193551
+unfolding ppm_of
+image-length palette lines three picture =
+    let pixels = flat_map (flat_map (palette_colour palette)) lines in
+    let long = length-pieces (flat_map (palette_colour palette)) 864 [] lines (picture-pieces palette lines three picture) in
+    let start : length header ≡ 15 = refl in
+    omega (arith, length-append header pixels, long, start, picture.high)
+
+-- the pixels of a line in an image
+pub line-part : (palette lines : List (List ℕ)) (y : ℕ) → AreColours palette → IsPicture lines → y < 224 →
+    take 864 (drop (15 + 864 * y) (ppm_of lines palette)) ≡ flat_map (palette_colour palette) (get_or lines y [])
+unfolding ppm_of
+line-part palette lines y three picture below =
+    let f : List ℕ → List ℕ = flat_map (palette_colour palette) in
+    let each = picture-pieces palette lines three picture in
+    let inside : y < length lines = omega (arith, below, picture.high) in
+    let fits : y ≤ length lines = omega (arith, inside) in
+    let long : length (f (get_or lines y [])) ≡ 864 = each y inside in
+    let dropped : drop (15 + 864 * y) (header ++ flat_map f lines) ≡ f (get_or lines y []) ++ flat_map f (drop (suc y) lines) =
+    drop-append-add header (flat_map f lines) (864 * y)
+    ∙ (drop-pieces f 864 [] lines y each fits ∙ ap (flat_map f) (drop-cons lines y [] inside)) in
+    ap (take 864) dropped ∙ take_at (f (get_or lines y [])) (flat_map f (drop (suc y) lines)) 864 long
+
+-- a line written over in an image
+pub line-drawn : (palette lines : List (List ℕ)) (image pixels numbers : List ℕ) (y part : ℕ) → AreColours palette → IsPicture lines →
+    y < 224 → part ≡ 864 → image ≡ ppm_of lines palette → pixels ≡ flat_map (palette_colour palette) numbers →
+    put_mid (15 + 864 * y) part image pixels ≡ ppm_of (set lines y numbers) palette
+unfolding ppm_of
+line-drawn palette lines image pixels numbers y part three picture below is drawn coloured =
+    let f : List ℕ → List ℕ = flat_map (palette_colour palette) in
+    let all = flat_map f lines in
+    let each = picture-pieces palette lines three picture in
+    let inside : y < length lines = omega (arith, below, picture.high) in
+    let room : y + 1 ≤ length lines = omega (arith, inside) in
+    let one : 864 * 1 ≡ 864 = omega arith in
+    let next : y + 1 ≡ suc y = omega arith in
+    let piece : pixels ≡ flat_map f (numbers ∷ []) = coloured ∙ sym (append-nil (f numbers)) in
+    let put = put-pieces f 864 [] lines (numbers ∷ []) y 1 each room in
+    let front : take (15 + 864 * y) (header ++ all) ≡ header ++ take (864 * y) all = take-append-add header all (864 * y) in
+    let back : drop (15 + 864 * y) (header ++ all) ≡ drop (864 * y) all = drop-append-add header all (864 * y) in
+    let moved : put_mid (15 + 864 * y) 864 (header ++ all) pixels ≡ header ++ put_mid (864 * y) 864 all pixels =
+    ap (λ start. start ++ (pixels ++ drop 864 (drop (15 + 864 * y) (header ++ all)))) front
+    ∙ (ap (λ rest. (header ++ take (864 * y) all) ++ (pixels ++ drop 864 rest)) back
+    ∙ append_assoc header (take (864 * y) all) (pixels ++ drop 864 (drop (864 * y) all))) in
+    let written : put_mid (864 * y) 864 all pixels ≡ flat_map f (set lines y numbers) =
+    ap (λ (bytes : List ℕ). put_mid (864 * y) 864 all bytes) piece
+    ∙ (put
+    ∙ ap (flat_map f)
+    (ap (λ rest. take y lines ++ numbers ∷ rest) (drop-drop 1 y lines ∙ ap (λ n. drop n lines) next)
+    ∙ sym (set_split lines y numbers inside))) in
+    ap (λ n. put_mid (15 + 864 * y) n image pixels) is
+    ∙ (ap (λ (bytes : List ℕ). put_mid (15 + 864 * y) 864 bytes pixels) drawn ∙ (moved ∙ ap (λ rest. header ++ rest) written))
+
+-- a line appended to an image
+pub line-more : (palette lines : List (List ℕ)) (image numbers : List ℕ) (y : ℕ) → y < length lines → numbers ≡ get_or lines y [] →
+    image ≡ header ++ flat_map (flat_map (palette_colour palette)) (take y lines) →
+    image ++ flat_map (palette_colour palette) numbers ≡ header ++ flat_map (flat_map (palette_colour palette)) (take (y + 1) lines)
+line-more palette lines image numbers y inside read drawn =
+    let f : List ℕ → List ℕ = flat_map (palette_colour palette) in
+    ap (λ start. start ++ f numbers) drawn
+    ∙ (ap (λ last. (header ++ flat_map f (take y lines)) ++ f last) read
+    ∙ (flat_map_more f header (take y lines) (get_or lines y [])
+    ∙ ap (λ all. header ++ flat_map f all) (sym (take_more lines y [] inside))))
+
+-- a block's pixels appended to those of the blocks before it
+pub part-more : (f : ℕ → List ℕ) (numbers image new start pixels : List ℕ) (count stop : ℕ) → new ≡ image ++ pixels →
+    stop ≡ 8 → pixels ≡ flat_map f (take stop (drop (8 * count) numbers)) → image ≡ start ++ flat_map f (take (8 * count) numbers) →
+    new ≡ start ++ flat_map f (take (8 * (count + 1)) numbers)
+part-more f numbers image new start pixels count stop appended is coloured drawn =
+    let next : 8 * (count + 1) ≡ 8 * count + 8 = omega arith in
+    let before = take (8 * count) numbers in
+    let block = take 8 (drop (8 * count) numbers) in
+    appended
+    ∙ (ap (λ all. all ++ pixels) drawn
+    ∙ (ap (λ (last : List ℕ). (start ++ flat_map f before) ++ last) (coloured ∙ ap (λ n. flat_map f (take n (drop (8 * count) numbers))) is)
+    ∙ (append_assoc start (flat_map f before) (flat_map f block)
+    ∙ ap (λ all. start ++ all)
+    (sym (flat_map-append f before block) ∙ ap (flat_map f) (sym (ap (λ n. take n numbers) next ∙ take-more (8 * count) 8 numbers))))))
+
+-- one line more is kept
+pub lines-step : (kept new lines : List (List ℕ)) (numbers : List ℕ) (y : ℕ) → length kept ≡ 224 → y < 224 → new ≡ set kept y numbers →
+    numbers ≡ get_or lines y [] → ((k : ℕ) → k < y → get_or kept k [] ≡ get_or lines k []) →
+    (k : ℕ) → k < y + 1 → get_or new k [] ≡ get_or lines k []
+lines-step kept new lines numbers y high below is read so_far =
+    let inside : y < length kept = omega (arith, high, below) in
+    below_more _ _
+    (λ k before.
+    let apart : k ≢ y = omega arith in
+    ap (λ all. get_or all k []) is ∙ (get_or-set_other kept y k numbers [] apart ∙ so_far k before))
+    (ap (λ all. get_or all y []) is ∙ (get_or-set_same kept y numbers [] inside ∙ read))
+
+-- all lines are kept
+pub all-lines : (kept lines : List (List ℕ)) (y : ℕ) → y ≡ 224 → length kept ≡ 224 → length lines ≡ 224 →
+    ((k : ℕ) → k < y → get_or kept k [] ≡ get_or lines k []) → kept ≡ lines
+all-lines kept lines y all one other same =
+    same_lists kept lines (one ∙ sym other) (λ k d inside.
+    let below : k < y = omega (arith, inside, one, all) in
+    let within : k < length lines = omega (arith, inside, one, other) in
+    get_or_default kept k d [] inside ∙ (same k below ∙ get_or_default lines k [] d within))

@@ -1,0 +1,11 @@
+use Rattle.std.proofs.Common.{◌≡◌, ◌∙◌, sym, refl}
+use Rattle.std.proofs.lemmas.Bool.Decides.{Decides-eqb}
+use Rattle.std.proofs.lemmas.Slice.Eq.{slice_eq-Decides}
+use Rattle.pac_media.proofs.palette.Palette.is_of.Goals as goal
+
+pub returns : goal.returns
+returns c =
+    let both = slice_eq-Decides (λ a b. slice_eq-Decides Decides-eqb a b _ refl) c.as_slice.result.now c.args.colours.now
+    c.eq.result c.eq.ensures in
+    let same : c.args.self.now ≡ c.as_slice.result.now = sym c.self.view_is ∙ sym c.as_slice.ensures.value in
+    (λ is. same ∙ both.0 is, λ are. both.1 (sym same ∙ are))
