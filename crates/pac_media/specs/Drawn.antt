@@ -28,5 +28,5 @@ pub record IsDrawnTo (palette : List (List ℕ)) (count : ℕ) (numbers pixels k
   pub same : take count kept ≡ take count numbers
 
 -- no image, or that of these lines in this palette
-abbrev pub IsDrawn : List ℕ → List (List ℕ) → List (List ℕ) → Type 0
-IsDrawn image lines palette = 0 < length image → image ≡ ppm_of lines palette
+abbrev pub IsImageOf : List ℕ → List (List ℕ) → List (List ℕ) → Type 0
+IsImageOf image lines palette = 0 < length image → image ≡ ppm_of lines palette

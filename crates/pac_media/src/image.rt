@@ -8,7 +8,7 @@ ghost use Rattle.pac_tiles.specs.Tiles as tile;
 ghost use Rattle.pac_colour.specs.Colours.{numbers as colour_numbers};
 ghost use Rattle.pac_media.specs.Images.{image_size, palette_colour, ppm_of};
 ghost use Rattle.pac_picture.specs.State.{IsPicture, black};
-ghost use Rattle.pac_media.specs.Drawn.{AreColours, IsDrawn, IsDrawnTo};
+ghost use Rattle.pac_media.specs.Drawn.{AreColours, IsImageOf, IsDrawnTo};
 
 use crate::palette::Palette;
 use pac_picture::{HEIGHT, Lines, Picture, WIDTH};
@@ -66,7 +66,7 @@ fn begin(image: &mut Vec<u8>, palette: &mut Palette, lines: &[Numbers], colours:
     requires room { image_size ≤ vec_capacity image.old }
     requires lines { IsPicture lines.now }
     requires colours { length colours.now ≡ colour_numbers }
-    requires drawn { IsDrawn image.old.items lines.now palette.old }
+    requires drawn { IsImageOf image.old.items lines.now palette.old }
     ensures drawn { image.new.items ≡ ppm_of lines.now colours.now }
     ensures palette { palette.new ≡ colours.now }
     ensures colours { AreColours colours.now }
@@ -224,7 +224,7 @@ impl Model for Image {
     ghost use Rattle.std.specs.Prelude.{ℕ, List, ◌≤◌, vec_capacity};
     ghost use Rattle.pac_picture.specs.State.{IsPicture};
     ghost use Rattle.pac_media.specs.Images.{image_size};
-    ghost use Rattle.pac_media.specs.Drawn.{IsDrawn};
+    ghost use Rattle.pac_media.specs.Drawn.{IsImageOf};
 
     ghost Value = { List ℕ };
 
@@ -233,7 +233,7 @@ impl Model for Image {
     ghost invariant = { λ image. record {
       room : image_size ≤ vec_capacity image.bytes;
       lines : IsPicture image.lines.items;
-      drawn : IsDrawn image.bytes.items image.lines.items image.palette;
+      drawn : IsImageOf image.bytes.items image.lines.items image.palette;
     } };
 }
 
