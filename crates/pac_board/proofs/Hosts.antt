@@ -20,6 +20,7 @@ use Rattle.pac_board.specs.declared.exec.Ran.{Ran}
 use Rattle.pac_board.specs.declared.fault.Fault.{Fault}
 use Rattle.pac_board.specs.declared.fault.Fault.TheVariants.{TooFar, Refused}
 use Rattle.pac_board.specs.declared.fault.Idle.{Idle}
+use Rattle.pac_board.specs.Sinks.{Giving}
 use Rattle.pac_board.specs.State.{BoardValue, BoardState, due_outputs, nothing_due, time_of}
 use Rattle.pac_board.specs.Calls.{Executes, StepsOnce, Offers, Advances, IsOfferRefused, IsStepRefused, outputs_given, next_of}
 use Rattle.pac_board.specs.Calls.{outputs_in, board_after_step}
@@ -204,10 +205,10 @@ stepped-due : (h : Next BoardView) (board : BoardValue) → due_outputs (board_a
 stepped-due (Goes now outputs kind) board = refl
 stepped-due (Ends stop) board = refl
 
-module _ {S : Type 0} (took refused : S → Output → S → Type 0) where
+module _ {S : Type 0} (to : Giving S) where
   run-acts : (old : BoardValue) (microseconds : ℕ) (sink : S) (answer : Result Ran Fault) (new : BoardValue) (later : S)
-      → (runs : Executes took refused old microseconds sink answer new later)
-      → IsActed old (steps_on old.state.now new.state.now) (run_took took refused old microseconds sink answer new later runs) new
+      → (runs : Executes to old microseconds sink answer new later)
+      → IsActed old (steps_on old.state.now new.state.now) (run_took to old microseconds sink answer new later runs) new
   run-acts old us sink (Ok ran) new later runs =
       let set_is = ap (λ (b : BoardValue). b.set) runs.board in
       let now_is = ap (λ (b : BoardValue). b.state.now) runs.board in
@@ -216,25 +217,24 @@ module _ {S : Type 0} (took refused : S → Output → S → Type 0) where
       (sym (append-nil (outputs_given old us)) ∙ ap (λ due. outputs_given old us ++ due) (sym none))
   run-acts old us sink (Err TooFar) new later runs = unchanged-acts old new runs.1.board
   run-acts old us sink (Err Refused) new later runs =
-      walk-acts old new (time_of (old.state.asked + us)) runs.steps runs.taken (ap (λ (b : BoardValue). b.set) runs.board)
-      (ap (λ (b : BoardValue). b.state.now) runs.board) runs.parts
+      walk-acts old new (time_of (old.state.asked + us)) runs.steps runs.cut.taken (ap (λ (b : BoardValue). b.set) runs.board)
+      (ap (λ (b : BoardValue). b.state.now) runs.board) runs.cut.parts
 
   refused-acts : (old : BoardValue) (sink : S) (new : BoardValue) (later : S)
-      → (why : IsOfferRefused took refused old sink new later ⊎ IsStepRefused took refused old sink new later)
-      → IsActed old (steps_on old.state.now new.state.now) (refused_took took refused old sink new later why) new
+      → (why : IsOfferRefused to old sink new later ⊎ IsStepRefused to old sink new later)
+      → IsActed old (steps_on old.state.now new.state.now) (refused_took to old sink new later why) new
   refused-acts old sink new later (inl offer) =
-      unmoved-acts old new offer.taken (ap (λ (b : BoardValue). b.set) offer.board) (ap (λ (b : BoardValue). b.state.now) offer.board)
-      offer.parts
+      unmoved-acts old new offer.cut.taken (ap (λ (b : BoardValue). b.set) offer.board) (ap (λ (b : BoardValue). b.state.now) offer.board)
+      offer.cut.parts
   refused-acts old sink new later (inr done) =
       let before = with_due old nothing_due in
-      step-acts old new (due_outputs old ++ done.taken)
+      step-acts old new done.cut.taken
       (ap (λ (b : BoardValue). b.set) done.board ∙ stepped-set (next_of old) before new.state.due)
-      (ap (λ (b : BoardValue). b.state.now) done.board ∙ stepped-now (next_of old) before new.state.due)
-      (ap (λ outputs. due_outputs old ++ outputs) done.parts ∙ sym (append_assoc (due_outputs old) done.taken (due_outputs new)))
+      (ap (λ (b : BoardValue). b.state.now) done.board ∙ stepped-now (next_of old) before new.state.due) done.cut.parts
 
   once-acts : (old : BoardValue) (sink : S) (answer : Result Once Fault) (new : BoardValue) (later : S)
-      → (steps : StepsOnce took refused old sink answer new later)
-      → IsActed old (steps_on old.state.now new.state.now) (step_took took refused old sink answer new later steps) new
+      → (steps : StepsOnce to old sink answer new later)
+      → IsActed old (steps_on old.state.now new.state.now) (step_took to old sink answer new later steps) new
   once-acts old sink (Ok once) new later steps =
       let before = with_due old nothing_due in
       let all = due_outputs old ++ outputs_in (next_of old) in
@@ -256,15 +256,15 @@ module _ {S : Type 0} (took refused : S → Output → S → Type 0) where
   advance-acts old (Err why) new done = unchanged-acts old new done.0
 
   offer-acts : {A E : Type 0} (old : BoardValue) (sink : S) (answer : Result A E) (new : BoardValue) (later : S)
-      → (offers : Offers took refused old sink answer new later)
-      → IsActed old [] (offer_took took refused old sink answer new later offers) new
+      → (offers : Offers to old sink answer new later)
+      → IsActed old [] (offer_took to old sink answer new later offers) new
   offer-acts old sink (Ok done) new later offers =
       let none : due_outputs new ≡ [] = ap due_outputs offers.0 in
       still-acts old new [] (due_outputs old) (ap (λ (b : BoardValue). b.set) offers.0) (ap (λ (b : BoardValue). b.state.now) offers.0) refl
       (sym (append-nil (due_outputs old)) ∙ ap (λ due. due_outputs old ++ due) (sym none))
   offer-acts old sink (Err refusal) new later offers =
-      still-acts old new [] offers.taken (ap (λ (b : BoardValue). b.set) offers.board) (ap (λ (b : BoardValue). b.state.now) offers.board)
-      refl offers.parts
+      still-acts old new [] offers.cut.taken (ap (λ (b : BoardValue). b.set) offers.board)
+      (ap (λ (b : BoardValue). b.state.now) offers.board) refl offers.cut.parts
 
 -- ---- a host's calls
 
@@ -318,23 +318,23 @@ silent old made new calls acts taken is set_is acted due =
           ∙ ap (λ taken. taken ++ due_outputs new.board) (sym is.1);
     }
 
-module _ {S : Type 0} (took refused : S → Output → S → Type 0) where
-  call-acts : (call : Call) (old : HostedBoard) (taken : List Output) (new : HostedBoard) → IsCall took refused call old taken new
+module _ {S : Type 0} (to : Giving S) where
+  call-acts : (call : Call) (old : HostedBoard) (taken : List Output) (new : HostedBoard) → IsCall to call old taken new
       → AreActed old (call ∷ []) (acts_of call (steps_between old new)) taken new
   call-acts (Exec us) old taken new done =
       let call = done.0 in
       with-kept old _ _ _ taken new done.1 call.taken_is
-      (run-acts took refused old.board us call.sink call.answer new.board call.later call.done)
+      (run-acts to old.board us call.sink call.answer new.board call.later call.done)
   call-acts StepOnce old taken new done =
       let call = done.0 in
       with-kept old _ _ _ taken new done.1 call.taken_is
-      (once-acts took refused old.board call.sink call.answer new.board call.later call.done)
+      (once-acts to old.board call.sink call.answer new.board call.later call.done)
   call-acts Advance old taken new done =
-      with-kept old _ _ [] taken new done.3 done.2 (advance-acts took refused old.board done.0 new.board done.1)
+      with-kept old _ _ [] taken new done.3 done.2 (advance-acts to old.board done.0 new.board done.1)
   call-acts Offer old taken new done =
       let call = done.0 in
       with-kept old _ _ _ taken new done.1 call.taken_is
-      (offer-acts took refused old.board call.sink call.answer new.board call.later call.done)
+      (offer-acts to old.board call.sink call.answer new.board call.later call.done)
   call-acts Reset old taken new done = silent old _ new _ _ taken done refl (λ before. refl) (λ _. refl)
   call-acts (InputSet mask) old taken new done = silent old _ new _ _ taken done refl (λ before. refl) (λ _. refl)
   call-acts (InputClear mask) old taken new done = silent old _ new _ _ taken done refl (λ before. refl) (λ _. refl)
@@ -352,7 +352,7 @@ module _ {S : Type 0} (took refused : S → Output → S → Type 0) where
   stays-both call calls h = (refl, h)
 
   calls-act : (calls : List Call) (old new : HostedBoard) (taken : List Output) (acts : List Act)
-      → AreCalls took refused calls old new taken acts → AreActed old calls acts taken new
+      → AreCalls to calls old new taken acts → AreActed old calls acts taken new
   calls-act [] old new taken acts is =
       silent old old new [] acts taken (is.0, is.1) refl
       (λ before. ap (after_acts (account_by_view old.board.set) (seen old before)) is.2) (λ _. refl)
@@ -384,7 +384,7 @@ module _ {S : Type 0} (took refused : S → Output → S → Type 0) where
             ∙ ap (λ all. all ++ due_outputs new.board) (sym done.taken_is);
       }
 
-  pub calls-of-the-history : CallsAreOfTheHistory took refused
+  pub calls-of-the-history : CallsAreOfTheHistory to
   calls-of-the-history items old calls new taken acts whole lie fit done =
       let start = old.state.now.board in
       let view = board_after_entries old.set start in

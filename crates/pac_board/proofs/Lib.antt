@@ -5,6 +5,10 @@ pub mod Recomposed
 pub mod Sinks
 pub mod Walked
 pub mod Turns
+pub mod Bursts
+pub mod Waits
+pub mod Singles
+pub mod Stretches
 pub mod Pieces
 pub mod Parts
 pub mod Hosts
@@ -14,5 +18,7 @@ pub use Rattle.pac_map.proofs.LatchBytes
 pub use Rattle.pac_board_model.proofs.Agreed
 pub use Rattle.pac_board_model.proofs.HostCarried
 pub use Rattle.pac_board_model.proofs.Outputs
+pub use Rattle.pac_board_model.proofs.Resumed
+pub use Rattle.pac_board_model.proofs.ResumedTimes
 pub use Rattle.pac_board_model.proofs.Runs
 pub use Rattle.pac_board_model.proofs.Walks

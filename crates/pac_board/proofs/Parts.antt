@@ -9,6 +9,7 @@ use Rattle.pac_board_model.specs.Trace.{by_view}
 use Rattle.pac_board_model.specs.Walk.{Walk, walk, walk_to, walk_at_start, walk_after_step}
 use Rattle.pac_board_model.proofs.Walks.{going-steps, open-goes-on, goes-on, joined, step-timely}
 use Rattle.pac_board.specs.declared.due.Due.{Due}
+use Rattle.pac_board.specs.Sinks.{Giving}
 use Rattle.pac_board.specs.State.{BoardValue, due_outputs, due_with, shows_of, nothing_due, time_of, steps_counted}
 use Rattle.pac_board.specs.Calls.{next_of, outputs_in, board_after_step, with_due, course, board_after_run}
 use Rattle.pac_board.specs.Laws.{HasTime, IsOnTheWay, StepsArePartsOfRuns}
@@ -120,19 +121,18 @@ idle board nothing =
 
 -- ---- the law
 
-pub steps-are-parts : {S : Type 0} (took refused : S → Output → S → Type 0) → StepsArePartsOfRuns took refused
-steps-are-parts took refused old new microseconds sink later = record {
+pub steps-are-parts : {S : Type 0} (to : Giving S) → StepsArePartsOfRuns to
+steps-are-parts to old new microseconds sink later = record {
   stepped_once = λ once early done.
       let taken = due_outputs old ++ outputs_in (next_of old) in
       subst (λ (board : BoardValue). IsOnTheWay old board microseconds taken) (sym done.board)
       (step-on-the-way old microseconds nothing_due taken early
       (sym (append-nil taken) ∙ ap (λ xs. taken ++ xs) (sym (none-due old (next_of old)))));
   step_refused = λ early refusal.
-      let taken = due_outputs old ++ refusal.taken in
+      let taken = refusal.cut.taken in
       subst (λ (board : BoardValue). IsOnTheWay old board microseconds taken) (sym refusal.board)
       (step-on-the-way old microseconds new.state.due taken early
-      (ap (λ xs. due_outputs old ++ xs) refusal.parts ∙ sym (append_assoc (due_outputs old) refusal.taken (due_outputs new))
-      ∙ ap (λ (board : BoardValue). taken ++ due_outputs board) refusal.board));
+      (refusal.cut.parts ∙ ap (λ (board : BoardValue). taken ++ due_outputs board) refusal.board));
   advanced = λ once early done.
       let left = done.board ∙ ap (λ (board : BoardValue). board_after_step (next_of old) board new.state.due) (idle old done.nothing) in
       subst (λ (board : BoardValue). IsOnTheWay old board microseconds []) (sym left)
@@ -142,7 +142,8 @@ steps-are-parts took refused old new microseconds sink later = record {
       subst (λ (board : BoardValue). IsOnTheWay old board microseconds (due_outputs old)) (sym left)
       (offer-on-the-way old microseconds nothing_due (due_outputs old) (sym (append-nil (due_outputs old))));
   offer_refused = λ refusal.
-      subst (λ (board : BoardValue). IsOnTheWay old board microseconds refusal.taken) (sym refusal.board)
-      (offer-on-the-way old microseconds new.state.due refusal.taken
-      (refusal.parts ∙ ap (λ (board : BoardValue). refusal.taken ++ due_outputs board) refusal.board));
+      let taken = refusal.cut.taken in
+      subst (λ (board : BoardValue). IsOnTheWay old board microseconds taken) (sym refusal.board)
+      (offer-on-the-way old microseconds new.state.due taken
+      (refusal.cut.parts ∙ ap (λ (board : BoardValue). taken ++ due_outputs board) refusal.board));
 }

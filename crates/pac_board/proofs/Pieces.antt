@@ -9,6 +9,7 @@ use Rattle.pac_board_model.specs.Walk.{Walk, walk_to}
 use Rattle.pac_board_model.proofs.Walks.{goes-on, walks-joined, joined, step-timely}
 use Rattle.pac_map.specs.RomParts.{Parts}
 use Rattle.pac_board.specs.declared.due.Due.{Due}
+use Rattle.pac_board.specs.Sinks.{Giving}
 use Rattle.pac_board.specs.State.{BoardValue, due_outputs_in, due_outputs, nothing_due, time_of, steps_counted}
 use Rattle.pac_board.specs.Calls.{next_from_moment, with_due, course_at, course, outputs_given, board_after_course, board_after_run}
 use Rattle.pac_board.specs.Calls.{IsRunRefused}
@@ -127,14 +128,14 @@ taken-up old microseconds tries due taken parts =
       stop_is = ap (λ (walked : Walk BoardView). walked.stop) whole;
     }
 
-once-taken-up : {S : Type 0} (took refused : S → Output → S → Type 0) (old new : BoardValue) (microseconds : ℕ) (sink later : S)
-    → (refusal : IsRunRefused took refused old microseconds sink new later) → IsTakenUp old new microseconds refusal.taken
-once-taken-up took refused old new microseconds sink later refusal =
+once-taken-up : {S : Type 0} (to : Giving S) (old new : BoardValue) (microseconds : ℕ) (sink later : S)
+    → (refusal : IsRunRefused to old microseconds sink new later) → IsTakenUp old new microseconds refusal.cut.taken
+once-taken-up to old new microseconds sink later refusal =
     let w = course_at old microseconds refusal.steps in
+    let taken = refusal.cut.taken in
     subst
-    (λ (board : BoardValue). due_outputs old ++ w.outputs ≡ refusal.taken ++ due_outputs board
-    → IsTakenUp old board microseconds refusal.taken)
-    (sym refusal.board) (taken-up old microseconds refusal.steps new.state.due refusal.taken) refusal.parts
+    (λ (board : BoardValue). due_outputs old ++ w.outputs ≡ taken ++ due_outputs board → IsTakenUp old board microseconds taken)
+    (sym refusal.board) (taken-up old microseconds refusal.steps new.state.due taken) refusal.cut.parts
 
 -- and from one that a further refusal left
 taken-up-again : (old middle new : BoardValue) (microseconds : ℕ) (before more : List Output)
@@ -145,26 +146,27 @@ taken-up-again old middle new microseconds before more first second = record {
   stop_is = second.stop_is ∙ first.stop_is;
 }
 
-module _ {S : Type 0} (took refused : S → Output → S → Type 0) (old : BoardValue) (microseconds : ℕ) where
+module _ {S : Type 0} (to : Giving S) (old : BoardValue) (microseconds : ℕ) where
   all-taken-up : (calls : ℕ) (middle new : BoardValue) (before more : List Output) (between later : S)
-      → IsTakenUp old middle microseconds before → AreRefused took refused calls middle between new later more
+      → IsTakenUp old middle microseconds before → AreRefused to calls middle between new later more
       → IsTakenUp old new microseconds (before ++ more)
   all-taken-up zero middle new before more between later first none =
       subst (λ xs. IsTakenUp old new microseconds (before ++ xs)) (sym none.2)
       (subst (λ xs. IsTakenUp old new microseconds xs) (sym (append-nil before))
       (subst (λ (board : BoardValue). IsTakenUp old board microseconds before) (sym none.0) first))
   all-taken-up (suc calls) middle new before more between later first again =
-      let one = once-taken-up took refused middle again.between 0 between again.middle again.first in
-      let joined = taken-up-again old middle again.between microseconds before again.first.taken first one in
+      let one = once-taken-up to middle again.between 0 between again.middle again.first in
+      let taken = again.first.cut.taken in
+      let joined = taken-up-again old middle again.between microseconds before taken first one in
       let all =
-      all-taken-up calls again.between new (before ++ again.first.taken) again.more again.middle later joined again.after in
+      all-taken-up calls again.between new (before ++ taken) again.more again.middle later joined again.after in
       subst (λ xs. IsTakenUp old new microseconds xs)
-      (append_assoc before again.first.taken again.more ∙ ap (λ xs. before ++ xs) (sym again.taken_is)) all
+      (append_assoc before taken again.more ∙ ap (λ xs. before ++ xs) (sym again.taken_is)) all
 
-pub refusals-taken-up : {S : Type 0} (took refused : S → Output → S → Type 0) → RefusalsAreTakenUp took refused
-refusals-taken-up took refused old new microseconds calls sink later taken call =
-    let one = once-taken-up took refused old call.between microseconds sink call.middle call.first in
-    let all = all-taken-up took refused old microseconds calls call.between new call.first.taken call.more call.middle later one
+pub refusals-taken-up : {S : Type 0} (to : Giving S) → RefusalsAreTakenUp to
+refusals-taken-up to old new microseconds calls sink later taken call =
+    let one = once-taken-up to old call.between microseconds sink call.middle call.first in
+    let all = all-taken-up to old microseconds calls call.between new call.first.cut.taken call.more call.middle later one
     call.after in
     subst (λ xs. IsTakenUp old new microseconds xs) (sym call.taken_is) all
 

@@ -1,7 +1,8 @@
 -- What a sink took and refused, output by output.
-use Rattle.std.proofs.Common.{List, [], ◌∷◌, ◌++◌, refl, subst}
+use Rattle.std.proofs.Common.{◌≡◌, List, [], ◌∷◌, ◌++◌, refl, sym, ap, subst, ◌∙◌, append_assoc}
+use mathlib.Core.List.{IsPrefix}
 use Rattle.pac_board_model.specs.Output.{Output}
-use Rattle.pac_board.specs.Sinks.{Then, TookAll, RefusesAt}
+use Rattle.pac_board.specs.Sinks.{Giving, Then, TookAll, RefusesAt, Cut}
 
 -- ---- taking some outputs, and then others
 
@@ -28,15 +29,44 @@ module _ {S : Type 0} (took : S → Output → S → Type 0) where
         after = rest.after;
       }
 
-  pub refuses-after : (refused : S → Output → S → Type 0) (first taken left : List Output) (old between new : S)
-      → TookAll took old first between → RefusesAt took refused between taken left new
-      → RefusesAt took refused old (first ++ taken) left new
-  refuses-after refused first taken left old between new before refuses =
-      record {
-        asked = refuses.asked;
-        before = took-both first taken old between refuses.asked before refuses.before;
-        first = refuses.first;
-        rest = refuses.rest;
-        left_is = refuses.left_is;
-        refusal = refuses.refusal;
-      }
+-- ---- taking some outputs, and refusing one
+
+-- the same outputs, and the same that are left
+abbrev pub cut-along : {S : Type 0} {to : Giving S} {given outputs left rest : List Output} {old new : S} → given ≡ outputs → left ≡ rest
+    → Cut to old outputs left new → Cut to old given rest new
+cut-along {to} {old} {new} given_is rest_is cut =
+    record {
+      taken = cut.taken;
+      parts = given_is ∙ cut.parts ∙ ap (λ left. cut.taken ++ left) rest_is;
+      refuses = subst (λ left. RefusesAt to old cut.taken left new) rest_is cut.refuses;
+    }
+
+-- some outputs are taken first
+abbrev pub cut-after : {S : Type 0} {to : Giving S} {outputs left : List Output} (first : List Output) (old between new : S)
+    → TookAll to.took old first between → Cut to between outputs left new → Cut to old (first ++ outputs) left new
+cut-after {to} {left} first old between new before cut =
+    record {
+      taken = first ++ cut.taken;
+      parts = ap (λ outputs. first ++ outputs) cut.parts ∙ sym (append_assoc first cut.taken left);
+      refuses = record {
+        asked = cut.refuses.asked;
+        before = took-both to.took first cut.taken old between cut.refuses.asked before cut.refuses.before;
+        first = cut.refuses.first;
+        rest = cut.refuses.rest;
+        left_is = cut.refuses.left_is;
+        refusal = cut.refuses.refusal;
+      };
+    }
+
+-- so much is the first of more, after others too
+pub prefix-after : (first second whole : List Output) → IsPrefix second whole → IsPrefix (first ++ second) (first ++ whole)
+prefix-after first second whole is = (is.0, append_assoc first second is.0 ∙ ap (λ outputs. first ++ outputs) is.1)
+
+-- some output was refused, so there was one
+pub cut-something : {S A : Type 0} {to : Giving S} {outputs left : List Output} {old new : S} → Cut to old outputs left new
+    → outputs ≡ [] → A
+cut-something {A} {left} cut none = choose cut.taken (sym none ∙ cut.parts)
+  where
+    choose : (taken : List Output) → [] ≡ taken ++ left → A
+    choose [] parts = let is = parts ∙ cut.refuses.left_is in absurd (cc)
+    choose (output ∷ more) parts = absurd (cc)

@@ -14,9 +14,9 @@ use Rattle.pac_board.specs.declared.fault.Fault.TheVariants.{TooFar, Refused}
 use Rattle.pac_board.specs.declared.fault.Idle.{Idle}
 use Rattle.pac_board.specs.declared.fault.Idle.TheVariants.{OutputsDue, TimeIsOver}
 use Rattle.pac_board.specs.declared.exec.Ran.{Ran}
-use Rattle.pac_board.specs.Sinks.{TookAll, RefusesAt}
+use Rattle.pac_board.specs.Sinks.{Giving, TookAll, RefusesAt, Cut}
 use Rattle.pac_map.specs.RomParts.{Parts}
-use Rattle.pac_board.specs.State.{BoardValue, BoardStanding, due_outputs_in, due_with, due_outputs, nothing_due, latest, most_asked}
+use Rattle.pac_board.specs.State.{BoardValue, due_with, due_outputs, nothing_due, latest, most_asked}
 use Rattle.pac_board.specs.State.{time_of, steps_counted}
 
 -- ---- one step
@@ -45,23 +45,11 @@ abbrev pub now_after : Next BoardView → Moment BoardView → Moment BoardView
 now_after (Goes now outputs kind) before = now
 now_after (Ends stop) before = before
 
--- what a step makes of registers, bus, voices and picture, and what is due then
-pub record DoesStep (old new : BoardStanding) (once : Once) (due : Due) : Type 0 where
-  pub set : new.set ≡ old.set
-  pub now : new.now ≡ now_after (next_from_moment old.set old.now) old.now
-  pub once_is : once ≡ once_at (next_from_moment old.set old.now) old.now.time
-  pub outputs : due_outputs_in new.set new.now.board due ≡ outputs_in (next_from_moment old.set old.now)
-
 -- the board after a step, with what is due then; a stop changes nothing
 abbrev pub board_after_step : Next BoardView → BoardValue → Due → BoardValue
 board_after_step (Goes now outputs kind) board due =
     record { set = board.set; state = record { now = now; asked = board.state.asked; due = due }; made = steps_counted board.made 1 }
 board_after_step (Ends stop) board due = board
-
--- a count of steps after what a step came to; a stop is none
-abbrev pub counted_once : ℕ → Once → ℕ
-counted_once made (Stepped ticks kind) = steps_counted made 1
-counted_once made (Stopped stop) = made
 
 -- ---- offering what is due
 
@@ -70,36 +58,24 @@ abbrev pub with_due : BoardValue → Due → BoardValue
 with_due board due =
     record { set = board.set; state = record { now = board.state.now; asked = board.state.asked; due = due }; made = board.made }
 
--- what was due was offered, while this was the picture, and part of it was refused, which is due still
-pub record IsDueRefused {S : Type 0} (took refused : S → Output → S → Type 0) (image : Image) (old : Due) (sink : S) (new : Due) (later : S)
-    : Type 0 where
-  pub taken : List Output
-  pub parts : due_with image old ≡ taken ++ due_with image new
-  pub refuses : RefusesAt took refused sink taken (due_with image new) later
-
-abbrev pub OffersDue : {S A E : Type 0} → (S → Output → S → Type 0) → (S → Output → S → Type 0)
-    → Image → Due → S → Result A E → Due → S → Type 0
-OffersDue took refused image old sink (Ok done) new later = (new ≡ nothing_due) × TookAll took sink (due_with image old) later
-OffersDue took refused image old sink (Err refusal) new later = IsDueRefused took refused image old sink new later
+-- what is due is offered, while this is the picture; what is refused is due still
+abbrev pub OffersDue : {S A E : Type 0} → Giving S → Image → Due → S → Result A E → Due → S → Type 0
+OffersDue to image old sink (Ok done) new later = (new ≡ nothing_due) × TookAll to.took sink (due_with image old) later
+OffersDue to image old sink (Err refusal) new later = Cut to sink (due_with image old) (due_with image new) later
 
 -- part of what is due, at most one output, is offered alone; `without` is what is due without it
-abbrev pub OffersPart : {S A E : Type 0} → (S → Output → S → Type 0) → (S → Output → S → Type 0)
-    → List Output → Due → Due → S → Result A E → Due → S → Type 0
-OffersPart took refused part old without sink (Ok done) new later = (new ≡ without) × TookAll took sink part later
-OffersPart took refused part old without sink (Err refusal) new later = (new ≡ old) × RefusesAt took refused sink [] part later
+abbrev pub OffersPart : {S A E : Type 0} → Giving S → List Output → Due → Due → S → Result A E → Due → S → Type 0
+OffersPart to part old without sink (Ok done) new later = (new ≡ without) × TookAll to.took sink part later
+OffersPart to part old without sink (Err refusal) new later = (new ≡ old) × RefusesAt to sink [] part later
 
 -- a board offered what was due, and part of it was refused, which is due still
-pub record IsOfferRefused {S : Type 0} (took refused : S → Output → S → Type 0) (old : BoardValue) (sink : S) (new : BoardValue) (later : S)
-    : Type 0 where
+pub record IsOfferRefused {S : Type 0} (to : Giving S) (old : BoardValue) (sink : S) (new : BoardValue) (later : S) : Type 0 where
   pub board : new ≡ with_due old new.state.due
-  pub taken : List Output
-  pub parts : due_outputs old ≡ taken ++ due_outputs new
-  pub refuses : RefusesAt took refused sink taken (due_outputs new) later
+  pub cut : Cut to sink (due_outputs old) (due_outputs new) later
 
-abbrev pub Offers : {S A E : Type 0} → (S → Output → S → Type 0) → (S → Output → S → Type 0)
-    → BoardValue → S → Result A E → BoardValue → S → Type 0
-Offers took refused old sink (Ok done) new later = (new ≡ with_due old nothing_due) × TookAll took sink (due_outputs old) later
-Offers took refused old sink (Err refusal) new later = IsOfferRefused took refused old sink new later
+abbrev pub Offers : {S A E : Type 0} → Giving S → BoardValue → S → Result A E → BoardValue → S → Type 0
+Offers to old sink (Ok done) new later = (new ≡ with_due old nothing_due) × TookAll to.took sink (due_outputs old) later
+Offers to old sink (Err refusal) new later = IsOfferRefused to old sink new later
 
 -- ---- one step whose outputs become due
 
@@ -129,26 +105,22 @@ pub record IsOneStep {S : Type 0} (took : S → Output → S → Type 0) (old : 
   pub once_is : once ≡ once_of_board old
   pub sink_is : TookAll took sink (due_outputs old ++ outputs_in (next_of old)) later
 
--- the step was done, and part of what it gave was refused
-pub record IsStepRefused {S : Type 0} (took refused : S → Output → S → Type 0) (old : BoardValue) (sink : S) (new : BoardValue) (later : S)
-    : Type 0 where
+-- the step was done, after all that was due was taken, and part of what it gave was refused
+pub record IsStepRefused {S : Type 0} (to : Giving S) (old : BoardValue) (sink : S) (new : BoardValue) (later : S) : Type 0 where
   pub board : new ≡ board_after_step (next_of old) (with_due old nothing_due) new.state.due
-  pub taken : List Output
-  pub parts : outputs_in (next_of old) ≡ taken ++ due_outputs new
-  pub refuses : RefusesAt took refused sink (due_outputs old ++ taken) (due_outputs new) later
+  pub cut : Cut to sink (due_outputs old ++ outputs_in (next_of old)) (due_outputs new) later
+  pub of_step : IsPrefix (due_outputs old) cut.taken
 
 -- board and sink were left as they were
 pub record IsUnchanged {S : Type 0} (old : BoardValue) (sink : S) (new : BoardValue) (later : S) : Type 0 where
   pub board : new ≡ old
   pub sink_is : later ≡ sink
 
-abbrev pub StepsOnce : {S : Type 0} → (S → Output → S → Type 0) → (S → Output → S → Type 0)
-    → BoardValue → S → Result Once Fault → BoardValue → S → Type 0
-StepsOnce took refused old sink (Ok once) new later = IsOneStep took old sink once new later
-StepsOnce took refused old sink (Err TooFar) new later = (latest ≤ old.state.now.time) × IsUnchanged old sink new later
-StepsOnce took refused old sink (Err Refused) new later =
-    (old.state.now.time < latest)
-    × (IsOfferRefused took refused old sink new later ⊎ IsStepRefused took refused old sink new later)
+abbrev pub StepsOnce : {S : Type 0} → Giving S → BoardValue → S → Result Once Fault → BoardValue → S → Type 0
+StepsOnce to old sink (Ok once) new later = IsOneStep to.took old sink once new later
+StepsOnce to old sink (Err TooFar) new later = (latest ≤ old.state.now.time) × IsUnchanged old sink new later
+StepsOnce to old sink (Err Refused) new later =
+    (old.state.now.time < latest) × (IsOfferRefused to old sink new later ⊎ IsStepRefused to old sink new later)
 
 -- ---- steps for so many microseconds
 
@@ -188,22 +160,18 @@ pub record HasRun {S : Type 0} (took : S → Output → S → Type 0) (old : Boa
 
 -- The sink refused an output: the call ended after the step that gave it, and that output and the later one of its step are due.
 -- All that was given before was taken.
-pub record IsRunRefused {S : Type 0} (took refused : S → Output → S → Type 0) (old : BoardValue) (microseconds : ℕ) (sink : S)
-    (new : BoardValue) (later : S)
+pub record IsRunRefused {S : Type 0} (to : Giving S) (old : BoardValue) (microseconds : ℕ) (sink : S) (new : BoardValue) (later : S)
     : Type 0 where
   pub within : old.state.asked + microseconds ≤ most_asked
   pub steps : ℕ
   pub board : new ≡ with_due (board_after_course old microseconds (course_at old microseconds steps)) new.state.due
   pub all_steps : new.state.now.steps ≡ old.state.now.steps + steps
-  pub taken : List Output
-  pub parts : due_outputs old ++ (course_at old microseconds steps).outputs ≡ taken ++ due_outputs new
-  pub refuses : RefusesAt took refused sink taken (due_outputs new) later
+  pub cut : Cut to sink (due_outputs old ++ (course_at old microseconds steps).outputs) (due_outputs new) later
   pub of_last :
-      (before : ℕ) → steps ≡ suc before → IsPrefix (due_outputs old ++ (course_at old microseconds before).outputs) taken
+      (before : ℕ) → steps ≡ suc before → IsPrefix (due_outputs old ++ (course_at old microseconds before).outputs) cut.taken
 
-abbrev pub Executes : {S : Type 0} → (S → Output → S → Type 0) → (S → Output → S → Type 0)
-    → BoardValue → ℕ → S → Result Ran Fault → BoardValue → S → Type 0
-Executes took refused old microseconds sink (Ok answer) new later = HasRun took old microseconds sink answer new later
-Executes took refused old microseconds sink (Err TooFar) new later =
+abbrev pub Executes : {S : Type 0} → Giving S → BoardValue → ℕ → S → Result Ran Fault → BoardValue → S → Type 0
+Executes to old microseconds sink (Ok answer) new later = HasRun to.took old microseconds sink answer new later
+Executes to old microseconds sink (Err TooFar) new later =
     (most_asked < old.state.asked + microseconds) × IsUnchanged old sink new later
-Executes took refused old microseconds sink (Err Refused) new later = IsRunRefused took refused old microseconds sink new later
+Executes to old microseconds sink (Err Refused) new later = IsRunRefused to old microseconds sink new later

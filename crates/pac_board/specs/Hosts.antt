@@ -19,6 +19,7 @@ use Rattle.pac_board.specs.declared.fault.Fault.{Fault}
 use Rattle.pac_board.specs.declared.fault.Fault.TheVariants.{TooFar, Refused}
 use Rattle.pac_board.specs.declared.fault.Idle.{Idle}
 use Rattle.pac_board.specs.declared.sink.Refused as sinks
+use Rattle.pac_board.specs.Sinks.{Giving}
 use Rattle.pac_board.specs.State.{BoardValue, BoardState, due_outputs, board_after_reset, board_with_inputs, restored_board}
 use Rattle.pac_board.specs.Calls.{Executes, StepsOnce, Offers, Advances, IsOfferRefused, IsStepRefused, outputs_given, next_of, outputs_in}
 
@@ -42,27 +43,27 @@ pub record HostedBoard : Type 0 where
 
 -- ---- what a sink took in a call, by what the call's contract says
 
-abbrev pub run_took : {S : Type 0} (took refused : S → Output → S → Type 0) (old : BoardValue) (microseconds : ℕ) (sink : S)
-    (answer : Result Ran Fault) (new : BoardValue) (later : S) → Executes took refused old microseconds sink answer new later → List Output
-run_took took refused old microseconds sink (Ok ran) new later runs = outputs_given old microseconds
-run_took took refused old microseconds sink (Err TooFar) new later runs = []
-run_took took refused old microseconds sink (Err Refused) new later runs = runs.taken
+abbrev pub run_took : {S : Type 0} (to : Giving S) (old : BoardValue) (microseconds : ℕ) (sink : S) (answer : Result Ran Fault)
+    (new : BoardValue) (later : S) → Executes to old microseconds sink answer new later → List Output
+run_took to old microseconds sink (Ok ran) new later runs = outputs_given old microseconds
+run_took to old microseconds sink (Err TooFar) new later runs = []
+run_took to old microseconds sink (Err Refused) new later runs = runs.cut.taken
 
-abbrev pub refused_took : {S : Type 0} (took refused : S → Output → S → Type 0) (old : BoardValue) (sink : S) (new : BoardValue) (later : S)
-    → IsOfferRefused took refused old sink new later ⊎ IsStepRefused took refused old sink new later → List Output
-refused_took took refused old sink new later (inl offer) = offer.taken
-refused_took took refused old sink new later (inr step) = due_outputs old ++ step.taken
+abbrev pub refused_took : {S : Type 0} (to : Giving S) (old : BoardValue) (sink : S) (new : BoardValue) (later : S)
+    → IsOfferRefused to old sink new later ⊎ IsStepRefused to old sink new later → List Output
+refused_took to old sink new later (inl offer) = offer.cut.taken
+refused_took to old sink new later (inr step) = step.cut.taken
 
-abbrev pub step_took : {S : Type 0} (took refused : S → Output → S → Type 0) (old : BoardValue) (sink : S) (answer : Result Once Fault)
-    (new : BoardValue) (later : S) → StepsOnce took refused old sink answer new later → List Output
-step_took took refused old sink (Ok once) new later steps = due_outputs old ++ outputs_in (next_of old)
-step_took took refused old sink (Err TooFar) new later steps = []
-step_took took refused old sink (Err Refused) new later steps = refused_took took refused old sink new later steps.1
+abbrev pub step_took : {S : Type 0} (to : Giving S) (old : BoardValue) (sink : S) (answer : Result Once Fault) (new : BoardValue)
+    (later : S) → StepsOnce to old sink answer new later → List Output
+step_took to old sink (Ok once) new later steps = due_outputs old ++ outputs_in (next_of old)
+step_took to old sink (Err TooFar) new later steps = []
+step_took to old sink (Err Refused) new later steps = refused_took to old sink new later steps.1
 
-abbrev pub offer_took : {S A E : Type 0} (took refused : S → Output → S → Type 0) (old : BoardValue) (sink : S) (answer : Result A E)
-    (new : BoardValue) (later : S) → Offers took refused old sink answer new later → List Output
-offer_took took refused old sink (Ok done) new later offers = due_outputs old
-offer_took took refused old sink (Err refusal) new later offers = offers.taken
+abbrev pub offer_took : {S A E : Type 0} (to : Giving S) (old : BoardValue) (sink : S) (answer : Result A E) (new : BoardValue)
+    (later : S) → Offers to old sink answer new later → List Output
+offer_took to old sink (Ok done) new later offers = due_outputs old
+offer_took to old sink (Err refusal) new later offers = offers.cut.taken
 
 -- ---- calls
 
@@ -80,32 +81,31 @@ pub record IsCallAnswered {S A : Type 0} (does : S → A → S → Type 0)
 abbrev pub IsSilent : HostedBoard → List Output → HostedBoard → Type 0
 IsSilent new taken made = (made ≡ new) × (taken ≡ [])
 
-abbrev pub IsCall : {S : Type 0} → (S → Output → S → Type 0) → (S → Output → S → Type 0)
-    → Call → (old : HostedBoard) (taken : List Output) (new : HostedBoard) → Type 0
-IsCall took refused (Exec microseconds) old taken new =
-    IsCallAnswered (λ sink answer later. Executes took refused old.board microseconds sink answer new.board later)
-    (λ sink answer later done. run_took took refused old.board microseconds sink answer new.board later done) taken
+abbrev pub IsCall : {S : Type 0} → Giving S → Call → (old : HostedBoard) (taken : List Output) (new : HostedBoard) → Type 0
+IsCall to (Exec microseconds) old taken new =
+    IsCallAnswered (λ sink answer later. Executes to old.board microseconds sink answer new.board later)
+    (λ sink answer later done. run_took to old.board microseconds sink answer new.board later done) taken
     × (new.kept ≡ old.kept)
-IsCall took refused StepOnce old taken new =
-    IsCallAnswered (λ sink answer later. StepsOnce took refused old.board sink answer new.board later)
-    (λ sink answer later done. step_took took refused old.board sink answer new.board later done) taken
+IsCall to StepOnce old taken new =
+    IsCallAnswered (λ sink answer later. StepsOnce to old.board sink answer new.board later)
+    (λ sink answer later done. step_took to old.board sink answer new.board later done) taken
     × (new.kept ≡ old.kept)
-IsCall took refused Advance old taken new =
+IsCall to Advance old taken new =
     (answer : Result Once Idle) × Advances old.board answer new.board × (taken ≡ []) × (new.kept ≡ old.kept)
-IsCall took refused Offer old taken new =
-    IsCallAnswered {A = Result (Unit {0}) sinks.Refused} (λ sink answer later. Offers took refused old.board sink answer new.board later)
-    (λ sink answer later done. offer_took took refused old.board sink answer new.board later done) taken
+IsCall to Offer old taken new =
+    IsCallAnswered {A = Result (Unit {0}) sinks.Refused} (λ sink answer later. Offers to old.board sink answer new.board later)
+    (λ sink answer later done. offer_took to old.board sink answer new.board later done) taken
     × (new.kept ≡ old.kept)
-IsCall took refused Reset old taken new = IsSilent (record { board = board_after_reset old.board; kept = old.kept }) taken new
-IsCall took refused (InputSet mask) old taken new =
+IsCall to Reset old taken new = IsSilent (record { board = board_after_reset old.board; kept = old.kept }) taken new
+IsCall to (InputSet mask) old taken new =
     IsSilent (record { board = board_with_inputs old.board (held_with old.board.state.now.board.memory.held mask); kept = old.kept })
     taken new
-IsCall took refused (InputClear mask) old taken new =
+IsCall to (InputClear mask) old taken new =
     IsSilent (record { board = board_with_inputs old.board (held_without old.board.state.now.board.memory.held mask); kept = old.kept })
     taken new
-IsCall took refused Snapshot old taken new =
+IsCall to Snapshot old taken new =
     IsSilent (record { board = old.board; kept = old.kept ++ old.board.state ∷ [] }) taken new
-IsCall took refused (Restore number) old taken new =
+IsCall to (Restore number) old taken new =
     IsSilent (record { board = restored_board old.board (slice_index_or old.kept number old.board.state); kept = old.kept }) taken new
 
 -- what a call in which so many steps were done is over the history
@@ -124,22 +124,21 @@ abbrev pub steps_between : HostedBoard → HostedBoard → ℕ
 steps_between old new = new.board.state.now.steps - old.board.state.now.steps
 
 -- a call, and then others; what the sinks took in all of them, and what they are over the history
-pub record CallThen {S : Type 0} (took refused : S → Output → S → Type 0) (call : Call)
-    (others : HostedBoard → List Output → List Act → Type 0) (old : HostedBoard) (taken : List Output) (acts : List Act) : Type 0 where
+pub record CallThen {S : Type 0} (to : Giving S) (call : Call) (others : HostedBoard → List Output → List Act → Type 0)
+    (old : HostedBoard) (taken : List Output) (acts : List Act) : Type 0 where
   pub between : HostedBoard
   pub first_taken : List Output
-  pub first : IsCall took refused call old first_taken between
+  pub first : IsCall to call old first_taken between
   pub more_taken : List Output
   pub more_acts : List Act
   pub after : others between more_taken more_acts
   pub taken_is : taken ≡ first_taken ++ more_taken
   pub acts_are : acts ≡ acts_of call (steps_between old between) ++ more_acts
 
-abbrev pub AreCalls : {S : Type 0} → (S → Output → S → Type 0) → (S → Output → S → Type 0)
-    → List Call → (old new : HostedBoard) → (taken : List Output) → (acts : List Act) → Type 0
-AreCalls took refused [] old new taken acts = (new ≡ old) × (taken ≡ []) × (acts ≡ [])
-AreCalls took refused (call ∷ calls) old new taken acts =
-    CallThen took refused call (λ between more acts. AreCalls took refused calls between new more acts) old taken acts
+abbrev pub AreCalls : {S : Type 0} → Giving S → List Call → (old new : HostedBoard) → (taken : List Output) → (acts : List Act) → Type 0
+AreCalls to [] old new taken acts = (new ≡ old) × (taken ≡ []) × (acts ≡ [])
+AreCalls to (call ∷ calls) old new taken acts =
+    CallThen to call (λ between more acts. AreCalls to calls between new more acts) old taken acts
 
 abbrev pub goes_back : List Call → Bool
 goes_back [] = false
@@ -169,9 +168,9 @@ pub record IsOfTheHistory (old : BoardValue) (told : Host (List Entry)) (calls :
   -- where it wasn't brought back, the sinks took what was due and what the history's steps gave, once and in order, or it is due
   pub outputs : goes_back calls ≡ false → due_outputs old ++ told.outputs ≡ taken ++ due_outputs new.board
 
-abbrev pub CallsAreOfTheHistory : {S : Type 0} → (S → Output → S → Type 0) → (S → Output → S → Type 0) → Type 0
-CallsAreOfTheHistory took refused =
+abbrev pub CallsAreOfTheHistory : {S : Type 0} → Giving S → Type 0
+CallsAreOfTheHistory to =
     (items : List Item) (old : BoardValue) (calls : List Call) (new : HostedBoard) (taken : List Output) (acts : List Act) → IsWhole old.set
     → AllLie old.set.program items → IsBoard old.state.now.board
-    → AreCalls took refused calls (record { board = old; kept = [] }) new taken acts
+    → AreCalls to calls (record { board = old; kept = [] }) new taken acts
     → IsOfTheHistory old (history items old acts) calls new taken

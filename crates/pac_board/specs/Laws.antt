@@ -2,6 +2,7 @@
 use Rattle.std.specs.Prelude.{◌≡◌, ℕ, zero, suc, ◌+◌, ◌-◌, ◌<◌, List, [], ◌++◌}
 use Rattle.pac_cpu.specs.declared.once.Once.{Once}
 use Rattle.pac_board_model.specs.Output.{Output}
+use Rattle.pac_board.specs.Sinks.{Giving}
 use Rattle.pac_board.specs.State.{BoardValue, due_outputs, nothing_due, restored_board, time_of}
 use Rattle.pac_board.specs.Calls.{course, outputs_given, board_after_run, next_of, outputs_in, with_due}
 use Rattle.pac_board.specs.Calls.{IsAdvanced, IsOneStep, IsStepRefused, IsOfferRefused, IsRunRefused}
@@ -21,22 +22,21 @@ abbrev pub TimeCanBeCut : Type 0
 TimeCanBeCut = (board : BoardValue) (first second : ℕ) → IsCut board first second
 
 -- A call was refused, and then came others; what the sink took in all of them.
-pub record IsRefusedThen {S : Type 0} (took refused : S → Output → S → Type 0) (old : BoardValue) (microseconds : ℕ) (sink : S)
+pub record IsRefusedThen {S : Type 0} (to : Giving S) (old : BoardValue) (microseconds : ℕ) (sink : S)
     (others : BoardValue → S → List Output → Type 0) (taken : List Output)
     : Type 0 where
   pub between : BoardValue
   pub middle : S
-  pub first : IsRunRefused took refused old microseconds sink between middle
+  pub first : IsRunRefused to old microseconds sink between middle
   pub more : List Output
   pub after : others between middle more
-  pub taken_is : taken ≡ first.taken ++ more
+  pub taken_is : taken ≡ first.cut.taken ++ more
 
 -- so many calls for no time were refused, one after another
-abbrev pub AreRefused : {S : Type 0} → (S → Output → S → Type 0) → (S → Output → S → Type 0)
-    → (calls : ℕ) → BoardValue → S → BoardValue → S → List Output → Type 0
-AreRefused took refused zero old sink new later taken = (new ≡ old) × (later ≡ sink) × (taken ≡ [])
-AreRefused took refused (suc calls) old sink new later taken =
-    IsRefusedThen took refused old 0 sink (λ between middle more. AreRefused took refused calls between middle new later more) taken
+abbrev pub AreRefused : {S : Type 0} → Giving S → (calls : ℕ) → BoardValue → S → BoardValue → S → List Output → Type 0
+AreRefused to zero old sink new later taken = (new ≡ old) × (later ≡ sink) × (taken ≡ [])
+AreRefused to (suc calls) old sink new later taken =
+    IsRefusedThen to old 0 sink (λ between middle more. AreRefused to calls between middle new later more) taken
 
 -- After a refusal, calls for no time go on, however many of them are refused too: the first that isn't leaves the board that the
 -- refused call would have left, and the outputs of all of them are those that it would have given.
@@ -45,11 +45,10 @@ pub record IsTakenUp (old new : BoardValue) (microseconds : ℕ) (taken : List O
   pub given_is : taken ++ outputs_given new 0 ≡ outputs_given old microseconds
   pub stop_is : (course new 0).stop ≡ (course old microseconds).stop
 
-abbrev pub RefusalsAreTakenUp : {S : Type 0} → (S → Output → S → Type 0) → (S → Output → S → Type 0) → Type 0
-RefusalsAreTakenUp {S} took refused =
+abbrev pub RefusalsAreTakenUp : {S : Type 0} → Giving S → Type 0
+RefusalsAreTakenUp {S} to =
     (old new : BoardValue) (microseconds calls : ℕ) (sink later : S) (taken : List Output)
-    → IsRefusedThen took refused old microseconds sink
-    (λ between middle more. AreRefused took refused calls between middle new later more) taken
+    → IsRefusedThen to old microseconds sink (λ between middle more. AreRefused to calls between middle new later more) taken
     → IsTakenUp old new microseconds taken
 
 -- A step that is done again after its board was put back comes to the same, and what is due then is what was due before it.
@@ -75,18 +74,15 @@ HasTime board microseconds = board.state.now.time < time_of (board.state.asked +
 -- Calls that do one step at most leave a board that is on the way of the run, with what the sink took of them: a step with all
 -- that was due and all that it gave taken, or part of what it gave refused; a step whose outputs are due then; and an offer of
 -- what is due, taken, or refused in part.
-pub record ArePartsOfRuns {S : Type 0} (took refused : S → Output → S → Type 0) (old new : BoardValue) (microseconds : ℕ)
-    (sink later : S)
-    : Type 0 where
-  pub stepped_once : (once : Once) → HasTime old microseconds → IsOneStep took old sink once new later
+pub record ArePartsOfRuns {S : Type 0} (to : Giving S) (old new : BoardValue) (microseconds : ℕ) (sink later : S) : Type 0 where
+  pub stepped_once : (once : Once) → HasTime old microseconds → IsOneStep to.took old sink once new later
       → IsOnTheWay old new microseconds (due_outputs old ++ outputs_in (next_of old))
-  pub step_refused : HasTime old microseconds → (refusal : IsStepRefused took refused old sink new later)
-      → IsOnTheWay old new microseconds (due_outputs old ++ refusal.taken)
+  pub step_refused : HasTime old microseconds → (refusal : IsStepRefused to old sink new later)
+      → IsOnTheWay old new microseconds refusal.cut.taken
   pub advanced : (once : Once) → HasTime old microseconds → IsAdvanced old once new → IsOnTheWay old new microseconds []
   pub offered : new ≡ with_due old nothing_due → IsOnTheWay old new microseconds (due_outputs old)
-  pub offer_refused : (refusal : IsOfferRefused took refused old sink new later) → IsOnTheWay old new microseconds refusal.taken
+  pub offer_refused : (refusal : IsOfferRefused to old sink new later) → IsOnTheWay old new microseconds refusal.cut.taken
 
 -- Single steps and offers are parts of a run.
-abbrev pub StepsArePartsOfRuns : {S : Type 0} → (S → Output → S → Type 0) → (S → Output → S → Type 0) → Type 0
-StepsArePartsOfRuns {S} took refused =
-    (old new : BoardValue) (microseconds : ℕ) (sink later : S) → ArePartsOfRuns took refused old new microseconds sink later
+abbrev pub StepsArePartsOfRuns : {S : Type 0} → Giving S → Type 0
+StepsArePartsOfRuns {S} to = (old new : BoardValue) (microseconds : ℕ) (sink later : S) → ArePartsOfRuns to old new microseconds sink later

@@ -3,6 +3,7 @@ pub mod State
 pub mod Events
 pub mod Calls
 pub mod Turns
+pub mod Bursts
 pub mod Laws
 pub mod Fields
 pub mod Kept
@@ -36,6 +37,7 @@ pub use Rattle.pac_board_model.specs.Carried
 pub use Rattle.pac_board_model.specs.History
 pub use Rattle.pac_board_model.specs.Laws as ModelLaws
 pub use Rattle.pac_board_model.specs.Output
+pub use Rattle.pac_board_model.specs.Resumed
 pub use Rattle.pac_board_model.specs.Shown
 pub use Rattle.pac_board_model.specs.Step
 pub use Rattle.pac_board_model.specs.Trace

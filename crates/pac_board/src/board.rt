@@ -48,7 +48,7 @@ fn parts(alloc: Global, set: &RomSet, switches: u8) -> Result<(Picture, Memory),
 {
     let graphics = Graphics::new(alloc, set.tiles(), set.sprites(), set.lookup())?;
     let picture = Picture::new(alloc, graphics, set.colours())?;
-    let memory = Memory::new(alloc, switches)?;
+    let memory = Memory::new(switches);
     Ok((picture, memory))
 }
 

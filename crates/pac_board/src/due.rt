@@ -2,7 +2,7 @@
 
 ghost use Rattle.std.specs.Prelude.{◌≡◌, ◌||◌, is_some, None, false};
 ghost use Rattle.pac_board.specs.Calls.{OffersDue, OffersPart};
-ghost use Rattle.pac_board.specs.Sinks.{offered_image};
+ghost use Rattle.pac_board.specs.Sinks.{by, offered_image};
 ghost use Rattle.pac_board.specs.State.{sounds_of, shows_of};
 
 use crate::sink::{Refused, Sink};
@@ -35,7 +35,7 @@ impl Due {
     /// Offers what is due to a sink, the sample before this picture, and keeps what it refuses, with what comes after it.
     #[inline]
     pub fn offer<S: Sink>(&mut self, picture: &Picture, sink: &mut S) -> Result<(), Refused>
-        ensures { OffersDue S.took S.refused
+        ensures { OffersDue (by S.took S.refused)
             (offered_image picture.now) self.old sink.old result self.new sink.new }
     {
         self.offer_sample(sink)?;
@@ -45,7 +45,7 @@ impl Due {
     /// Offers the sample, where one is due.
     #[inline]
     fn offer_sample<S: Sink>(&mut self, sink: &mut S) -> Result<(), Refused>
-        ensures { OffersPart S.took S.refused (sounds_of self.old.sample) self.old
+        ensures { OffersPart (by S.took S.refused) (sounds_of self.old.sample) self.old
             (record self.old { sample = None }) sink.old result
             self.new sink.new }
     {
@@ -59,7 +59,7 @@ impl Due {
     /// Offers this picture, where it is due.
     #[inline]
     fn offer_picture<S: Sink>(&mut self, picture: &Picture, sink: &mut S) -> Result<(), Refused>
-        ensures { OffersPart S.took S.refused
+        ensures { OffersPart (by S.took S.refused)
             (shows_of (offered_image picture.now) self.old.picture) self.old
             (record self.old { picture = false })
             sink.old result self.new sink.new }

@@ -1,9 +1,11 @@
 //! The calls that make steps, and offer what they give to a sink.
 
 ghost use Rattle.std.specs.Prelude.{◌≡◌, ◌<◌, ◌≤◌, ◌^◌, []};
-ghost use Rattle.pac_board.specs.State.{latest, due_outputs, nothing_due};
-ghost use Rattle.pac_board.specs.Calls.{counted_once, Offers, IsAdvanced, Advances, StepsOnce, Executes};
+ghost use Rattle.pac_board.specs.State.{latest, due_outputs, nothing_due, steps_counted};
+ghost use Rattle.pac_board.specs.Calls.{Offers, IsAdvanced, Advances, StepsOnce, Executes};
+ghost use Rattle.pac_board.specs.Sinks.{by};
 ghost use Rattle.pac_board.specs.Turns.{Turns, GoesTo};
+ghost use Rattle.pac_board.specs.Bursts.{IsStretched, Stretches};
 
 use crate::board::Board;
 use crate::due::Due;
@@ -12,10 +14,10 @@ use crate::sink::{Refused, Sink};
 use pac_cpu::{Once, Stop};
 
 /// The time, in T-states, from which on no step is begun (this profile).
-const LATEST: u64 = 1 << 52;
+pub const LATEST: u64 = 1 << 52;
 
 /// The most microseconds that are asked of a board (this profile).
-pub(crate) const MOST_ASKED: u64 = 1 << 50;
+pub const MOST_ASKED: u64 = 1 << 50;
 
 /// What a call for some microseconds came to.
 #[derive(Clone, Copy)]
@@ -26,14 +28,12 @@ pub struct Ran {
     pub stop: Option<Stop>,
 }
 
-/// Counts a step, staying at the most that the count can hold; a stop is none.
+/// Counts steps, staying at the most that the count can hold.
 #[inline(always)]
-fn count(made: &mut u64, once: &Once)
-    ensures { made.new ≡ counted_once made.old once.now }
+fn count(made: &mut u64, steps: u64)
+    ensures { made.new ≡ steps_counted made.old steps }
 {
-    if let Once::Stepped { .. } = once {
-        *made = made.saturating_add(1);
-    }
+    *made = made.saturating_add(steps);
 }
 
 /// Notes what a step gave out. Nothing was due before, so after most steps, which give nothing, nothing is written.
@@ -51,7 +51,7 @@ impl Board {
     /// Offers what is due to a sink, the sample before the picture. What it refuses stays due, with what comes after it.
     #[inline]
     pub fn offer<S: Sink>(&mut self, sink: &mut S) -> Result<(), Refused>
-        ensures { Offers S.took S.refused self.old sink.old result self.new sink.new }
+        ensures { Offers (by S.took S.refused) self.old sink.old result self.new sink.new }
     {
         self.due.offer(self.machine.picture(), sink)
     }
@@ -70,17 +70,23 @@ impl Board {
         Ok(self.go())
     }
 
-    /// Does the step of a board with nothing due and time left; what it gives is due then.
+    /// Does the step of a board with nothing due and time left; what it gives is due then. It is a stretch that ends after its first
+    /// step, so that one loop makes all steps of a program: with two of them the processor is called and not inlined.
     #[inline(always)]
     fn go(&mut self) -> Once
         requires early { self.old.state.now.time < latest }
         requires nothing { due_outputs self.old ≡ [] }
         ensures { IsAdvanced self.old result self.new }
     {
-        let (once, due) = self.machine.step();
-        note(&mut self.due, due);
-        count(&mut self.made, &once);
-        once
+        let kind = self.machine.kind();
+        let before = self.time();
+        match self.go_on(before + 1) {
+            Some(stop) => Once::Stopped(stop),
+            None => Once::Stepped {
+                ticks: (self.time() - before) as u8,
+                kind,
+            },
+        }
     }
 
     /// Does one step of a board with nothing due, and offers what it gives.
@@ -88,7 +94,7 @@ impl Board {
     fn turn<S: Sink>(&mut self, sink: &mut S) -> Result<Once, Refused>
         requires early { self.old.state.now.time < latest }
         requires nothing { due_outputs self.old ≡ [] }
-        ensures { Turns S.took S.refused self.old sink.old result self.new sink.new }
+        ensures { Turns (by S.took S.refused) self.old sink.old result self.new sink.new }
     {
         let once = self.go();
         self.give(sink)?;
@@ -98,7 +104,7 @@ impl Board {
     /// Offers what is due, where anything is; after most steps nothing is.
     #[inline(always)]
     fn give<S: Sink>(&mut self, sink: &mut S) -> Result<(), Refused>
-        ensures { Offers S.took S.refused self.old sink.old result self.new sink.new }
+        ensures { Offers (by S.took S.refused) self.old sink.old result self.new sink.new }
     {
         if !self.due.is_some() {
             return Ok(());
@@ -108,7 +114,7 @@ impl Board {
 
     /// Offers what is due, does one step, and offers what it gives.
     pub fn step_once<S: Sink>(&mut self, sink: &mut S) -> Result<Once, Fault>
-        ensures { StepsOnce S.took S.refused self.old sink.old result self.new sink.new }
+        ensures { StepsOnce (by S.took S.refused) self.old sink.old result self.new sink.new }
     {
         if self.time() >= LATEST {
             return Err(Fault::TooFar);
@@ -122,15 +128,44 @@ impl Board {
         }
     }
 
+    /// Does the steps of a board with nothing due up to the next sample, to a limit before it, or to a stop; what the last of them
+    /// gives is due then.
+    #[inline(always)]
+    fn go_on(&mut self, limit: u64) -> Option<Stop>
+        requires early { self.old.state.now.time < limit }
+        requires limit { limit ≤ latest }
+        requires nothing { due_outputs self.old ≡ [] }
+        ensures { IsStretched self.old limit result self.new }
+    {
+        let before = self.machine.steps();
+        let (stop, due) = self.machine.stretch(limit);
+        note(&mut self.due, due);
+        count(&mut self.made, self.machine.steps() - before);
+        stop
+    }
+
+    /// Does the same, and offers what the last step gives.
+    #[inline(always)]
+    fn stretch<S: Sink>(&mut self, limit: u64, sink: &mut S) -> Result<Option<Stop>, Refused>
+        requires early { self.old.state.now.time < limit }
+        requires limit { limit ≤ latest }
+        requires nothing { due_outputs self.old ≡ [] }
+        ensures { Stretches (by S.took S.refused) self.old limit sink.old result self.new sink.new }
+    {
+        let stop = self.go_on(limit);
+        self.give(sink)?;
+        Ok(stop)
+    }
+
     /// Does steps while the time is before a limit, up to a stop, and offers what each gives.
     fn run<S: Sink>(&mut self, limit: u64, sink: &mut S) -> Result<Option<Stop>, Refused>
         requires limit { limit ≤ latest }
         requires nothing { due_outputs self.old ≡ [] }
         requires made { self.old.made < 2 ^ 64 }
-        ensures { GoesTo S.took S.refused self.old limit sink.old result self.new sink.new }
+        ensures { GoesTo (by S.took S.refused) self.old limit sink.old result self.new sink.new }
     {
         while self.time() < limit {
-            if let Once::Stopped(stop) = self.turn(sink)? {
+            if let Some(stop) = self.stretch(limit, sink)? {
                 return Ok(Some(stop));
             }
         }
@@ -141,7 +176,7 @@ impl Board {
     pub fn go_to<S: Sink>(&mut self, limit: u64, sink: &mut S) -> Result<Option<Stop>, Refused>
         requires limit { limit ≤ latest }
         requires nothing { due_outputs self.old ≡ [] }
-        ensures { GoesTo S.took S.refused self.old limit sink.old result self.new sink.new }
+        ensures { GoesTo (by S.took S.refused) self.old limit sink.old result self.new sink.new }
     {
         // (its bound, that of a u64, is what `run` asks of the count)
         self.made();
@@ -151,7 +186,7 @@ impl Board {
     /// Lets so many microseconds go by: offers what is due, then does steps, and offers what each gives, while the time is before
     /// that of all microseconds asked so far, or to a stop.
     pub fn exec<S: Sink>(&mut self, us: u32, sink: &mut S) -> Result<Ran, Fault>
-        ensures { Executes S.took S.refused self.old us sink.old result self.new sink.new }
+        ensures { Executes (by S.took S.refused) self.old us sink.old result self.new sink.new }
     {
         let asked = self.asked + u64::from(us);
         if asked > MOST_ASKED {

@@ -70,7 +70,7 @@ fn parts(alloc: Global, set: &RomSet, fields: &Fields) -> Result<(Picture, Memor
     let graphics = Graphics::new(alloc, set.tiles(), set.sprites(), set.lookup())?;
     let mut picture = Picture::new(alloc, graphics, set.colours())?;
     picture.copy_from(fields.lines);
-    let memory = Memory::of(alloc, &fields.memory)?;
+    let memory = Memory::of(&fields.memory);
     Ok((picture, memory))
 }
 

@@ -55,7 +55,7 @@ impl Frozen {
     {
         Ok(Frozen {
             cpu: Cpu::power_on(),
-            memory: Memory::new(alloc, 0)?,
+            memory: Memory::new(0),
             wave: Wave::new(),
             lines: Lines::new(alloc)?,
             clock: 0,

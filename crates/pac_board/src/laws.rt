@@ -2,6 +2,7 @@
 
 ghost use Rattle.pac_board.specs.Laws.{TimeCanBeCut, RefusalsAreTakenUp, StepsAreDoneAgain, StepsArePartsOfRuns};
 ghost use Rattle.pac_board.specs.Hosts.{CallsAreOfTheHistory};
+ghost use Rattle.pac_board.specs.Sinks.{by};
 
 use crate::sink::Sink;
 
@@ -12,7 +13,7 @@ pub fn time_can_be_cut()
 
 /// After a refusal, calls for no time, however many of them are refused too, leave what a call that isn't refused leaves.
 pub fn refusals_are_taken_up<S: Sink>()
-    ensures { RefusalsAreTakenUp S.took S.refused }
+    ensures { RefusalsAreTakenUp (by S.took S.refused) }
 {}
 
 /// A step that is done again after a board's state was put back gives its outputs again, and what was due then is due again.
@@ -22,11 +23,11 @@ pub fn steps_are_done_again()
 
 /// Single steps and offers are parts of a run: from the board that they leave it goes on to the same board with the same outputs.
 pub fn steps_are_parts_of_runs<S: Sink>()
-    ensures { StepsArePartsOfRuns S.took S.refused }
+    ensures { StepsArePartsOfRuns (by S.took S.refused) }
 {}
 
 /// Whatever a host calls, in whichever order, and whatever its sinks refuse: the board stands where its history says, and lines of
 /// its picture were composed at their moments and at no others.
 pub fn calls_are_of_the_history<S: Sink>()
-    ensures { CallsAreOfTheHistory S.took S.refused }
+    ensures { CallsAreOfTheHistory (by S.took S.refused) }
 {}

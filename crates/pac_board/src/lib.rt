@@ -17,7 +17,7 @@ mod timing;
 
 pub use board::Board;
 pub use due::Due;
-pub use exec::Ran;
+pub use exec::{LATEST, MOST_ASKED, Ran};
 pub use fault::{Fault, Idle, InitRefused};
 pub use fields::Fields;
 pub use pac_cpu::{Alternate, Cause, InterruptMode, Once, Regs, StepKind, Stop};
@@ -25,4 +25,4 @@ pub use pac_map::{Flags, Inputs, MemoryFields, Raw, RomSet};
 pub use pac_picture::{HEIGHT, Lines, Picture, WIDTH};
 pub use sink::{Refused, Sink};
 pub use snapshot::Snapshot;
-pub use timing::{FRAME_SAMPLES, FRAME_TICKS};
+pub use timing::{FRAME_SAMPLES, FRAME_TICKS, SAMPLE_TICKS};

@@ -1,7 +1,7 @@
 //! Where samples and pictures go.
 
 ghost use Rattle.pac_board_model.specs.Output.{Output, Sound, Show};
-ghost use Rattle.pac_board.specs.Sinks.{IsOffer, offered_image, lent_sink_took, lent_sink_refused};
+ghost use Rattle.pac_board.specs.Sinks.{by, IsOffer, offered_image, lent_sink_took, lent_sink_refused};
 
 use pac_picture::Picture;
 use thiserror::Error;
@@ -24,11 +24,11 @@ pub trait Sink {
 
     /// Takes a sound sample, one of 96,000 a second, or refuses it.
     fn sample(&mut self, sample: i16) -> Result<(), Refused>
-        ensures { IsOffer took refused self.old (Sound sample) result self.new };
+        ensures { IsOffer (by took refused) self.old (Sound sample) result self.new };
 
     /// Takes the picture of a frame as it is lent, or refuses it.
     fn picture(&mut self, picture: &Picture) -> Result<(), Refused>
-        ensures { IsOffer took refused self.old
+        ensures { IsOffer (by took refused) self.old
             (Show (offered_image picture.now)) result self.new };
 }
 

@@ -1,7 +1,7 @@
 //! How sound and scan divide the board's time: in T-states, in samples and in lines.
 
 /// The T-states from one sound sample to the next.
-pub(crate) const SAMPLE_TICKS: u64 = 32;
+pub const SAMPLE_TICKS: u64 = 32;
 
 /// The T-states of a line of the scan.
 pub(crate) const LINE_TICKS: u64 = 192;

@@ -1,28 +1,28 @@
 -- What a frame's call answers, from what the board's call answered.
-use Rattle.std.proofs.Common.{◌≡◌, ℕ, zero, suc, ◌+◌, ◌-◌, ◌<◌, ◌≤◌, ◌⊎◌, inl, inr, List, [], ◌++◌, Option, None, Some, Result, Ok, Err}
+use Rattle.std.proofs.Common.{◌≡◌, ℕ, zero, suc, ◌+◌, ◌-◌, ◌<◌, ◌≤◌, ◌⊎◌, inl, inr, List, Option, None, Some, Result, Ok, Err}
 use Rattle.std.proofs.Common.{refl, sym, ap, subst, ◌∙◌, arith}
 use mathlib.Core.List.{IsPrefix}
 use Rattle.pac_board.specs.Stop.{Stop}
 use Rattle.pac_board.specs.BoardView.{BoardView}
 use Rattle.pac_board.specs.Calls.{with_due}
-use Rattle.pac_board.specs.Output.{Output}
 use Rattle.pac_board.specs.Step.{Moment, step}
 use Rattle.pac_board.specs.Trace.{by_view}
 use Rattle.pac_board.specs.Walk.{Walk, walk}
 use Rattle.pac_board.specs.declared.due.Due.{Due}
 use Rattle.pac_board.proofs.Walks.{open-is-late, walk-to-ends, step-timely, play-timely}
-use Rattle.pac_board.specs.Sinks.{TookAll, RefusesAt}
+use Rattle.pac_board.proofs.Sinks.{cut-along, cut-something}
+use Rattle.pac_board.specs.Sinks.{Giving, TookAll}
 use Rattle.pac_board.specs.State.{BoardValue, board_with_inputs, due_outputs, nothing_due, steps_counted}
-use Rattle.pac_board.specs.Turns.{GoesTo, HasGone, IsWayRefused, way, board_after_walk}
+use Rattle.pac_board.specs.Turns.{GoesTo, HasGone, IsWayRefused, board_after_walk}
 use Rattle.pac_inputs.specs.Stretches.{held}
 use Rattle.pac_inputs.specs.declared.line.Stretch.{Stretch}
 use Rattle.pac_board_course.proofs.Counted.{counted, going-if-counted, going-same, going-next}
 use Rattle.pac_board_course.proofs.Framed.{frame_walk, frame_closed, frames_ended, frame-stops, frame-now, frame-closed, on-the-way-on}
 use Rattle.pac_board_course.proofs.Framed.{closed-outputs, closed-stop}
-use Rattle.pac_board_course.proofs.Whole.{frame-within, held-after, not-held-yet, gave-something}
-use Rattle.pac_board_course.specs.Course.{CourseValue, end_of, next_in, held_in, way_on, way_walked, course_after, course_with_due}
-use Rattle.pac_board_course.specs.Frames.{IsUnderway, IsFrameDone, PlaysFrameOn, frame_end}
-use Rattle.pac_board_course.specs.Plays.{IsOver, IsCourseHeldUp}
+use Rattle.pac_board_course.proofs.Whole.{frame-within, held-after, not-held-yet}
+use Rattle.pac_board_course.specs.Course.{CourseValue, end_of, next_in, held_in, way_walked, course_after, course_with_due}
+use Rattle.pac_board_course.specs.Frames.{IsFrameDone, PlaysFrameOn, frame_end}
+use Rattle.pac_board_course.specs.Plays.{IsCourseHeldUp}
 
 -- the inputs that are held after the frame under way
 abbrev pub next_mask : CourseValue → ℕ
@@ -74,8 +74,7 @@ due-kept old board new (inr closed) = (
   ap (λ (b : BoardValue). b.state.now.steps) closed.1,
 )
 
-module _ {S : Type 0} (took refused : S → Output → S → Type 0) (old : CourseValue) (board new : BoardValue) (script : List Stretch)
-    (gone : ℕ) (sink later : S) where
+module _ {S : Type 0} (to : Giving S) (old : CourseValue) (board new : BoardValue) (script : List Stretch) (gone : ℕ) (sink later : S) where
   -- the course, on its board
   abbrev course : CourseValue
   course = record { board = new; script = script; gone = gone }
@@ -89,8 +88,8 @@ module _ {S : Type 0} (took refused : S → Output → S → Type 0) (old : Cour
       (board-placed old tries due board new walked closed)
 
   -- the frame came to its end
-  played : old.board.state.now.time < end_of old → (stop : Option Stop) → HasGone took old.board (frame_end old) sink stop board later
-      → IsClosed old board new → script ≡ old.script → gone ≡ old.gone → IsFrameDone took old sink stop course later
+  played : old.board.state.now.time < end_of old → (stop : Option Stop) → HasGone to.took old.board (frame_end old) sink stop board later
+      → IsClosed old board new → script ≡ old.script → gone ≡ old.gone → IsFrameDone to.took old sink stop course later
   played early None gone_to closed scripts gones =
       let tries = frame_end old in
       let at = placed tries nothing_due gone_to.board closed scripts gones in
@@ -113,7 +112,7 @@ module _ {S : Type 0} (took refused : S → Output → S → Type 0) (old : Cour
               ap (λ (c : CourseValue). c.board.state.now.steps) at ∙ ap (λ (w : Walk BoardView). w.now.steps) (sym same) ∙ exact.2;
           open_yet = ap (λ (w : Walk BoardView). w.stop) same ∙ closed-stop old tries ∙ sym gone_to.stop_is;
           sink_is =
-              subst (λ xs. TookAll took sink xs later)
+              subst (λ xs. TookAll to.took sink xs later)
               (sym (ap (λ (w : Walk BoardView). w.outputs) same ∙ closed-outputs old tries)) gone_to.sink_is;
         };
         later_is = omega (arith, kept.2, time, ended);
@@ -126,18 +125,15 @@ module _ {S : Type 0} (took refused : S → Output → S → Type 0) (old : Cour
         course = at ∙ ap (course_after old) whole;
         stop_is = gone_to.stop_is ∙ sym (closed-stop old tries) ∙ ap (λ (w : Walk BoardView). w.stop) whole;
         sink_is =
-            subst (λ xs. TookAll took sink xs later)
+            subst (λ xs. TookAll to.took sink xs later)
             (sym (closed-outputs old tries) ∙ ap (λ (w : Walk BoardView). w.outputs) whole) gone_to.sink_is;
       }
 
   -- an output of the frame was refused
   held-up : old.board.state.now.time < end_of old → (steps : ℕ)
-      (stays : IsWayRefused took refused old.board (frame_end old) sink board later)
-      → stays.steps ≡ steps → IsClosed old board new → script ≡ old.script → gone ≡ old.gone
-      → IsCourseHeldUp took refused old sink course later
-  held-up early zero stays count closed scripts gones =
-      gave-something took refused old sink old stays.taken (due_outputs board) sink later
-      (ap (λ n. (frame_walk old n).outputs) (sym count) ∙ stays.parts) stays.refuses
+      (stays : IsWayRefused to old.board (frame_end old) sink board later)
+      → stays.steps ≡ steps → IsClosed old board new → script ≡ old.script → gone ≡ old.gone → IsCourseHeldUp to old sink course later
+  held-up early zero stays count closed scripts gones = cut-something stays.cut (ap (λ n. (frame_walk old n).outputs) count)
   held-up early (suc last) stays count closed scripts gones =
       let next = next_in old in
       let from = old.board.state.now in
@@ -162,14 +158,13 @@ module _ {S : Type 0} (took refused : S → Output → S → Type 0) (old : Cour
             at ∙ ap (λ w. course_with_due (course_after old w) board.state.due) same
             ∙ ap (course_with_due (course_after old (way_walked old steps))) (sym kept.1);
         all_steps = all;
-        taken = stays.taken;
-        parts =
-            ap (λ (w : Walk BoardView). w.outputs) (sym same) ∙ closed-outputs old steps
-            ∙ ap (λ n. (frame_walk old n).outputs) (sym count) ∙ stays.parts ∙ ap (λ xs. stays.taken ++ xs) (sym kept.0);
-        refuses = subst (λ left. RefusesAt took refused sink stays.taken left later) (sym kept.0) stays.refuses;
+        cut =
+            cut-along
+            (ap (λ (w : Walk BoardView). w.outputs) (sym same) ∙ closed-outputs old steps
+            ∙ ap (λ n. (frame_walk old n).outputs) (sym count)) (sym kept.0) stays.cut;
         of_last = λ number is.
             let number_is : last ≡ number = omega arith in
-            subst (λ xs. IsPrefix xs stays.taken)
+            subst (λ xs. IsPrefix xs stays.cut.taken)
             (sym (closed-outputs old last) ∙ ap (λ (w : Walk BoardView). w.outputs) before
             ∙ ap (λ n. (way_walked old n).outputs) number_is)
             (stays.of_last last count);
@@ -177,14 +172,14 @@ module _ {S : Type 0} (took refused : S → Output → S → Type 0) (old : Cour
 
   -- the frame, by the board's answer
   pub frame-answered : {E : Type 0} (result : Result (Option Stop) E) (start : BoardValue) (limit : ℕ) → start ≡ old.board
-      → limit ≡ frame_end old → old.board.state.now.time < end_of old → GoesTo took refused start limit sink result board later
-      → IsClosed old board new → script ≡ old.script → gone ≡ old.gone → PlaysFrameOn took refused old sink result course later
+      → limit ≡ frame_end old → old.board.state.now.time < end_of old → GoesTo to start limit sink result board later
+      → IsClosed old board new → script ≡ old.script → gone ≡ old.gone → PlaysFrameOn to old sink result course later
   frame-answered (Ok stop) start limit begins ends early goes closed scripts gones =
       played early stop
-      (subst (λ (b : BoardValue). HasGone took b (frame_end old) sink stop board later) begins
-      (subst (λ n. HasGone took start n sink stop board later) ends goes)) closed scripts gones
+      (subst (λ (b : BoardValue). HasGone to.took b (frame_end old) sink stop board later) begins
+      (subst (λ n. HasGone to.took start n sink stop board later) ends goes)) closed scripts gones
   frame-answered (Err refusal) start limit begins ends early goes closed scripts gones =
       let stays =
-      subst (λ (b : BoardValue). IsWayRefused took refused b (frame_end old) sink board later) begins
-      (subst (λ n. IsWayRefused took refused start n sink board later) ends goes) in
+      subst (λ (b : BoardValue). IsWayRefused to b (frame_end old) sink board later) begins
+      (subst (λ n. IsWayRefused to start n sink board later) ends goes) in
       held-up early stays.steps stays refl closed scripts gones

@@ -1,18 +1,15 @@
 -- A course from power-on is the trace of its script.
-use Rattle.std.proofs.Common.{◌≡◌, ℕ, zero, suc, ◌+◌, ◌-◌, ◌*◌, ◌/◌, ◌==◌, if◌then◌else◌, refl, sym, ap, ◌∙◌, arith}
-use Rattle.pac_board.specs.BoardView.{BoardView, power_on_board_view}
+use Rattle.std.proofs.Common.{◌≡◌, ℕ, zero, suc, ◌+◌, ◌*◌, ◌/◌, ◌==◌, if◌then◌else◌, refl, ap, ◌∙◌, arith}
+use Rattle.pac_board.specs.BoardView.{power_on_board_view}
 use Rattle.pac_board.specs.Entry.{Hold}
-use Rattle.pac_board.specs.ModelLaws.{RunsEnd}
-use Rattle.pac_board.specs.RomParts.{Parts}
 use Rattle.pac_board.specs.Step.{Questions, Moment, Next, Goes, Ends, frame_ticks, step}
 use Rattle.pac_board.specs.State.{power_on_board}
-use Rattle.pac_board.specs.Trace.{Play, by_view, next_with_inputs, play_step, power_on_moment}
-use Rattle.pac_board.specs.Walk.{Walk, walk, walk_to, walk_onward}
+use Rattle.pac_board.specs.Trace.{by_view, next_with_inputs, play_step}
+use Rattle.pac_board.specs.Walk.{walk, walk_to, walk_onward}
 use Rattle.pac_board.proofs.Runs.{runs-end}
 use Rattle.pac_board.proofs.Walks.{walk-to-ends, play-timely}
 use Rattle.pac_inputs.specs.Stretches.{total_frames, held}
-use Rattle.pac_inputs.specs.declared.line.Stretch.{Stretch}
-use Rattle.pac_board_course.specs.Course.{CourseValue, begun, end_of, held_in, next_in, way_on}
+use Rattle.pac_board_course.specs.Course.{CourseValue, begun, end_of, held_in, next_in}
 use Rattle.pac_board_course.specs.Laws.{CoursesBegin}
 
 -- ---- steps that come to the same make the same walk

@@ -1,5 +1,5 @@
 -- A frame of a course: the board's walk to the frame's end, at which the next one's inputs are held, is on the way on.
-use Rattle.std.proofs.Common.{◌≡◌, ℕ, ◌/◌, ◌<◌, ◌≤◌, ◌++◌, Option, None, Some, Bool, true, false, if◌then◌else◌}
+use Rattle.std.proofs.Common.{◌≡◌, ℕ, ◌/◌, ◌<◌, ◌≤◌, Option, None, Some, Bool, true, false, if◌then◌else◌}
 use Rattle.std.proofs.Common.{nat_le, is_some, refl, sym, ap, ◌∙◌, arith}
 use Rattle.std.proofs.lemmas.Bool.Decides.{nat_tests}
 use Rattle.pac_board.specs.Stop.{Stop}

@@ -7,5 +7,8 @@ pub mod Taken
 pub use Rattle.pac_board.proofs.Agreed
 pub use Rattle.pac_board.proofs.HostCarried
 pub use Rattle.pac_board.proofs.Outputs
+pub use Rattle.pac_board.proofs.Resumed
+pub use Rattle.pac_board.proofs.ResumedTimes
 pub use Rattle.pac_board.proofs.Runs
+pub use Rattle.pac_board.proofs.Sinks
 pub use Rattle.pac_board.proofs.Walks

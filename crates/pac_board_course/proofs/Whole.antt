@@ -1,28 +1,26 @@
 -- A course from frame to frame, to the end of its run.
-use Rattle.std.proofs.Common.{◌≡◌, ℕ, zero, suc, ◌+◌, ◌-◌, ◌/◌, ◌^◌, ◌<◌, ◌≤◌, List, [], ◌∷◌, ◌++◌, Option, None, Some, true, false}
-use Rattle.std.proofs.Common.{nat_le, is_some, refl, sym, ap, subst, ◌∙◌, append_assoc, if◌then◌else◌, arith}
+use Rattle.std.proofs.Common.{◌≡◌, ℕ, zero, suc, ◌+◌, ◌-◌, ◌/◌, ◌^◌, ◌<◌, ◌≤◌, ◌++◌, Option, None, Some, true, false}
+use Rattle.std.proofs.Common.{nat_le, is_some, refl, sym, ap, subst, ◌∙◌, if◌then◌else◌, arith}
 use Rattle.std.proofs.lemmas.Bool.Decides.{nat_tests}
 use mathlib.Core.List.{IsPrefix}
 use Rattle.pac_board.specs.Stop.{Stop}
 use Rattle.pac_board.specs.BoardView.{BoardView, board_after}
 use Rattle.pac_board.specs.Entry.{Hold}
-use Rattle.pac_board.specs.Output.{Output}
-use Rattle.pac_board.specs.Step.{Moment, Next, frame_ticks, step}
-use Rattle.pac_board.specs.Trace.{by_view, moment_with_inputs, play_step}
+use Rattle.pac_board.specs.Step.{Moment, frame_ticks, step}
+use Rattle.pac_board.specs.Trace.{by_view, moment_with_inputs}
 use Rattle.pac_board.specs.Walk.{Walk}
-use Rattle.pac_board.specs.declared.due.Due.{Due}
 use Rattle.pac_board.proofs.Pieces.{two-parts}
 use Rattle.pac_board.proofs.Runs.{walk-near}
-use Rattle.pac_board.proofs.Sinks.{took-both, refuses-after}
+use Rattle.pac_board.proofs.Sinks.{took-both, cut-along, cut-after, cut-something, prefix-after}
 use Rattle.pac_board.proofs.Walked.{walked-after}
 use Rattle.pac_board.proofs.Walks.{joined, more-joined, goes-on, ended-whole, late-has-ended, step-timely, play-timely}
 use Rattle.pac_board.specs.ModelLaws.{IsTimely}
-use Rattle.pac_board.specs.Sinks.{TookAll, RefusesAt}
-use Rattle.pac_board.specs.State.{BoardValue, due_outputs, nothing_due, steps_counted}
+use Rattle.pac_board.specs.Sinks.{Giving, TookAll}
+use Rattle.pac_board.specs.State.{BoardValue, nothing_due, steps_counted}
 use Rattle.pac_inputs.specs.Stretches.{held}
 use Rattle.pac_board_course.proofs.Framed.{frame_walk, moment_after, frames_ended}
 use Rattle.pac_board_course.specs.Course.{CourseValue, held_in, end_of, next_in, way_on, way_walked, course_after, course_with_due}
-use Rattle.pac_board_course.specs.Frames.{IsUnderway, IsFramePlayed, IsFrameDone, frame_end}
+use Rattle.pac_board_course.specs.Frames.{IsUnderway, IsFrameDone, frame_end}
 use Rattle.pac_board_course.specs.Laws.{CoursesGoOn}
 use Rattle.pac_board_course.specs.Plays.{IsOver, IsCourseHeldUp}
 
@@ -81,7 +79,7 @@ after-twice course first second less more =
     ap (λ (board : BoardValue). record { board = board; script = course.script; gone = course.gone })
     (two-parts course.board course.board.state.asked first.now second.now second.now less more refl)
 
-module _ {S : Type 0} (took refused : S → Output → S → Type 0) (old : CourseValue) (sink : S) where
+module _ {S : Type 0} (to : Giving S) (old : CourseValue) (sink : S) where
   abbrev first_now : Moment BoardView
   first_now = old.board.state.now
 
@@ -94,7 +92,7 @@ module _ {S : Type 0} (took refused : S → Output → S → Type 0) (old : Cour
   abbrev there : ℕ → CourseValue
   there tries = course_after old (walked tries)
 
-  pub underway-begins : old.board.state.due ≡ nothing_due → old.board.made < 2 ^ 64 → IsUnderway took old sink old sink
+  pub underway-begins : old.board.state.due ≡ nothing_due → old.board.made < 2 ^ 64 → IsUnderway to.took old sink old sink
   underway-begins none fits =
       let same : old.board.made ≡ steps_counted old.board.made (first_now.steps - first_now.steps) = omega arith in
       record {
@@ -116,7 +114,7 @@ module _ {S : Type 0} (took refused : S → Output → S → Type 0) (old : Cour
       }
 
   -- how many steps a course has behind it
-  steps-there : (now : CourseValue) (taker : S) (under : IsUnderway took old sink now taker)
+  steps-there : (now : CourseValue) (taker : S) (under : IsUnderway to.took old sink now taker)
       → (walked under.steps).now.steps ≡ first_now.steps + under.steps
   steps-there now taker under = ap (λ (course : CourseValue). course.board.state.now.steps) (sym under.course) ∙ under.all_steps
 
@@ -125,10 +123,11 @@ module _ {S : Type 0} (took refused : S → Output → S → Type 0) (old : Cour
   more-walked first second open_yet =
       more-joined (next_in old) (end_of old) first_now first second (first + second) refl open_yet
 
-  pub underway-on : (now new : CourseValue) (taker later : S) → IsUnderway took old sink now taker → IsUnderway took now taker new later
-      → IsUnderway took old sink new later
+  pub underway-on : (now new : CourseValue) (taker later : S) → IsUnderway to.took old sink now taker
+      → IsUnderway to.took now taker new later
+      → IsUnderway to.took old sink new later
   underway-on now new taker later under played =
-      let told = subst (λ course. IsUnderway took course taker new later) under.course played in
+      let told = subst (λ course. IsUnderway to.took course taker new later) under.course played in
       let w = walked under.steps in
       let more = way_walked (there under.steps) told.steps in
       let whole = more-walked under.steps told.steps under.open_yet in
@@ -144,12 +143,12 @@ module _ {S : Type 0} (took refused : S → Output → S → Type 0) (old : Cour
         all_steps = omega (arith, steps, last);
         open_yet = ap (λ (w : Walk BoardView). w.stop) (sym whole) ∙ told.open_yet;
         sink_is =
-            subst (λ (w : Walk BoardView). TookAll took sink w.outputs later) whole
-            (took-both took w.outputs more.outputs sink taker later under.sink_is told.sink_is);
+            subst (λ (w : Walk BoardView). TookAll to.took sink w.outputs later) whole
+            (took-both to.took w.outputs more.outputs sink taker later under.sink_is told.sink_is);
       }
 
-  pub underway-ends : (now : CourseValue) (taker : S) → IsUnderway took old sink now taker
-      → end_of now ≤ now.board.state.now.time → IsOver took old sink None now taker
+  pub underway-ends : (now : CourseValue) (taker : S) → IsUnderway to.took old sink now taker
+      → end_of now ≤ now.board.state.now.time → IsOver to.took old sink None now taker
   underway-ends now taker under over =
       let late = subst (λ (course : CourseValue). end_of course ≤ course.board.state.now.time) under.course over in
       let whole =
@@ -157,13 +156,13 @@ module _ {S : Type 0} (took refused : S → Output → S → Type 0) (old : Cour
       record {
         course = under.course ∙ ap (course_after old) whole;
         stop_is = sym under.open_yet ∙ ap (λ (w : Walk BoardView). w.stop) whole;
-        sink_is = subst (λ (w : Walk BoardView). TookAll took sink w.outputs taker) whole under.sink_is;
+        sink_is = subst (λ (w : Walk BoardView). TookAll to.took sink w.outputs taker) whole under.sink_is;
       }
 
-  pub underway-over : (now new : CourseValue) (stop : Option Stop) (taker later : S) → IsUnderway took old sink now taker
-      → IsOver took now taker stop new later → IsOver took old sink stop new later
+  pub underway-over : (now new : CourseValue) (stop : Option Stop) (taker later : S) → IsUnderway to.took old sink now taker
+      → IsOver to.took now taker stop new later → IsOver to.took old sink stop new later
   underway-over now new stop taker later under over =
-      let told = subst (λ course. IsOver took course taker stop new later) under.course over in
+      let told = subst (λ course. IsOver to.took course taker stop new later) under.course over in
       let w = walked under.steps in
       let rest = way_on (there under.steps) in
       let whole = goes-on (next_in old) (end_of old) (timely old) first_now under.steps in
@@ -176,23 +175,13 @@ module _ {S : Type 0} (took refused : S → Output → S → Type 0) (old : Cour
             ∙ ap (course_after old) whole;
         stop_is = told.stop_is ∙ ap (λ (w : Walk BoardView). w.stop) whole;
         sink_is =
-            subst (λ (w : Walk BoardView). TookAll took sink w.outputs later) whole
-            (took-both took w.outputs rest.outputs sink taker later under.sink_is told.sink_is);
+            subst (λ (w : Walk BoardView). TookAll to.took sink w.outputs later) whole
+            (took-both to.took w.outputs rest.outputs sink taker later under.sink_is told.sink_is);
       }
 
-  -- something was refused, so it was given
-  pub gave-something : (course : CourseValue) (taken left : List Output) (taker later : S) → [] ≡ taken ++ left
-      → RefusesAt took refused taker taken left later → {A : Type 0} → A
-  gave-something course [] left taker later none refuses = let is = none ∙ refuses.left_is in absurd (cc)
-  gave-something course (output ∷ more) left taker later none refuses = absurd (cc)
-
-  prefix-after : (first second whole : List Output) → IsPrefix second whole → IsPrefix (first ++ second) (first ++ whole)
-  prefix-after first second whole is = (is.0, append_assoc first second is.0 ∙ ap (λ xs. first ++ xs) is.1)
-
-  pub underway-held-up : (now new : CourseValue) (taker later : S) → IsUnderway took old sink now taker
-      → IsCourseHeldUp took refused now taker new later → IsCourseHeldUp took refused old sink new later
+  pub underway-held-up : (now new : CourseValue) (taker later : S) → IsUnderway to.took old sink now taker
+      → IsCourseHeldUp to now taker new later → IsCourseHeldUp to old sink new later
   underway-held-up now new taker later under held_up =
-      let told = subst (λ course. IsCourseHeldUp took refused course taker new later) under.course held_up in
       let w = walked under.steps in
       let more = way_walked (there under.steps) told.steps in
       let whole = more-walked under.steps told.steps under.open_yet in
@@ -206,43 +195,38 @@ module _ {S : Type 0} (took refused : S → Output → S → Type 0) (old : Cour
             ∙ ap (λ (course : CourseValue). course_with_due course new.board.state.due)
             (after-twice old w more (omega (arith, steps)) (omega (arith, here, last)) ∙ ap (course_after old) whole);
         all_steps = omega (arith, steps, last);
-        taken = w.outputs ++ told.taken;
-        parts =
-            ap (λ (w : Walk BoardView). w.outputs) (sym whole) ∙ ap (λ xs. w.outputs ++ xs) told.parts
-            ∙ sym (append_assoc w.outputs told.taken (due_outputs new.board));
-        refuses =
-            refuses-after took refused w.outputs told.taken (due_outputs new.board) sink taker later under.sink_is told.refuses;
+        cut =
+            cut-along (ap (λ (w : Walk BoardView). w.outputs) (sym whole)) refl
+            (cut-after w.outputs sink taker later under.sink_is told.cut);
         of_last = λ before is. choose told.steps refl before is;
       }
     where
-      told : IsCourseHeldUp took refused (there under.steps) taker new later
-      told = subst (λ course. IsCourseHeldUp took refused course taker new later) under.course held_up
+      told : IsCourseHeldUp to (there under.steps) taker new later
+      told = subst (λ course. IsCourseHeldUp to course taker new later) under.course held_up
 
       choose : (more : ℕ) → told.steps ≡ more → (before : ℕ) → under.steps + told.steps ≡ suc before
-          → IsPrefix (walked before).outputs ((walked under.steps).outputs ++ told.taken)
-      choose zero none before is =
-          gave-something old told.taken (due_outputs new.board) taker later
-          (ap (λ n. (way_walked (there under.steps) n).outputs) (sym none) ∙ told.parts) told.refuses
+          → IsPrefix (walked before).outputs ((walked under.steps).outputs ++ told.cut.taken)
+      choose zero none before is = cut-something told.cut (ap (λ n. (way_walked (there under.steps) n).outputs) none)
       choose (suc last) count before is =
           let same : before ≡ under.steps + last = omega arith in
           let whole = more-walked under.steps last under.open_yet in
-          subst (λ xs. IsPrefix xs ((walked under.steps).outputs ++ told.taken))
+          subst (λ xs. IsPrefix xs ((walked under.steps).outputs ++ told.cut.taken))
           (ap (λ (w : Walk BoardView). w.outputs) whole ∙ ap (λ n. (walked n).outputs) (sym same))
-          (prefix-after (walked under.steps).outputs (way_walked (there under.steps) last).outputs told.taken (told.of_last last count))
+          (prefix-after (walked under.steps).outputs (way_walked (there under.steps) last).outputs told.cut.taken (told.of_last last count))
 
   -- ---- a frame, by its answer
 
-  pub underway-closed : (now new : CourseValue) (stop : Option Stop) (taker later : S) → IsUnderway took old sink now taker
-      → is_some stop ≡ true → IsFrameDone took now taker stop new later → IsOver took old sink stop new later
+  pub underway-closed : (now new : CourseValue) (stop : Option Stop) (taker later : S) → IsUnderway to.took old sink now taker
+      → is_some stop ≡ true → IsFrameDone to.took now taker stop new later → IsOver to.took old sink stop new later
   underway-closed now new None taker later under met played = cc
   underway-closed now new (Some stop) taker later under met played = underway-over now new (Some stop) taker later under played
 
-  pub underway-more : (now new : CourseValue) (stop : Option Stop) (taker later : S) → IsUnderway took old sink now taker
-      → is_some stop ≡ false → IsFrameDone took now taker stop new later → IsUnderway took old sink new later
+  pub underway-more : (now new : CourseValue) (stop : Option Stop) (taker later : S) → IsUnderway to.took old sink now taker
+      → is_some stop ≡ false → IsFrameDone to.took now taker stop new later → IsUnderway to.took old sink new later
   underway-more now new (Some stop) taker later under open_yet played = cc
   underway-more now new None taker later under open_yet played = underway-on now new taker later under played.played
 
   pub underway-later : (now new : CourseValue) (stop : Option Stop) (taker later : S) → is_some stop ≡ false
-      → IsFrameDone took now taker stop new later → now.board.state.now.time < new.board.state.now.time
+      → IsFrameDone to.took now taker stop new later → now.board.state.now.time < new.board.state.now.time
   underway-later now new (Some stop) taker later open_yet played = cc
   underway-later now new None taker later open_yet played = played.later_is

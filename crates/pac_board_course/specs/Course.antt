@@ -1,14 +1,16 @@
 -- To be believed: a course: a script that is played on a board, and what is left of its run.
-use Rattle.std.specs.Prelude.{◌≤◌, ℕ, ◌+◌, ◌-◌, ◌*◌, ◌/◌, min, List}
+use Rattle.std.specs.Prelude.{◌≤◌, ℕ, ◌+◌, ◌-◌, ◌*◌, ◌/◌, min, List, Option}
 use Rattle.pac_inputs.specs.Stretches.{total_frames, held}
 use Rattle.pac_inputs.specs.declared.line.Stretch.{Stretch}
 use Rattle.pac_board.specs.BoardView.{BoardView}
+use Rattle.pac_board.specs.Stop.{Stop}
 use Rattle.pac_board.specs.Step.{Moment, Next, frame_ticks}
 use Rattle.pac_board.specs.Trace.{by_view, play_step}
 use Rattle.pac_board.specs.Walk.{Walk, walk, walk_to}
 use Rattle.pac_board.specs.State.{BoardValue, board_with_inputs, with_more_asked, nothing_due, steps_counted, latest, most_asked}
 use Rattle.pac_board.specs.declared.due.Due.{Due}
 use Rattle.pac_board.specs.Calls.{with_due}
+use Rattle.pac_board_course.specs.declared.outcome.Outcome.{Outcome}
 
 -- a board, the script that is played on it, and the frames that had gone by before the script's first
 pub record CourseValue : Type 0 where
@@ -24,9 +26,12 @@ held_in course frame = held course.script (frame - course.gone)
 abbrev pub end_of : CourseValue → ℕ
 end_of course = frame_ticks * (course.gone + total_frames course.script)
 
--- what the next step of the run comes to, from a moment
+-- what the next step of the run comes to, from a moment, and from where the board is
 abbrev pub next_in : CourseValue → Moment BoardView → Next BoardView
 next_in course = play_step (by_view course.board.set) (held_in course)
+
+abbrev pub next_on : CourseValue → Next BoardView
+next_on course = next_in course course.board.state.now
 
 -- what is left of the run: the walk from where the board is to the last frame's blank, or to a stop; and that walk after so many tries
 abbrev pub way_on : CourseValue → Walk BoardView
@@ -61,6 +66,12 @@ begun board script = record {
 -- the run ends while the board still makes steps
 abbrev pub FitsTime : BoardValue → List Stretch → Type 0
 FitsTime board script = frame_ticks * (board.state.now.time / frame_ticks + total_frames script) ≤ latest
+
+-- ---- what a run came to
+
+-- a run that ended at this moment, with this stop, if it met one
+abbrev pub outcome_at : Moment BoardView → Option Stop → Outcome
+outcome_at now stop = record { frames = now.time / frame_ticks; steps = now.steps; ticks = now.time; stop = stop }
 
 -- ---- microseconds asked
 

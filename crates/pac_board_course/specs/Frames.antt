@@ -3,7 +3,7 @@ use Rattle.std.specs.Prelude.{◌≡◌, ◌<◌, ◌≤◌, ℕ, suc, ◌+◌, 
 use Rattle.pac_board.specs.Stop.{Stop}
 use Rattle.pac_board.specs.Output.{Output}
 use Rattle.pac_board.specs.Step.{frame_ticks}
-use Rattle.pac_board.specs.Sinks.{TookAll}
+use Rattle.pac_board.specs.Sinks.{Giving, TookAll}
 use Rattle.pac_board.specs.State.{latest}
 use Rattle.pac_inputs.specs.Stretches.{total_frames, most_frames}
 use Rattle.pac_board_course.specs.Course.{CourseValue, FitsAsked, end_of, way_walked, course_after}
@@ -38,7 +38,6 @@ abbrev pub IsFrameDone : {S : Type 0} → (S → Output → S → Type 0) → Co
 IsFrameDone took old sink None new later = IsFramePlayed took old sink new later
 IsFrameDone took old sink (Some stop) new later = IsOver took old sink (Some stop) new later
 
-abbrev pub PlaysFrameOn : {S E : Type 0} → (S → Output → S → Type 0) → (S → Output → S → Type 0)
-    → CourseValue → S → Result (Option Stop) E → CourseValue → S → Type 0
-PlaysFrameOn took refused old sink (Ok stop) new later = IsFrameDone took old sink stop new later
-PlaysFrameOn took refused old sink (Err refusal) new later = IsCourseHeldUp took refused old sink new later
+abbrev pub PlaysFrameOn : {S E : Type 0} → Giving S → CourseValue → S → Result (Option Stop) E → CourseValue → S → Type 0
+PlaysFrameOn to old sink (Ok stop) new later = IsFrameDone to.took old sink stop new later
+PlaysFrameOn to old sink (Err refusal) new later = IsCourseHeldUp to old sink new later

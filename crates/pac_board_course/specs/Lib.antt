@@ -2,20 +2,35 @@ pub mod Course
 pub mod Plays
 pub mod Frames
 pub mod Laws
+pub use Rattle.pac_inputs.specs.Codes as ScriptCodes
+pub use Rattle.pac_inputs.specs.Script
 pub use Rattle.pac_inputs.specs.Stretches
+pub use Rattle.pac_inputs.specs.declared.fault.ScriptFault
+pub use Rattle.pac_inputs.specs.declared.line.Stretch
 pub use Rattle.pac_board.specs.BoardView
+pub use Rattle.pac_board.specs.Calls
 pub use Rattle.pac_board.specs.Carried
 pub use Rattle.pac_board.specs.Cause
 pub use Rattle.pac_board.specs.CauseVariants
 pub use Rattle.pac_board.specs.Entry
 pub use Rattle.pac_board.specs.History
+pub use Rattle.pac_board.specs.Instructions
 pub use Rattle.pac_board.specs.ModelLaws
+pub use Rattle.pac_board.specs.Once
+pub use Rattle.pac_board.specs.OnceVariants
 pub use Rattle.pac_board.specs.Output
+pub use Rattle.pac_board.specs.Regs
+pub use Rattle.pac_board.specs.Resumed
 pub use Rattle.pac_board.specs.RomParts
 pub use Rattle.pac_board.specs.Shown
 pub use Rattle.pac_board.specs.Sinks
 pub use Rattle.pac_board.specs.State
 pub use Rattle.pac_board.specs.Step
+pub use Rattle.pac_board.specs.StepKind
 pub use Rattle.pac_board.specs.Stop
 pub use Rattle.pac_board.specs.Trace
 pub use Rattle.pac_board.specs.Walk
+pub use Rattle.pac_board.specs.declared.due.Due
+pub use Rattle.pac_board.specs.declared.fault.Idle
+pub use Rattle.pac_board.specs.declared.fault.Idle.TheVariants as IdleVariants
+pub use Rattle.pac_board.specs.declared.sink.Refused

@@ -1,20 +1,40 @@
 -- To be believed: what playing a course leaves of it and of the sink.
-use Rattle.std.specs.Prelude.{◌≡◌, ℕ, suc, ◌+◌, List, ◌++◌, Option, Result, Ok, Err}
+use Rattle.std.specs.Prelude.{◌≡◌, ◌≢◌, ◌<◌, ◌≤◌, ℕ, suc, ◌+◌, [], Option, Result, Ok, Err}
 use mathlib.Core.List.{IsPrefix}
 use Rattle.pac_board.specs.Stop.{Stop}
 use Rattle.pac_board.specs.Output.{Output}
-use Rattle.pac_board.specs.Calls.{Offers}
-use Rattle.pac_board.specs.Sinks.{TookAll, RefusesAt}
+use Rattle.pac_board.specs.Calls.{Offers, board_after_step, once_at, outputs_in}
+use Rattle.pac_board.specs.Once.{Once}
+use Rattle.pac_board.specs.declared.fault.Idle.{Idle}
+use Rattle.pac_board.specs.declared.fault.Idle.TheVariants.{OutputsDue, TimeIsOver}
+use Rattle.pac_board.specs.Sinks.{Giving, TookAll, Cut}
 use Rattle.pac_board.specs.State.{due_outputs}
-use Rattle.pac_board_course.specs.Course.{CourseValue, way_on, way_walked, course_after, course_with_due}
+use Rattle.pac_board_course.specs.Course.{CourseValue, end_of, next_on, way_on, way_walked, course_after, course_with_due}
 
 -- ---- what is due
 
 -- the board's offer; nothing else changes
-abbrev pub CourseOffers : {S A E : Type 0} → (S → Output → S → Type 0) → (S → Output → S → Type 0)
-    → CourseValue → S → Result A E → CourseValue → S → Type 0
-CourseOffers took refused old sink result new later =
-    (new ≡ record old { board = new.board }) × Offers took refused old.board sink result new.board later
+abbrev pub CourseOffers : {S A E : Type 0} → Giving S → CourseValue → S → Result A E → CourseValue → S → Type 0
+CourseOffers to old sink result new later = (new ≡ record old { board = new.board }) × Offers to old.board sink result new.board later
+
+-- ---- one step
+
+-- the next step of the run was done, and the next frame's inputs are held where it ended a frame; what it gave is due
+pub record IsCourseAdvanced (old : CourseValue) (once : Once) (new : CourseValue) : Type 0 where
+  pub early : old.board.state.now.time < end_of old
+  pub nothing : due_outputs old.board ≡ []
+  pub course : new ≡ record old { board = board_after_step (next_on old) old.board new.board.state.due }
+  pub outputs : due_outputs new.board ≡ outputs_in (next_on old)
+  pub once_is : once ≡ once_at (next_on old) old.board.state.now.time
+
+-- why no step was done: the run is over, or outputs of the last step are due
+abbrev pub CourseWasIdle : CourseValue → Idle → Type 0
+CourseWasIdle old OutputsDue = (old.board.state.now.time < end_of old) × (due_outputs old.board ≢ [])
+CourseWasIdle old TimeIsOver = end_of old ≤ old.board.state.now.time
+
+abbrev pub CourseAdvances : CourseValue → Result Once Idle → CourseValue → Type 0
+CourseAdvances old (Ok once) new = IsCourseAdvanced old once new
+CourseAdvances old (Err why) new = (new ≡ old) × CourseWasIdle old why
 
 -- ---- to the end
 
@@ -28,18 +48,13 @@ pub record IsOver {S : Type 0} (took : S → Output → S → Type 0) (old : Cou
 
 -- The sink refused an output: the course stands after the step that gave it, and that output and what the step gave after it are due.
 -- All that was given before was taken.
-pub record IsCourseHeldUp {S : Type 0} (took refused : S → Output → S → Type 0) (old : CourseValue) (sink : S) (new : CourseValue)
-    (later : S)
-    : Type 0 where
+pub record IsCourseHeldUp {S : Type 0} (to : Giving S) (old : CourseValue) (sink : S) (new : CourseValue) (later : S) : Type 0 where
   pub steps : ℕ
   pub course : new ≡ course_with_due (course_after old (way_walked old steps)) new.board.state.due
   pub all_steps : new.board.state.now.steps ≡ old.board.state.now.steps + steps
-  pub taken : List Output
-  pub parts : (way_walked old steps).outputs ≡ taken ++ due_outputs new.board
-  pub refuses : RefusesAt took refused sink taken (due_outputs new.board) later
-  pub of_last : (before : ℕ) → steps ≡ suc before → IsPrefix (way_walked old before).outputs taken
+  pub cut : Cut to sink (way_walked old steps).outputs (due_outputs new.board) later
+  pub of_last : (before : ℕ) → steps ≡ suc before → IsPrefix (way_walked old before).outputs cut.taken
 
-abbrev pub RunsToEnd : {S E : Type 0} → (S → Output → S → Type 0) → (S → Output → S → Type 0)
-    → CourseValue → S → Result (Option Stop) E → CourseValue → S → Type 0
-RunsToEnd took refused old sink (Ok stop) new later = IsOver took old sink stop new later
-RunsToEnd took refused old sink (Err refusal) new later = IsCourseHeldUp took refused old sink new later
+abbrev pub RunsToEnd : {S E : Type 0} → Giving S → CourseValue → S → Result (Option Stop) E → CourseValue → S → Type 0
+RunsToEnd to old sink (Ok stop) new later = IsOver to.took old sink stop new later
+RunsToEnd to old sink (Err refusal) new later = IsCourseHeldUp to old sink new later

@@ -2,14 +2,15 @@
 
 ghost use Rattle.std.specs.Prelude.{◌≡◌, ◌<◌, ◌≤◌, ◌+◌, ◌*◌};
 ghost use Rattle.pac_board.specs.Inputs.{mask};
+ghost use Rattle.pac_board.specs.Sinks.{by};
 ghost use Rattle.pac_board.specs.State as state;
 ghost use Rattle.pac_board.specs.Step.{frame_ticks};
 ghost use Rattle.pac_inputs.specs.Stretches.{most_frames, total_frames};
 ghost use Rattle.pac_board_course.specs.Course.{FitsTime, FitsAsked, begun, board_asked, end_of, frames_begun};
 ghost use Rattle.pac_board_course.specs.Frames.{PlaysFrameOn};
-ghost use Rattle.pac_board_course.specs.Plays.{CourseOffers, RunsToEnd};
+ghost use Rattle.pac_board_course.specs.Plays.{CourseAdvances, CourseOffers, RunsToEnd};
 
-use pac_board::{Board, FRAME_TICKS, Flags, Inputs, Refused, Sink, Stop};
+use pac_board::{Board, FRAME_TICKS, Flags, Idle, Inputs, Once, Refused, Sink, Stop};
 use pac_inputs::Script;
 use std::marker::Model;
 
@@ -34,7 +35,7 @@ impl Model for Course {
 }
 
 /// The microseconds of a frame: 16,500 of them are its 50,688 T-states.
-const FRAME_MICROSECONDS: u64 = 16_500;
+pub const FRAME_MICROSECONDS: u64 = 16_500;
 
 /// Holds these inputs, and no others.
 pub fn hold(board: &mut Board, inputs: Inputs)
@@ -42,6 +43,28 @@ pub fn hold(board: &mut Board, inputs: Inputs)
 {
     board.input_clear(Inputs::from_bits_retain(0xFFFF));
     board.input_set(inputs);
+}
+
+/// Does the next step of a script's run on a board, whose outputs are due then; so many frames had gone by before the script's first one.
+/// After a blank the next frame's inputs are held. Where the run is over, or outputs are due already, it does nothing.
+#[inline]
+pub fn play_step(board: &mut Board, script: &Script, gone: u64) -> Result<Once, Idle>
+    requires time { frame_ticks * (gone + total_frames script.now) ≤ state.latest }
+    requires short { total_frames script.now ≤ most_frames }
+    ensures { CourseAdvances
+        (record { board = board.old; script = script.now; gone = gone }) result
+        (record { board = board.new; script = script.now; gone = gone }) }
+{
+    let frame = board.time() / FRAME_TICKS;
+    if board.time() >= FRAME_TICKS * (gone + u64::from(script.frames())) {
+        return Err(Idle::TimeIsOver);
+    }
+    let once = board.advance()?;
+    let next = board.time() / FRAME_TICKS;
+    if next != frame {
+        hold(board, script.held((next + 1).saturating_sub(gone) as u32));
+    }
+    Ok(once)
 }
 
 impl Course {
@@ -99,9 +122,18 @@ impl Course {
 
     /// Offers what is due to a sink, the sample before the picture. What it refuses stays due, with what comes after it.
     pub fn offer<S: Sink>(&mut self, sink: &mut S) -> Result<(), Refused>
-        ensures { CourseOffers S.took S.refused self.old sink.old result self.new sink.new }
+        ensures { CourseOffers (by S.took S.refused) self.old sink.old result self.new sink.new }
     {
         self.board.offer(sink)
+    }
+
+    /// Does the next step of the run, whose outputs are due then; after a blank the next frame's inputs are held. Where the run is over,
+    /// or outputs are due already, it does nothing.
+    #[inline]
+    pub fn advance(&mut self) -> Result<Once, Idle>
+        ensures { CourseAdvances self.old result self.new }
+    {
+        play_step(&mut self.board, &self.script, self.gone)
     }
 
     /// The frames of the script that have begun, the one under way too.
@@ -131,7 +163,7 @@ impl Course {
     fn play_frame<S: Sink>(&mut self, sink: &mut S) -> Result<Option<Stop>, Refused>
         requires nothing { self.old.board.state.due ≡ state.nothing_due }
         requires early { self.old.board.state.now.time < end_of self.old }
-        ensures { PlaysFrameOn S.took S.refused self.old sink.old result self.new sink.new }
+        ensures { PlaysFrameOn (by S.took S.refused) self.old sink.old result self.new sink.new }
     {
         let frame = self.board.time() / FRAME_TICKS + 1;
         let played = self.board.go_to(FRAME_TICKS * frame, sink);
@@ -145,7 +177,7 @@ impl Course {
     /// Plays what is left of the run, to its end or to a stop, or to a refusal of the sink, after which it can be taken up again.
     pub fn run_to_end<S: Sink>(&mut self, sink: &mut S) -> Result<Option<Stop>, Refused>
         requires nothing { self.old.board.state.due ≡ state.nothing_due }
-        ensures { RunsToEnd S.took S.refused self.old sink.old result self.new sink.new }
+        ensures { RunsToEnd (by S.took S.refused) self.old sink.old result self.new sink.new }
     {
         // (its bound, that of a u64, says that a count of no step is the count itself)
         self.board.made();

@@ -3,9 +3,13 @@
 
 mod course;
 mod laws;
+mod outcome;
 
-pub use course::{Course, hold};
+pub use course::{Course, FRAME_MICROSECONDS, hold, play_step};
 pub use laws::{courses_are_resumed, courses_begin, courses_go_on};
+pub use outcome::Outcome;
 pub use pac_board::{
-    Board, Cause, FRAME_SAMPLES, FRAME_TICKS, Picture, Refused, RomSet, Sink, Stop,
+    Board, Cause, FRAME_SAMPLES, FRAME_TICKS, Idle, LATEST, MOST_ASKED, Once, Picture, Refused,
+    RomSet, SAMPLE_TICKS, Sink, Snapshot, StepKind, Stop,
 };
+pub use pac_inputs::{Script, ScriptError, ScriptFault, read_script};

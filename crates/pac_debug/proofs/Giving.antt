@@ -1,11 +1,11 @@
 -- What lines give to a sink, whatever they ask: what was due, and what the run gives from one furthest index to the next.
-use Rattle.std.proofs.Common.{◌≡◌, ℕ, ◌≤◌, Bool, true, false, Option, None, Some, Result, Ok, Err, max, List, [], ◌∷◌, ◌++◌, ◌⊎◌}
+use Rattle.std.proofs.Common.{◌≡◌, ℕ, ◌+◌, ◌≤◌, Bool, true, false, Option, None, Some, Result, Ok, Err, max, List, [], ◌∷◌, ◌++◌, ◌⊎◌}
 use Rattle.std.proofs.Common.{refl, sym, ap, subst, ◌∙◌, append_assoc, append-nil, arith}
 use mathlib.Core.Logic.{inl, inr}
 use Rattle.pac_board.specs.Output.{Output}
-use Rattle.pac_board.specs.Sinks.{TookAll}
+use Rattle.pac_board.specs.Sinks.{Giving, TookAll, Cut}
 use Rattle.pac_board.specs.State.{nothing_due, due_outputs_in}
-use Rattle.pac_board.proofs.Sinks.{took-both, refuses-after}
+use Rattle.pac_board.proofs.Sinks.{took-both, cut-along, cut-after}
 use Rattle.pac_debug_text.specs.declared.command.Command.{Command}
 use Rattle.pac_debug_text.specs.declared.command.Command.TheVariants as commands
 use Rattle.pac_debug_text.specs.declared.command.NoCommand.{NoCommand}
@@ -16,7 +16,7 @@ use Rattle.pac_debug_text.specs.Slots.{slot_index}
 use Rattle.pac_debug_session.specs.declared.motion.Motion.{Motion}
 use Rattle.pac_debug_session.specs.Motions.{IsFinishRefused}
 use Rattle.pac_debug_session.specs.Running.{Setting, now_at, outputs_between, outputs_from}
-use Rattle.pac_debug_session.specs.Session.{SessionValue, IsSessionOfferRefused, session_due_outputs, has_breakpoint}
+use Rattle.pac_debug_session.specs.Session.{SessionValue, IsSessionOfferRefused, session_at_command, session_due_outputs, has_breakpoint}
 use Rattle.pac_debug_session.proofs.Forwards.{between-joined, between-self, joined-to-end}
 use Rattle.pac_debug.specs.declared.answer.Answer.{Answer}
 use Rattle.pac_debug.specs.declared.answer.Answer.TheVariants as answers
@@ -25,7 +25,7 @@ use Rattle.pac_debug.specs.declared.line.CommandFault.TheVariants as faults
 use Rattle.pac_debug.specs.Obeying.{AnswersBack, AnswersReturn, SetsBreakpoint, Stays, IsCommandPerformed, IsCommandObeyed, IsCommandDone}
 use Rattle.pac_debug.specs.Obeying.{IsCommandRefused, session_without_due, kept_at}
 use Rattle.pac_debug.specs.Obeying.{Scene, Asks, ObeysLines, motion_of}
-use Rattle.pac_debug.specs.Watched.{HasGivenOutputs, GaveAll, GaveSome, LinesGive, outputs_to_give}
+use Rattle.pac_debug.specs.Watched.{IsFurther, GaveAll, GaveSome, LinesGive, outputs_until, outputs_to_give}
 
 -- ---- commands that don't move on
 
@@ -129,148 +129,125 @@ module _ {S : Type 0} (took : S → Output → S → Type 0) where
       → IsCommandDone took old asked sink answer new later → GaveAll took old sink new later
   did-given old asked sink answer new later did =
       let done = obeyed (session_without_due old) asked did.between answer new later refl did.obeyed in
-      let given = outputs_between old.setting old.furthest new.furthest in
-      let taken = session_due_outputs old ++ given in
+      let given = outputs_until old new in
       record {
-        taken = taken;
-        given = record {
-          setting = done.setting;
-          further = done.further;
-          parts = sym (ap (λ xs. taken ++ xs) (nothing-given new done.due) ∙ append-nil taken);
-        };
-        sink_is = took-both took (session_due_outputs old) given sink did.between later did.offered done.sink_is;
+        further = record { setting = done.setting; furthest = done.further };
+        taken = given;
+        parts = sym (ap (λ xs. given ++ xs) (nothing-given new done.due) ∙ append-nil given);
+        sink_is =
+            took-both took (session_due_outputs old) (outputs_between old.setting old.furthest new.furthest) sink did.between later
+            did.offered done.sink_is;
       }
 
-  -- ---- a refusal
+-- ---- a refusal
 
-  module _ (refused : S → Output → S → Type 0) where
-    offer-refused : (old : SessionValue) (sink : S) (new : SessionValue) (later : S) → IsSessionOfferRefused took refused old sink new later
-        → GaveSome took refused old sink new later
-    offer-refused old sink new later refusal =
-        let is = refusal.session in
-        let far : new.furthest ≡ old.furthest = ap (λ (s : SessionValue). s.furthest) is in
-        record {
-          taken = refusal.taken;
-          given = record {
-            setting = ap (λ (s : SessionValue). s.setting) is;
-            further = omega (arith, far);
-            parts =
-                ap (λ xs. session_due_outputs old ++ xs) (none-between old.setting old.furthest new.furthest far)
-                ∙ append-nil (session_due_outputs old) ∙ refusal.parts;
-          };
-          refuses = refusal.refuses;
-        }
+module _ {S : Type 0} (to : Giving S) where
+  offer-refused : (old : SessionValue) (sink : S) (new : SessionValue) (later : S)
+      → IsSessionOfferRefused to (session_at_command old) sink new later → GaveSome to old sink new later
+  offer-refused old sink new later refusal =
+      let is = refusal.session in
+      let far : new.furthest ≡ old.furthest = ap (λ (s : SessionValue). s.furthest) is in
+      let due = session_due_outputs old in
+      record {
+        further = record { setting = ap (λ (s : SessionValue). s.setting) is; furthest = omega (arith, far) };
+        cut =
+            cut-along (ap (λ xs. due ++ xs) (none-between old.setting old.furthest new.furthest far) ∙ append-nil due) refl refusal.cut;
+      }
 
-    refused-given : (old : SessionValue) (asked : Result Command NoCommand) (sink : S) (new : SessionValue) (later : S)
-        → IsCommandRefused took refused old asked sink new later → GaveSome took refused old sink new later
-    refused-given old asked sink new later (inl refusal) = offer-refused old sink new later refusal
-    refused-given old asked sink new later (inr refusal) =
-        let gone = refusal.held_up.held_up in
-        let is = gone.session in
-        let due = session_due_outputs old in
-        let most : new.furthest ≡ max old.furthest new.index = ap (λ (s : SessionValue). s.furthest) is in
-        let far : new.furthest ≡ new.index = omega (arith, most, gone.index, gone.fresh) in
-        record {
-          taken = due ++ gone.taken;
-          given = record {
-            setting = ap (λ (s : SessionValue). s.setting) is;
-            further = omega (arith, most);
-            parts =
-                ap (λ n. due ++ outputs_between old.setting old.furthest n) far ∙ ap (λ xs. due ++ xs) gone.parts
-                ∙ sym (append_assoc due gone.taken (session_due_outputs new));
-          };
-          refuses = refuses-after took refused due gone.taken (session_due_outputs new) sink refusal.between later refusal.offered
-              gone.refuses;
-        }
+  -- after a step that was refused the session is at its furthest index
+  step-given : (old : SessionValue) (sink : S) (new : SessionValue) (later : S) (last : ℕ) → new.setting ≡ old.setting
+      → new.furthest ≡ max old.furthest new.index → new.index ≡ last + 1 → old.furthest ≤ last
+      → Cut to sink (session_due_outputs old ++ outputs_between old.setting old.furthest new.index) (session_due_outputs new) later
+      → GaveSome to old sink new later
+  step-given old sink new later last same most index fresh cut =
+      let far : new.furthest ≡ new.index = omega arith in
+      record {
+        further = record { setting = same; furthest = omega arith };
+        cut = cut-along (ap (λ n. session_due_outputs old ++ outputs_between old.setting old.furthest n) far) refl cut;
+      }
 
-    pub finish-given : (old : SessionValue) (sink : S) (new : SessionValue) (later : S)
-        → IsSessionOfferRefused took refused old sink new later ⊎ IsFinishRefused took refused old sink new later
-        → GaveSome took refused old sink new later
-    finish-given old sink new later (inl gone) = offer-refused old sink new later gone
-    finish-given old sink new later (inr gone) =
-        let is = gone.session in
-        let due = session_due_outputs old in
-        let most : new.furthest ≡ max old.furthest new.index = ap (λ (s : SessionValue). s.furthest) is in
-        let far : new.furthest ≡ new.index = omega (arith, most, gone.index, gone.fresh) in
-        record {
-          taken = gone.taken;
-          given = record {
-            setting = ap (λ (s : SessionValue). s.setting) is;
-            further = omega (arith, most);
-            parts = ap (λ n. due ++ outputs_between old.setting old.furthest n) far ∙ gone.parts;
-          };
-          refuses = gone.refuses;
-        }
+  refused-given : (old : SessionValue) (asked : Result Command NoCommand) (sink : S) (new : SessionValue) (later : S)
+      → IsCommandRefused to old asked sink new later → GaveSome to old sink new later
+  refused-given old asked sink new later (inl refusal) = offer-refused old sink new later refusal
+  refused-given old asked sink new later (inr refusal) =
+      let gone = refusal.held_up.held_up in
+      step-given old sink new later gone.last (ap (λ (s : SessionValue). s.setting) gone.session)
+      (ap (λ (s : SessionValue). s.furthest) gone.session) gone.index gone.fresh
+      (cut-after (session_due_outputs old) sink refusal.between later refusal.offered gone.cut)
+
+  pub finish-given : (old : SessionValue) (sink : S) (new : SessionValue) (later : S)
+      → IsSessionOfferRefused to (session_at_command old) sink new later ⊎ IsFinishRefused to old sink new later
+      → GaveSome to old sink new later
+  finish-given old sink new later (inl gone) = offer-refused old sink new later gone
+  finish-given old sink new later (inr gone) =
+      step-given old sink new later gone.last (ap (λ (s : SessionValue). s.setting) gone.session)
+      (ap (λ (s : SessionValue). s.furthest) gone.session) gone.index gone.fresh gone.cut
 
 -- ---- one after another
 
-given-joined : (old mid new : SessionValue) (one other : List Output) → HasGivenOutputs old one mid → HasGivenOutputs mid other new
-    → HasGivenOutputs old (one ++ other) new
-given-joined old mid new one other first second =
+further-on : (old mid new : SessionValue) → IsFurther old mid → IsFurther mid new → IsFurther old new
+further-on old mid new first second =
+    record { setting = second.setting ∙ first.setting; furthest = omega (arith, first.furthest, second.furthest) }
+
+-- what was given up to one moment, and what was to be given from there on
+given-on : (old mid new : SessionValue) (one : List Output) → IsFurther old mid → IsFurther mid new
+    → outputs_until old mid ≡ one ++ session_due_outputs mid → outputs_until old new ≡ one ++ outputs_until mid new
+given-on old mid new one first second parts =
     let setting = old.setting in
     let due = session_due_outputs old in
     let due_then = session_due_outputs mid in
-    let due_now = session_due_outputs new in
     let given = outputs_between setting old.furthest mid.furthest in
     let later = outputs_between setting mid.furthest new.furthest in
-    let parts : due_then ++ later ≡ other ++ due_now
-    = subst (λ (run : Setting). due_then ++ outputs_between run mid.furthest new.furthest ≡ other ++ due_now) first.setting second.parts in
-    record {
-      setting = second.setting ∙ first.setting;
-      further = omega (arith, first.further, second.further);
-      parts =
-          ap (λ xs. due ++ xs)
-          (sym (between-joined setting old.furthest mid.furthest new.furthest first.further second.further))
-          ∙ sym (append_assoc due given later) ∙ ap (λ xs. xs ++ later) first.parts ∙ append_assoc one due_then later
-          ∙ ap (λ xs. one ++ xs) parts ∙ sym (append_assoc one other due_now);
-    }
+    ap (λ xs. due ++ xs) (sym (between-joined setting old.furthest mid.furthest new.furthest first.furthest second.furthest))
+    ∙ sym (append_assoc due given later) ∙ ap (λ xs. xs ++ later) parts ∙ append_assoc one due_then later
+    ∙ ap (λ (run : Setting). one ++ (due_then ++ outputs_between run mid.furthest new.furthest)) (sym first.setting)
 
 -- what was taken, what is due, and what the run gives from there on, is all that was still to be given
-pub all-to-give : (old new : SessionValue) (taken : List Output) → HasGivenOutputs old taken new
+pub all-to-give : (old new : SessionValue) (taken : List Output) → IsFurther old new
+    → outputs_until old new ≡ taken ++ session_due_outputs new
     → (taken ++ session_due_outputs new) ++ outputs_from new.setting new.furthest ≡ outputs_to_give old
-all-to-give old new taken gave =
+all-to-give old new taken further parts =
     let setting = old.setting in
     let given = outputs_between setting old.furthest new.furthest in
     let rest = outputs_from setting new.furthest in
-    ap (λ (run : Setting). (taken ++ session_due_outputs new) ++ outputs_from run new.furthest) gave.setting
-    ∙ ap (λ xs. xs ++ rest) (sym gave.parts) ∙ append_assoc (session_due_outputs old) given rest
-    ∙ ap (λ xs. session_due_outputs old ++ xs) (joined-to-end setting old.furthest new.furthest gave.further)
+    ap (λ (run : Setting). (taken ++ session_due_outputs new) ++ outputs_from run new.furthest) further.setting
+    ∙ ap (λ xs. xs ++ rest) (sym parts) ∙ append_assoc (session_due_outputs old) given rest
+    ∙ ap (λ xs. session_due_outputs old ++ xs) (joined-to-end setting old.furthest new.furthest further.furthest)
 
-module _ {S : Type 0} (took refused : S → Output → S → Type 0) where
-  none-given : (s : SessionValue) (sink : S) → GaveAll took s sink s sink
+module _ {S : Type 0} (to : Giving S) where
+  none-given : (s : SessionValue) (sink : S) → GaveAll to.took s sink s sink
   none-given s sink =
       record {
+        further = record { setting = refl; furthest = omega arith };
         taken = [];
-        given = record {
-          setting = refl;
-          further = omega arith;
-          parts = ap (λ xs. session_due_outputs s ++ xs) (between-self s.setting s.furthest) ∙ append-nil (session_due_outputs s);
-        };
+        parts = ap (λ xs. session_due_outputs s ++ xs) (between-self s.setting s.furthest) ∙ append-nil (session_due_outputs s);
         sink_is = refl;
       }
 
-  pub some-after : (old mid new : SessionValue) (sink between later : S) → GaveAll took old sink mid between
-      → GaveSome took refused mid between new later → GaveSome took refused old sink new later
+  pub some-after : (old mid new : SessionValue) (sink between later : S) → GaveAll to.took old sink mid between
+      → GaveSome to mid between new later → GaveSome to old sink new later
   some-after old mid new sink between later first second =
       record {
-        taken = first.taken ++ second.taken;
-        given = given-joined old mid new first.taken second.taken first.given second.given;
-        refuses =
-            refuses-after took refused first.taken second.taken (session_due_outputs new) sink between later first.sink_is second.refuses;
+        further = further-on old mid new first.further second.further;
+        cut =
+            cut-along (given-on old mid new first.taken first.further second.further first.parts) refl
+            (cut-after first.taken sink between later first.sink_is second.cut);
       }
 
-  all-after : (old mid new : SessionValue) (sink between later : S) → GaveAll took old sink mid between
-      → GaveAll took mid between new later → GaveAll took old sink new later
+  all-after : (old mid new : SessionValue) (sink between later : S) → GaveAll to.took old sink mid between
+      → GaveAll to.took mid between new later → GaveAll to.took old sink new later
   all-after old mid new sink between later first second =
       record {
+        further = further-on old mid new first.further second.further;
         taken = first.taken ++ second.taken;
-        given = given-joined old mid new first.taken second.taken first.given second.given;
-        sink_is = took-both took first.taken second.taken sink between later first.sink_is second.sink_is;
+        parts =
+            given-on old mid new first.taken first.further second.further first.parts ∙ ap (λ xs. first.taken ++ xs) second.parts
+            ∙ sym (append_assoc first.taken second.taken (session_due_outputs new));
+        sink_is = took-both to.took first.taken second.taken sink between later first.sink_is second.sink_is;
       }
 
   gave-after : {A : Type 0} (result : Result A CommandFault) (old mid new : SessionValue) (sink between later : S)
-      → GaveAll took old sink mid between → LinesGive took refused mid between result new later →
-      LinesGive took refused old sink result new later
+      → GaveAll to.took old sink mid between → LinesGive to mid between result new later → LinesGive to old sink result new later
   gave-after (Ok done) old mid new sink between later first second = all-after old mid new sink between later first second
   gave-after (Err faults.Refused) old mid new sink between later first second = some-after old mid new sink between later first second
   gave-after (Err (faults.Text fault)) old mid new sink between later first second = all-after old mid new sink between later first second
@@ -279,23 +256,23 @@ module _ {S : Type 0} (took refused : S → Output → S → Type 0) where
 
   module _ {W : Type 0} (wrote : W → List ℕ → W → Type 0) (balked : W → W → Type 0) where
     line-given : {A : Type 0} (found : Option (Result Command NoCommand)) (result : Result A CommandFault) (old new : Scene S W)
-        → Asks took refused wrote balked found old result new → LinesGive took refused old.session old.sink result new.session new.sink
+        → Asks to wrote balked found old result new → LinesGive to old.session old.sink result new.session new.sink
     line-given None (Ok done) old new skipped =
-        subst (λ (s : SessionValue). GaveAll took old.session old.sink s new.sink) (sym skipped.0)
-        (subst (λ (sink : S). GaveAll took old.session old.sink old.session sink) (sym skipped.1) (none-given old.session old.sink))
+        subst (λ (s : SessionValue). GaveAll to.took old.session old.sink s new.sink) (sym skipped.0)
+        (subst (λ (sink : S). GaveAll to.took old.session old.sink old.session sink) (sym skipped.1) (none-given old.session old.sink))
     line-given None (Err fault) old new skipped = absurd skipped
     line-given (Some asked) (Ok done) old new told =
-        did-given took old.session asked old.sink told.answer new.session new.sink told.did
+        did-given to.took old.session asked old.sink told.answer new.session new.sink told.did
     line-given (Some asked) (Err faults.Refused) old new told =
-        refused-given took refused old.session asked old.sink new.session new.sink told.0
+        refused-given to old.session asked old.sink new.session new.sink told.0
     line-given (Some asked) (Err (faults.Text fault)) old new told =
-        did-given took old.session asked old.sink told.answer new.session new.sink told.did
+        did-given to.took old.session asked old.sink told.answer new.session new.sink told.did
 
     pub lines-given : (lines : List (List ℕ)) (result : Result (Unit {0}) CommandFault) (old new : Scene S W)
-        → ObeysLines took refused wrote balked lines old result new
-        → LinesGive took refused old.session old.sink result new.session new.sink
+        → ObeysLines to wrote balked lines old result new
+        → LinesGive to old.session old.sink result new.session new.sink
     lines-given [] (Ok done) old new same =
-        subst (λ (scene : Scene S W). GaveAll took old.session old.sink scene.session scene.sink) (sym same)
+        subst (λ (scene : Scene S W). GaveAll to.took old.session old.sink scene.session scene.sink) (sym same)
         (none-given old.session old.sink)
     lines-given [] (Err fault) old new obeyed = absurd obeyed
     lines-given (line ∷ more) (Ok done) old new obeyed =

@@ -4,6 +4,7 @@ use Rattle.std.proofs.Common.{append-nil, length, ◌⊎◌, refl, sym, ap, subs
 use Rattle.std.proofs.lemmas.Bool.Decides.{nat_tests}
 use mathlib.Core.Logic.{inl, inr}
 use Rattle.pac_board.specs.Output.{Output}
+use Rattle.pac_board.specs.Sinks.{Giving}
 use Rattle.pac_board.proofs.Walks.{not-both}
 use Rattle.pac_board.specs.State.{nothing_due}
 use Rattle.pac_out.specs.declared.WriteFault.{WriteFault}
@@ -13,12 +14,12 @@ use Rattle.pac_debug_text.specs.Commands.{command_of}
 use Rattle.pac_debug_session.specs.declared.motion.Motion.{Motion}
 use Rattle.pac_debug_session.specs.Motions.{IsTravelRefused, IsFinishRefused}
 use Rattle.pac_debug_session.specs.Running.{Setting, run, whole_run, outputs_between, outputs_from}
-use Rattle.pac_debug_session.specs.Session.{SessionValue, IsSessionOfferRefused, session_at_start, session_due_outputs}
+use Rattle.pac_debug_session.specs.Session.{SessionValue, IsSessionOfferRefused, session_at_start, session_at_command, session_due_outputs}
 use Rattle.pac_debug_session.proofs.Forwards.{between-joined, joined-to-end}
 use Rattle.pac_debug.specs.declared.answer.Answer.TheVariants as answers
 use Rattle.pac_debug.specs.Answers.{ending_of, answer_text}
 use Rattle.pac_debug.specs.Obeying.{Scene, IsCommandPerformed, IsCommandObeyed, session_without_due}
-use Rattle.pac_debug.specs.Watched.{takes_all, TellsOfCommand, TellsAll, HasGivenOutputs, RefusedOf, RefusedAt, IsWatchRefused}
+use Rattle.pac_debug.specs.Watched.{takes_all, TellsOfCommand, TellsAll, outputs_until, RefusedOf, RefusedAt, IsWatchRefused}
 use Rattle.pac_debug.specs.Watched.{IsWatchUntold}
 use Rattle.pac_debug.specs.Watched.{given_by, FirstGivesMore, ToldUpTo}
 use Rattle.pac_debug.proofs.Giving.{nothing-given, obeyed}
@@ -72,23 +73,23 @@ none-past-all setting index =
     omega (arith, long)
 
 -- what a session from the beginning of its run was taken, and what is due, is all that was given
-all-given : (setting : Setting) (old new : SessionValue) (taken : List Output) → old ≡ session_at_start setting 0 →
-    HasGivenOutputs old taken new
+all-given : (setting : Setting) (old new : SessionValue) (taken : List Output) → old ≡ session_at_start setting 0
+    → outputs_until old new ≡ taken ++ session_due_outputs new
     → length (run setting new.furthest).outputs ≡ length taken + length (session_due_outputs new)
 all-given setting old new taken fresh given =
-    let first = subst (λ (s : SessionValue). HasGivenOutputs s taken new) fresh given in
-    let parts : (run setting new.furthest).outputs ≡ taken ++ session_due_outputs new = first.parts in
+    let parts : (run setting new.furthest).outputs ≡ taken ++ session_due_outputs new
+    = ap (λ (s : SessionValue). outputs_until s new) (sym fresh) ∙ given in
     ap length parts ∙ length-append taken (session_due_outputs new)
 
-module _ {S : Type 0} (took refused : S → Output → S → Type 0) (setting : Setting) (taken : List Output) (old new : SessionValue)
+module _ {S : Type 0} (to : Giving S) (setting : Setting) (taken : List Output) (old new : SessionValue)
     (sink later : S) (clear : old.due ≡ nothing_due) (same : old.setting ≡ setting)
     (given : length (run setting new.furthest).outputs ≡ length taken + length (session_due_outputs new))
     (some_due : 0 < length (session_due_outputs new)) where
   -- nothing was due that could be refused
-  none-offered : {A : Type 0} → IsSessionOfferRefused took refused old sink new later → A
+  none-offered : {A : Type 0} → IsSessionOfferRefused to (session_at_command old) sink new later → A
   none-offered refusal =
       let none = ap length (nothing-given old clear) in
-      let parts = ap length refusal.parts ∙ length-append refusal.taken (session_due_outputs new) in
+      let parts = ap length refusal.cut.parts ∙ length-append refusal.cut.taken (session_due_outputs new) in
       absurd (omega (arith, none, parts, some_due))
 
   -- what was given before is what was taken, or less
@@ -105,7 +106,7 @@ module _ {S : Type 0} (took refused : S → Output → S → Type 0) (setting : 
       omega (arith, here, between, all, given)
 
   -- the motion that was held up gives more
-  module _ (motion : Motion) (between : S) (gone : IsTravelRefused took refused (session_without_due old) motion between new later) where
+  module _ (motion : Motion) (between : S) (gone : IsTravelRefused to (session_without_due old) motion between new later) where
     stands : new.furthest ≡ new.index
     stands =
         let most : new.furthest ≡ max old.furthest new.index = ap (λ (s : SessionValue). s.furthest) gone.session in
@@ -114,8 +115,8 @@ module _ {S : Type 0} (took refused : S → Output → S → Type 0) (setting : 
     less-told : length (given_by old) ≤ length taken
     less-told =
         let far = stands in
-        no-more gone.taken (omega (arith, far, gone.index, gone.fresh))
-        (ap (λ n. outputs_between old.setting old.furthest n) far ∙ gone.parts)
+        no-more gone.cut.taken (omega (arith, far, gone.index, gone.fresh))
+        (ap (λ n. outputs_between old.setting old.furthest n) far ∙ gone.cut.parts)
 
     abbrev rest : ComesToRest (session_without_due old) motion
     rest = comes-to-rest (session_without_due old) motion
@@ -150,7 +151,7 @@ module _ {S : Type 0} (took refused : S → Output → S → Type 0) (setting : 
     pub tells : TellsOfCommand found old text next
     pub more : length taken < length (given_by next)
 
-  at-line : (found : Option (Result Command NoCommand)) → RefusedOf took refused found old sink new later → HeldUpAt found
+  at-line : (found : Option (Result Command NoCommand)) → RefusedOf to found old sink new later → HeldUpAt found
   at-line None refusal = absurd refusal
   at-line (Some asked) (inl refusal) = none-offered refusal
   at-line (Some asked) (inr refusal) =
@@ -175,22 +176,22 @@ module _ {S : Type 0} (took refused : S → Output → S → Type 0) (setting : 
         more = gives-more held.motion refusal.between gone;
       }
 
-  at-end : IsSessionOfferRefused took refused old sink new later ⊎ IsFinishRefused took refused old sink new later
+  at-end : IsSessionOfferRefused to (session_at_command old) sink new later ⊎ IsFinishRefused to old sink new later
       → length (given_by old) ≤ length taken
   at-end (inl refusal) = none-offered refusal
   at-end (inr gone) =
       let most : new.furthest ≡ max old.furthest new.index = ap (λ (s : SessionValue). s.furthest) gone.session in
       let far : new.furthest ≡ new.index = omega (arith, most, gone.index, gone.fresh) in
-      no-more gone.taken (omega (arith, far, gone.index, gone.fresh))
+      no-more gone.cut.taken (omega (arith, far, gone.index, gone.fresh))
       (ap (λ n. outputs_between old.setting old.furthest n) far
-      ∙ ap (λ xs. xs ++ outputs_between old.setting old.furthest new.index) (sym (nothing-given old clear)) ∙ gone.parts)
+      ∙ ap (λ xs. xs ++ outputs_between old.setting old.furthest new.index) (sym (nothing-given old clear)) ∙ gone.cut.parts)
 
   -- the next line, if there is one, gives more
   record HeldUpIn (lines : List (List ℕ)) : Type 0 where
     pub no_more : length (given_by old) ≤ length taken
     pub next : FirstGivesMore lines old taken
 
-  held-up-in : (lines : List (List ℕ)) → RefusedAt took refused lines old sink new later → HeldUpIn lines
+  held-up-in : (lines : List (List ℕ)) → RefusedAt to lines old sink new later → HeldUpIn lines
   held-up-in [] refusal = record { no_more = at-end refusal; next = tt }
   held-up-in (line ∷ more) refusal =
       let here = at-line (command_of line) refusal in
@@ -198,19 +199,20 @@ module _ {S : Type 0} (took refused : S → Output → S → Type 0) (setting : 
 
 -- ---- a whole session
 
-module _ {S W : Type 0} (took refused : S → Output → S → Type 0) (wrote : W → List ℕ → W → Type 0) (lines : List (List ℕ))
+module _ {S W : Type 0} (to : Giving S) (wrote : W → List ℕ → W → Type 0) (lines : List (List ℕ))
     (old new : Scene S W) (fresh : old.session ≡ session_at_start old.session.setting 0)
-    (held : IsWatchRefused took refused wrote lines old new) where
-  pub told-up-to : ToldUpTo old.session.setting lines held.taken held.told
+    (held : IsWatchRefused to wrote lines old new) where
+  pub told-up-to : ToldUpTo old.session.setting lines held.in_all.cut.taken held.told
   told-up-to =
       let setting = old.session.setting in
+      let cut = held.in_all.cut in
       let none : old.session.due ≡ nothing_due = ap (λ (s : SessionValue). s.due) fresh in
       let clear = lines-clear held.before old.session held.between held.told held.lines none in
       let left : 0 < length (session_due_outputs new.session) =
-      let first = ap length (sym held.left_is ∙ held.refuses.left_is) in omega (arith, first) in
+      let first = ap length cut.refuses.left_is in omega (arith, first) in
       let here =
-      held-up-in took refused setting held.taken held.between new.session held.sink_between new.sink clear held.gave.given.setting
-      (all-given setting old.session new.session held.taken fresh held.given) left held.after held.refusal in
+      held-up-in to setting cut.taken held.between new.session held.sink_between new.sink clear held.gave.further.setting
+      (all-given setting old.session new.session cut.taken fresh cut.parts) left held.after held.refusal in
       record {
         before = held.before;
         after = held.after;
@@ -224,13 +226,13 @@ module _ {S W : Type 0} (took refused : S → Output → S → Type 0) (wrote : 
 -- where a text was refused, the sink took what the lines till then give
 pub untold-gives : {S W : Type 0} (took : S → Output → S → Type 0) (wrote : W → List ℕ → W → Type 0) (balked : W → W → Type 0)
     (lines : List (List ℕ)) (old new : Scene S W) (fault : WriteFault) → old.session ≡ session_at_start old.session.setting 0
-    → (halt : IsWatchUntold took wrote balked lines old fault new) → halt.taken ≡ given_by new.session
+    → (halt : IsWatchUntold took wrote balked lines old fault new) → halt.in_all.taken ≡ given_by new.session
 untold-gives took wrote balked lines old new fault fresh halt =
-    let given = halt.given in
-    let first = subst (λ (s : SessionValue). HasGivenOutputs s halt.taken new.session) fresh given in
-    let parts : (run old.session.setting new.session.furthest).outputs ≡ halt.taken ++ session_due_outputs new.session = first.parts in
-    sym (parts ∙ ap (λ xs. halt.taken ++ xs) (nothing-given new.session halt.none_due) ∙ append-nil halt.taken)
-    ∙ ap (λ (it : Setting). (run it new.session.furthest).outputs) (sym given.setting)
+    let taken = halt.in_all.taken in
+    let parts : (run old.session.setting new.session.furthest).outputs ≡ taken ++ session_due_outputs new.session
+    = ap (λ (s : SessionValue). outputs_until s new.session) (sym fresh) ∙ halt.in_all.parts in
+    sym (parts ∙ ap (λ xs. taken ++ xs) (nothing-given new.session halt.none_due) ∙ append-nil taken)
+    ∙ ap (λ (it : Setting). (run it new.session.furthest).outputs) (sym halt.in_all.further.setting)
 
 -- where all lines were told, and the run came to its end, all outputs are enough
 pub all-told : (lines : List (List ℕ)) (old left : SessionValue) (told : List ℕ) → old ≡ session_at_start old.setting 0

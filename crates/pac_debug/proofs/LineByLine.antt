@@ -2,37 +2,37 @@
 use Rattle.std.proofs.Common.{◌≡◌, ℕ, List, [], ◌∷◌, refl, sym, subst}
 use Rattle.std.specs.Prelude.{Result, Ok, Err}
 use mathlib.Core.Logic.{inl, inr}
-use Rattle.pac_board.specs.Output.{Output}
+use Rattle.pac_board.specs.Sinks.{Giving}
 use Rattle.pac_debug.specs.declared.line.CommandFault.{CommandFault}
 use Rattle.pac_debug.specs.Obeying.{Scene, Commands, IsLineAnswered, ObeysLines}
 
-module _ {S W : Type 0} (took refused : S → Output → S → Type 0) (wrote : W → List ℕ → W → Type 0) (balked : W → W → Type 0) where
+module _ {S W : Type 0} (to : Giving S) (wrote : W → List ℕ → W → Type 0) (balked : W → W → Type 0) where
   abbrev pub Leads : (whole left : List (List ℕ)) → (old now : Scene S W) → Type 0
   Leads whole left old now =
       (result : Result (Unit {0}) CommandFault) (last : Scene S W)
-      → ObeysLines took refused wrote balked left now result last → ObeysLines took refused wrote balked whole old result last
+      → ObeysLines to wrote balked left now result last → ObeysLines to wrote balked whole old result last
 
-  one-more : (line : List ℕ) (more : List (List ℕ)) (now next : Scene S W) → IsLineAnswered took refused wrote balked line now next
+  one-more : (line : List ℕ) (more : List (List ℕ)) (now next : Scene S W) → IsLineAnswered to wrote balked line now next
       → (result : Result (Unit {0}) CommandFault) (last : Scene S W)
-      → ObeysLines took refused wrote balked more next result last → ObeysLines took refused wrote balked (line ∷ more) now result last
+      → ObeysLines to wrote balked more next result last → ObeysLines to wrote balked (line ∷ more) now result last
   one-more line more now next first (Ok done) last rest = record { between = next; before = first; after = rest }
   one-more line more now next first (Err fault) last rest = inr (record { between = next; before = first; after = rest })
 
   pub leads-on : (whole left more : List (List ℕ)) (line : List ℕ) (old now next : Scene S W) → left ≡ line ∷ more
-      → Leads whole left old now → IsLineAnswered took refused wrote balked line now next → Leads whole more old next
+      → Leads whole left old now → IsLineAnswered to wrote balked line now next → Leads whole more old next
   leads-on whole left more line old now next is was first result last rest =
-      was result last (subst (λ ls. ObeysLines took refused wrote balked ls now result last) (sym is)
+      was result last (subst (λ ls. ObeysLines to wrote balked ls now result last) (sym is)
       (one-more line more now next first result last rest))
 
   -- none is left
   pub leads-to-end : (whole left : List (List ℕ)) (old now : Scene S W) → left ≡ [] → Leads whole left old now
-      → ObeysLines took refused wrote balked whole old (Ok tt) now
+      → ObeysLines to wrote balked whole old (Ok tt) now
   leads-to-end whole left old now is was =
-      was (Ok tt) now (subst (λ ls. ObeysLines took refused wrote balked ls now (Ok tt) now) (sym is) refl)
+      was (Ok tt) now (subst (λ ls. ObeysLines to wrote balked ls now (Ok tt) now) (sym is) refl)
 
   -- the next one isn't answered
   pub leads-to-fault : (whole left more : List (List ℕ)) (line : List ℕ) (old now next : Scene S W) (fault : CommandFault)
-      → left ≡ line ∷ more → Leads whole left old now → Commands {A = Unit {0}} took refused wrote balked line now (Err fault) next
-      → ObeysLines took refused wrote balked whole old (Err fault) next
+      → left ≡ line ∷ more → Leads whole left old now → Commands {A = Unit {0}} to wrote balked line now (Err fault) next
+      → ObeysLines to wrote balked whole old (Err fault) next
   leads-to-fault whole left more line old now next fault is was ends =
-      was (Err fault) next (subst (λ ls. ObeysLines took refused wrote balked ls now (Err fault) next) (sym is) (inl ends))
+      was (Err fault) next (subst (λ ls. ObeysLines to wrote balked ls now (Err fault) next) (sym is) (inl ends))

@@ -4,7 +4,7 @@ use Rattle.std.proofs.Common.{true, true≢false}
 use Rattle.std.proofs.lemmas.List.Elements.{All-nil, All-cons}
 use mathlib.Core.Logic.{inl, inr}
 use Rattle.pac_board.specs.Output.{Output}
-use Rattle.pac_board.specs.Sinks.{TookAll}
+use Rattle.pac_board.specs.Sinks.{Giving, TookAll}
 use Rattle.pac_board.specs.State.{nothing_due}
 use Rattle.pac_out.specs.declared.counted.Counted.{Counted}
 use Rattle.pac_out.specs.declared.WriteFault.{WriteFault}
@@ -74,7 +74,7 @@ pub told-then : (line : List ℕ) (more : List (List ℕ)) (old mid new : Sessio
 told-then line more old mid new one other first rest =
     record { text_before = one; between = mid; text_after = other; before = first; after = rest; text_is = refl }
 
-module _ {S W : Type 0} (took refused : S → Output → S → Type 0) (wrote : W → List ℕ → W → Type 0) (balked : W → W → Type 0) where
+module _ {S W : Type 0} (to : Giving S) (wrote : W → List ℕ → W → Type 0) (balked : W → W → Type 0) where
   takes-same : (old new : Counted W) → new ≡ old → Takes wrote old [] new
   takes-same old new same = subst (λ (file : Counted W). Takes wrote old [] file) (sym same) (takes-nothing old)
 
@@ -85,13 +85,13 @@ module _ {S W : Type 0} (took refused : S → Output → S → Type 0) (wrote : 
     pub later : old.text.failed ≡ true → found ≡ None
 
   line-told : {A : Type 0} (done : A) (found : Option (Result Command NoCommand)) (old new : Scene S W)
-      → Asks {A = A} took refused wrote balked found old (Ok done) new → LineTold found old new
+      → Asks {A = A} to wrote balked found old (Ok done) new → LineTold found old new
   line-told done None old new skipped =
       record { text = []; tells = (refl, skipped.0); takes = takes-same old.text new.text skipped.2; later = λ failed. refl }
   line-told done (Some asked) old new answered =
       record {
         text = answer_text new.session answered.answer;
-        tells = told took old.session asked old.sink answered.answer new.session new.sink answered.did;
+        tells = told to.took old.session asked old.sink answered.answer new.session new.sink answered.did;
         takes = answered.told.takes;
         later = λ failed. absurd (true≢false (sym failed ∙ answered.told.was_open));
       }
@@ -103,7 +103,7 @@ module _ {S W : Type 0} (took refused : S → Output → S → Type 0) (wrote : 
     pub words : TookTold wrote lines old.text text new.text
 
   pub lines-told : (lines : List (List ℕ)) (done : Unit {0}) (old new : Scene S W)
-      → ObeysLines took refused wrote balked lines old (Ok done) new → LinesTold lines old new
+      → ObeysLines to wrote balked lines old (Ok done) new → LinesTold lines old new
   lines-told [] done old new same =
       record {
         text = [];
@@ -133,18 +133,18 @@ module _ {S W : Type 0} (took refused : S → Output → S → Type 0) (wrote : 
     pub after : List (List ℕ)
     pub parts : lines ≡ before ++ after
     pub mid : Scene S W
-    pub obeyed : ObeysLines took refused wrote balked before old (Ok tt) mid
-    pub refusal : RefusedAt took refused after mid.session mid.sink new.session new.sink
+    pub obeyed : ObeysLines to wrote balked before old (Ok tt) mid
+    pub refusal : RefusedAt to after mid.session mid.sink new.session new.sink
     pub text : new.text ≡ mid.text
 
   line-refused : (found : Option (Result Command NoCommand)) (old new : Scene S W)
-      → Asks {A = Unit {0}} took refused wrote balked found old (Err faults.Refused) new
-      → RefusedOf took refused found old.session old.sink new.session new.sink × (new.text ≡ old.text)
+      → Asks {A = Unit {0}} to wrote balked found old (Err faults.Refused) new
+      → RefusedOf to found old.session old.sink new.session new.sink × (new.text ≡ old.text)
   line-refused None old new skipped = absurd skipped
   line-refused (Some asked) old new refusal = (refusal.0, refusal.1)
 
   pub lines-refused : (lines : List (List ℕ)) (old new : Scene S W)
-      → ObeysLines took refused wrote balked lines old (Err faults.Refused) new → LinesRefused lines old new
+      → ObeysLines to wrote balked lines old (Err faults.Refused) new → LinesRefused lines old new
   lines-refused [] old new obeyed = absurd obeyed
   lines-refused (line ∷ more) old new (inl here) =
       let refusal = line-refused (command_of line) old new here in
@@ -182,24 +182,24 @@ module _ {S W : Type 0} (took refused : S → Output → S → Type 0) (wrote : 
     pub after : List (List ℕ)
     pub parts : lines ≡ before ++ line ∷ after
     pub mid : Scene S W
-    pub obeyed : ObeysLines took refused wrote balked before old (Ok tt) mid
+    pub obeyed : ObeysLines to wrote balked before old (Ok tt) mid
     pub here : LineUntold (command_of line) mid fault new
 
   line-untold : (found : Option (Result Command NoCommand)) (fault : WriteFault) (old new : Scene S W)
-      → Asks {A = Unit {0}} took refused wrote balked found old (Err (faults.Text fault)) new → LineUntold found old fault new
+      → Asks {A = Unit {0}} to wrote balked found old (Err (faults.Text fault)) new → LineUntold found old fault new
   line-untold None fault old new skipped = absurd skipped
   line-untold (Some asked) fault old new answered =
       let did = answered.did in
       record {
         text = answer_text new.session answered.answer;
-        tells = told took old.session asked old.sink answered.answer new.session new.sink did;
-        due = (done-after took (session_without_due old.session) asked did.between answered.answer new.session new.sink refl
+        tells = told to.took old.session asked old.sink answered.answer new.session new.sink did;
+        due = (done-after to.took (session_without_due old.session) asked did.between answered.answer new.session new.sink refl
             did.obeyed).due;
         refuses = answered.told;
       }
 
   pub lines-untold : (lines : List (List ℕ)) (fault : WriteFault) (old new : Scene S W)
-      → ObeysLines took refused wrote balked lines old (Err (faults.Text fault)) new → LinesUntold lines old fault new
+      → ObeysLines to wrote balked lines old (Err (faults.Text fault)) new → LinesUntold lines old fault new
   lines-untold [] fault old new obeyed = absurd obeyed
   lines-untold (line ∷ more) fault old new (inl here) =
       record {

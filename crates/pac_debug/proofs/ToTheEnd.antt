@@ -3,57 +3,53 @@ use Rattle.std.proofs.Common.{◌≡◌, ℕ, ◌/◌, not, Ok, Err, List, [], �
 use mathlib.Core.List.{IsPrefix}
 use Rattle.pac_board.specs.Output.{Output}
 use Rattle.pac_board.specs.Step.{frame_ticks}
-use Rattle.pac_board.specs.Sinks.{TookAll}
+use Rattle.pac_board.specs.Sinks.{Giving, TookAll}
 use Rattle.pac_board.proofs.Sinks.{took-both}
 use Rattle.pac_out.specs.declared.counted.Counted.{Counted}
-use Rattle.pac_debug_session.specs.declared.motion.RunTotals.{RunTotals}
+use Rattle.pac_debug_session.specs.Outcome.{Outcome}
 use Rattle.pac_debug_session.specs.Motions.{IsOutcome, IsFinished, IsFinishRefused}
 use Rattle.pac_debug_session.specs.Running.{IsLeast, Setting, whole_run, goes_at, outputs_from}
-use Rattle.pac_debug_session.specs.Session.{SessionValue, IsSessionOfferRefused, session_due_outputs}
+use Rattle.pac_debug_session.specs.Session.{SessionValue, IsSessionOfferRefused, session_at_command, session_due_outputs}
 use Rattle.pac_debug.specs.declared.line.CommandFault.{CommandFault}
 use Rattle.pac_debug.specs.declared.line.CommandFault.TheVariants as faults
 use Rattle.pac_debug.specs.Obeying.{Scene, ObeysLines}
-use Rattle.pac_debug.specs.Watched.{HasGivenOutputs, GaveAll, LinesGive, TookTold, outputs_to_give, IsSessionWatched, IsWatchRefused}
+use Rattle.pac_debug.specs.Watched.{IsFurther, GaveAll, LinesGive, outputs_until, TookTold, outputs_to_give, IsSessionWatched}
+use Rattle.pac_debug.specs.Watched.{IsWatchRefused}
 use Rattle.pac_debug.specs.Watched.{WatchesSession}
 use Rattle.pac_debug.proofs.Giving.{all-to-give, some-after, finish-given, lines-given}
 use Rattle.pac_debug.proofs.Telling.{lines-told, lines-refused, lines-untold}
 
 -- a run's outcome is that of its setting
-outcome-of : (s other : SessionValue) (outcome : RunTotals) → s.setting ≡ other.setting → IsOutcome s outcome → IsOutcome other outcome
-outcome-of s other outcome same is =
-    record {
-      frames = subst (λ (run : Setting). outcome.frames ≡ (whole_run run).now.time / frame_ticks) same is.frames;
-      steps = subst (λ (run : Setting). outcome.steps ≡ (whole_run run).now.steps) same is.steps;
-      ticks = subst (λ (run : Setting). outcome.ticks ≡ (whole_run run).now.time) same is.ticks;
-      stop = subst (λ (run : Setting). outcome.stop ≡ (whole_run run).stop) same is.stop;
-    }
+outcome-of : (s other : SessionValue) (outcome : Outcome) → s.setting ≡ other.setting → IsOutcome s outcome → IsOutcome other outcome
+outcome-of s other outcome same is = subst (λ (run : Setting). IsOutcome (record s { setting = run }) outcome) same is
 
 -- what was taken, and what is due, are among what was to be given
-among : (old new : SessionValue) (taken : List Output) → HasGivenOutputs old taken new →
-    IsPrefix (taken ++ session_due_outputs new) (outputs_to_give old)
-among old new taken given = (outputs_from new.setting new.furthest, all-to-give old new taken given)
+among : (old new : SessionValue) (taken : List Output) → IsFurther old new → outputs_until old new ≡ taken ++ session_due_outputs new
+    → IsPrefix (taken ++ session_due_outputs new) (outputs_to_give old)
+among old new taken further parts = (outputs_from new.setting new.furthest, all-to-give old new taken further parts)
 
-taken-among : (old new : SessionValue) (taken : List Output) → HasGivenOutputs old taken new → IsPrefix taken (outputs_to_give old)
-taken-among old new taken given =
+taken-among : (old new : SessionValue) (taken : List Output) → IsFurther old new → outputs_until old new ≡ taken ++ session_due_outputs new
+    → IsPrefix taken (outputs_to_give old)
+taken-among old new taken further parts =
     let rest = outputs_from new.setting new.furthest in (
       session_due_outputs new ++ rest,
-      sym (append_assoc taken (session_due_outputs new) rest) ∙ all-to-give old new taken given,
+      sym (append_assoc taken (session_due_outputs new) rest) ∙ all-to-give old new taken further parts,
     )
 
-module _ {S W : Type 0} (took refused : S → Output → S → Type 0) (wrote : W → List ℕ → W → Type 0) (balked : W → W → Type 0)
+module _ {S W : Type 0} (to : Giving S) (wrote : W → List ℕ → W → Type 0) (balked : W → W → Type 0)
     (lines : List (List ℕ)) (old mid : Scene S W) where
   -- all lines were answered, and the run came to its end
-  pub finished : (done : Unit {0}) → ObeysLines took refused wrote balked lines old (Ok done) mid
-      → GaveAll took old.session old.sink mid.session mid.sink → (outcome : RunTotals) (end : SessionValue) (later : S)
-      → IsFinished took mid.session mid.sink outcome end later
-      → IsSessionWatched took wrote lines old outcome (record { session = end; sink = later; text = mid.text })
+  pub finished : (done : Unit {0}) → ObeysLines to wrote balked lines old (Ok done) mid
+      → GaveAll to.took old.session old.sink mid.session mid.sink → (outcome : Outcome) (end : SessionValue) (later : S)
+      → IsFinished to.took mid.session mid.sink outcome end later
+      → IsSessionWatched to.took wrote lines old outcome (record { session = end; sink = later; text = mid.text })
   finished done obeyed gave outcome end later finish =
-      let told = lines-told took refused wrote balked lines done old mid obeyed in
-      let same = gave.given.setting in
+      let told = lines-told to wrote balked lines done old mid obeyed in
+      let same = gave.further.setting in
       let given = outputs_to_give mid.session in
       let all : gave.taken ++ given ≡ outputs_to_give old.session
       = sym (append_assoc gave.taken (session_due_outputs mid.session) (outputs_from mid.session.setting mid.session.furthest))
-      ∙ all-to-give old.session mid.session gave.taken gave.given in
+      ∙ all-to-give old.session mid.session gave.taken gave.further gave.parts in
       record {
         between = mid.session;
         told = told.text;
@@ -61,22 +57,22 @@ module _ {S W : Type 0} (took refused : S → Output → S → Type 0) (wrote : 
         text = told.words;
         outcome = outcome-of mid.session old.session outcome same finish.outcome_is;
         sink =
-            subst (λ xs. TookAll took old.sink xs later) all
-            (took-both took gave.taken given old.sink mid.sink later gave.sink_is finish.sink_is);
+            subst (λ xs. TookAll to.took old.sink xs later) all
+            (took-both to.took gave.taken given old.sink mid.sink later gave.sink_is finish.sink_is);
         rest =
             subst (λ (run : Setting). IsLeast (λ index. not (goes_at run index)) mid.session.index end.index) same finish.rest;
         session = finish.session;
       }
 
   -- all lines were answered, and the sink refused on the way to the end
-  pub held-up : (done : Unit {0}) → ObeysLines took refused wrote balked lines old (Ok done) mid
-      → GaveAll took old.session old.sink mid.session mid.sink → (end : SessionValue) (later : S)
-      → IsSessionOfferRefused took refused mid.session mid.sink end later ⊎ IsFinishRefused took refused mid.session mid.sink end later
-      → IsWatchRefused took refused wrote lines old (record { session = end; sink = later; text = mid.text })
+  pub held-up : (done : Unit {0}) → ObeysLines to wrote balked lines old (Ok done) mid
+      → GaveAll to.took old.session old.sink mid.session mid.sink → (end : SessionValue) (later : S)
+      → IsSessionOfferRefused to (session_at_command mid.session) mid.sink end later ⊎ IsFinishRefused to mid.session mid.sink end later
+      → IsWatchRefused to wrote lines old (record { session = end; sink = later; text = mid.text })
   held-up done obeyed gave end later refusal =
-      let told = lines-told took refused wrote balked lines done old mid obeyed in
-      let rest = finish-given took refused mid.session mid.sink end later refusal in
-      let some = some-after took refused old.session mid.session end old.sink mid.sink later gave rest in
+      let told = lines-told to wrote balked lines done old mid obeyed in
+      let rest = finish-given to mid.session mid.sink end later refusal in
+      let some = some-after to old.session mid.session end old.sink mid.sink later gave rest in
       record {
         before = lines;
         after = [];
@@ -88,21 +84,17 @@ module _ {S W : Type 0} (took refused : S → Output → S → Type 0) (wrote : 
         text = told.words;
         gave = gave;
         refusal = refusal;
-        taken = some.taken;
-        left = session_due_outputs end;
-        left_is = refl;
-        given = some.given;
-        among = among old.session end some.taken some.given;
-        refuses = some.refuses;
+        in_all = some;
+        among = among old.session end some.cut.taken some.further some.cut.parts;
       }
 
   -- a line wasn't answered
-  pub ended-early : (fault : CommandFault) → ObeysLines took refused wrote balked lines old (Err fault) mid
-      → LinesGive {A = Unit {0}} took refused old.session old.sink (Err fault) mid.session mid.sink
-      → WatchesSession took refused wrote balked lines old (Err fault) mid
+  pub ended-early : (fault : CommandFault) → ObeysLines to wrote balked lines old (Err fault) mid
+      → LinesGive {A = Unit {0}} to old.session old.sink (Err fault) mid.session mid.sink
+      → WatchesSession to wrote balked lines old (Err fault) mid
   ended-early faults.Refused obeyed gave =
-      let halt = lines-refused took refused wrote balked lines old mid obeyed in
-      let told = lines-told took refused wrote balked halt.before tt old halt.mid halt.obeyed in
+      let halt = lines-refused to wrote balked lines old mid obeyed in
+      let told = lines-told to wrote balked halt.before tt old halt.mid halt.obeyed in
       record {
         before = halt.before;
         after = halt.after;
@@ -112,18 +104,14 @@ module _ {S W : Type 0} (took refused : S → Output → S → Type 0) (wrote : 
         told = told.text;
         lines = told.tells;
         text = subst (λ (file : Counted W). TookTold wrote halt.before old.text told.text file) (sym halt.text) told.words;
-        gave = lines-given took refused wrote balked halt.before (Ok tt) old halt.mid halt.obeyed;
+        gave = lines-given to wrote balked halt.before (Ok tt) old halt.mid halt.obeyed;
         refusal = halt.refusal;
-        taken = gave.taken;
-        left = session_due_outputs mid.session;
-        left_is = refl;
-        given = gave.given;
-        among = among old.session mid.session gave.taken gave.given;
-        refuses = gave.refuses;
+        in_all = gave;
+        among = among old.session mid.session gave.cut.taken gave.further gave.cut.parts;
       }
   ended-early (faults.Text fault) obeyed gave =
-      let halt = lines-untold took refused wrote balked lines fault old mid obeyed in
-      let told = lines-told took refused wrote balked halt.before tt old halt.mid halt.obeyed in
+      let halt = lines-untold to wrote balked lines fault old mid obeyed in
+      let told = lines-told to wrote balked halt.before tt old halt.mid halt.obeyed in
       record {
         before = halt.before;
         line = halt.line;
@@ -137,9 +125,7 @@ module _ {S W : Type 0} (took refused : S → Output → S → Type 0) (wrote : 
         more = halt.here.text;
         tells = halt.here.tells;
         refuses = halt.here.refuses;
-        taken = gave.taken;
-        given = gave.given;
+        in_all = gave;
         none_due = halt.here.due;
-        among = taken-among old.session mid.session gave.taken gave.given;
-        sink = gave.sink_is;
+        among = taken-among old.session mid.session gave.taken gave.further gave.parts;
       }

@@ -2,7 +2,7 @@
 use Rattle.std.specs.Prelude.{◌≡◌, ◌<◌, ℕ, Bool, true, false, List, [], ◌∷◌, ◌++◌, length, Option, None, Some, Result, Ok, Err, ◌⊎◌}
 use Rattle.std.specs.Prelude.{slice_index_or}
 use Rattle.pac_board.specs.Output.{Output}
-use Rattle.pac_board.specs.Sinks.{TookAll, Then}
+use Rattle.pac_board.specs.Sinks.{Giving, TookAll, Then}
 use Rattle.pac_board.specs.State.{nothing_due}
 use Rattle.pac_out.specs.declared.counted.Counted.{Counted}
 use Rattle.pac_out.specs.Counted.{HasPut, Refuses}
@@ -17,8 +17,8 @@ use Rattle.pac_debug_session.specs.declared.motion.MotionEnd.{MotionEnd}
 use Rattle.pac_debug_session.specs.declared.motion.Motion.{Motion}
 use Rattle.pac_debug_session.specs.declared.motion.Motion.TheVariants as motions
 use Rattle.pac_debug_session.specs.Motions.{HasTravelled, IsTravelRefused, IsBack, IsTooOld, session_with_slot}
-use Rattle.pac_debug_session.specs.Session.{SessionValue, IsSessionOfferRefused, session_due_outputs, has_breakpoint, without_breakpoint}
-use Rattle.pac_debug_session.specs.Session.{most_breakpoints}
+use Rattle.pac_debug_session.specs.Session.{SessionValue, IsSessionOfferRefused, session_at_command, session_due_outputs, has_breakpoint}
+use Rattle.pac_debug_session.specs.Session.{without_breakpoint, most_breakpoints}
 use Rattle.pac_debug.specs.declared.answer.Answer.{Answer}
 use Rattle.pac_debug.specs.declared.answer.Answer.TheVariants as answers
 use Rattle.pac_debug.specs.declared.line.CommandFault.{CommandFault}
@@ -80,10 +80,9 @@ motion_of (commands.Frames count) = Some (motions.Frames count)
 motion_of others = None
 
 -- moving on; where the sink refused, there is no answer
-abbrev pub Moves : {S E : Type 0} → (S → Output → S → Type 0) → (S → Output → S → Type 0)
-    → SessionValue → Motion → S → Result Answer E → SessionValue → S → Type 0
-Moves took refused old motion sink (Ok answer) new later = HasMoved took old motion sink answer new later
-Moves took refused old motion sink (Err refusal) new later = IsTravelRefused took refused old motion sink new later
+abbrev pub Moves : {S E : Type 0} → Giving S → SessionValue → Motion → S → Result Answer E → SessionValue → S → Type 0
+Moves to old motion sink (Ok answer) new later = HasMoved to.took old motion sink answer new later
+Moves to old motion sink (Err refusal) new later = IsTravelRefused to old motion sink new later
 
 -- a command, by its motion
 abbrev pub IsCommandPerformed : {S : Type 0} → (S → Output → S → Type 0) → SessionValue → Command → Option Motion → S → Answer →
@@ -101,19 +100,18 @@ IsCommandObeyed took old (Err none) sink answer new later =
     (answer ≡ answers.Refused refusals.NoCommand) × (new ≡ old) × (later ≡ sink)
 
 -- the sink refused an output on the way
-pub record IsHeldUp {S : Type 0} (took refused : S → Output → S → Type 0) (old : SessionValue) (asked : Result Command NoCommand) (sink : S)
-    (new : SessionValue) (later : S)
+pub record IsHeldUp {S : Type 0} (to : Giving S) (old : SessionValue) (asked : Result Command NoCommand) (sink : S) (new : SessionValue)
+    (later : S)
     : Type 0 where
   pub command : Command
   pub asked_is : asked ≡ Ok command
   pub motion : Motion
   pub motion_is : motion_of command ≡ Some motion
-  pub held_up : IsTravelRefused took refused old motion sink new later
+  pub held_up : IsTravelRefused to old motion sink new later
 
-abbrev pub Obeys : {S E : Type 0} → (S → Output → S → Type 0) → (S → Output → S → Type 0)
-    → SessionValue → Result Command NoCommand → S → Result Answer E → SessionValue → S → Type 0
-Obeys took refused old asked sink (Ok answer) new later = IsCommandObeyed took old asked sink answer new later
-Obeys took refused old asked sink (Err refusal) new later = IsHeldUp took refused old asked sink new later
+abbrev pub Obeys : {S E : Type 0} → Giving S → SessionValue → Result Command NoCommand → S → Result Answer E → SessionValue → S → Type 0
+Obeys to old asked sink (Ok answer) new later = IsCommandObeyed to.took old asked sink answer new later
+Obeys to old asked sink (Err refusal) new later = IsHeldUp to old asked sink new later
 
 -- ---- a line with words
 
@@ -130,23 +128,22 @@ pub record IsCommandDone {S : Type 0} (took : S → Output → S → Type 0) (ol
   pub obeyed : IsCommandObeyed took (session_without_due old) asked between answer new later
 
 -- The sink took what was due, and refused an output on the way.
-pub record IsRefusedLater {S : Type 0} (took refused : S → Output → S → Type 0) (old : SessionValue) (asked : Result Command NoCommand)
-    (sink : S) (new : SessionValue) (later : S)
+pub record IsRefusedLater {S : Type 0} (to : Giving S) (old : SessionValue) (asked : Result Command NoCommand) (sink : S)
+    (new : SessionValue) (later : S)
     : Type 0 where
   pub between : S
-  pub offered : TookAll took sink (session_due_outputs old) between
-  pub held_up : IsHeldUp took refused (session_without_due old) asked between new later
+  pub offered : TookAll to.took sink (session_due_outputs old) between
+  pub held_up : IsHeldUp to (session_without_due old) asked between new later
 
 -- the sink refused what was due, or an output on the way
-abbrev pub IsCommandRefused : {S : Type 0} → (S → Output → S → Type 0) → (S → Output → S → Type 0)
-    → SessionValue → Result Command NoCommand → S → SessionValue → S → Type 0
-IsCommandRefused took refused old asked sink new later =
-    IsSessionOfferRefused took refused old sink new later ⊎ IsRefusedLater took refused old asked sink new later
+abbrev pub IsCommandRefused : {S : Type 0} → Giving S → SessionValue → Result Command NoCommand → S → SessionValue → S → Type 0
+IsCommandRefused to old asked sink new later =
+    IsSessionOfferRefused to (session_at_command old) sink new later ⊎ IsRefusedLater to old asked sink new later
 
-abbrev pub DoesCommand : {S E : Type 0} → (S → Output → S → Type 0) → (S → Output → S → Type 0)
-    → SessionValue → Result Command NoCommand → S → Result Answer E → SessionValue → S → Type 0
-DoesCommand took refused old asked sink (Ok answer) new later = IsCommandDone took old asked sink answer new later
-DoesCommand took refused old asked sink (Err refusal) new later = IsCommandRefused took refused old asked sink new later
+abbrev pub DoesCommand : {S E : Type 0} → Giving S → SessionValue → Result Command NoCommand → S → Result Answer E → SessionValue → S
+    → Type 0
+DoesCommand to old asked sink (Ok answer) new later = IsCommandDone to.took old asked sink answer new later
+DoesCommand to old asked sink (Err refusal) new later = IsCommandRefused to old asked sink new later
 
 -- ---- a command line
 
@@ -165,13 +162,13 @@ pub record HasAnswered {S W : Type 0} (took : S → Output → S → Type 0) (To
   pub told : Told old.text (answer_text new.session answer) new.text
 
 -- a line with words: it is answered; or the sink refused, and nothing is told; or its text's writer refused, now or before
-abbrev pub AnswersWords : {S W A : Type 0} → (took refused : S → Output → S → Type 0) → (wrote : W → List ℕ → W → Type 0)
-    → (balked : W → W → Type 0) → Result Command NoCommand → Scene S W → Result A CommandFault → Scene S W → Type 0
-AnswersWords took refused wrote balked asked old (Ok done) new = HasAnswered took (HasPut wrote) asked old new
-AnswersWords took refused wrote balked asked old (Err faults.Refused) new =
-    IsCommandRefused took refused old.session asked old.sink new.session new.sink × (new.text ≡ old.text)
-AnswersWords took refused wrote balked asked old (Err (faults.Text fault)) new =
-    HasAnswered took (λ before text after. Refuses wrote balked before text fault after) asked old new
+abbrev pub AnswersWords : {S W A : Type 0} → Giving S → (wrote : W → List ℕ → W → Type 0) → (balked : W → W → Type 0)
+    → Result Command NoCommand → Scene S W → Result A CommandFault → Scene S W → Type 0
+AnswersWords to wrote balked asked old (Ok done) new = HasAnswered to.took (HasPut wrote) asked old new
+AnswersWords to wrote balked asked old (Err faults.Refused) new =
+    IsCommandRefused to old.session asked old.sink new.session new.sink × (new.text ≡ old.text)
+AnswersWords to wrote balked asked old (Err (faults.Text fault)) new =
+    HasAnswered to.took (λ before text after. Refuses wrote balked before text fault after) asked old new
 
 -- a line without words, which does nothing
 abbrev pub Skips : {S W A : Type 0} → Scene S W → Result A CommandFault → Scene S W → Type 0
@@ -179,30 +176,29 @@ Skips old (Ok done) new = (new.session ≡ old.session) × (new.sink ≡ old.sin
 Skips old (Err fault) new = ⊥
 
 -- a command line, by what it asks
-abbrev pub Asks : {S W A : Type 0} → (took refused : S → Output → S → Type 0) → (wrote : W → List ℕ → W → Type 0)
-    → (balked : W → W → Type 0) → Option (Result Command NoCommand) → Scene S W → Result A CommandFault → Scene S W → Type 0
-Asks took refused wrote balked None old result new = Skips old result new
-Asks took refused wrote balked (Some asked) old result new = AnswersWords took refused wrote balked asked old result new
+abbrev pub Asks : {S W A : Type 0} → Giving S → (wrote : W → List ℕ → W → Type 0) → (balked : W → W → Type 0)
+    → Option (Result Command NoCommand) → Scene S W → Result A CommandFault → Scene S W → Type 0
+Asks to wrote balked None old result new = Skips old result new
+Asks to wrote balked (Some asked) old result new = AnswersWords to wrote balked asked old result new
 
-abbrev pub Commands : {S W A : Type 0} → (took refused : S → Output → S → Type 0) → (wrote : W → List ℕ → W → Type 0)
-    → (balked : W → W → Type 0) → (line : List ℕ) → Scene S W → Result A CommandFault → Scene S W → Type 0
-Commands took refused wrote balked line old result new = Asks took refused wrote balked (command_of line) old result new
+abbrev pub Commands : {S W A : Type 0} → Giving S → (wrote : W → List ℕ → W → Type 0) → (balked : W → W → Type 0) → (line : List ℕ)
+    → Scene S W → Result A CommandFault → Scene S W → Type 0
+Commands to wrote balked line old result new = Asks to wrote balked (command_of line) old result new
 
 -- ---- a text of commands
 
 -- a line that is answered, or that has no words
-abbrev pub IsLineAnswered : {S W : Type 0} → (took refused : S → Output → S → Type 0) → (wrote : W → List ℕ → W → Type 0)
-    → (balked : W → W → Type 0) → (line : List ℕ) → (old new : Scene S W) → Type 0
-IsLineAnswered took refused wrote balked line old new = Commands {A = Unit {0}} took refused wrote balked line old (Ok tt) new
+abbrev pub IsLineAnswered : {S W : Type 0} → Giving S → (wrote : W → List ℕ → W → Type 0) → (balked : W → W → Type 0) → (line : List ℕ)
+    → (old new : Scene S W) → Type 0
+IsLineAnswered to wrote balked line old new = Commands {A = Unit {0}} to wrote balked line old (Ok tt) new
 
 -- the lines of a text, one after another, up to the first that isn't answered
-abbrev pub ObeysLines : {S W : Type 0} → (took refused : S → Output → S → Type 0) → (wrote : W → List ℕ → W → Type 0)
-    → (balked : W → W → Type 0) → (lines : List (List ℕ)) → Scene S W → Result (Unit {0}) CommandFault → Scene S W → Type 0
-ObeysLines took refused wrote balked [] old (Ok done) new = new ≡ old
-ObeysLines took refused wrote balked [] old (Err fault) new = ⊥
-ObeysLines took refused wrote balked (line ∷ more) old (Ok done) new =
-    Then (IsLineAnswered took refused wrote balked line old) (λ between. ObeysLines took refused wrote balked more between (Ok done) new)
-ObeysLines took refused wrote balked (line ∷ more) old (Err fault) new =
-    Commands {A = Unit {0}} took refused wrote balked line old (Err fault) new
-    ⊎ Then (IsLineAnswered took refused wrote balked line old)
-    (λ between. ObeysLines took refused wrote balked more between (Err fault) new)
+abbrev pub ObeysLines : {S W : Type 0} → Giving S → (wrote : W → List ℕ → W → Type 0) → (balked : W → W → Type 0)
+    → (lines : List (List ℕ)) → Scene S W → Result (Unit {0}) CommandFault → Scene S W → Type 0
+ObeysLines to wrote balked [] old (Ok done) new = new ≡ old
+ObeysLines to wrote balked [] old (Err fault) new = ⊥
+ObeysLines to wrote balked (line ∷ more) old (Ok done) new =
+    Then (IsLineAnswered to wrote balked line old) (λ between. ObeysLines to wrote balked more between (Ok done) new)
+ObeysLines to wrote balked (line ∷ more) old (Err fault) new =
+    Commands {A = Unit {0}} to wrote balked line old (Err fault) new
+    ⊎ Then (IsLineAnswered to wrote balked line old) (λ between. ObeysLines to wrote balked more between (Err fault) new)

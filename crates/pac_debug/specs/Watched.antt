@@ -5,7 +5,7 @@ use Rattle.std.specs.Prelude.{◌≡◌, ◌<◌, ◌≤◌, ℕ, not, true, Lis
 use Rattle.std.specs.Prelude.{◌⊎◌}
 use mathlib.Core.List.{IsPrefix}
 use Rattle.pac_board.specs.Output.{Output}
-use Rattle.pac_board.specs.Sinks.{TookAll, RefusesAt}
+use Rattle.pac_board.specs.Sinks.{Giving, TookAll, Cut}
 use Rattle.pac_board.specs.State.{nothing_due}
 use Rattle.pac_out.specs.declared.counted.Counted.{Counted}
 use Rattle.pac_out.specs.declared.WriteFault.{WriteFault}
@@ -13,10 +13,10 @@ use Rattle.pac_out.specs.Counted.{Takes, Refuses}
 use Rattle.pac_debug_text.specs.declared.command.Command.{Command}
 use Rattle.pac_debug_text.specs.declared.command.NoCommand.{NoCommand}
 use Rattle.pac_debug_text.specs.Commands.{command_of}
-use Rattle.pac_debug_session.specs.declared.motion.RunTotals.{RunTotals}
 use Rattle.pac_debug_session.specs.Motions.{IsOutcome, IsFinishRefused, moved_to}
+use Rattle.pac_debug_session.specs.Outcome.{Outcome}
 use Rattle.pac_debug_session.specs.Running.{Setting, IsLeast, goes_at, run, outputs_between, outputs_from}
-use Rattle.pac_debug_session.specs.Session.{SessionValue, IsSessionOfferRefused, session_at_start, session_due_outputs}
+use Rattle.pac_debug_session.specs.Session.{SessionValue, IsSessionOfferRefused, session_at_start, session_at_command, session_due_outputs}
 use Rattle.pac_debug.specs.declared.answer.Answer.{Answer}
 use Rattle.pac_debug.specs.declared.line.CommandFault.{CommandFault}
 use Rattle.pac_debug.specs.declared.line.CommandFault.TheVariants as faults
@@ -88,34 +88,34 @@ pub record ToldUpTo (setting : Setting) (lines : List (List ℕ)) (taken : List 
 
 -- ---- what is given
 
--- From one moment of a session to a later one these outputs were taken: each output that was due, and each one from the furthest index
--- to the new furthest index, was taken, once and in order, or is due now.
-pub record HasGivenOutputs (old : SessionValue) (taken : List Output) (new : SessionValue) : Type 0 where
-  pub setting : new.setting ≡ old.setting
-  pub further : old.furthest ≤ new.furthest
-  pub parts : session_due_outputs old ++ outputs_between old.setting old.furthest new.furthest ≡ taken ++ session_due_outputs new
+-- what is to be given from one moment of a session to a later one: what was due, and what the run gives from the furthest index to
+-- the new furthest index
+abbrev pub outputs_until : (old new : SessionValue) → List Output
+outputs_until old new = session_due_outputs old ++ outputs_between old.setting old.furthest new.furthest
 
--- the sink took all that was offered
+-- at a later moment a session looks at the same run, and was no less far in it
+pub record IsFurther (old new : SessionValue) : Type 0 where
+  pub setting : new.setting ≡ old.setting
+  pub furthest : old.furthest ≤ new.furthest
+
+-- the sink took all that was offered: each output was taken, once and in order, or is due now
 pub record GaveAll {S : Type 0} (took : S → Output → S → Type 0) (old : SessionValue) (sink : S) (new : SessionValue) (later : S)
     : Type 0 where
+  pub further : IsFurther old new
   pub taken : List Output
-  pub given : HasGivenOutputs old taken new
+  pub parts : outputs_until old new ≡ taken ++ session_due_outputs new
   pub sink_is : TookAll took sink taken later
 
 -- the sink took some, and refused the first of those that are due now
-pub record GaveSome {S : Type 0} (took refused : S → Output → S → Type 0) (old : SessionValue) (sink : S) (new : SessionValue) (later : S)
-    : Type 0 where
-  pub taken : List Output
-  pub given : HasGivenOutputs old taken new
-  pub refuses : RefusesAt took refused sink taken (session_due_outputs new) later
+pub record GaveSome {S : Type 0} (to : Giving S) (old : SessionValue) (sink : S) (new : SessionValue) (later : S) : Type 0 where
+  pub further : IsFurther old new
+  pub cut : Cut to sink (outputs_until old new) (session_due_outputs new) later
 
 -- what lines gave to the sink, whatever they asked, by their answer; a text that can't be written leaves its line done
-abbrev pub LinesGive : {S A : Type 0} → (took refused : S → Output → S → Type 0) → SessionValue → S → Result A CommandFault →
-    SessionValue → S
-    → Type 0
-LinesGive took refused old sink (Ok done) new later = GaveAll took old sink new later
-LinesGive took refused old sink (Err faults.Refused) new later = GaveSome took refused old sink new later
-LinesGive took refused old sink (Err (faults.Text fault)) new later = GaveAll took old sink new later
+abbrev pub LinesGive : {S A : Type 0} → Giving S → SessionValue → S → Result A CommandFault → SessionValue → S → Type 0
+LinesGive to old sink (Ok done) new later = GaveAll to.took old sink new later
+LinesGive to old sink (Err faults.Refused) new later = GaveSome to old sink new later
+LinesGive to old sink (Err (faults.Text fault)) new later = GaveAll to.took old sink new later
 
 -- ---- a whole session
 
@@ -131,7 +131,7 @@ outputs_to_give s = session_due_outputs s ++ outputs_from s.setting s.furthest
 
 -- All lines were answered, and the run went on to its end. The sink took all that the session had still to give, once and in order.
 pub record IsSessionWatched {S W : Type 0} (took : S → Output → S → Type 0) (wrote : W → List ℕ → W → Type 0) (asked : List (List ℕ))
-    (old : Scene S W) (result : RunTotals) (new : Scene S W)
+    (old : Scene S W) (result : Outcome) (new : Scene S W)
     : Type 0 where
   -- where the lines leave the session, and what they tell
   pub between : SessionValue
@@ -145,22 +145,19 @@ pub record IsSessionWatched {S W : Type 0} (took : S → Output → S → Type 0
   pub session : new.session ≡ record (moved_to between new.session.index) { replayed = 0 }
 
 -- the sink refused an output at a line; one without words offers none
-abbrev pub RefusedOf : {S : Type 0} → (took refused : S → Output → S → Type 0) → Option (Result Command NoCommand) → SessionValue → S
-    → SessionValue → S → Type 0
-RefusedOf took refused None old sink new later = ⊥
-RefusedOf took refused (Some asked) old sink new later = IsCommandRefused took refused old asked sink new later
+abbrev pub RefusedOf : {S : Type 0} → Giving S → Option (Result Command NoCommand) → SessionValue → S → SessionValue → S → Type 0
+RefusedOf to None old sink new later = ⊥
+RefusedOf to (Some asked) old sink new later = IsCommandRefused to old asked sink new later
 
 -- the sink refused an output at the next line; or, where none is left, on the way to the run's end
-abbrev pub RefusedAt : {S : Type 0} → (took refused : S → Output → S → Type 0) → (lines : List (List ℕ)) → SessionValue → S
-    → SessionValue → S → Type 0
-RefusedAt took refused [] old sink new later =
-    IsSessionOfferRefused took refused old sink new later ⊎ IsFinishRefused took refused old sink new later
-RefusedAt took refused (line ∷ more) old sink new later = RefusedOf took refused (command_of line) old sink new later
+abbrev pub RefusedAt : {S : Type 0} → Giving S → (lines : List (List ℕ)) → SessionValue → S → SessionValue → S → Type 0
+RefusedAt to [] old sink new later =
+    IsSessionOfferRefused to (session_at_command old) sink new later ⊎ IsFinishRefused to old sink new later
+RefusedAt to (line ∷ more) old sink new later = RefusedOf to (command_of line) old sink new later
 
 -- The sink refused an output. The lines before were answered, and no more is told. The sink took all outputs before the refused one,
 -- once and in order; that one and those after it are due.
-pub record IsWatchRefused {S W : Type 0} (took refused : S → Output → S → Type 0) (wrote : W → List ℕ → W → Type 0)
-    (asked : List (List ℕ)) (old new : Scene S W)
+pub record IsWatchRefused {S W : Type 0} (to : Giving S) (wrote : W → List ℕ → W → Type 0) (asked : List (List ℕ)) (old new : Scene S W)
     : Type 0 where
   pub before : List (List ℕ)
   pub after : List (List ℕ)
@@ -171,15 +168,11 @@ pub record IsWatchRefused {S W : Type 0} (took refused : S → Output → S → 
   pub told : List ℕ
   pub lines : TellsAll before old.session told between
   pub text : TookTold wrote before old.text told new.text
-  pub gave : GaveAll took old.session old.sink between sink_between
-  pub refusal : RefusedAt took refused after between sink_between new.session new.sink
+  pub gave : GaveAll to.took old.session old.sink between sink_between
+  pub refusal : RefusedAt to after between sink_between new.session new.sink
   -- what the sink took in all, and what is due
-  pub taken : List Output
-  pub left : List Output
-  pub left_is : left ≡ session_due_outputs new.session
-  pub given : HasGivenOutputs old.session taken new.session
-  pub among : IsPrefix (taken ++ left) (outputs_to_give old.session)
-  pub refuses : RefusesAt took refused old.sink taken left new.sink
+  pub in_all : GaveSome to old.session old.sink new.session new.sink
+  pub among : IsPrefix (in_all.cut.taken ++ session_due_outputs new.session) (outputs_to_give old.session)
 
 -- The writer refused the text of a line. The lines before were answered, and that one is done, too. The sink took the outputs that these
 -- lines give, once and in order, and nothing is due.
@@ -200,24 +193,19 @@ pub record IsWatchUntold {S W : Type 0} (took : S → Output → S → Type 0) (
   pub more : List ℕ
   pub tells : TellsOfLine line between more new.session
   pub refuses : Refuses wrote balked file_between more fault new.text
-  pub taken : List Output
-  pub given : HasGivenOutputs old.session taken new.session
+  pub in_all : GaveAll took old.session old.sink new.session new.sink
   pub none_due : new.session.due ≡ nothing_due
-  pub among : IsPrefix taken (outputs_to_give old.session)
-  pub sink : TookAll took old.sink taken new.sink
+  pub among : IsPrefix in_all.taken (outputs_to_give old.session)
 
 -- a whole session, by its answer: what the lines ask, one after another, and then the run's end
-abbrev pub WatchesSession : {S W : Type 0} → (took refused : S → Output → S → Type 0) → (wrote : W → List ℕ → W → Type 0)
-    → (balked : W → W → Type 0) → (lines : List (List ℕ)) → Scene S W → Result RunTotals CommandFault → Scene S W → Type 0
-WatchesSession took refused wrote balked lines old (Ok outcome) new = IsSessionWatched took wrote lines old outcome new
-WatchesSession took refused wrote balked lines old (Err faults.Refused) new = IsWatchRefused took refused wrote lines old new
-WatchesSession took refused wrote balked lines old (Err (faults.Text fault)) new = IsWatchUntold took wrote balked lines old fault new
+abbrev pub WatchesSession : {S W : Type 0} → Giving S → (wrote : W → List ℕ → W → Type 0) → (balked : W → W → Type 0)
+    → (lines : List (List ℕ)) → Scene S W → Result Outcome CommandFault → Scene S W → Type 0
+WatchesSession to wrote balked lines old (Ok outcome) new = IsSessionWatched to.took wrote lines old outcome new
+WatchesSession to wrote balked lines old (Err faults.Refused) new = IsWatchRefused to wrote lines old new
+WatchesSession to wrote balked lines old (Err (faults.Text fault)) new = IsWatchUntold to.took wrote balked lines old fault new
 
 -- The session is used up: so it was left in the end.
-pub record WatchesThrough {S W : Type 0} (took refused : S → Output → S → Type 0) (wrote : W → List ℕ → W → Type 0)
-    (balked : W → W → Type 0) (asked : List (List ℕ)) (old : Scene S W) (result : Result RunTotals CommandFault) (later : S)
-    (text : Counted W)
-    : Type 0 where
+pub record WatchesThrough {S W : Type 0} (to : Giving S) (wrote : W → List ℕ → W → Type 0) (balked : W → W → Type 0)
+    (asked : List (List ℕ)) (old : Scene S W) (result : Result Outcome CommandFault) (later : S) (text : Counted W) : Type 0 where
   pub left : SessionValue
-  pub watched :
-      WatchesSession took refused wrote balked asked old result (record { session = left; sink = later; text = text })
+  pub watched : WatchesSession to wrote balked asked old result (record { session = left; sink = later; text = text })

@@ -14,5 +14,5 @@ mod whole;
 pub use answer::Answer;
 pub use line::{CommandFault, command};
 pub use lines::commands;
-pub use pac_debug_session::{RunTotals, Session};
+pub use pac_debug_session::{Outcome, Session};
 pub use whole::watch;

@@ -1,6 +1,7 @@
 //! Command lines.
 
 ghost use Rattle.std.specs.Prelude.{◌≡◌};
+ghost use Rattle.pac_board.specs.Sinks.{by};
 ghost use Rattle.pac_debug.specs.Obeying.{Commands};
 
 use crate::obey::perform;
@@ -33,7 +34,7 @@ pub fn command<S: Sink, W: Out>(
     sink: &mut S,
     text: &mut Counted<W>,
 ) -> Result<(), CommandFault>
-    ensures { Commands S.took S.refused W.took W.refused line.now
+    ensures { Commands (by S.took S.refused) W.took W.refused line.now
         (record { session = session.old; sink = sink.old; text = text.old }) result
         (record { session = session.new; sink = sink.new; text = text.new }) }
 {

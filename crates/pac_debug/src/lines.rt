@@ -1,6 +1,7 @@
 //! Command texts.
 
 ghost use Rattle.std.specs.Str.Lines.{lines};
+ghost use Rattle.pac_board.specs.Sinks.{by};
 ghost use Rattle.pac_debug.specs.Obeying.{ObeysLines};
 ghost use Rattle.pac_debug.specs.Watched.{LinesGive};
 
@@ -20,10 +21,10 @@ pub fn commands<S: Sink, W: Out>(
     sink: &mut S,
     text: &mut Counted<W>,
 ) -> Result<(), CommandFault>
-    ensures obeys { ObeysLines S.took S.refused W.took W.refused (lines bytes.now)
+    ensures obeys { ObeysLines (by S.took S.refused) W.took W.refused (lines bytes.now)
         (record { session = session.old; sink = sink.old; text = text.old }) result
         (record { session = session.new; sink = sink.new; text = text.new }) }
-    ensures given { LinesGive S.took S.refused session.old sink.old result session.new sink.new }
+    ensures given { LinesGive (by S.took S.refused) session.old sink.old result session.new sink.new }
 {
     let mut rest = bytes;
     while let Some((line, after)) = first_line(rest) {

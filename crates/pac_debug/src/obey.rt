@@ -1,6 +1,7 @@
 //! Commands, done on a session.
 
 ghost use Rattle.std.specs.Prelude.{◌≡◌, ◌≤◌, IfOk, IfSome, None, Some, Ok, Err};
+ghost use Rattle.pac_board.specs.Sinks.{by};
 ghost use Rattle.pac_board.specs.State as state;
 ghost use Rattle.pac_debug_text.specs.Commands.{IsCommandInRange};
 ghost use Rattle.pac_debug_text.specs.Slots.{slot_index};
@@ -87,7 +88,7 @@ fn stay(session: &mut Session, command: Command) -> Answer
 /// Moves on.
 fn move_on<S: Sink>(session: &mut Session, motion: Motion, sink: &mut S) -> Result<Answer, Refused>
     requires nothing { session.old.due ≡ state.nothing_due }
-    ensures { Moves S.took S.refused session.old motion sink.old result session.new sink.new }
+    ensures { Moves (by S.took S.refused) session.old motion sink.old result session.new sink.new }
 {
     let rest = session.travel(motion, sink)?;
     Ok(Answer::Moved(ending_of(rest)))
@@ -101,7 +102,7 @@ fn obey<S: Sink>(
 ) -> Result<Answer, Refused>
     requires nothing { session.old.due ≡ state.nothing_due }
     requires range { IfOk asked IsCommandInRange }
-    ensures { Obeys S.took S.refused session.old asked sink.old result session.new sink.new }
+    ensures { Obeys (by S.took S.refused) session.old asked sink.old result session.new sink.new }
 {
     let Ok(command) = asked else {
         return Ok(Answer::Refused(Refusal::NoCommand));
@@ -119,7 +120,7 @@ pub(crate) fn perform<S: Sink>(
     sink: &mut S,
 ) -> Result<Answer, Refused>
     requires range { IfOk asked IsCommandInRange }
-    ensures { DoesCommand S.took S.refused session.old asked sink.old result session.new sink.new }
+    ensures { DoesCommand (by S.took S.refused) session.old asked sink.old result session.new sink.new }
 {
     session.offer(sink)?;
     obey(session, asked, sink)

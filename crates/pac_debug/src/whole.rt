@@ -1,12 +1,13 @@
 //! Whole sessions.
 
 ghost use Rattle.std.specs.Str.Lines.{lines};
+ghost use Rattle.pac_board.specs.Sinks.{by};
 ghost use Rattle.pac_debug.specs.Watched.{WatchesThrough};
 
 use crate::line::CommandFault;
 use crate::lines::commands;
 use pac_board::Sink;
-use pac_debug_session::{RunTotals, Session};
+use pac_debug_session::{Outcome, Session};
 use pac_out::Out;
 use pac_out::counted::Counted;
 
@@ -19,8 +20,8 @@ pub fn watch<S: Sink, W: Out>(
     bytes: &[u8],
     sink: &mut S,
     text: &mut Counted<W>,
-) -> Result<RunTotals, CommandFault>
-    ensures { WatchesThrough S.took S.refused W.took W.refused (lines bytes.now)
+) -> Result<Outcome, CommandFault>
+    ensures { WatchesThrough (by S.took S.refused) W.took W.refused (lines bytes.now)
         (record { session = session; sink = sink.old; text = text.old }) result sink.new text.new }
 {
     commands(&mut session, bytes, sink, text)?;

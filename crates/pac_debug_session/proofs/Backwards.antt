@@ -1,12 +1,12 @@
 -- The way back, over plain values: a checkpoint is found by its place, and steps are done again.
 use Rattle.std.proofs.Common.{◌≡◌, ℕ, zero, suc, ◌+◌, ◌-◌, ◌*◌, ◌<◌, ◌≤◌, true, max, Some, List, [], ◌∷◌, slice_get, sym, ap, subst}
 use Rattle.std.proofs.Common.{◌∙◌, arith}
-use Rattle.pac_board.specs.StepKind.{StepKind}
-use Rattle.pac_board.specs.Once.{Once}
-use Rattle.pac_board.specs.BoardView.{BoardView}
-use Rattle.pac_board.specs.Output.{Output}
-use Rattle.pac_board.specs.Step.{Moment, Goes}
-use Rattle.pac_board.specs.State.{nothing_due, steps_counted}
+use Rattle.pac_board_course.specs.StepKind.{StepKind}
+use Rattle.pac_board_course.specs.Once.{Once}
+use Rattle.pac_board_course.specs.BoardView.{BoardView}
+use Rattle.pac_board_course.specs.Output.{Output}
+use Rattle.pac_board_course.specs.Step.{Moment, Goes}
+use Rattle.pac_board_course.specs.State.{nothing_due, steps_counted}
 use Rattle.pac_debug_session.specs.declared.kept.SessionSnapshot.{SessionSnapshot}
 use Rattle.pac_debug_session.specs.Keeping.{IsKeptAt, AreCheckpoints}
 use Rattle.pac_debug_session.specs.Motions.{checkpoint_steps, checkpoint_count, session_after_step, MakesStep, replayed_to}

@@ -1,11 +1,11 @@
 -- A session at the beginning of its run.
 use Rattle.std.proofs.Common.{◌≡◌, ℕ, zero, suc, ◌+◌, ◌≤◌, List, [], ◌∷◌, length, map, replicate, None}
 use Rattle.std.proofs.Common.{refl, sym, ap, subst, ◌∙◌, arith}
-use Rattle.pac_inputs.specs.Stretches.{held}
-use Rattle.pac_inputs.specs.declared.line.Stretch.{Stretch}
-use Rattle.pac_board.specs.RomParts.{Parts}
-use Rattle.pac_board.proofs.Walks.{not-both}
-use Rattle.pac_board.specs.State.{BoardValue, BoardState, nothing_due, power_on_board, board_with_inputs}
+use Rattle.pac_board_course.specs.Stretches.{held}
+use Rattle.pac_board_course.specs.Stretch.{Stretch}
+use Rattle.pac_board_course.specs.RomParts.{Parts}
+use Rattle.pac_board_course.proofs.Walks.{not-both}
+use Rattle.pac_board_course.specs.State.{BoardValue, BoardState, nothing_due, power_on_board, board_with_inputs}
 use Rattle.pac_debug_session.specs.declared.history.PastStep.{PastStep}
 use Rattle.pac_debug_session.specs.declared.kept.SessionSnapshot.{SessionSnapshot}
 use Rattle.pac_debug_session.specs.declared.kept.SlotContents.{SlotContents}

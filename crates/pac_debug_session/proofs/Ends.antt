@@ -2,13 +2,14 @@
 use Rattle.std.proofs.Common.{◌≡◌, ℕ, zero, suc, ◌+◌, ◌-◌, ◌*◌, ◌<◌, ◌≤◌, Bool, true, false, not, ◌&&◌, is_none, None, nat_le, nat_lt}
 use Rattle.std.proofs.Common.{refl, ap, ◌∙◌, arith}
 use Rattle.std.proofs.lemmas.Bool.Decides.{nat_tests}
-use Rattle.pac_inputs.specs.Stretches.{total_frames}
-use Rattle.pac_board.specs.BoardView.{BoardView, power_on_board_view}
-use Rattle.pac_board.specs.Step.{Moment, Next, Goes, Ends}
-use Rattle.pac_board.specs.Trace.{by_view, frame_steps}
-use Rattle.pac_board.specs.Walk.{Walk, walk_after_step, has_ended}
-use Rattle.pac_board.proofs.Runs.{runs-end}
-use Rattle.pac_board.proofs.Walks.{going-before, going-far, going-is-early, going-steps, ended-for-good, open-is-late, stopped-has-ended}
+use Rattle.pac_board_course.specs.Stretches.{total_frames}
+use Rattle.pac_board_course.specs.BoardView.{BoardView, power_on_board_view}
+use Rattle.pac_board_course.specs.Step.{Moment, Next, Goes, Ends}
+use Rattle.pac_board_course.specs.Trace.{by_view, frame_steps}
+use Rattle.pac_board_course.specs.Walk.{Walk, walk_after_step, has_ended}
+use Rattle.pac_board_course.proofs.Runs.{runs-end}
+use Rattle.pac_board_course.proofs.Walks.{going-before, going-far, going-is-early, going-steps, ended-for-good, open-is-late}
+use Rattle.pac_board_course.proofs.Walks.{stopped-has-ended}
 use Rattle.pac_board_course.proofs.Counted.{going-if-counted}
 use Rattle.pac_debug_session.specs.Running.{Setting, IsLeast, play_of, run, now_at, next_from, next_at, limit, is_late, stop_in, stop_at}
 use Rattle.pac_debug_session.specs.Running.{goes_at}

@@ -1,17 +1,16 @@
 -- To the end of a run: what was due, and what the run gives from there on.
-use Rattle.std.proofs.Common.{◌≡◌, ℕ, ◌/◌, Bool, true, false, not, ◌&&◌, ◌||◌, nat_lt, ◌<◌, length, drop, ◌++◌, refl, sym, ap, subst}
-use Rattle.std.proofs.Common.{◌∙◌, append_assoc, arith}
+use Rattle.std.proofs.Common.{◌≡◌, ℕ, Bool, true, false, not, ◌&&◌, ◌||◌, nat_lt, ◌<◌, length, drop, ◌++◌, refl, sym, ap, subst}
+use Rattle.std.proofs.Common.{◌∙◌, arith}
 use Rattle.std.proofs.lemmas.Bool.Decides.{nat_tests}
-use Rattle.pac_board.specs.Output.{Output}
-use Rattle.pac_board.specs.Step.{frame_ticks}
-use Rattle.pac_board.proofs.Walks.{not-both}
-use Rattle.pac_board.proofs.Sinks.{took-both, refuses-after}
-use Rattle.pac_board.specs.Sinks.{TookAll}
-use Rattle.pac_board.specs.State.{nothing_due}
+use Rattle.pac_board_course.proofs.Walks.{not-both}
+use Rattle.pac_board_course.proofs.Sinks.{took-both, cut-after, prefix-after}
+use Rattle.pac_board_course.specs.Sinks.{Giving, TookAll}
+use Rattle.pac_board_course.specs.State.{nothing_due}
+use Rattle.pac_board_course.specs.Course.{outcome_at}
+use Rattle.pac_board_course.specs.declared.outcome.Outcome.{Outcome}
 use Rattle.pac_debug_session.specs.declared.motion.MotionEnd.{MotionEnd}
 use Rattle.pac_debug_session.specs.declared.motion.MotionEnd.TheVariants.{AtStop, AtEnd, AtBreakpoint, AtFrame, AtStep}
 use Rattle.pac_debug_session.specs.declared.motion.Motion.TheVariants.{ToEnd}
-use Rattle.pac_debug_session.specs.declared.motion.RunTotals.{RunTotals}
 use Rattle.pac_debug_session.specs.Motions.{rests, RestsBy, moved_to, HasTravelled, IsTravelRefused, IsOutcome, IsFinished, IsFinishRefused}
 use Rattle.pac_debug_session.specs.Running.{Setting, run, whole_run, goes_at, outputs_between, outputs_from}
 use Rattle.pac_debug_session.specs.Session.{SessionValue, IsSession, session_due_outputs}
@@ -51,17 +50,17 @@ furthest-there s facts over = choose (nat_lt s.index s.furthest) refl
         not-both (sym over ∙ ap not (facts.goes s.index less))
     choose false e = let within = facts.within in grind (arith, nat_tests)
 
-module _ {S : Type 0} (took refused : S → Output → S → Type 0) (old : SessionValue) (sink between : S)
-    (before : TookAll took sink (session_due_outputs old) between) where
+module _ {S : Type 0} (to : Giving S) (old : SessionValue) (sink between : S)
+    (before : TookAll to.took sink (session_due_outputs old) between) where
   -- after what was due is taken
   abbrev begun-again : SessionValue
   begun-again = record old { due = nothing_due; replayed = 0 }
 
-  pub finished : (mid new : SessionValue) (later : S) (why : MotionEnd) (outcome : RunTotals) → mid ≡ begun-again
-      → HasTravelled took mid ToEnd between why new later → IsOutcome new outcome → IsSession new
-      → IsFinished took old sink outcome new later
+  pub finished : (mid new : SessionValue) (later : S) (why : MotionEnd) (outcome : Outcome) → mid ≡ begun-again
+      → HasTravelled to.took mid ToEnd between why new later → IsOutcome new outcome → IsSession new
+      → IsFinished to.took old sink outcome new later
   finished mid new later why outcome mid_is travelled ended facts =
-      let gone = subst (λ (s : SessionValue). HasTravelled took s ToEnd between why new later) mid_is travelled in
+      let gone = subst (λ (s : SessionValue). HasTravelled to.took s ToEnd between why new later) mid_is travelled in
       let setting = ap (λ (s : SessionValue). s.setting) gone.session in
       let over : not (goes_at old.setting new.index) ≡ true = sym (rests-at-end begun-again old.index new.index) ∙ gone.rest.here in
       let there = furthest-there new facts (ap (λ (run : Setting). not (goes_at run new.index)) setting ∙ over) in
@@ -79,23 +78,18 @@ module _ {S : Type 0} (took refused : S → Output → S → Type 0) (old : Sess
           none_before = λ earlier from less.
               sym (rests-at-end begun-again old.index earlier) ∙ gone.rest.none_before earlier from less;
         };
-        outcome_is = record {
-          frames = subst (λ (run : Setting). outcome.frames ≡ (whole_run run).now.time / frame_ticks) setting ended.frames;
-          steps = subst (λ (run : Setting). outcome.steps ≡ (whole_run run).now.steps) setting ended.steps;
-          ticks = subst (λ (run : Setting). outcome.ticks ≡ (whole_run run).now.time) setting ended.ticks;
-          stop = subst (λ (run : Setting). outcome.stop ≡ (whole_run run).stop) setting ended.stop;
-        };
+        outcome_is = ended ∙ ap (λ (run : Setting). outcome_at (whole_run run).now (whole_run run).stop) setting;
         session = gone.session;
         sink_is =
-            subst (λ xs. TookAll took sink (session_due_outputs old ++ xs) later) rest_is
-            (took-both took (session_due_outputs old) (outputs_between old.setting old.furthest new.furthest) sink between later before
+            subst (λ xs. TookAll to.took sink (session_due_outputs old ++ xs) later) rest_is
+            (took-both to.took (session_due_outputs old) (outputs_between old.setting old.furthest new.furthest) sink between later before
             gone.sink_is);
       }
 
   pub finish-refused : (mid new : SessionValue) (later : S) → mid ≡ begun-again
-      → IsTravelRefused took refused mid ToEnd between new later → IsFinishRefused took refused old sink new later
+      → IsTravelRefused to mid ToEnd between new later → IsFinishRefused to old sink new later
   finish-refused mid new later mid_is travelled =
-      let gone = subst (λ (s : SessionValue). IsTravelRefused took refused s ToEnd between new later) mid_is travelled in
+      let gone = subst (λ (s : SessionValue). IsTravelRefused to s ToEnd between new later) mid_is travelled in
       let due = session_due_outputs old in
       record {
         last = gone.last;
@@ -104,12 +98,6 @@ module _ {S : Type 0} (took refused : S → Output → S → Type 0) (old : Sess
         restless = λ earlier from less.
             unended (goes_at old.setting earlier) (sym (rests-at-end begun-again old.index earlier) ∙ gone.restless earlier from less);
         session = gone.session;
-        taken = due ++ gone.taken;
-        parts = ap (λ xs. due ++ xs) gone.parts ∙ sym (append_assoc due gone.taken (session_due_outputs new));
-        of_last =
-            let most = gone.of_last in (
-              most.0,
-              append_assoc due (outputs_between old.setting old.furthest gone.last) most.0 ∙ ap (λ xs. due ++ xs) most.1,
-            );
-        refuses = refuses-after took refused due gone.taken (session_due_outputs new) sink between later before gone.refuses;
+        cut = cut-after due sink between later before gone.cut;
+        of_last = prefix-after due (outputs_between old.setting old.furthest gone.last) gone.cut.taken gone.of_last;
       }

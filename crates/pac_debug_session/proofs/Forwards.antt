@@ -1,25 +1,26 @@
 -- One step forwards of a session: what its step gives is offered where it is fresh.
 use Rattle.std.proofs.Common.{◌≡◌, ℕ, suc, ◌+◌, ◌-◌, ◌*◌, ◌==◌, nat_le, ◌<◌, ◌≤◌, Bool, true, false, not, ◌&&◌, is_none, max, Some, Ok, Err}
-use Rattle.std.proofs.Common.{List, [], ◌∷◌, ◌++◌, length, drop, refl, sym, ap, subst, ◌∙◌, append_assoc, arith}
+use Rattle.std.proofs.Common.{List, [], ◌++◌, length, drop, refl, sym, ap, subst, ◌∙◌, append_assoc, arith}
 use Rattle.std.proofs.lemmas.Bool.Decides.{nat_tests}
 use Rattle.std.proofs.lemmas.List.{append-nil}
 use Rattle.std.proofs.Math.Seq.{drop-length, drop-append_seam}
 use mathlib.Core.List.{IsPrefix}
-use Rattle.pac_board.specs.StepKind.{StepKind}
-use Rattle.pac_board.specs.Once.{Once}
-use Rattle.pac_board.specs.OnceVariants.{Stepped, Stopped}
-use Rattle.pac_board.specs.Stop.{Stop}
-use Rattle.pac_inputs.specs.Stretches.{total_frames}
-use Rattle.pac_board.specs.BoardView.{BoardView, power_on_board_view}
-use Rattle.pac_board.specs.Output.{Output}
-use Rattle.pac_board.specs.Step.{Moment, Next, Goes, Ends}
-use Rattle.pac_board.specs.Trace.{by_view, frame_steps}
-use Rattle.pac_board.specs.Walk.{Walk}
-use Rattle.pac_board.proofs.Runs.{runs-are-joined, runs-end}
-use Rattle.pac_board.proofs.Walks.{ended-for-good}
-use Rattle.pac_board.specs.Calls.{once_at, outputs_in}
-use Rattle.pac_board.specs.Sinks.{TookAll}
-use Rattle.pac_board.specs.State.{nothing_due, steps_counted}
+use Rattle.pac_board_course.specs.StepKind.{StepKind}
+use Rattle.pac_board_course.specs.Once.{Once}
+use Rattle.pac_board_course.specs.OnceVariants.{Stepped, Stopped}
+use Rattle.pac_board_course.specs.Stop.{Stop}
+use Rattle.pac_board_course.specs.Stretches.{total_frames}
+use Rattle.pac_board_course.specs.BoardView.{BoardView, power_on_board_view}
+use Rattle.pac_board_course.specs.Output.{Output}
+use Rattle.pac_board_course.specs.Step.{Moment, Next, Goes, Ends}
+use Rattle.pac_board_course.specs.Trace.{by_view, frame_steps}
+use Rattle.pac_board_course.specs.Walk.{Walk}
+use Rattle.pac_board_course.proofs.Runs.{runs-are-joined, runs-end}
+use Rattle.pac_board_course.proofs.Sinks.{cut-along, cut-something}
+use Rattle.pac_board_course.proofs.Walks.{ended-for-good}
+use Rattle.pac_board_course.specs.Calls.{once_at, outputs_in}
+use Rattle.pac_board_course.specs.Sinks.{Giving, TookAll}
+use Rattle.pac_board_course.specs.State.{nothing_due, steps_counted}
 use Rattle.pac_debug_session.specs.Motions.{session_after_step, MakesStep, PassesOn, HasStepped, HasMetStop, IsSessionStepRefused}
 use Rattle.pac_debug_session.specs.Running.{Setting, play_of, run, whole_run, now_at, next_from, next_at, limit, is_late, stop_in, stop_at}
 use Rattle.pac_debug_session.specs.Running.{goes_at, outputs_between}
@@ -85,7 +86,7 @@ module _ (setting : Setting) where
 
 -- ---- one step
 
-module _ {S : Type 0} (took refused : S → Output → S → Type 0) (old : SessionValue) (facts : IsSession old) where
+module _ {S : Type 0} (to : Giving S) (old : SessionValue) (facts : IsSession old) where
   so-far : IsOpen old.setting old.index
   so-far = open-up-to old.setting old.index (λ earlier less. let within = facts.within in facts.goes earlier (omega arith))
 
@@ -132,7 +133,7 @@ module _ {S : Type 0} (took refused : S → Output → S → Type 0) (old : Sess
   module _ (once : Once) (mid new : SessionValue) (sink later : S) (early : is_late old.setting old.index ≡ false) where
     has-stepped : (A E : Type 0) (done : A) (fresh : Bool) → (old.index == old.furthest) ≡ fresh → (now : Moment BoardView)
         → (outputs : List Output) (kind : StepKind) → next_at old.setting old.index ≡ Goes now outputs kind → MakesStep old once mid
-        → PassesOn {A = A} {E = E} took refused fresh mid sink (Ok done) new later → HasStepped took old sink new later
+        → PassesOn {A = A} {E = E} to fresh mid sink (Ok done) new later → HasStepped to.took old sink new later
     has-stepped A E done true fresh now outputs kind is made passed =
         let same : old.index ≡ old.furthest = grind (arith, nat_tests) in
         let mid_is : mid ≡ session_after_step (Goes now outputs kind) old mid.due = made.session
@@ -146,7 +147,7 @@ module _ {S : Type 0} (took refused : S → Output → S → Type 0) (old : Sess
         record {
           goes = goes-here now outputs kind early is;
           session = session;
-          sink_is = subst (λ xs. TookAll took sink xs later) outputs_is passed.1;
+          sink_is = subst (λ xs. TookAll to.took sink xs later) outputs_is passed.1;
         }
     has-stepped A E done false fresh now outputs kind is made passed =
         let within = facts.within in
@@ -160,13 +161,13 @@ module _ {S : Type 0} (took refused : S → Output → S → Type 0) (old : Sess
           goes = goes-here now outputs kind early is;
           session = session;
           sink_is =
-              subst (λ xs. TookAll took sink xs later)
+              subst (λ xs. TookAll to.took sink xs later)
               (sym (stale-outputs less) ∙ ap (outputs_between old.setting old.furthest) (sym far)) passed.1;
         }
 
     pub steps-on : (A E : Type 0) (done : A) (fresh : Bool) → (old.index == old.furthest) ≡ fresh → (h : Next BoardView)
         → next_at old.setting old.index ≡ h → (ticks : ℕ) (kind : StepKind) → once ≡ Stepped ticks kind → MakesStep old once mid
-        → PassesOn {A = A} {E = E} took refused fresh mid sink (Ok done) new later → HasStepped took old sink new later
+        → PassesOn {A = A} {E = E} to fresh mid sink (Ok done) new later → HasStepped to.took old sink new later
     steps-on A E done fresh same (Goes now outputs k) is ticks kind went made passed =
         has-stepped A E done fresh same now outputs k is made passed
     steps-on A E done fresh same (Ends stop) is ticks kind went made passed =
@@ -175,13 +176,13 @@ module _ {S : Type 0} (took refused : S → Output → S → Type 0) (old : Sess
         absurd (cc)
 
     stays : (A E : Type 0) (done : A) (fresh : Bool) → old.due ≡ nothing_due → (stop : Stop) → next_at old.setting old.index ≡ Ends stop
-        → MakesStep old once mid → PassesOn {A = A} {E = E} took refused fresh mid sink (Ok done) new later
+        → MakesStep old once mid → PassesOn {A = A} {E = E} to fresh mid sink (Ok done) new later
         → (new ≡ old) × (later ≡ sink)
     stays A E done true nothing stop is made passed =
         let mid_is : mid ≡ old = made.session ∙ ap (λ h. session_after_step h old mid.due) is in
         let none : session_due_outputs mid ≡ [] = made.outputs ∙ ap outputs_in is in (
           passed.0 ∙ ap (λ (s : SessionValue). record s { due = nothing_due }) mid_is ∙ ap (λ due. record old { due = due }) (sym nothing),
-          subst (λ xs. TookAll took sink xs later) none passed.1,
+          subst (λ xs. TookAll to.took sink xs later) none passed.1,
         )
     stays A E done false nothing stop is made passed =
         let mid_is : mid ≡ old = made.session ∙ ap (λ h. session_after_step h old mid.due) is in (
@@ -191,7 +192,7 @@ module _ {S : Type 0} (took refused : S → Output → S → Type 0) (old : Sess
 
     pub stops-there : (A E : Type 0) (done : A) (fresh : Bool) → old.due ≡ nothing_due → (h : Next BoardView)
         → next_at old.setting old.index ≡ h → (stop : Stop) → once ≡ Stopped stop → MakesStep old once mid
-        → PassesOn {A = A} {E = E} took refused fresh mid sink (Ok done) new later → HasMetStop old sink stop new later
+        → PassesOn {A = A} {E = E} to fresh mid sink (Ok done) new later → HasMetStop old sink stop new later
     stops-there A E done fresh nothing (Goes now outputs k) is stop met made passed =
         let time = (now_at old.setting old.index).time in
         let went : once ≡ Stepped (now.time - time) k = made.once_is ∙ ap (λ h. once_at h time) is in
@@ -209,8 +210,8 @@ module _ {S : Type 0} (took refused : S → Output → S → Type 0) (old : Sess
 
     pub step-refused : (A E : Type 0) (refusal : E) (fresh : Bool) → (old.index == old.furthest) ≡ fresh → (h : Next BoardView)
         → next_at old.setting old.index ≡ h → MakesStep old once mid
-        → PassesOn {A = A} {E = E} took refused fresh mid sink (Err refusal) new later →
-        IsSessionStepRefused took refused old sink new later
+        → PassesOn {A = A} {E = E} to fresh mid sink (Err refusal) new later →
+        IsSessionStepRefused to old sink new later
     step-refused A E refusal false same h is made passed = absurd passed
     step-refused A E refusal true fresh (Goes now outputs kind) is made passed =
         let same : old.index ≡ old.furthest = grind (arith, nat_tests) in
@@ -224,17 +225,9 @@ module _ {S : Type 0} (took refused : S → Output → S → Type 0) (old : Sess
           goes = goes-here now outputs kind early is;
           fresh = same;
           session = session;
-          taken = passed.taken;
-          parts =
-              ap (outputs_between old.setting old.furthest) far ∙ fresh-outputs same ∙ given now outputs kind early is
-              ∙ ap outputs_in (sym is) ∙ sym made.outputs ∙ passed.parts;
-          refuses = passed.refuses;
+          cut =
+              cut-along
+              (ap (outputs_between old.setting old.furthest) far ∙ fresh-outputs same ∙ given now outputs kind early is
+              ∙ ap outputs_in (sym is) ∙ sym made.outputs) refl passed.cut;
         }
-    step-refused A E refusal true fresh (Ends stop) is made passed =
-        let none : [] ≡ passed.taken ++ session_due_outputs new = ap outputs_in (sym is) ∙ sym made.outputs ∙ passed.parts in
-        some passed.taken (session_due_outputs new) passed.refuses.first passed.refuses.rest none passed.refuses.left_is
-      where
-        some : (taken left : List Output) (first : Output) (rest : List Output) → [] ≡ taken ++ left → left ≡ first ∷ rest
-            → IsSessionStepRefused took refused old sink new later
-        some [] left first rest none is = absurd (cc)
-        some (x ∷ xs) left first rest none is = absurd (cc)
+    step-refused A E refusal true fresh (Ends stop) is made passed = cut-something passed.cut (made.outputs ∙ ap outputs_in is)

@@ -3,15 +3,15 @@ use Rattle.std.proofs.Common.{◌≡◌, ℕ, zero, suc, ◌<◌, Bool, true, fa
 use Rattle.std.proofs.Common.{List, ◌++◌, length, drop, refl, sym, ap, subst, ◌∙◌, arith}
 use Rattle.std.proofs.lemmas.Bool.Decides.{nat_tests}
 use Rattle.std.proofs.Math.Seq.{drop-append_seam}
-use Rattle.pac_board.specs.StepKind.{StepKind}
-use Rattle.pac_inputs.specs.Stretches.{held}
-use Rattle.pac_board.specs.BoardView.{BoardView}
-use Rattle.pac_board.specs.ModelLaws.{IsTimely}
-use Rattle.pac_board.specs.Output.{Output}
-use Rattle.pac_board.specs.Step.{Moment, Next, Goes, Ends}
-use Rattle.pac_board.specs.Trace.{by_view}
-use Rattle.pac_board.specs.Walk.{Walk, walk_after_step}
-use Rattle.pac_board.proofs.Walks.{open-goes-on, going-steps, play-timely, not-both}
+use Rattle.pac_board_course.specs.StepKind.{StepKind}
+use Rattle.pac_board_course.specs.Stretches.{held}
+use Rattle.pac_board_course.specs.BoardView.{BoardView}
+use Rattle.pac_board_course.specs.ModelLaws.{IsTimely}
+use Rattle.pac_board_course.specs.Output.{Output}
+use Rattle.pac_board_course.specs.Step.{Moment, Next, Goes, Ends}
+use Rattle.pac_board_course.specs.Trace.{by_view}
+use Rattle.pac_board_course.specs.Walk.{Walk, walk_after_step}
+use Rattle.pac_board_course.proofs.Walks.{open-goes-on, going-steps, play-timely, not-both}
 use Rattle.pac_debug_session.specs.Running.{Setting, run, now_at, next_from, next_at, limit, is_late, stop_in, stop_at, goes_at}
 use Rattle.pac_debug_session.specs.Running.{outputs_between}
 

@@ -1,25 +1,26 @@
 -- A session's run from its furthest index on is the way on of its course.
-use Rattle.std.proofs.Common.{◌≡◌, ℕ, zero, suc, ◌+◌, ◌*◌, ◌/◌, ◌≤◌, Option, List, [], ◌∷◌, ◌++◌, length, drop}
-use Rattle.std.proofs.Common.{refl, sym, ap, subst, ◌∙◌, append_assoc, arith}
+use Rattle.std.proofs.Common.{◌≡◌, ℕ, zero, suc, ◌+◌, ◌*◌, ◌≤◌, Option, List, ◌++◌, length, drop}
+use Rattle.std.proofs.Common.{refl, sym, ap, subst, ◌∙◌, arith}
 use Rattle.std.proofs.Math.Seq.{drop-append_seam}
-use Rattle.pac_inputs.specs.Stretches.{total_frames, held, most_frames}
-use Rattle.pac_board.specs.BoardView.{BoardView, power_on_board_view}
-use Rattle.pac_board.specs.Output.{Output}
-use Rattle.pac_board.specs.Step.{Moment, Next, frame_ticks}
-use Rattle.pac_board.specs.Stop.{Stop}
-use Rattle.pac_board.specs.Trace.{by_view, frame_steps}
-use Rattle.pac_board.specs.Walk.{Walk, walk, walk_to}
-use Rattle.pac_board.proofs.Runs.{runs-end}
-use Rattle.pac_board.proofs.Sinks.{took-both, refuses-after}
-use Rattle.pac_board.proofs.Walks.{joined, more-joined, goes-on, walk-to-ends}
-use Rattle.pac_board.specs.Sinks.{TookAll, RefusesAt}
-use Rattle.pac_board.specs.State.{nothing_due, due_outputs, due_outputs_in}
+use Rattle.pac_board_course.specs.Stretches.{total_frames, held, most_frames}
+use mathlib.Core.List.{IsPrefix}
+use Rattle.pac_board_course.specs.BoardView.{BoardView, power_on_board_view}
+use Rattle.pac_board_course.specs.Output.{Output}
+use Rattle.pac_board_course.specs.Step.{Moment, Next, frame_ticks}
+use Rattle.pac_board_course.specs.Stop.{Stop}
+use Rattle.pac_board_course.specs.Trace.{by_view, frame_steps}
+use Rattle.pac_board_course.specs.Walk.{Walk, walk, walk_to}
+use Rattle.pac_board_course.proofs.Runs.{runs-end}
+use Rattle.pac_board_course.proofs.Sinks.{took-both, cut-along, cut-after, cut-something, prefix-after}
+use Rattle.pac_board_course.proofs.Walks.{joined, more-joined, goes-on, walk-to-ends}
+use Rattle.pac_board_course.specs.Sinks.{Giving, TookAll}
+use Rattle.pac_board_course.specs.State.{nothing_due, due_outputs, due_outputs_in}
 use Rattle.pac_board_course.proofs.Begun.{walk-same, play-same}
-use Rattle.pac_board_course.specs.Course.{CourseValue, end_of, held_in, next_in, way_on, way_walked}
+use Rattle.pac_board_course.specs.Course.{CourseValue, end_of, held_in, next_in, way_on, way_walked, outcome_at}
+use Rattle.pac_board_course.specs.declared.outcome.Outcome.{Outcome}
 use Rattle.pac_board_course.specs.Plays.{IsOver, IsCourseHeldUp}
-use Rattle.pac_debug_session.specs.declared.motion.RunTotals.{RunTotals}
 use Rattle.pac_debug_session.specs.Motions.{IsFinished, IsFinishRefused, moved_to, replayed_to}
-use Rattle.pac_debug_session.specs.Playing.{course_of, totals_at}
+use Rattle.pac_debug_session.specs.Playing.{course_of}
 use Rattle.pac_debug_session.specs.Running.{play_of, run, whole_run, now_at, next_from, limit, outputs_between, outputs_from}
 use Rattle.pac_debug_session.specs.Session.{SessionValue, IsSession, session_due_outputs}
 use Rattle.pac_debug_session.proofs.Ends.{start, run-ends, goes-if-counted}
@@ -81,8 +82,8 @@ module _ (s : SessionValue) (opened : IsOpen s.setting s.index) where
 
 -- ---- a session that plays on
 
-module _ {S : Type 0} (took refused : S → Output → S → Type 0) (old : SessionValue) (facts : IsSession old) (sink between_sinks : S)
-    (before : TookAll took sink (session_due_outputs old) between_sinks) where
+module _ {S : Type 0} (to : Giving S) (old : SessionValue) (facts : IsSession old) (sink between_sinks : S)
+    (before : TookAll to.took sink (session_due_outputs old) between_sinks) where
   -- what was due is taken, and what was done before is done again
   abbrev at_furthest : SessionValue
   at_furthest = replayed_to (record old { due = nothing_due; replayed = 0 }) old.furthest
@@ -99,37 +100,32 @@ module _ {S : Type 0} (took refused : S → Output → S → Type 0) (old : Sess
   due = session_due_outputs old
 
   -- the run came to its end
-  pub played : (from after : CourseValue) (stop : Option Stop) (later : S) (outcome : RunTotals) → from ≡ course_of at_furthest
-      → IsOver took from between_sinks stop after later → outcome ≡ totals_at after.board stop
-      → (left : SessionValue) × IsFinished took old sink outcome left later
-  played from after stop later outcome begins is_over totals =
-      let over = subst (λ course. IsOver took course between_sinks stop after later) begins is_over in
+  pub played : (from after : CourseValue) (stop : Option Stop) (later : S) (outcome : Outcome) → from ≡ course_of at_furthest
+      → IsOver to.took from between_sinks stop after later → outcome ≡ outcome_at after.board.state.now stop
+      → (left : SessionValue) × IsFinished to.took old sink outcome left later
+  played from after stop later outcome begins is_over is =
+      let over = subst (λ course. IsOver to.took course between_sinks stop after later) begins is_over in
       let end = run-ends old.setting old.index (λ earlier less. let within = facts.within in facts.goes earlier (omega arith)) in
       let whole = run-on at_furthest opened-there in
       let now : after.board.state.now ≡ (whole_run old.setting).now
       = ap (λ (course : CourseValue). course.board.state.now) over.course ∙ ap (λ (w : Walk BoardView). w.now) whole in
-      let time = ap (λ (m : Moment BoardView). m.time) now in (
+      let met = over.stop_is ∙ ap (λ (w : Walk BoardView). w.stop) whole in (
         record (moved_to old end.0) { replayed = 0 },
         record {
           rest = end.1;
-          outcome_is = record {
-            frames = ap (λ (t : RunTotals). t.frames) totals ∙ ap (λ time. time / frame_ticks) time;
-            steps = ap (λ (t : RunTotals). t.steps) totals ∙ ap (λ (m : Moment BoardView). m.steps) now;
-            ticks = ap (λ (t : RunTotals). t.ticks) totals ∙ time;
-            stop = ap (λ (t : RunTotals). t.stop) totals ∙ over.stop_is ∙ ap (λ (w : Walk BoardView). w.stop) whole;
-          };
+          outcome_is = is ∙ (λ i. outcome_at (now i) (met i));
           session = refl;
           sink_is =
-              subst (λ xs. TookAll took sink (due ++ xs) later) (sym (given-on at_furthest opened-there))
-              (took-both took due (way_on (course_of at_furthest)).outputs sink between_sinks later before over.sink_is);
+              subst (λ xs. TookAll to.took sink (due ++ xs) later) (sym (given-on at_furthest opened-there))
+              (took-both to.took due (way_on (course_of at_furthest)).outputs sink between_sinks later before over.sink_is);
         },
       )
 
   -- the time at its end
   pub ends-near : (from after : CourseValue) (stop : Option Stop) (later : S) → from ≡ course_of at_furthest
-      → IsOver took from between_sinks stop after later → after.board.state.now.time ≤ frame_ticks * (most_frames + 1)
+      → IsOver to.took from between_sinks stop after later → after.board.state.now.time ≤ frame_ticks * (most_frames + 1)
   ends-near from after stop later begins is_over =
-      let over = subst (λ course. IsOver took course between_sinks stop after later) begins is_over in
+      let over = subst (λ course. IsOver to.took course between_sinks stop after later) begins is_over in
       let whole = run-on at_furthest opened-there in
       let time = ap (λ (course : CourseValue). course.board.state.now.time) over.course ∙ ap (λ (w : Walk BoardView). w.now.time) whole in
       let near = time-near old.setting (frame_steps * total_frames old.setting.script) in
@@ -137,18 +133,10 @@ module _ {S : Type 0} (took refused : S → Output → S → Type 0) (old : Sess
       omega (arith, time, near, short)
 
   -- an output was refused, after one step at least
-  gave-none : {A : Type 0} (taken left : List Output) (later : S) → [] ≡ taken ++ left
-      → RefusesAt took refused between_sinks taken left later
-      → A
-  gave-none [] left later none refuses = let is = none ∙ refuses.left_is in absurd (cc)
-  gave-none (output ∷ more) left later none refuses = absurd (cc)
-
   held-there : (after : CourseValue) (later : S) (steps : ℕ)
-      → (held : IsCourseHeldUp took refused (course_of at_furthest) between_sinks after later) → held.steps ≡ steps
-      → (left : SessionValue) × IsFinishRefused took refused old sink left later
-  held-there after later zero held count =
-      gave-none held.taken (due_outputs after.board) later
-      (ap (λ n. (way_walked (course_of at_furthest) n).outputs) (sym count) ∙ held.parts) held.refuses
+      → (held : IsCourseHeldUp to (course_of at_furthest) between_sinks after later) → held.steps ≡ steps
+      → (left : SessionValue) × IsFinishRefused to old sink left later
+  held-there after later zero held count = cut-something held.cut (ap (λ n. (way_walked (course_of at_furthest) n).outputs) count)
   held-there after later (suc more) held count =
       let last : ℕ = old.furthest + more in
       let index : ℕ = old.furthest + suc more in
@@ -168,11 +156,9 @@ module _ {S : Type 0} (took refused : S → Output → S → Type 0) (old : Sess
       let still : due_outputs after.board ≡ session_due_outputs left
       = ap (λ set. due_outputs_in set after.board.state.now.board after.board.state.due) set
       ∙ ap (λ (m : Moment BoardView). due_outputs_in old.setting.set m.board after.board.state.due) at in
-      let given : outputs_between old.setting old.furthest index ≡ held.taken ++ session_due_outputs left
-      = given-walked at_furthest opened-there (suc more)
-      ∙ ap (λ n. (way_walked (course_of at_furthest) n).outputs) (sym count)
-      ∙ held.parts ∙ ap (λ xs. held.taken ++ xs) still in
-      let most = held.of_last more count in (
+      let given = given-walked at_furthest opened-there (suc more) ∙ ap (λ n. (way_walked (course_of at_furthest) n).outputs) (sym count) in
+      let most =
+      subst (λ outputs. IsPrefix outputs held.cut.taken) (sym (given-walked at_furthest opened-there more)) (held.of_last more count) in (
         left,
         record {
           last = last;
@@ -180,22 +166,14 @@ module _ {S : Type 0} (took refused : S → Output → S → Type 0) (old : Sess
           fresh = omega arith;
           restless = λ earlier from less. goes-if-counted old.setting last counted earlier less;
           session = refl;
-          taken = due ++ held.taken;
-          parts = ap (λ xs. due ++ xs) given ∙ sym (append_assoc due held.taken (session_due_outputs left));
-          of_last = (
-            most.0,
-            append_assoc due (outputs_between old.setting old.furthest last) most.0
-                ∙ ap (λ xs. due ++ (xs ++ most.0)) (given-walked at_furthest opened-there more) ∙ ap (λ xs. due ++ xs) most.1,
-          );
-          refuses =
-              subst (λ left. RefusesAt took refused sink (due ++ held.taken) left later) still
-              (refuses-after took refused due held.taken (due_outputs after.board) sink between_sinks later before held.refuses);
+          cut = cut-after due sink between_sinks later before (cut-along given still held.cut);
+          of_last = prefix-after due (outputs_between old.setting old.furthest last) held.cut.taken most;
         },
       )
 
   pub held-up : (from after : CourseValue) (later : S) → from ≡ course_of at_furthest
-      → IsCourseHeldUp took refused from between_sinks after later
-      → (left : SessionValue) × IsFinishRefused took refused old sink left later
+      → IsCourseHeldUp to from between_sinks after later
+      → (left : SessionValue) × IsFinishRefused to old sink left later
   held-up from after later begins held =
-      let told = subst (λ course. IsCourseHeldUp took refused course between_sinks after later) begins held in
+      let told = subst (λ course. IsCourseHeldUp to course between_sinks after later) begins held in
       held-there after later told.steps told refl

@@ -5,25 +5,30 @@ use Rattle.std.proofs.Common.{arith}
 use Rattle.std.proofs.lemmas.Bool.Decides.{nat_tests}
 use Rattle.std.proofs.lemmas.List.{length-append, length-drop, drop-drop, drop-append-le}
 use Rattle.circular_buffer.specs.Buffer.{keep_last}
-use Rattle.pac_board.specs.Once.{Once}
-use Rattle.pac_board.specs.StepKind.{StepKind}
-use Rattle.pac_inputs.specs.declared.line.Stretch.{Stretch}
-use Rattle.pac_board.specs.BoardView.{BoardView}
-use Rattle.pac_board.specs.Output.{Output}
-use Rattle.pac_board.specs.Step.{Moment, Next, Goes, Ends}
-use Rattle.pac_board.specs.declared.due.Due.{Due}
-use Rattle.pac_board.specs.State.{BoardValue, nothing_due, steps_counted, due_outputs_in}
-use Rattle.pac_board.specs.Calls.{board_after_step, once_at, outputs_in}
+use Rattle.pac_board_course.specs.Once.{Once}
+use Rattle.pac_board_course.specs.StepKind.{StepKind}
+use Rattle.pac_board_course.specs.Stretch.{Stretch}
+use Rattle.pac_board_course.specs.BoardView.{BoardView}
+use Rattle.pac_board_course.specs.Output.{Output}
+use Rattle.pac_board_course.specs.Step.{Moment, Next, Goes, Ends}
+use Rattle.pac_board_course.specs.Due.{Due}
+use Rattle.pac_board_course.specs.State.{BoardValue, nothing_due, steps_counted, due_outputs_in}
+use Rattle.pac_board_course.specs.Calls.{board_after_step, once_at, outputs_in}
+use Rattle.pac_board_course.specs.Trace.{by_view}
+use Rattle.pac_board_course.specs.Stretches.{held}
+use Rattle.pac_board_course.proofs.Begun.{play-same}
+use Rattle.pac_board_course.specs.Course.{CourseValue, held_in, next_on}
+use Rattle.pac_board_course.specs.Plays.{IsCourseAdvanced}
 use Rattle.pac_debug_session.specs.declared.history.PastStep.{PastStep}
 use Rattle.pac_debug_session.specs.declared.kept.SessionSnapshot.{SessionSnapshot}
 use Rattle.pac_debug_session.specs.declared.kept.SlotContents.{SlotContents}
 use Rattle.pac_debug_session.specs.Inside.{IsStanding, AreSlotsRight}
 use Rattle.pac_debug_session.specs.Keeping.{Ring, mark_of, kept_of, ring_with_checkpoint, ring_after_index, IsKeptAt, AreCheckpoints}
+use Rattle.pac_debug_session.specs.Keeping.{told_after}
 use Rattle.pac_debug_session.specs.Motions.{checkpoint_steps, checkpoint_count, session_after_step}
 use Rattle.pac_debug_session.specs.Past.{past_steps, past_of, told_at, told_step_count}
 use Rattle.pac_debug_session.specs.Running.{Setting, now_at, next_from, next_at, is_late, stop_in, stop_at, goes_at}
 use Rattle.pac_debug_session.specs.Session.{SessionValue, IsSeen, AreSeen}
-use Rattle.pac_debug_session.specs.Steps.{PlaysStep, next_on, told_after}
 use Rattle.pac_debug_session.proofs.Indices.{open-up-to, one-more}
 
 -- ---- the steps that are told
@@ -110,6 +115,10 @@ module _ (board : BoardValue) (switches : ℕ) (script : List Stretch) (history 
   abbrev index : ℕ
   index = board.state.now.steps
 
+  -- the course that is played, on a board
+  abbrev course_on : BoardValue → CourseValue
+  course_on b = record { board = b; script = script; gone = 0 }
+
   abbrev ring_after : Ring
   ring_after = ring_after_index index ring (kept_of board history)
 
@@ -159,8 +168,11 @@ module _ (board : BoardValue) (switches : ℕ) (script : List Stretch) (history 
   left stands nothing unasked = left-if (index == checkpoint_steps * ring.taken) refl stands nothing unasked
 
   -- what the step comes to is what it comes to in the run
-  next-is : IsStanding setting board.state.now history furthest ring → next_on script board ≡ next_at setting index
-  next-is stands = ap (next_from setting) stands.now_is
+  next-is : IsStanding setting board.state.now history furthest ring → next_on (course_on board) ≡ next_at setting index
+  next-is stands =
+      let masks : (frame : ℕ) → held_in (course_on board) frame ≡ held script frame = λ frame. ap (held script) (omega arith) in
+      play-same (by_view board.set) (held_in (course_on board)) (held script) masks board.state.now
+      ∙ ap (next_from setting) stands.now_is
 
   goes-here : is_late setting index ≡ false → (now : Moment BoardView) (outputs : List Output) (kind : StepKind)
       → next_at setting index ≡ Goes now outputs kind → goes_at setting index ≡ true
@@ -276,13 +288,13 @@ module _ (board : BoardValue) (switches : ℕ) (script : List Stretch) (history 
 
   pub made-step : (once : Once) (new : BoardValue) (steps : List PastStep)
       → IsStanding setting board.state.now history furthest ring → board.state.due ≡ nothing_due → board.state.asked ≡ 0
-      → is_late setting index ≡ false → PlaysStep script board once new
+      → is_late setting index ≡ false → IsCourseAdvanced (course_on board) once (course_on new)
       → steps ≡ told_after history index board.state.now.regs.pc once → HasMade steps new
   made-step once new steps stands nothing unasked early played told =
       let h = next_at setting index in
       let is = next-is stands in
       let same : new ≡ board_after_step h board new.state.due
-      = played.board ∙ ap (λ next. board_after_step next board new.state.due) is in
+      = ap (λ (course : CourseValue). course.board) played.course ∙ ap (λ next. board_after_step next board new.state.due) is in
       let once_is : once ≡ once_at h board.state.now.time
       = played.once_is ∙ ap (λ next. once_at next board.state.now.time) is in
       subst (HasMade steps) (sym same)
@@ -291,11 +303,12 @@ module _ (board : BoardValue) (switches : ℕ) (script : List Stretch) (history 
 
   -- its answer and its outputs
   pub made-once : (once : Once) (new : BoardValue) → IsStanding setting board.state.now history furthest ring
-      → PlaysStep script board once new → once ≡ once_at (next_at setting index) (now_at setting index).time
+      → IsCourseAdvanced (course_on board) once (course_on new) → once ≡ once_at (next_at setting index) (now_at setting index).time
   made-once once new stands played =
       played.once_is ∙ ap (λ next. once_at next board.state.now.time) (next-is stands)
       ∙ ap (λ (m : Moment BoardView). once_at (next_at setting index) m.time) stands.now_is
 
   pub made-outputs : (once : Once) (new : BoardValue) → IsStanding setting board.state.now history furthest ring
-      → PlaysStep script board once new → due_outputs_in new.set new.state.now.board new.state.due ≡ outputs_in (next_at setting index)
+      → IsCourseAdvanced (course_on board) once (course_on new)
+      → due_outputs_in new.set new.state.now.board new.state.due ≡ outputs_in (next_at setting index)
   made-outputs once new stands played = played.outputs ∙ ap outputs_in (next-is stands)

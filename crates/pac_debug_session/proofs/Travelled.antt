@@ -1,22 +1,21 @@
 -- A motion is steps forwards, one after another, up to the least index at which it rests.
 use Rattle.std.proofs.Common.{◌≡◌, ℕ, suc, ◌+◌, ◌-◌, ◌^◌, ◌<◌, ◌≤◌, Bool, true, false, not, ◌&&◌, ◌||◌, is_none, max, nat_lt}
-use Rattle.std.proofs.Common.{Option, None, Some, ◌++◌, refl, sym, ap, subst, ◌∙◌, append_assoc, arith}
+use Rattle.std.proofs.Common.{Option, None, Some, ◌++◌, refl, sym, ap, subst, ◌∙◌, arith}
 use Rattle.std.proofs.lemmas.Bool.Decides.{nat_tests}
 use mathlib.Core.List.{IsPrefix, prefix-append}
-use Rattle.pac_board.specs.Stop.{Stop}
-use Rattle.pac_inputs.specs.Stretches.{held}
-use Rattle.pac_board.specs.Entry.{Hold}
-use Rattle.pac_board.specs.Instructions.{most_ticks}
-use Rattle.pac_board.specs.Output.{Output}
-use Rattle.pac_board.specs.BoardView.{BoardView, power_on_board_view, board_after}
-use Rattle.pac_board.specs.Step.{Next, Goes, Ends}
-use Rattle.pac_board.specs.Trace.{by_view, power_on_moment}
-use Rattle.pac_board.specs.Walk.{Walk, walk_after_step, has_ended}
-use Rattle.pac_board.proofs.Runs.{runs-end, walk-near}
-use Rattle.pac_board.proofs.Walks.{not-both, late-has-ended, stopped-has-ended}
-use Rattle.pac_board.proofs.Sinks.{took-both, refuses-after}
-use Rattle.pac_board.specs.Sinks.{TookAll}
-use Rattle.pac_board.specs.State.{nothing_due, steps_counted}
+use Rattle.pac_board_course.specs.Stop.{Stop}
+use Rattle.pac_board_course.specs.Stretches.{held}
+use Rattle.pac_board_course.specs.Entry.{Hold}
+use Rattle.pac_board_course.specs.Instructions.{most_ticks}
+use Rattle.pac_board_course.specs.BoardView.{BoardView, power_on_board_view, board_after}
+use Rattle.pac_board_course.specs.Step.{Next, Goes, Ends}
+use Rattle.pac_board_course.specs.Trace.{by_view, power_on_moment}
+use Rattle.pac_board_course.specs.Walk.{Walk, walk_after_step, has_ended}
+use Rattle.pac_board_course.proofs.Runs.{runs-end, walk-near}
+use Rattle.pac_board_course.proofs.Walks.{not-both, late-has-ended, stopped-has-ended}
+use Rattle.pac_board_course.proofs.Sinks.{took-both, cut-along, cut-after}
+use Rattle.pac_board_course.specs.Sinks.{Giving, TookAll}
+use Rattle.pac_board_course.specs.State.{nothing_due, steps_counted}
 use Rattle.pac_debug_session.specs.declared.motion.MotionEnd.{MotionEnd}
 use Rattle.pac_debug_session.specs.declared.motion.MotionEnd.TheVariants.{AtStop, AtEnd, AtBreakpoint, AtFrame, AtStep}
 use Rattle.pac_debug_session.specs.declared.motion.Motion.{Motion}
@@ -28,7 +27,7 @@ use Rattle.pac_debug_session.specs.Motions.{HasTravelled, IsTravelRefused}
 use Rattle.pac_debug_session.specs.Running.{Setting, play_of, run, whole_run, now_at, next_from, next_at, limit, is_late, stop_in, stop_at}
 use Rattle.pac_debug_session.specs.Running.{goes_at}
 use Rattle.pac_debug_session.specs.Running.{outputs_between}
-use Rattle.pac_debug_session.specs.Session.{SessionValue, IsSession, breaks_at, session_due_outputs}
+use Rattle.pac_debug_session.specs.Session.{SessionValue, IsSession, breaks_at}
 use Rattle.pac_debug_session.proofs.Indices.{IsOpen, open-up-to, next-index, timely, early-time, goes-on, one-more}
 use Rattle.pac_debug_session.proofs.Forwards.{between-joined, between-self}
 
@@ -93,13 +92,13 @@ met-by s ToEnd from index early met = never-met s from index met
 
 -- ---- the motion
 
-module _ {S : Type 0} (took : S → Output → S → Type 0) (old : SessionValue) (motion : Motion) (sink : S) where
+module _ {S : Type 0} (to : Giving S) (old : SessionValue) (motion : Motion) (sink : S) where
   -- so far no index rests, and all outputs were taken
   pub record IsUnderway (s : SessionValue) (taker : S) : Type 0 where
     pub after : old.index ≤ s.index
     pub restless : (earlier : ℕ) → old.index ≤ earlier → earlier < s.index → rests old motion old.index earlier ≡ false
     pub session : s ≡ moved_to old s.index
-    pub sink_is : TookAll took sink (outputs_between old.setting old.furthest s.furthest) taker
+    pub sink_is : TookAll to.took sink (outputs_between old.setting old.furthest s.furthest) taker
 
   pub underway-begins : IsSession old → old.due ≡ nothing_due → IsUnderway old sink
   underway-begins facts nothing =
@@ -113,7 +112,7 @@ module _ {S : Type 0} (took : S → Output → S → Type 0) (old : SessionValue
             ap (λ n. record old { furthest = n }) far
             ∙ ap (λ due. record old { furthest = max old.furthest old.index; due = due }) nothing
             ∙ ap (λ n. record old { furthest = max old.furthest old.index; due = nothing_due; made = n }) made;
-        sink_is = subst (λ xs. TookAll took sink xs sink) (sym (between-self old.setting old.furthest)) refl;
+        sink_is = subst (λ xs. TookAll to.took sink xs sink) (sym (between-self old.setting old.furthest)) refl;
       }
 
   -- facts of where it is, said of where it began
@@ -158,7 +157,7 @@ module _ {S : Type 0} (took : S → Output → S → Type 0) (old : SessionValue
           (goes-past old motion old.index s.index (met-there s s.index false under.session unmet) here)
 
   pub underway-more : (s new : SessionValue) (taker later : S) → IsUnderway s taker → has_met s motion old.index s.index ≡ false
-      → HasStepped took s taker new later → IsUnderway new later
+      → HasStepped to.took s taker new later → IsUnderway new later
   underway-more s new taker later under unmet one =
       let after = under.after in
       let setting = ap (λ (t : SessionValue). t.setting) under.session in
@@ -171,16 +170,16 @@ module _ {S : Type 0} (took : S → Output → S → Type 0) (old : SessionValue
         restless = λ earlier from less. restless-on s taker under unmet one.goes earlier from (omega arith);
         session = session ∙ ap (moved_to old) (sym index);
         sink_is =
-            subst (λ xs. TookAll took sink xs later)
+            subst (λ xs. TookAll to.took sink xs later)
             (between-joined old.setting old.furthest s.furthest new.furthest (omega arith) (omega arith))
-            (took-both took (outputs_between old.setting old.furthest s.furthest) (outputs_between old.setting s.furthest new.furthest)
+            (took-both to.took (outputs_between old.setting old.furthest s.furthest) (outputs_between old.setting s.furthest new.furthest)
             sink taker later under.sink_is
-            (subst (λ run. TookAll took taker (outputs_between run s.furthest new.furthest) later) setting one.sink_is));
+            (subst (λ run. TookAll to.took taker (outputs_between run s.furthest new.furthest) later) setting one.sink_is));
       }
 
   -- it rests where it is
   pub underway-rests : (s : SessionValue) (taker : S) (why : MotionEnd) → IsUnderway s taker → rests old motion old.index s.index ≡ true
-      → RestsBy old motion old.index s.index why → HasTravelled took old motion sink why s taker
+      → RestsBy old motion old.index s.index why → HasTravelled to.took old motion sink why s taker
   underway-rests s taker why under here by = record {
     rest = record { after = under.after; here = here; none_before = under.restless };
     why_is = by;
@@ -189,27 +188,28 @@ module _ {S : Type 0} (took : S → Output → S → Type 0) (old : SessionValue
   }
 
   pub underway-late : (s : SessionValue) (taker : S) → IsUnderway s taker → is_late s.setting s.index ≡ true
-      → HasTravelled took old motion sink AtEnd s taker
+      → HasTravelled to.took old motion sink AtEnd s taker
   underway-late s taker under late =
       let setting = ap (λ (t : SessionValue). t.setting) under.session in
       let over : is_late old.setting s.index ≡ true = ap (λ run. is_late run s.index) (sym setting) ∙ late in
       underway-rests s taker AtEnd under (rests-late old motion old.index s.index over) over
 
   pub underway-met : (s : SessionValue) (taker : S) → IsUnderway s taker → is_late s.setting s.index ≡ false
-      → has_met s motion old.index s.index ≡ true → HasTravelled took old motion sink (motion_ending motion (breaks_at s s.index)) s taker
+      → has_met s motion old.index s.index ≡ true
+      → HasTravelled to.took old motion sink (motion_ending motion (breaks_at s s.index)) s taker
   underway-met s taker under early met =
       let setting = ap (λ (t : SessionValue). t.setting) under.session in
       let open_yet : is_late old.setting s.index ≡ false = ap (λ run. is_late run s.index) (sym setting) ∙ early in
       let there = met-there s s.index true under.session met in
       let same : breaks_at s s.index ≡ breaks_at old s.index
       = ap (λ (t : SessionValue). breaks_at t s.index) under.session in
-      subst (λ breaks. HasTravelled took old motion sink (motion_ending motion breaks) s taker) (sym same)
+      subst (λ breaks. HasTravelled to.took old motion sink (motion_ending motion breaks) s taker) (sym same)
       (underway-rests s taker (motion_ending motion (breaks_at old s.index)) under (rests-met old motion old.index s.index there)
       (met-by old motion old.index s.index open_yet there))
 
   pub underway-stopped : (s new : SessionValue) (taker later : S) (stop : Stop) → IsUnderway s taker → is_late s.setting s.index ≡ false
       → has_met s motion old.index s.index ≡ false → HasMetStop s taker stop new later
-      → HasTravelled took old motion sink (AtStop stop) new later
+      → HasTravelled to.took old motion sink (AtStop stop) new later
   underway-stopped s new taker later stop under early unmet stopped =
       let setting = ap (λ (t : SessionValue). t.setting) under.session in
       let open_yet : is_late old.setting s.index ≡ false = ap (λ run. is_late run s.index) (sym setting) ∙ early in
@@ -217,13 +217,12 @@ module _ {S : Type 0} (took : S → Output → S → Type 0) (old : SessionValue
       let done =
       underway-rests s taker (AtStop stop) under (rests-stopped old motion old.index s.index stop open_yet met)
       (record { early = open_yet; unmet = met-there s s.index false under.session unmet; stop_is = met }) in
-      subst (λ (t : SessionValue). HasTravelled took old motion sink (AtStop stop) t later) (sym stopped.session)
-      (subst (λ taken. HasTravelled took old motion sink (AtStop stop) s taken) (sym stopped.sink_is) done)
+      subst (λ (t : SessionValue). HasTravelled to.took old motion sink (AtStop stop) t later) (sym stopped.session)
+      (subst (λ taken. HasTravelled to.took old motion sink (AtStop stop) s taken) (sym stopped.sink_is) done)
 
-  pub underway-refused : (refused : S → Output → S → Type 0) (s new : SessionValue) (taker later : S) → IsUnderway s taker
-      → has_met s motion old.index s.index ≡ false → IsSessionStepRefused took refused s taker new later
-      → IsTravelRefused took refused old motion sink new later
-  underway-refused refused s new taker later under unmet step =
+  pub underway-refused : (s new : SessionValue) (taker later : S) → IsUnderway s taker → has_met s motion old.index s.index ≡ false
+      → IsSessionStepRefused to s taker new later → IsTravelRefused to old motion sink new later
+  underway-refused s new taker later under unmet step =
       let after = under.after in
       let setting = ap (λ (t : SessionValue). t.setting) under.session in
       let session : new ≡ record (moved_to old (s.index + 1)) { due = new.due }
@@ -233,8 +232,7 @@ module _ {S : Type 0} (took : S → Output → S → Type 0) (old : SessionValue
       let second : new.furthest ≡ max old.furthest (s.index + 1) = ap (λ (t : SessionValue). t.furthest) session in
       let fresh = step.fresh in
       let before = outputs_between old.setting old.furthest s.furthest in
-      let last : outputs_between old.setting s.furthest new.furthest ≡ step.taken ++ session_due_outputs new
-      = ap (λ run. outputs_between run s.furthest new.furthest) (sym setting) ∙ step.parts in
+      let more = cut-along (ap (λ run. outputs_between run s.furthest new.furthest) (sym setting)) refl step.cut in
       let far : new.furthest ≡ new.index = omega arith in
       record {
         last = s.index;
@@ -242,15 +240,14 @@ module _ {S : Type 0} (took : S → Output → S → Type 0) (old : SessionValue
         fresh = omega arith;
         restless = restless-on s taker under unmet step.goes;
         session = session ∙ ap (λ n. record (moved_to old n) { due = new.due }) (sym index);
-        taken = before ++ step.taken;
-        parts =
-            ap (outputs_between old.setting old.furthest) (sym far)
-            ∙ sym (between-joined old.setting old.furthest s.furthest new.furthest (omega arith) (omega arith))
-            ∙ ap (λ xs. before ++ xs) last ∙ sym (append_assoc before step.taken (session_due_outputs new));
+        cut =
+            cut-along
+            (ap (outputs_between old.setting old.furthest) (sym far)
+            ∙ sym (between-joined old.setting old.furthest s.furthest new.furthest (omega arith) (omega arith))) refl
+            (cut-after before sink taker later under.sink_is more);
         of_last =
-            subst (λ n. IsPrefix (outputs_between old.setting old.furthest n) (before ++ step.taken)) (sym fresh)
-            (prefix-append before step.taken);
-        refuses = refuses-after took refused before step.taken (session_due_outputs new) sink taker later under.sink_is step.refuses;
+            subst (λ n. IsPrefix (outputs_between old.setting old.furthest n) (before ++ step.cut.taken)) (sym fresh)
+            (prefix-append before step.cut.taken);
       }
 
   -- up to where it is the run goes on
@@ -276,7 +273,7 @@ module _ {S : Type 0} (took : S → Output → S → Type 0) (old : SessionValue
 
   -- each step takes of the time that is left
   pub time-falls : (s new : SessionValue) (taker later : S) → IsSession old → IsUnderway s taker → is_late s.setting s.index ≡ false
-      → HasStepped took s taker new later
+      → HasStepped to.took s taker new later
       → limit new.setting - (now_at new.setting new.index).time < limit s.setting - (now_at s.setting s.index).time
   time-falls s new taker later facts under early one =
       let setting : s.setting ≡ old.setting = ap (λ (t : SessionValue). t.setting) under.session in

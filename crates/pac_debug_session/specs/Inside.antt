@@ -1,8 +1,8 @@
 -- For proofs: what a session's fields say, and what holds of them.
 use Rattle.std.specs.Prelude.{◌≡◌, ◌<◌, ◌≤◌, ℕ, ◌+◌, ◌*◌, true, List, length, map}
-use Rattle.pac_inputs.specs.Stretches.{total_frames, most_frames}
-use Rattle.pac_board.specs.BoardView.{BoardView}
-use Rattle.pac_board.specs.Step.{Moment}
+use Rattle.pac_board_course.specs.Stretches.{total_frames, most_frames}
+use Rattle.pac_board_course.specs.BoardView.{BoardView}
+use Rattle.pac_board_course.specs.Step.{Moment}
 use Rattle.pac_debug_session.specs.declared.history.PastStep.{PastStep}
 use Rattle.pac_debug_session.specs.declared.kept.SlotContents.{SlotContents}
 use Rattle.pac_debug_session.specs.declared.session.Session.TheInside.{Inside}

@@ -3,9 +3,9 @@ pub mod Past
 pub mod Session
 pub mod Motions
 pub mod Keeping
-pub mod Steps
 pub mod Inside
 pub mod Playing
 pub mod Silent
 pub mod Laws
-pub use Rattle.pac_inputs.specs.Stretches
+pub use Rattle.pac_board_course.specs.declared.outcome.Outcome
+pub use Rattle.pac_board_course.specs.Stretches

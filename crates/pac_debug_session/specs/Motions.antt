@@ -1,25 +1,27 @@
 -- To be believed: how a session moves: forwards to where a motion rests, back by so many steps, and to a slot.
 use Rattle.std.specs.Prelude.{◌≡◌, ◌<◌, ◌≤◌, ℕ, ◌+◌, ◌-◌, ◌*◌, ◌/◌, ◌%◌, Bool, true, false, ◌&&◌, ◌||◌, not, nat_le, nat_lt, max}
 use Rattle.std.specs.Prelude.{if◌then◌else◌}
-use Rattle.std.specs.Prelude.{List, ◌++◌, Option, None, Some, Result, Ok, Err, ◌⊎◌, slice_set}
+use Rattle.std.specs.Prelude.{◌++◌, Option, None, Some, Result, Ok, Err, ◌⊎◌, slice_set}
 use mathlib.Core.List.{IsPrefix}
-use Rattle.pac_board.specs.Once.{Once}
-use Rattle.pac_board.specs.Stop.{Stop}
-use Rattle.pac_board.specs.Output.{Output}
-use Rattle.pac_board.specs.BoardView.{BoardView}
-use Rattle.pac_board.specs.Step.{Next, Goes, Ends, frame_ticks}
-use Rattle.pac_board.specs.declared.due.Due.{Due}
-use Rattle.pac_board.specs.Calls.{once_at, outputs_in}
-use Rattle.pac_board.specs.Sinks.{TookAll, RefusesAt}
-use Rattle.pac_board.specs.State.{nothing_due, steps_counted}
+use Rattle.pac_board_course.specs.Once.{Once}
+use Rattle.pac_board_course.specs.Stop.{Stop}
+use Rattle.pac_board_course.specs.Output.{Output}
+use Rattle.pac_board_course.specs.BoardView.{BoardView}
+use Rattle.pac_board_course.specs.Step.{Next, Goes, Ends}
+use Rattle.pac_board_course.specs.Due.{Due}
+use Rattle.pac_board_course.specs.Calls.{once_at, outputs_in}
+use Rattle.pac_board_course.specs.Sinks.{Giving, TookAll, Cut}
+use Rattle.pac_board_course.specs.State.{nothing_due, steps_counted}
+use Rattle.pac_board_course.specs.Course.{outcome_at}
+use Rattle.pac_board_course.specs.declared.outcome.Outcome.{Outcome}
 use Rattle.pac_debug_session.specs.declared.motion.Motion.{Motion}
 use Rattle.pac_debug_session.specs.declared.motion.Motion.TheVariants.{Steps, Continue, Frames, ToEnd}
 use Rattle.pac_debug_session.specs.declared.motion.MotionEnd.{MotionEnd}
 use Rattle.pac_debug_session.specs.declared.motion.MotionEnd.TheVariants.{AtStop, AtEnd, AtBreakpoint, AtFrame, AtStep}
-use Rattle.pac_debug_session.specs.declared.motion.RunTotals.{RunTotals}
 use Rattle.pac_debug_session.specs.Running.{now_at, next_at, is_late, stop_at, goes_at, blanks_at, outputs_between, outputs_from, whole_run}
 use Rattle.pac_debug_session.specs.Running.{IsLeast}
-use Rattle.pac_debug_session.specs.Session.{SessionValue, IsSessionOfferRefused, breaks_at, session_due_outputs}
+use Rattle.pac_debug_session.specs.Session.{SessionValue, SessionOffers, IsSessionOfferRefused, session_at_command, breaks_at}
+use Rattle.pac_debug_session.specs.Session.{session_due_outputs}
 
 -- ---- where a motion rests
 
@@ -84,23 +86,19 @@ pub record HasTravelled {S : Type 0} (took : S → Output → S → Type 0) (old
 
 -- The sink refused an output: the session stands after the step that gave it, which is a new one, and at no index up to that step
 -- does the motion rest. The output and what comes after it are due, and all that was given before was taken.
-pub record IsTravelRefused {S : Type 0} (took refused : S → Output → S → Type 0) (old : SessionValue) (motion : Motion) (sink : S)
-    (new : SessionValue) (later : S)
+pub record IsTravelRefused {S : Type 0} (to : Giving S) (old : SessionValue) (motion : Motion) (sink : S) (new : SessionValue) (later : S)
     : Type 0 where
   pub last : ℕ
   pub index : new.index ≡ last + 1
   pub fresh : old.furthest ≤ last
   pub restless : (earlier : ℕ) → old.index ≤ earlier → earlier ≤ last → rests old motion old.index earlier ≡ false
   pub session : new ≡ record (moved_to old new.index) { due = new.due }
-  pub taken : List Output
-  pub parts : outputs_between old.setting old.furthest new.index ≡ taken ++ session_due_outputs new
-  pub of_last : IsPrefix (outputs_between old.setting old.furthest last) taken
-  pub refuses : RefusesAt took refused sink taken (session_due_outputs new) later
+  pub cut : Cut to sink (outputs_between old.setting old.furthest new.index) (session_due_outputs new) later
+  pub of_last : IsPrefix (outputs_between old.setting old.furthest last) cut.taken
 
-abbrev pub Travels : {S E : Type 0} → (S → Output → S → Type 0) → (S → Output → S → Type 0)
-    → SessionValue → Motion → S → Result MotionEnd E → SessionValue → S → Type 0
-Travels took refused old motion sink (Ok why) new later = HasTravelled took old motion sink why new later
-Travels took refused old motion sink (Err refusal) new later = IsTravelRefused took refused old motion sink new later
+abbrev pub Travels : {S E : Type 0} → Giving S → SessionValue → Motion → S → Result MotionEnd E → SessionValue → S → Type 0
+Travels to old motion sink (Ok why) new later = HasTravelled to.took old motion sink why new later
+Travels to old motion sink (Err refusal) new later = IsTravelRefused to old motion sink new later
 
 -- ---- one step forwards
 
@@ -115,27 +113,11 @@ pub record MakesStep (old : SessionValue) (once : Once) (new : SessionValue) : T
   pub outputs : session_due_outputs new ≡ outputs_in (next_at old.setting old.index)
   pub once_is : once ≡ once_at (next_at old.setting old.index) (now_at old.setting old.index).time
 
--- what was due was offered to a sink, and part of it was refused, which is due still
-pub record IsGivingRefused {S : Type 0} (took refused : S → Output → S → Type 0) (old : SessionValue) (sink : S) (new : SessionValue)
-    (later : S)
-    : Type 0 where
-  pub session : new ≡ record old { due = new.due }
-  pub taken : List Output
-  pub parts : session_due_outputs old ≡ taken ++ session_due_outputs new
-  pub refuses : RefusesAt took refused sink taken (session_due_outputs new) later
-
-abbrev pub GivesDue : {S A E : Type 0} → (S → Output → S → Type 0) → (S → Output → S → Type 0)
-    → SessionValue → S → Result A E → SessionValue → S → Type 0
-GivesDue took refused old sink (Ok done) new later =
-    (new ≡ record old { due = nothing_due }) × TookAll took sink (session_due_outputs old) later
-GivesDue took refused old sink (Err refusal) new later = IsGivingRefused took refused old sink new later
-
 -- what is due is offered where it is fresh; what isn't was taken before, and is let go
-abbrev pub PassesOn : {S A E : Type 0} → (S → Output → S → Type 0) → (S → Output → S → Type 0)
-    → Bool → SessionValue → S → Result A E → SessionValue → S → Type 0
-PassesOn took refused true old sink result new later = GivesDue took refused old sink result new later
-PassesOn took refused false old sink (Ok done) new later = (new ≡ record old { due = nothing_due }) × (later ≡ sink)
-PassesOn took refused false old sink (Err refusal) new later = ⊥
+abbrev pub PassesOn : {S A E : Type 0} → Giving S → Bool → SessionValue → S → Result A E → SessionValue → S → Type 0
+PassesOn to true old sink result new later = SessionOffers to old sink result new later
+PassesOn to false old sink (Ok done) new later = (new ≡ record old { due = nothing_due }) × (later ≡ sink)
+PassesOn to false old sink (Err refusal) new later = ⊥
 
 -- the session one step on
 abbrev pub session_one_step_on : SessionValue → SessionValue
@@ -152,33 +134,26 @@ pub record HasMetStop {S : Type 0} (old : SessionValue) (sink : S) (stop : Stop)
   pub session : new ≡ old
   pub sink_is : later ≡ sink
 
-pub record IsSessionStepRefused {S : Type 0} (took refused : S → Output → S → Type 0) (old : SessionValue) (sink : S) (new : SessionValue)
-    (later : S)
+pub record IsSessionStepRefused {S : Type 0} (to : Giving S) (old : SessionValue) (sink : S) (new : SessionValue) (later : S)
     : Type 0 where
   pub goes : goes_at old.setting old.index ≡ true
   pub fresh : old.index ≡ old.furthest
   pub session : new ≡ record (session_one_step_on old) { due = new.due }
-  pub taken : List Output
-  pub parts : outputs_between old.setting old.furthest new.furthest ≡ taken ++ session_due_outputs new
-  pub refuses : RefusesAt took refused sink taken (session_due_outputs new) later
+  pub cut : Cut to sink (outputs_between old.setting old.furthest new.furthest) (session_due_outputs new) later
 
-abbrev pub StepsOn : {S E : Type 0} → (S → Output → S → Type 0) → (S → Output → S → Type 0)
-    → SessionValue → S → Result (Option Stop) E → SessionValue → S → Type 0
-StepsOn took refused old sink (Ok None) new later = HasStepped took old sink new later
-StepsOn took refused old sink (Ok (Some stop)) new later = HasMetStop old sink stop new later
-StepsOn took refused old sink (Err refusal) new later = IsSessionStepRefused took refused old sink new later
+abbrev pub StepsOn : {S E : Type 0} → Giving S → SessionValue → S → Result (Option Stop) E → SessionValue → S → Type 0
+StepsOn to old sink (Ok None) new later = HasStepped to.took old sink new later
+StepsOn to old sink (Ok (Some stop)) new later = HasMetStop old sink stop new later
+StepsOn to old sink (Err refusal) new later = IsSessionStepRefused to old sink new later
 
 -- ---- to the end
 
--- what a run comes to
-pub record IsOutcome (s : SessionValue) (outcome : RunTotals) : Type 0 where
-  pub frames : outcome.frames ≡ (whole_run s.setting).now.time / frame_ticks
-  pub steps : outcome.steps ≡ (whole_run s.setting).now.steps
-  pub ticks : outcome.ticks ≡ (whole_run s.setting).now.time
-  pub stop : outcome.stop ≡ (whole_run s.setting).stop
+-- what a session's run comes to
+abbrev pub IsOutcome : SessionValue → Outcome → Type 0
+IsOutcome s outcome = outcome ≡ outcome_at (whole_run s.setting).now (whole_run s.setting).stop
 
 -- The session is brought to the end of its run: the sink took what was due, and what the run gives from the furthest index on.
-pub record IsFinished {S : Type 0} (took : S → Output → S → Type 0) (old : SessionValue) (sink : S) (outcome : RunTotals)
+pub record IsFinished {S : Type 0} (took : S → Output → S → Type 0) (old : SessionValue) (sink : S) (outcome : Outcome)
     (new : SessionValue) (later : S)
     : Type 0 where
   pub rest : IsLeast (λ index. not (goes_at old.setting index)) old.index new.index
@@ -187,31 +162,25 @@ pub record IsFinished {S : Type 0} (took : S → Output → S → Type 0) (old :
   pub sink_is : TookAll took sink (session_due_outputs old ++ outputs_from old.setting old.furthest) later
 
 -- The sink refused: an output that was due before, or one of a new step.
-pub record IsFinishRefused {S : Type 0} (took refused : S → Output → S → Type 0) (old : SessionValue) (sink : S) (new : SessionValue)
-    (later : S)
-    : Type 0 where
+pub record IsFinishRefused {S : Type 0} (to : Giving S) (old : SessionValue) (sink : S) (new : SessionValue) (later : S) : Type 0 where
   pub last : ℕ
   pub index : new.index ≡ last + 1
   pub fresh : old.furthest ≤ last
   pub restless : (earlier : ℕ) → old.index ≤ earlier → earlier ≤ last → goes_at old.setting earlier ≡ true
   pub session : new ≡ record (moved_to old new.index) { due = new.due; replayed = 0 }
-  pub taken : List Output
-  pub parts : session_due_outputs old ++ outputs_between old.setting old.furthest new.index ≡ taken ++ session_due_outputs new
-  pub of_last : IsPrefix (session_due_outputs old ++ outputs_between old.setting old.furthest last) taken
-  pub refuses : RefusesAt took refused sink taken (session_due_outputs new) later
+  pub cut : Cut to sink (session_due_outputs old ++ outputs_between old.setting old.furthest new.index) (session_due_outputs new) later
+  pub of_last : IsPrefix (session_due_outputs old ++ outputs_between old.setting old.furthest last) cut.taken
 
-abbrev pub FinishesRun : {S E : Type 0} → (S → Output → S → Type 0) → (S → Output → S → Type 0)
-    → SessionValue → S → Result RunTotals E → SessionValue → S → Type 0
-FinishesRun took refused old sink (Ok outcome) new later = IsFinished took old sink outcome new later
-FinishesRun took refused old sink (Err refusal) new later =
-    IsSessionOfferRefused took refused old sink new later ⊎ IsFinishRefused took refused old sink new later
+abbrev pub FinishesRun : {S E : Type 0} → Giving S → SessionValue → S → Result Outcome E → SessionValue → S → Type 0
+FinishesRun to old sink (Ok outcome) new later = IsFinished to.took old sink outcome new later
+FinishesRun to old sink (Err refusal) new later =
+    IsSessionOfferRefused to (session_at_command old) sink new later ⊎ IsFinishRefused to old sink new later
 
 -- The session is used up: so it was left in the end.
-pub record PlaysOn {S E : Type 0} (took refused : S → Output → S → Type 0) (old : SessionValue) (sink : S) (result : Result RunTotals E)
-    (later : S)
+pub record PlaysOn {S E : Type 0} (to : Giving S) (old : SessionValue) (sink : S) (result : Result Outcome E) (later : S)
     : Type 0 where
   pub left : SessionValue
-  pub finishes : FinishesRun took refused old sink result left later
+  pub finishes : FinishesRun to old sink result left later
 
 -- ---- back
 

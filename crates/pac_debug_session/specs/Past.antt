@@ -1,8 +1,8 @@
 -- To be believed: what a run has done: its steps, one after another.
 use Rattle.std.specs.Prelude.{ℕ, zero, suc, List, [], ◌∷◌, ◌++◌}
 use Rattle.circular_buffer.specs.Buffer.{keep_last}
-use Rattle.pac_board.specs.BoardView.{BoardView}
-use Rattle.pac_board.specs.Step.{Moment, Next, Goes, Ends}
+use Rattle.pac_board_course.specs.BoardView.{BoardView}
+use Rattle.pac_board_course.specs.Step.{Moment, Next, Goes, Ends}
 use Rattle.pac_debug_session.specs.declared.history.PastStep.{PastStep}
 use Rattle.pac_debug_session.specs.Running.{Setting, now_at, next_at}
 

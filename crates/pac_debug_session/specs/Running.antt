@@ -2,15 +2,15 @@
 -- a place in it.
 use Rattle.std.specs.Prelude.{◌≡◌, ◌<◌, ◌≤◌, ℕ, ◌*◌, ◌/◌, Bool, true, false, ◌&&◌, not, is_none, nat_le, List, length, drop, Option}
 use Rattle.std.specs.Prelude.{None, Some}
-use Rattle.pac_board.specs.Stop.{Stop}
-use Rattle.pac_inputs.specs.Stretches.{total_frames, held}
-use Rattle.pac_inputs.specs.declared.line.Stretch.{Stretch}
-use Rattle.pac_board.specs.RomParts.{Parts}
-use Rattle.pac_board.specs.BoardView.{BoardView, power_on_board_view}
-use Rattle.pac_board.specs.Output.{Output}
-use Rattle.pac_board.specs.Step.{Moment, Next, Goes, Ends, frame_ticks}
-use Rattle.pac_board.specs.Trace.{Play, by_view, play_step, run_at, trace}
-use Rattle.pac_board.specs.Walk.{Walk}
+use Rattle.pac_board_course.specs.Stop.{Stop}
+use Rattle.pac_board_course.specs.Stretches.{total_frames, held}
+use Rattle.pac_board_course.specs.Stretch.{Stretch}
+use Rattle.pac_board_course.specs.RomParts.{Parts}
+use Rattle.pac_board_course.specs.BoardView.{BoardView, power_on_board_view}
+use Rattle.pac_board_course.specs.Output.{Output}
+use Rattle.pac_board_course.specs.Step.{Moment, Next, Goes, Ends, frame_ticks}
+use Rattle.pac_board_course.specs.Trace.{Play, by_view, play_step, run_at, trace}
+use Rattle.pac_board_course.specs.Walk.{Walk}
 
 -- what a run is determined by: the ROM set, the byte of the DIP switches, and the script
 pub record Setting : Type 0 where

@@ -3,11 +3,11 @@
 use Rattle.std.specs.Prelude.{◌≡◌, ◌<◌, ◌≤◌, ◌^◌, ℕ, ◌==◌, Bool, true, false, filter, not}
 use Rattle.std.specs.Prelude.{List, [], ◌∷◌, ◌++◌, length, Option, None, Some, Result, Ok, Err}
 use Rattle.std.specs.List.{list_any}
-use Rattle.pac_inputs.specs.Stretches.{total_frames, most_frames}
-use Rattle.pac_board.specs.Output.{Output}
-use Rattle.pac_board.specs.declared.due.Due.{Due}
-use Rattle.pac_board.specs.Sinks.{TookAll, RefusesAt}
-use Rattle.pac_board.specs.State.{BoardValue, power_on_board, board_with_inputs, due_outputs_in, nothing_due}
+use Rattle.pac_board_course.specs.Stretches.{total_frames, most_frames}
+use Rattle.pac_board_course.specs.Output.{Output}
+use Rattle.pac_board_course.specs.Due.{Due}
+use Rattle.pac_board_course.specs.Sinks.{Giving, TookAll, Cut}
+use Rattle.pac_board_course.specs.State.{BoardValue, power_on_board, board_with_inputs, due_outputs_in, nothing_due}
 use Rattle.pac_debug_session.specs.Running.{Setting, now_at, goes_at}
 
 pub record SessionValue : Type 0 where
@@ -82,20 +82,20 @@ session_at_start setting made = record {
 
 -- ---- what is due
 
--- A command begins: what is due is offered. What is refused stays due, with what comes after it.
-pub record IsSessionOfferRefused {S : Type 0} (took refused : S → Output → S → Type 0) (old : SessionValue) (sink : S) (new : SessionValue)
-    (later : S)
+-- What is due is offered to a sink. What is refused stays due, with what comes after it.
+pub record IsSessionOfferRefused {S : Type 0} (to : Giving S) (old : SessionValue) (sink : S) (new : SessionValue) (later : S)
     : Type 0 where
-  pub session : new ≡ record old { due = new.due; replayed = 0 }
-  pub taken : List Output
-  pub parts : session_due_outputs old ≡ taken ++ session_due_outputs new
-  pub refuses : RefusesAt took refused sink taken (session_due_outputs new) later
+  pub session : new ≡ record old { due = new.due }
+  pub cut : Cut to sink (session_due_outputs old) (session_due_outputs new) later
 
-abbrev pub SessionOffers : {S A E : Type 0} → (S → Output → S → Type 0) → (S → Output → S → Type 0)
-    → SessionValue → S → Result A E → SessionValue → S → Type 0
-SessionOffers took refused old sink (Ok done) new later =
-    (new ≡ record old { due = nothing_due; replayed = 0 }) × TookAll took sink (session_due_outputs old) later
-SessionOffers took refused old sink (Err refusal) new later = IsSessionOfferRefused took refused old sink new later
+abbrev pub SessionOffers : {S A E : Type 0} → Giving S → SessionValue → S → Result A E → SessionValue → S → Type 0
+SessionOffers to old sink (Ok done) new later =
+    (new ≡ record old { due = nothing_due }) × TookAll to.took sink (session_due_outputs old) later
+SessionOffers to old sink (Err refusal) new later = IsSessionOfferRefused to old sink new later
+
+-- a command begins, and has done no step again yet
+abbrev pub session_at_command : SessionValue → SessionValue
+session_at_command s = record s { replayed = 0 }
 
 -- ---- breakpoints
 

@@ -1,7 +1,7 @@
 //! The way back: to a checkpoint, and from there by steps that are done again.
 
 ghost use Rattle.std.specs.Prelude.{◌≡◌, ◌≤◌, ◌<◌, ◌*◌, ◌-◌};
-ghost use Rattle.pac_board.specs.State as state;
+ghost use Rattle.pac_board_course.specs.State as state;
 ghost use Rattle.pac_debug_session.specs.Motions.{GoesBack, oldest_index, replayed_to, checkpoint_steps};
 
 use crate::session::Session;

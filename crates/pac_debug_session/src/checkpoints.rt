@@ -7,7 +7,7 @@ ghost use Rattle.pac_debug_session.specs.Keeping.{kept_of, ring_with_checkpoint}
 use crate::history::History;
 use crate::kept::SessionSnapshot;
 use circular_buffer::HeapCircularBuffer;
-use pac_board::Board;
+use pac_board_course::Board;
 use std::alloc::{AllocError, Global};
 use std::marker::Model;
 

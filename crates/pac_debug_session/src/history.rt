@@ -2,10 +2,11 @@
 
 ghost use Rattle.std.specs.Prelude.{◌≡◌, ◌≤◌, [], ◌∷◌, ◌++◌, IfOk, length, slice_get, option_copied, Some};
 ghost use Rattle.circular_buffer.specs.Buffer.{keep_last};
+ghost use Rattle.pac_debug_session.specs.Keeping.{told_after};
 ghost use Rattle.pac_debug_session.specs.Past.{told_step_count};
 
 use circular_buffer::HeapCircularBuffer;
-use pac_board::StepKind;
+use pac_board_course::{Once, StepKind};
 use std::alloc::{AllocError, Global};
 use std::marker::Model;
 
@@ -59,6 +60,20 @@ impl History {
         ensures { self.new ≡ keep_last told_step_count (self.old ++ step ∷ []) }
     {
         self.steps.extend_from_slice(&[step]);
+    }
+
+    /// Adds what a step from an index and an address was, unless it was a stop.
+    #[inline]
+    pub fn tell(&mut self, index: u64, pc: u16, once: &Once)
+        ensures { self.new ≡ told_after self.old index pc once.now }
+    {
+        if let Once::Stepped { kind, .. } = once {
+            self.push(PastStep {
+                index,
+                pc,
+                kind: *kind,
+            });
+        }
     }
 
     /// Writes another history's steps over its own. Takes no memory.

@@ -1,11 +1,11 @@
 //! What is kept of a session's moment, to go back to.
 
 ghost use Rattle.std.specs.Prelude.{◌≡◌, IfOk, false, []};
-ghost use Rattle.pac_board.specs.State.{restored_board};
+ghost use Rattle.pac_board_course.specs.State.{restored_board};
 ghost use Rattle.pac_debug_session.specs.Keeping.{kept_of};
 
 use crate::history::History;
-use pac_board::{Board, Snapshot};
+use pac_board_course::{Board, Snapshot};
 use std::alloc::{AllocError, Global};
 
 /// A board's state, and the steps that were told then.

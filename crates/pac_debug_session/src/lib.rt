@@ -4,7 +4,6 @@
 
 mod back;
 mod checkpoints;
-mod course;
 mod history;
 mod kept;
 pub mod laws;
@@ -15,5 +14,6 @@ mod silent;
 mod travel;
 
 pub use history::PastStep;
-pub use motion::{Motion, MotionEnd, RunTotals};
+pub use motion::{Motion, MotionEnd};
+pub use pac_board_course::Outcome;
 pub use session::{Empty, Full, Session, SessionRefused};

@@ -3,7 +3,7 @@
 ghost use Rattle.std.specs.Prelude.{◌≡◌};
 ghost use Rattle.pac_debug_session.specs.Motions.{motion_ending, stop_of};
 
-use pac_board::Stop;
+use pac_board_course::Stop;
 
 /// A motion forwards.
 #[derive(Clone, Copy)]
@@ -58,17 +58,4 @@ impl MotionEnd {
             _ => None,
         }
     }
-}
-
-/// What a run came to.
-#[derive(Clone, Copy)]
-pub struct RunTotals {
-    /// The frames that ended.
-    pub frames: u32,
-    /// The steps.
-    pub steps: u64,
-    /// The time, in T-states.
-    pub ticks: u64,
-    /// The stop that the run met, if it met one.
-    pub stop: Option<Stop>,
 }

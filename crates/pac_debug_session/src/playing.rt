@@ -1,22 +1,22 @@
 //! What is left of a session's run, at once: as a course, which keeps no history and takes no checkpoint.
 
 ghost use Rattle.std.specs.Prelude.{◌≡◌, ◌≤◌, ◌*◌, ◌+◌};
-ghost use Rattle.pac_board.specs.Step.{frame_ticks};
-ghost use Rattle.pac_inputs.specs.Stretches.{most_frames};
+ghost use Rattle.pac_board_course.specs.Sinks.{by};
+ghost use Rattle.pac_board_course.specs.Step.{frame_ticks};
+ghost use Rattle.pac_board_course.specs.Stretches.{most_frames};
 ghost use Rattle.pac_debug_session.specs.Motions.{PlaysOn};
-ghost use Rattle.pac_debug_session.specs.Playing.{course_of, totals_at};
+ghost use Rattle.pac_board_course.specs.Course.{outcome_at};
+ghost use Rattle.pac_debug_session.specs.Playing.{course_of};
 
-use crate::motion::RunTotals;
 use crate::session::Session;
-use pac_board::{Board, FRAME_TICKS, Refused, Sink, Stop};
-use pac_board_course::Course;
+use pac_board_course::{Board, Course, FRAME_TICKS, Outcome, Refused, Sink, Stop};
 
 /// What a run came to that ended here.
-fn totals(board: &Board, stop: Option<Stop>) -> RunTotals
+fn outcome_on(board: &Board, stop: Option<Stop>) -> Outcome
     requires { board.now.state.now.time ≤ frame_ticks * (most_frames + 1) }
-    ensures { result ≡ totals_at board.now stop }
+    ensures { result ≡ outcome_at board.now.state.now stop }
 {
-    RunTotals {
+    Outcome {
         frames: (board.time() / FRAME_TICKS) as u32,
         steps: board.steps(),
         ticks: board.time(),
@@ -46,8 +46,8 @@ impl Session {
 
     /// Offers what is due, goes to the end of the run, and says what the run came to, as `finish` does, for a session that is needed no
     /// more: from the furthest index on nothing is kept to go back to.
-    pub fn play_on<S: Sink>(mut self, sink: &mut S) -> Result<RunTotals, Refused>
-        ensures { PlaysOn S.took S.refused self sink.old result sink.new }
+    pub fn play_on<S: Sink>(mut self, sink: &mut S) -> Result<Outcome, Refused>
+        ensures { PlaysOn (by S.took S.refused) self sink.old result sink.new }
     {
         self.facts();
         self.offer(sink)?;
@@ -55,6 +55,6 @@ impl Session {
         self.replay(furthest);
         let mut course = self.into_course();
         let stop = course.run_to_end(sink)?;
-        Ok(totals(course.board(), stop))
+        Ok(outcome_on(course.board(), stop))
     }
 }

@@ -2,8 +2,8 @@
 
 ghost use Rattle.std.specs.Prelude.{◌≡◌, ◌<◌, ◌≤◌, []};
 ghost use Rattle.std.specs.Prelude.{slice_get, length, IfOk, IfErr, slice_index_or, None, Some};
-ghost use Rattle.pac_board.specs.State as state;
-ghost use Rattle.pac_inputs.specs.Stretches.{most_frames, total_frames};
+ghost use Rattle.pac_board_course.specs.State as state;
+ghost use Rattle.pac_board_course.specs.Stretches.{most_frames, total_frames};
 ghost use Rattle.pac_debug_session.specs.Keeping.{AreEmpty};
 ghost use Rattle.pac_debug_session.specs.Running.{now_at};
 ghost use Rattle.pac_debug_session.specs.Past.{told_at, told_step_count};
@@ -14,9 +14,7 @@ use crate::checkpoints::Checkpoints;
 use crate::history::{History, PastStep};
 use crate::kept::SlotContents;
 use arrayvec::ArrayVec;
-use pac_board::{Board, FRAME_TICKS};
-use pac_board_course::hold;
-use pac_inputs::Script;
+use pac_board_course::{Board, FRAME_TICKS, Script, hold};
 use std::alloc::{AllocError, Global};
 use std::marker::Model;
 

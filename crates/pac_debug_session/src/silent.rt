@@ -2,7 +2,7 @@
 
 ghost use Rattle.pac_debug_session.specs.Silent.{Swallows, NeverRefuses};
 
-use pac_board::{Picture, Refused, Sink};
+use pac_board_course::{Picture, Refused, Sink};
 
 /// Takes all, and does nothing with it.
 #[derive(Drop)]

@@ -1,20 +1,20 @@
 //! The motions of a session.
 
 ghost use Rattle.std.specs.Prelude.{◌≡◌, ℕ, ◌+◌, ◌<◌, ◌≤◌, ◌^◌, false};
-ghost use Rattle.pac_board.specs.State as state;
+ghost use Rattle.pac_board_course.specs.Sinks.{by};
+ghost use Rattle.pac_board_course.specs.State as state;
 ghost use Rattle.pac_debug_session.specs.declared.motion.Motion.TheVariants.{ToEnd};
 ghost use Rattle.pac_debug_session.specs.Running.{is_late, blanks_at};
 ghost use Rattle.pac_debug_session.specs.Keeping.{kept_of, ring_after_index};
-ghost use Rattle.pac_debug_session.specs.Session.{SessionOffers, breaks_at};
-ghost use Rattle.pac_debug_session.specs.Motions.{has_met, Travels, MakesStep, GivesDue, PassesOn, StepsOn, FinishesRun, RestsBy, IsOutcome};
+ghost use Rattle.pac_debug_session.specs.Session.{SessionOffers, session_at_command, breaks_at};
+ghost use Rattle.pac_debug_session.specs.Motions.{has_met, Travels, MakesStep, PassesOn, StepsOn, FinishesRun, RestsBy, IsOutcome};
 
 use crate::checkpoints::Checkpoints;
-use crate::course::{play_step, tell};
 use crate::history::History;
-use crate::motion::{Motion, MotionEnd, RunTotals};
+use crate::motion::{Motion, MotionEnd};
 use crate::session::Session;
 use crate::silent::Silent;
-use pac_board::{Board, FRAME_TICKS, Once, Refused, Sink, Stop};
+use pac_board_course::{Board, FRAME_TICKS, Once, Outcome, Refused, Sink, Stop, play_step};
 
 /// The steps from one checkpoint to the next (this profile).
 pub const CHECKPOINT_STEPS: u64 = 4096;
@@ -33,7 +33,8 @@ fn take_at(checkpoints: &mut Checkpoints, index: u64, board: &Board, history: &H
 impl Session {
     /// Begins a command: offers what is due. What the sink refuses stays due, with what comes after it.
     pub fn offer<S: Sink>(&mut self, sink: &mut S) -> Result<(), Refused>
-        ensures { SessionOffers S.took S.refused self.old sink.old result self.new sink.new }
+        ensures { SessionOffers (by S.took S.refused) (session_at_command self.old) sink.old result
+            self.new sink.new }
     {
         self.replayed = 0;
         self.board.offer(sink)
@@ -92,15 +93,17 @@ impl Session {
         let index = self.board.steps();
         let pc = self.board.regs().pc;
         take_at(&mut self.checkpoints, index, &self.board, &self.history);
-        let once = play_step(&mut self.board, &self.script);
-        tell(&mut self.history, index, pc, &once);
+        let Ok(once) = play_step(&mut self.board, &self.script, 0) else {
+            unreachable!();
+        };
+        self.history.tell(index, pc, &once);
         self.furthest = self.furthest.max(self.board.steps());
         once
     }
 
     /// Offers what is due to a sink.
     fn give<S: Sink>(&mut self, sink: &mut S) -> Result<(), Refused>
-        ensures { GivesDue S.took S.refused self.old sink.old result self.new sink.new }
+        ensures { SessionOffers (by S.took S.refused) self.old sink.old result self.new sink.new }
     {
         self.board.offer(sink)
     }
@@ -116,7 +119,7 @@ impl Session {
 
     /// Offers what is due to a sink where it is fresh, and lets go of it where it isn't.
     fn pass_on<S: Sink>(&mut self, fresh: bool, sink: &mut S) -> Result<(), Refused>
-        ensures { PassesOn S.took S.refused fresh self.old sink.old result self.new sink.new }
+        ensures { PassesOn (by S.took S.refused) fresh self.old sink.old result self.new sink.new }
     {
         if fresh {
             return self.give(sink);
@@ -129,7 +132,7 @@ impl Session {
     fn step_on<S: Sink>(&mut self, sink: &mut S) -> Result<Option<Stop>, Refused>
         requires nothing { self.old.due ≡ state.nothing_due }
         requires early { is_late self.old.setting self.old.index ≡ false }
-        ensures { StepsOn S.took S.refused self.old sink.old result self.new sink.new }
+        ensures { StepsOn (by S.took S.refused) self.old sink.old result self.new sink.new }
     {
         self.facts();
         let fresh = self.index() == self.furthest();
@@ -145,7 +148,7 @@ impl Session {
     /// a refusal ends the motion after the step that gave the refused output.
     pub fn travel<S: Sink>(&mut self, motion: Motion, sink: &mut S) -> Result<MotionEnd, Refused>
         requires nothing { self.old.due ≡ state.nothing_due }
-        ensures { Travels S.took S.refused self.old motion sink.old result self.new sink.new }
+        ensures { Travels (by S.took S.refused) self.old motion sink.old result self.new sink.new }
     {
         self.facts();
         let from = self.index();
@@ -164,8 +167,8 @@ impl Session {
     }
 
     /// Offers what is due, goes to the end of the run, and says what the run came to.
-    pub fn finish<S: Sink>(&mut self, sink: &mut S) -> Result<RunTotals, Refused>
-        ensures { FinishesRun S.took S.refused self.old sink.old result self.new sink.new }
+    pub fn finish<S: Sink>(&mut self, sink: &mut S) -> Result<Outcome, Refused>
+        ensures { FinishesRun (by S.took S.refused) self.old sink.old result self.new sink.new }
     {
         self.offer(sink)?;
         let ending = self.travel(Motion::ToEnd, sink)?;
@@ -174,12 +177,12 @@ impl Session {
     }
 
     /// What the run came to, at its end.
-    fn outcome(&self, ending: MotionEnd) -> RunTotals
+    fn outcome(&self, ending: MotionEnd) -> Outcome
         requires { (from : ℕ) × RestsBy self.now ToEnd from self.now.index ending }
         ensures { IsOutcome self.now result }
     {
         self.facts();
-        RunTotals {
+        Outcome {
             frames: self.blanks() as u32,
             steps: self.index(),
             ticks: self.board.time(),

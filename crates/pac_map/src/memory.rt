@@ -1,10 +1,9 @@
 //! What the board keeps beside its ROMs: the three RAMs, the sprites' coordinates, the wave generator's registers, the
 //! output latch, the switches and the inputs held.
 
-ghost use Rattle.std.specs.Prelude.{◌≡◌, ◌%◌, ◌==◌, ℕ, IfOk, length};
+ghost use Rattle.std.specs.Prelude.{◌≡◌, ◌%◌, ◌==◌, ℕ, length};
 ghost use Rattle.pac_inputs.specs.Inputs.{mask};
 ghost use Rattle.pac_latch.specs.Latched.{is_watchdog_due, latched_after_bit};
-ghost use Rattle.pac_roms.specs.Parts.{program_size};
 ghost use Rattle.pac_map.specs.Cleared.{zero_ram};
 ghost use Rattle.pac_map.specs.Contents.{lookups_of};
 ghost use Rattle.pac_map.specs.Entry.{Vector, Blank, Accept, Reset, Hold, view_after_write, view_after};
@@ -19,7 +18,6 @@ use crate::BusPlace;
 pub use fields::MemoryFields;
 use pac_inputs::{Flags, Inputs};
 use pac_latch::Latch;
-use std::alloc::{AllocError, Global};
 use std::marker::Model;
 
 /// The board's RAMs and registers, its switches and the inputs held (Namco Pac-Man service schematics). Clauses see them
@@ -28,9 +26,9 @@ use std::marker::Model;
 pub struct Memory {
     switches: u8,
     held: Inputs,
-    tile: Box<[u8; 1024]>,
-    colour: Box<[u8; 1024]>,
-    work: Box<[u8; 1024]>,
+    tile: [u8; 1024],
+    colour: [u8; 1024],
+    work: [u8; 1024],
     coordinates: [u8; 16],
     registers: [u8; 32],
     latch: Latch,
@@ -45,9 +43,9 @@ impl Model for Memory {
     ghost view = { λ memory. record {
       switches = memory.switches;
       held = mask memory.held;
-      tile = memory.tile.value;
-      colour = memory.colour.value;
-      work = memory.work.value;
+      tile = memory.tile;
+      colour = memory.colour;
+      work = memory.work;
       coordinates = memory.coordinates;
       registers = memory.registers;
       latched = memory.latch;
@@ -56,9 +54,9 @@ impl Model for Memory {
     ghost invariant = { λ memory. IsWellFormed (record {
       switches = memory.switches;
       held = mask memory.held;
-      tile = memory.tile.value;
-      colour = memory.colour.value;
-      work = memory.work.value;
+      tile = memory.tile;
+      colour = memory.colour;
+      work = memory.work;
       coordinates = memory.coordinates;
       registers = memory.registers;
       latched = memory.latch;
@@ -71,14 +69,6 @@ fn zeros<const N: usize>() -> [u8; N]
     ensures { result ≡ zero_ram N }
 {
     [0; N]
-}
-
-/// RAM of N bytes, all 0.
-#[tactic(auto, unfolding(crate::specs::Cleared::zero_ram))]
-fn cleared_ram<const N: usize>(alloc: Global) -> Result<Box<[u8; N]>, AllocError>
-    ensures { IfOk result (λ ram. ram.value ≡ zero_ram N) }
-{
-    Ok(Box::new(alloc, [0; N])?)
 }
 
 /// Whether the wave generator keeps what is written to a register.
@@ -106,29 +96,25 @@ fn write_latch(latch: &mut Latch, place: u8, byte: u8)
 }
 
 impl Memory {
-    /// All 0 as at power-on, no input held, and the byte that the DIP switches give. Refused for want of memory alone.
-    pub fn new(alloc: Global, switches: u8) -> Result<Memory, AllocError>
-        ensures { IfOk result (λ memory. memory ≡ spec.power_on_view switches) }
+    /// All 0 as at power-on, no input held, and the byte that the DIP switches give.
+    pub fn new(switches: u8) -> Memory
+        ensures { result ≡ spec.power_on_view switches }
     {
-        let tile = cleared_ram::<1024>(alloc)?;
-        let colour = cleared_ram::<1024>(alloc)?;
-        let work = cleared_ram::<1024>(alloc)?;
-        Ok(Memory {
+        Memory {
             switches,
             held: Inputs::from_bits_retain(0),
-            tile,
-            colour,
-            work,
+            tile: zeros::<1024>(),
+            colour: zeros::<1024>(),
+            work: zeros::<1024>(),
             coordinates: zeros::<16>(),
             registers: zeros::<32>(),
             latch: Latch::new(),
-        })
+        }
     }
 
     /// The byte that a place gives, with the program ROM's 16,384 bytes.
     #[inline(always)]
-    pub(crate) fn byte_of(&self, program: &[u8], place: BusPlace) -> u8
-        requires program { length program.now ≡ program_size }
+    pub(crate) fn byte_of(&self, program: &[u8; 16384], place: BusPlace) -> u8
         requires place { IsPlaceInRange place }
         ensures { result ≡ answer (lookups_of program.now self.now) place }
     {

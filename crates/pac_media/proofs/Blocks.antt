@@ -2,18 +2,20 @@
 use Rattle.std.proofs.Common.{◌≡◌, ◌≢◌, ℕ, zero, suc, ◌+◌, ◌-◌, ◌*◌, ◌%◌, ◌<◌, ◌≤◌, max, List, [], ◌∷◌, ◌++◌}
 use Rattle.std.proofs.Common.{length, take, drop, get_or, set}
 use Rattle.std.proofs.Common.{slice_index, refl, sym, ap, subst, ◌∙◌, arith, append_assoc, append-nil, EachIndex}
-use Rattle.std.proofs.Common.{false, true≢false, not, eqb}
+use Rattle.std.proofs.Common.{◌↔◌, ◌^◌, IsTrue, eqb}
 use Rattle.std.proofs.Common.{below_more, get_or-set_other, get_or-set_same, length-append, length-take, length-drop}
 use Rattle.std.proofs.Math.Seq.{take-append-add, drop-append-add, drop-cons}
-use Rattle.std.proofs.lemmas.Bool.{cases_lt, cases_Bool, eqb-true}
+use Rattle.std.proofs.lemmas.Bool.{cases_lt, eqb-true}
 use Rattle.std.proofs.lemmas.List.{take_at, take_all, take-take, drop-take, drop-drop, take-append-drop, set_split, length-take-le}
 use Rattle.std.proofs.lemmas.List.{get_or-take, get_or-drop, get_or_append_left, get_or-append_right}
 use Rattle.std.proofs.lemmas.List.{flat_map_more, take_more, same_lists, get_or_default}
 use Rattle.std.proofs.lemmas.Slice.{take-put_mid}
+use Rattle.std.proofs.lemmas.Nat.{from_le_bytes-to_le_bytes_8}
 use Rattle.std.proofs.lemmas.Nat.Bits.{bit_at_or, bit_at_xor, bit_at-zero, bit_at-lt, same_from_bits}
 use mathlib.Core.Logic.{inl, inr}
 use borrow.Rule.Slice.PartMut.{put_mid}
-use Rattle.std.specs.Int.{w64, to_le_bytes, bit_at}
+use Rattle.std.specs.Int.{w64, to_le_bytes, from_le_bytes, bit_at}
+use Rattle.std.specs.Int.Bits.{xor_self}
 use Rattle.std.specs.Int.RustNames.{bit_or, bit_xor}
 use Rattle.std.specs.List.{flat_map}
 use Rattle.std.proofs.lemmas.Grind.{flat_map-append}
@@ -109,13 +111,27 @@ pub line-pieces : (palette : List (List ℕ)) (numbers : List ℕ) → AreColour
     ArePieces (palette_colour palette) 3 0 numbers
 line-pieces palette numbers three below k inside = three (get_or numbers k 0) (below k inside)
 
+-- a part written over by another of its length
+put-long : (at part : ℕ) (xs ys : List ℕ) → at + part ≤ length xs → length ys ≡ part → length (put_mid at part xs ys) ≡ length xs
+put-long at part xs ys fits long =
+    let after = drop part (drop at xs) in
+    omega (
+      arith,
+      length-append (take at xs) (ys ++ after),
+      length-append ys after,
+      length-take at xs,
+      length-drop part (drop at xs),
+      length-drop at xs,
+      fits,
+      long,
+    )
+
 -- a block of a line drawn again and kept
-pub block-drawn : (palette : List (List ℕ)) (numbers pixels kept block piece : List ℕ) (start part size : ℕ) → AreColours palette →
-    EachIndex numbers (λ x. slice_index numbers x < 16) → length numbers ≡ 288 → length kept ≡ 288 → start + 8 ≤ 288 →
-    part ≡ 24 → size ≡ 8 →
+pub block-drawn : (palette : List (List ℕ)) (numbers pixels kept block piece : List ℕ) (start part size : ℕ) → length numbers ≡ 288 →
+    length kept ≡ 288 → start + 8 ≤ 288 → part ≡ 24 → size ≡ 8 →
     IsDrawnTo palette start numbers pixels kept → block ≡ take 8 (drop start numbers) → piece ≡ flat_map (palette_colour palette) block →
     IsDrawnTo palette (start + 8) numbers (put_mid (3 * start) part pixels piece) (put_mid start size kept block)
-block-drawn palette numbers pixels kept block piece start part size three below long same inside is_part is_size was is coloured =
+block-drawn palette numbers pixels kept block piece start part size long same inside is_part is_size was is coloured =
     let f : ℕ → List ℕ = palette_colour palette in
     let eight : length block ≡ 8 =
     ap length is ∙ length-take-le 8 (drop start numbers) (omega (arith, length-drop start numbers, long, inside)) in
@@ -124,9 +140,15 @@ block-drawn palette numbers pixels kept block piece start part size three below 
     let fits : start ≤ length kept = omega (arith, within) in
     let stop : start + 8 ≡ start + length block = omega (arith, eight) in
     let block_below : AreNumbers block =
-    subst AreNumbers (sym is) (numbers-take 8 (drop start numbers) (numbers-drop start numbers below)) in
+    subst AreNumbers (sym is) (numbers-take 8 (drop start numbers) (numbers-drop start numbers was.new)) in
+    let wide : length piece ≡ part =
+    ap length coloured ∙ (length-pieces f 3 0 block (line-pieces palette block was.colours block_below) ∙ omega (arith, eight, is_part)) in
+    let room : 3 * start + part ≤ length pixels = omega (arith, inside, is_part, was.size) in
     let put : put_mid start size kept block ≡ put_mid start 8 kept block = ap (λ n. put_mid start n kept block) is_size in
     record {
+      colours = was.colours;
+      size = put-long (3 * start) part pixels piece room wide ∙ was.size;
+      new = was.new;
       below = subst AreNumbers (sym put)
           (numbers-append (take start kept) (block ++ drop 8 (drop start kept)) (numbers-take start kept was.below)
           (numbers-append block (drop 8 (drop start kept)) block_below
@@ -134,7 +156,7 @@ block-drawn palette numbers pixels kept block piece start part size three below 
       drawn = ap (λ n. put_mid (3 * start) n pixels piece) threes
           ∙ (ap (λ (all : List ℕ). put_mid (3 * start) (3 * 8) all piece) was.drawn
           ∙ (ap (λ (one : List ℕ). put_mid (3 * start) (3 * 8) (flat_map f kept) one) coloured
-          ∙ (put-pieces f 3 0 kept block start 8 (line-pieces palette kept three was.below) within ∙ ap (flat_map f) (sym put))));
+          ∙ (put-pieces f 3 0 kept block start 8 (line-pieces palette kept was.colours was.below) within ∙ ap (flat_map f) (sym put))));
       same = ap (take (start + 8)) put
           ∙ (take-put_mid start 8 kept block (start + 8) stop fits
           ∙ (ap (λ front. front ++ block) was.same
@@ -146,6 +168,9 @@ pub part-same : (palette : List (List ℕ)) (numbers pixels kept : List ℕ) (st
     take count (drop start numbers) ≡ take count (drop start kept) → IsDrawnTo palette start numbers pixels kept →
     IsDrawnTo palette (start + count) numbers pixels kept
 part-same palette numbers pixels kept start count equal was = record {
+  colours = was.colours;
+  size = was.size;
+  new = was.new;
   below = was.below;
   drawn = was.drawn;
   same = take-more start count kept
@@ -154,14 +179,25 @@ part-same palette numbers pixels kept start count equal was = record {
 }
 
 -- all of a line
-pub all-kept : (palette : List (List ℕ)) (numbers pixels kept : List ℕ) (count : ℕ) → count ≡ 288 → AreColours palette →
-    length numbers ≡ 288 → length pixels ≡ 864 → IsDrawnTo palette count numbers pixels kept → kept ≡ numbers
-all-kept palette numbers pixels kept count all three long size is =
-    let pieces = length-pieces (palette_colour palette) 3 0 kept (line-pieces palette kept three is.below) in
+pub all-kept : (palette : List (List ℕ)) (numbers pixels kept : List ℕ) (count : ℕ) → count ≡ 288 → length numbers ≡ 288 →
+    IsDrawnTo palette count numbers pixels kept → kept ≡ numbers
+all-kept palette numbers pixels kept count all long is =
+    let pieces = length-pieces (palette_colour palette) 3 0 kept (line-pieces palette kept is.colours is.below) in
     let same : length pixels ≡ 3 * length kept = ap length is.drawn ∙ pieces in
-    let one : length kept ≤ count = omega (arith, all, same, size) in
+    let one : length kept ≤ count = omega (arith, all, same, is.size) in
     let other : length numbers ≤ count = omega (arith, all, long) in
     sym (take_all count kept one) ∙ (is.same ∙ take_all count numbers other)
+
+-- eight numbers and what they are as one word
+pub record IsWord (word : ℕ) (numbers : List ℕ) : Type 0 where
+  pub bytes : to_le_bytes w64 word ≡ numbers
+  pub back : from_le_bytes w64 numbers ≡ word
+
+pub is-word : (word : ℕ) (numbers : List ℕ) → word < 2 ^ 64 → to_le_bytes w64 word ≡ numbers → IsWord word numbers
+is-word word numbers fits read = record {
+  bytes = read;
+  back = sym (ap (from_le_bytes w64) read) ∙ from_le_bytes-to_le_bytes_8 word fits;
+}
 
 -- 32 numbers by their blocks
 in-blocks : (start : ℕ) (xs : List ℕ) → take 32 (drop start xs)
@@ -184,7 +220,7 @@ parts-same : (one other : List ℕ) (start : ℕ) → take 8 (drop start one) �
 parts-same one other start first second third fourth =
     in-blocks start one ∙ (rw (first, second, third, fourth) refl ∙ sym (in-blocks start other))
 
--- what four pairs of words tell that don't differ
+-- what four pairs of words tell
 or-none : (a b : ℕ) → bit_or a b ≡ 0 → (a ≡ 0) × (b ≡ 0)
 or-none a b none =
     let each : (i : ℕ) → (bit_at a i ≡ 0) × (bit_at b i ≡ 0) =
@@ -201,28 +237,48 @@ xor-none a b none =
     let zeros : bit_at (bit_xor a b) i ≡ 0 = ap (λ n. bit_at n i) none ∙ bit_at-zero i in
     omega (arith, joined, zeros, bit_at-lt a i, bit_at-lt b i))
 
-pub no-bits : (bits : ℕ) → not (eqb bits 0) ≡ false → bits ≡ 0
-no-bits bits off =
-    elim (cases_Bool (eqb bits 0)) [
-      | inl none ↦ eqb-true bits 0 none
-      | inr some ↦ absurd (true≢false (sym (ap not some) ∙ off))
-    ]
+-- eight of 32 numbers
+part-of : (place start before rest : ℕ) (xs : List ℕ) → place ≡ start + before → before + rest ≡ 32 → 8 ≤ rest →
+    take 8 (drop place xs) ≡ take 8 (drop before (take 32 (drop start xs)))
+part-of place start before rest xs is sum within =
+    ap (λ n. take 8 (drop n xs)) is
+    ∙ (ap (take 8) (sym (drop-drop before start xs))
+    ∙ (sym (take-take 8 rest (drop before (drop start xs)) within)
+    ∙ ap (take 8) (sym (ap (λ n. drop before (take n (drop start xs))) (sym sum) ∙ drop-take before rest (drop start xs)))))
+
+same-word : (word other place start before rest : ℕ) (xs ys : List ℕ) → place ≡ start + before → before + rest ≡ 32 → 8 ≤ rest →
+    IsWord word (take 8 (drop place xs)) → IsWord other (take 8 (drop place ys)) → take 32 (drop start xs) ≡ take 32 (drop start ys) →
+    bit_xor word other ≡ 0
+same-word word other place start before rest xs ys is sum within one also equal =
+    let parts : take 8 (drop place xs) ≡ take 8 (drop place ys) =
+    part-of place start before rest xs is sum within
+    ∙ (ap (λ all. take 8 (drop before all)) equal ∙ sym (part-of place start before rest ys is sum within)) in
+    let same : word ≡ other = sym one.back ∙ (ap (from_le_bytes w64) parts ∙ also.back) in
+    ap (λ n. bit_xor n other) same ∙ xor_self other
 
 pub four-same : (one other : List ℕ) (start a b c d p q r s : ℕ) →
-    to_le_bytes w64 a ≡ take 8 (drop start one) → to_le_bytes w64 p ≡ take 8 (drop start other) →
-    to_le_bytes w64 b ≡ take 8 (drop (start + 8) one) → to_le_bytes w64 q ≡ take 8 (drop (start + 8) other) →
-    to_le_bytes w64 c ≡ take 8 (drop (start + 16) one) → to_le_bytes w64 r ≡ take 8 (drop (start + 16) other) →
-    to_le_bytes w64 d ≡ take 8 (drop (start + 24) one) → to_le_bytes w64 s ≡ take 8 (drop (start + 24) other) →
-    bit_or (bit_or (bit_or (bit_xor a p) (bit_xor b q)) (bit_xor c r)) (bit_xor d s) ≡ 0 →
-    take 32 (drop start one) ≡ take 32 (drop start other)
-four-same one other start a b c d p q r s is_a is_p is_b is_q is_c is_r is_d is_s none =
-    let last = or-none _ _ none in
-    let third = or-none _ _ last.0 in
-    let second = or-none _ _ third.0 in
-    let same : (m n : ℕ) (xs ys : List ℕ) → bit_xor m n ≡ 0 → to_le_bytes w64 m ≡ xs → to_le_bytes w64 n ≡ ys → xs ≡ ys =
-    λ m n xs ys equal read also. sym read ∙ (ap (to_le_bytes w64) (xor-none m n equal) ∙ also) in
-    parts-same one other start (same _ _ _ _ second.0 is_a is_p) (same _ _ _ _ second.1 is_b is_q) (same _ _ _ _ third.1 is_c is_r)
-    (same _ _ _ _ last.1 is_d is_s)
+    IsWord a (take 8 (drop start one)) → IsWord p (take 8 (drop start other)) →
+    IsWord b (take 8 (drop (start + 8) one)) → IsWord q (take 8 (drop (start + 8) other)) →
+    IsWord c (take 8 (drop (start + 16) one)) → IsWord r (take 8 (drop (start + 16) other)) →
+    IsWord d (take 8 (drop (start + 24) one)) → IsWord s (take 8 (drop (start + 24) other)) →
+    IsTrue (eqb (bit_or (bit_or (bit_or (bit_xor a p) (bit_xor b q)) (bit_xor c r)) (bit_xor d s)) 0)
+    ↔ (take 32 (drop start one) ≡ take 32 (drop start other))
+four-same one other start a b c d p q r s is_a is_p is_b is_q is_c is_r is_d is_s =
+    let equal : (m n : ℕ) (xs ys : List ℕ) → bit_xor m n ≡ 0 → IsWord m xs → IsWord n ys → xs ≡ ys =
+    λ m n xs ys none read also. sym read.bytes ∙ (ap (to_le_bytes w64) (xor-none m n none) ∙ also.bytes) in (
+      λ is.
+          let last = or-none _ _ (eqb-true _ 0 is) in
+          let third = or-none _ _ last.0 in
+          let second = or-none _ _ third.0 in
+          parts-same one other start (equal a p _ _ second.0 is_a is_p) (equal b q _ _ second.1 is_b is_q) (equal c r _ _ third.1 is_c is_r)
+          (equal d s _ _ last.1 is_d is_s),
+      λ same.
+          let first = same-word a p start start 0 32 one other (omega arith) (omega arith) (omega arith) is_a is_p same in
+          let second = same-word b q (start + 8) start 8 24 one other refl (omega arith) (omega arith) is_b is_q same in
+          let third = same-word c r (start + 16) start 16 16 one other refl (omega arith) (omega arith) is_c is_r same in
+          let fourth = same-word d s (start + 24) start 24 8 one other refl (omega arith) (omega arith) is_d is_s same in
+          rw (first, second, third, fourth) refl,
+    )
 
 -- each line of a picture has 864 bytes
 pub picture-pieces : (palette lines : List (List ℕ)) → AreColours palette → IsPicture lines →

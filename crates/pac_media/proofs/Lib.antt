@@ -1,4 +1,5 @@
 pub mod Blocks
 pub mod Gathered
 pub mod Pixels
+pub mod Words
 pub use Rattle.pac_out.proofs.Files

@@ -1,6 +1,6 @@
 //! The image of a picture, in the binary PPM format.
 
-ghost use Rattle.std.specs.Prelude.{◌≡◌, ◌<◌, ◌≤◌, ◌++◌, ◌+◌, ◌*◌, [], false, length, take, drop, slice_index};
+ghost use Rattle.std.specs.Prelude.{◌≡◌, ◌<◌, ◌≤◌, ◌↔◌, ◌++◌, ◌+◌, ◌*◌, [], IsTrue, length, take, drop, slice_index};
 ghost use Rattle.std.specs.Prelude.{vec_len, vec_capacity, EachIndex, IfOk};
 ghost use Rattle.std.specs.Int.{w64, to_le_bytes};
 ghost use Rattle.std.specs.List.{flat_map};
@@ -10,7 +10,7 @@ ghost use Rattle.pac_media.specs.Images.{image_size, palette_colour, ppm_of};
 ghost use Rattle.pac_picture.specs.State.{IsPicture, black};
 ghost use Rattle.pac_media.specs.Drawn.{AreColours, IsImageOf, IsDrawnTo};
 
-use crate::palette::Palette;
+use crate::palette::{Palette, word};
 use pac_picture::{HEIGHT, Lines, Picture, WIDTH};
 use std::alloc::{AllocError, Global};
 use std::marker::Model;
@@ -24,9 +24,10 @@ const LINE: usize = 3 * WIDTH;
 /// The bytes of an image.
 const SIZE: usize = HEADER + HEIGHT as usize * LINE;
 
-/// The blocks of a line, of eight pixels each, and its parts, of 32.
+/// The blocks of a line, of eight pixels each.
 const BLOCKS: usize = WIDTH / 8;
 
+/// The parts of a line, of 32 pixels each, which are compared at once.
 const PARTS: usize = WIDTH / 32;
 
 /// The colour numbers of a line.
@@ -80,26 +81,24 @@ fn begin(image: &mut Vec<u8>, palette: &mut Palette, lines: &[Numbers], colours:
 
 /// Eight colour numbers of a line as one number.
 #[inline]
-fn word(numbers: &Numbers, start: usize) -> u64
+fn word_at(numbers: &Numbers, start: usize) -> u64
     requires { start + 8 ≤ tile.width }
     ensures { to_le_bytes w64 result ≡ take 8 (drop start numbers.now) }
 {
-    let mut eight = [0; 8];
-    eight.copy_from_slice(&numbers[start..start + 8]);
-    u64::from_le_bytes(eight)
+    word(&numbers[start..start + 8])
 }
 
-/// Whether 32 colour numbers of two lines differ, told without looking at single ones.
+/// Whether 32 colour numbers of two lines are the same, told without looking at single ones.
 #[inline]
-fn differ(one: &Numbers, other: &Numbers, start: usize) -> bool
+fn are_same(one: &Numbers, other: &Numbers, start: usize) -> bool
     requires { start + 32 ≤ tile.width }
-    ensures { result ≡ false → take 32 (drop start one.now) ≡ take 32 (drop start other.now) }
+    ensures { IsTrue result ↔ (take 32 (drop start one.now) ≡ take 32 (drop start other.now)) }
 {
-    let first = word(one, start) ^ word(other, start);
-    let second = word(one, start + 8) ^ word(other, start + 8);
-    let third = word(one, start + 16) ^ word(other, start + 16);
-    let fourth = word(one, start + 24) ^ word(other, start + 24);
-    first | second | third | fourth != 0
+    let first = word_at(one, start) ^ word_at(other, start);
+    let second = word_at(one, start + 8) ^ word_at(other, start + 8);
+    let third = word_at(one, start + 16) ^ word_at(other, start + 16);
+    let fourth = word_at(one, start + 24) ^ word_at(other, start + 24);
+    first | second | third | fourth == 0
 }
 
 /// Draws eight pixels of a line again where their numbers changed, and keeps these.
@@ -112,13 +111,10 @@ fn redraw_block(
     start: usize,
 )
     requires start { start + 8 ≤ tile.width }
-    requires size { length pixels.old ≡ 3 * tile.width }
-    requires colours { AreColours palette.now }
-    requires numbers { EachIndex numbers.now (λ x. slice_index numbers.now x < colour_numbers) }
     requires drawn { IsDrawnTo palette.now start numbers.now pixels.old kept.old }
     ensures { IsDrawnTo palette.now (start + 8) numbers.now pixels.new kept.new }
 {
-    if word(numbers, start) != word(kept, start) {
+    if word_at(numbers, start) != word_at(kept, start) {
         let block = &numbers[start..start + 8];
         palette.colour(block, &mut pixels[3 * start..3 * start + 24]);
         kept[start..start + 8].copy_from_slice(block);
@@ -136,9 +132,6 @@ fn redraw_blocks(
     start: usize,
 )
     requires start { start + 32 ≤ tile.width }
-    requires size { length pixels.old ≡ 3 * tile.width }
-    requires colours { AreColours palette.now }
-    requires numbers { EachIndex numbers.now (λ x. slice_index numbers.now x < colour_numbers) }
     requires drawn { IsDrawnTo palette.now start numbers.now pixels.old kept.old }
     ensures { IsDrawnTo palette.now (start + 32) numbers.now pixels.new kept.new }
 {
@@ -157,13 +150,10 @@ fn redraw_part(
     start: usize,
 )
     requires start { start + 32 ≤ tile.width }
-    requires size { length pixels.old ≡ 3 * tile.width }
-    requires colours { AreColours palette.now }
-    requires numbers { EachIndex numbers.now (λ x. slice_index numbers.now x < colour_numbers) }
     requires drawn { IsDrawnTo palette.now start numbers.now pixels.old kept.old }
     ensures { IsDrawnTo palette.now (start + 32) numbers.now pixels.new kept.new }
 {
-    if differ(numbers, kept, start) {
+    if !are_same(numbers, kept, start) {
         redraw_blocks(pixels, kept, palette, numbers, start);
     }
 }
@@ -171,11 +161,7 @@ fn redraw_part(
 /// Draws those pixels of a line again whose numbers changed, and keeps these.
 #[inline]
 fn redraw_line(pixels: &mut [u8], kept: &mut Numbers, palette: &Palette, numbers: &Numbers)
-    requires size { length pixels.old ≡ 3 * tile.width }
-    requires colours { AreColours palette.now }
-    requires numbers { EachIndex numbers.now (λ x. slice_index numbers.now x < colour_numbers) }
-    requires kept { EachIndex kept.old (λ x. slice_index kept.old x < colour_numbers) }
-    requires drawn { pixels.old ≡ flat_map (palette_colour palette.now) kept.old }
+    requires { IsDrawnTo palette.now 0 numbers.now pixels.old kept.old }
     ensures drawn { pixels.new ≡ flat_map (palette_colour palette.now) numbers.now }
     ensures kept { kept.new ≡ numbers.now }
 {

@@ -1,10 +1,11 @@
 //! A palette, and the pixels of colour numbers in it.
 
 ghost use Rattle.std.specs.Prelude.{◌≡◌, ◌<◌, ◌+◌, ◌*◌, ◌↔◌, ◌++◌, IsTrue, IfOk, [], length, replicate, slice_index, slice_index_or, take, EachIndex};
+ghost use Rattle.std.specs.Int.{w64, to_le_bytes};
 ghost use Rattle.std.specs.List.{flat_map};
 ghost use Rattle.pac_colour.specs.Colours.{numbers as colour_numbers};
 ghost use Rattle.pac_media.specs.Images.{palette_colour};
-ghost use Rattle.pac_media.specs.Drawn.{ArePairs};
+ghost use Rattle.pac_media.specs.Drawn.{ArePairs, ArePlaces};
 
 use std::alloc::{AllocError, Global};
 use std::marker::Model;
@@ -33,15 +34,37 @@ fn fill(pairs: &mut [TwoPixels], colours: &[[u8; 3]])
     }
 }
 
-/// The pair of two colour numbers, by value: a copy can't overlap the pixels, which are written without a test for that.
-#[inline(always)]
-fn pair(pairs: &[TwoPixels], left: u8, right: u8) -> TwoPixels
-    requires size { length pairs.now ≡ 256 }
-    requires left { left < colour_numbers }
-    requires right { right < colour_numbers }
-    ensures { result ≡ slice_index_or pairs.now (16 * left + right) [] }
+/// Eight colour numbers as one number, the first of them lowest.
+#[inline]
+pub(crate) fn word(numbers: &[u8]) -> u64
+    requires { length numbers.now ≡ 8 }
+    ensures { to_le_bytes w64 result ≡ numbers.now }
 {
-    pairs[16 * left as usize + right as usize]
+    let mut eight = [0; 8];
+    eight.copy_from_slice(numbers);
+    u64::from_le_bytes(eight)
+}
+
+/// The places of the pairs of eight colour numbers in a table of pairs, in every other byte from the first on. All of them at
+/// once: of the numbers as one word, a shift to the left puts sixteen times each number into its byte, and one to the right the
+/// number that follows it.
+#[inline]
+fn pair_places(numbers: &[u8]) -> [u8; 8]
+    requires size { length numbers.now ≡ 8 }
+    requires below { EachIndex numbers.now (λ x. slice_index numbers.now x < colour_numbers) }
+    ensures { ArePlaces numbers.now result }
+{
+    let word = word(numbers);
+    ((word << 4) + (word >> 8)).to_le_bytes()
+}
+
+/// The pair at a place of the table, by value: a copy can't overlap the pixels, which are written without a test for that.
+#[inline(always)]
+fn pair(pairs: &[TwoPixels], place: u8) -> TwoPixels
+    requires { length pairs.now ≡ 256 }
+    ensures { result ≡ slice_index_or pairs.now place [] }
+{
+    pairs[place as usize]
 }
 
 /// A palette, with a table of the pixels of any two of its colours side by side. Clauses see the palette.
@@ -98,11 +121,12 @@ impl Palette {
         ensures { pixels.new ≡ flat_map (palette_colour self.now) numbers.now }
     {
         let pairs = self.pairs.as_slice();
+        let places = pair_places(numbers);
         for k in 0..3usize {
-            let two = pair(pairs, numbers[2 * k], numbers[2 * k + 1]);
+            let two = pair(pairs, places[2 * k]);
             pixels[6 * k..6 * k + 8].copy_from_slice(&two);
         }
-        let last = pair(pairs, numbers[6], numbers[7]);
+        let last = pair(pairs, places[6]);
         pixels[18..].copy_from_slice(&last[..6]);
     }
 }

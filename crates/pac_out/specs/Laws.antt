@@ -4,6 +4,7 @@ use Rattle.std.proofs.Common.{List, [], ◌++◌, ℕ, Option, None, Some, refl,
 use Rattle.std.specs.Io.KnownBytes.{Appends}
 use Rattle.pac_out.specs.Memory.{Space, Adds}
 use Rattle.pac_out.specs.Faulty.{WeakWriter, Passes}
+use Rattle.pac_out.specs.Writes.{took_if_there}
 
 -- memory
 pub adds-nothing : (writer : Space) → Adds writer [] writer
@@ -43,3 +44,21 @@ appends-joined None second third prefix suffix one other = tt
 appends-joined (Some a) None third prefix suffix one other = absurd one
 appends-joined (Some a) (Some b) None prefix suffix one other = absurd other
 appends-joined (Some a) (Some b) (Some c) prefix suffix one other = other ∙ (ap (λ held. held ++ suffix) one ∙ append_assoc a prefix suffix)
+
+-- a writer that may not be there
+module _ {W : Type 0} (took : W → List ℕ → W → Type 0) where
+  pub nothing-if-there : ((writer : W) → took writer [] writer) → (writer : Option W) → took_if_there took writer [] writer
+  nothing-if-there nothing (Some writer) = nothing writer
+  nothing-if-there nothing None = tt
+
+  pub joined-if-there : ((first second third : W) (prefix suffix : List ℕ) → took first prefix second → took second suffix third
+      → took first (prefix ++ suffix) third)
+      → (first second third : Option W) (prefix suffix : List ℕ) → took_if_there took first prefix second
+      → took_if_there took second suffix third → took_if_there took first (prefix ++ suffix) third
+  joined-if-there joined (Some first) (Some second) (Some third) prefix suffix one other =
+      joined first second third prefix suffix one other
+  joined-if-there joined (Some first) (Some second) None prefix suffix one other = absurd other
+  joined-if-there joined (Some first) None third prefix suffix one other = absurd one
+  joined-if-there joined None (Some second) third prefix suffix one other = absurd one
+  joined-if-there joined None None (Some third) prefix suffix one other = absurd other
+  joined-if-there joined None None None prefix suffix one other = tt

@@ -1,6 +1,6 @@
 -- To be believed: what a writer took. A writer says by two relations between its value before and after what taking some bytes
 -- leaves of it, `took`, and what a refusal leaves of it, `refused`.
-use Rattle.std.specs.Prelude.{◌≡◌, ℕ, ◌<◌, ◌≤◌, List, length, take, Result, Ok, Err}
+use Rattle.std.specs.Prelude.{◌≡◌, ⊤, ℕ, ◌<◌, ◌≤◌, List, length, take, Option, Some, None, Result, Ok, Err}
 use Rattle.std.specs.Borrow.{MutBor}
 
 -- One write of these bytes, by its answer: the writer took a prefix of them, and taking none of some is a refusal;
@@ -29,3 +29,13 @@ lent_took took old bytes new = (new.ghost_name ≡ old.ghost_name) × took old.n
 
 abbrev pub lent_refused : {W : Type 0} → (W → W → Type 0) → MutBor W → MutBor W → Type 0
 lent_refused refused old new = (new.ghost_name ≡ old.ghost_name) × refused old.now new.now
+
+-- What a writer that may not be there took, or its refusal: where there is none, all bytes are taken, and none are kept.
+abbrev pub took_if_there : {W : Type 0} → (W → List ℕ → W → Type 0) → Option W → List ℕ → Option W → Type 0
+took_if_there took (Some old) bytes (Some new) = took old bytes new
+took_if_there took None bytes None = ⊤
+took_if_there took old bytes new = ⊥
+
+abbrev pub refused_if_there : {W : Type 0} → (W → W → Type 0) → Option W → Option W → Type 0
+refused_if_there refused (Some old) (Some new) = refused old new
+refused_if_there refused old new = ⊥

@@ -3,7 +3,7 @@
 #![tactic(auto)]
 
 ghost use Rattle.std.specs.Prelude.{◌≡◌, ℕ, List, [], ◌++◌, IfErr, OnOk};
-ghost use Rattle.pac_out.specs.Writes.{IsWrite, StopsAfter, lent_took, lent_refused};
+ghost use Rattle.pac_out.specs.Writes.{IsWrite, StopsAfter, lent_took, lent_refused, took_if_there, refused_if_there};
 
 pub mod counted;
 pub mod faulty;
@@ -87,5 +87,26 @@ impl<W: Out> Out for &mut W {
     /// Writes to the writer that is lent.
     fn write(&mut self, bytes: &[u8]) -> Result<usize, Failed> {
         Out::write(&mut **self, bytes)
+    }
+}
+
+/// A writer that may not be there. Where there is none, all bytes are taken, and none are kept.
+impl<W: Out> Out for Option<W> {
+    ghost use Rattle.pac_out.specs.Laws.{nothing-if-there, joined-if-there};
+
+    ghost took = { took_if_there W.took };
+
+    ghost refused = { refused_if_there W.refused };
+
+    ghost nothing = { nothing-if-there W.took W.nothing };
+
+    ghost joined = { joined-if-there W.took W.joined };
+
+    /// Writes to the writer, if it is there.
+    fn write(&mut self, bytes: &[u8]) -> Result<usize, Failed> {
+        match self {
+            Some(writer) => writer.write(bytes),
+            None => Ok(bytes.len()),
+        }
     }
 }

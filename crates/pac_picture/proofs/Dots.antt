@@ -13,7 +13,6 @@ use Rattle.pac_num.proofs.Tabulated.{get_or-tabulate, tabulate-add, tabulate-is}
 use Rattle.pac_sprites.specs.declared.Sprite.{Sprite}
 use Rattle.pac_sprites.specs.Sprites.{is_column_of, is_in_box, box_place, flipped_place}
 use Rattle.pac_picture.specs.Picture.{VideoRoms, sprite_dot, sprite_number}
-use Rattle.pac_picture.specs.Layer.{sprite_image}
 use Rattle.pac_picture.specs.Painting.{painted_number, over_line, cell_dot}
 
 -- the eight dots of a cell
@@ -127,36 +126,28 @@ flipped-below : (flip : Bool) (place : ℕ) → place < 16 → flipped_place fli
 flipped-below true place below = omega (arith, below)
 flipped-below false place below = below
 
--- a sprite that covers a line shows its own there
-image-line : (roms : VideoRoms) (colour code x y : ℕ) → x < 16 → y < 16 →
-    slice_index (slice_index_or (sprite_image roms colour code) y []) x ≡ sprite_number roms colour code x y
-unfolding sprite_image
-image-line roms colour code x y across down =
-    rw (get_or-tabulate 16 (λ y. tabulate 16 (λ x. sprite_number roms colour code x y)) y [] down)
-    (get_or-tabulate 16 (λ x. sprite_number roms colour code x y) x 0 across)
-
 column-below : (sprite : Sprite) (x : ℕ) → is_column_of sprite x ≡ true → flipped_place sprite.flip_x (box_place sprite.left x) < 16
 column-below sprite x shows =
     let inner = and_parts _ _ shows in
     let within = and_parts _ _ inner.1 in
     flipped-below sprite.flip_x (box_place sprite.left x) (ltb-true (box_place sprite.left x) 16 within.1)
 
-pub dot-on : (roms : VideoRoms) (sprite : Sprite) (image : List (List ℕ)) (line x y below : ℕ) →
-    image ≡ sprite_image roms sprite.colour sprite.code → is_in_box sprite.top y ≡ true →
-    line ≡ flipped_place sprite.flip_y (box_place sprite.top y) → line < 16 →
-    over_line (slice_index_or image line []) sprite x below ≡ painted_number (sprite_dot roms sprite x y) below
+pub dot-on : (roms : VideoRoms) (sprite : Sprite) (numbers : List ℕ) (line x y below : ℕ) →
+    numbers ≡ tabulate 16 (λ x. sprite_number roms sprite.colour sprite.code x line) → is_in_box sprite.top y ≡ true →
+    line ≡ flipped_place sprite.flip_y (box_place sprite.top y) →
+    over_line numbers sprite x below ≡ painted_number (sprite_dot roms sprite x y) below
 unfolding sprite_dot
-dot-on roms sprite image line x y below is within place down =
+dot-on roms sprite numbers line x y below is within place =
     elim (cases_Bool (is_column_of sprite x)) [
       | inl shows ↦
           rw (
-            line-on (slice_index_or image line []) sprite x below shows,
+            line-on numbers sprite x below shows,
             is,
-            image-line roms sprite.colour sprite.code (flipped_place sprite.flip_x (box_place sprite.left x)) line
-                (column-below sprite x shows) down,
+            get_or-tabulate 16 (λ x. sprite_number roms sprite.colour sprite.code x line)
+                (flipped_place sprite.flip_x (box_place sprite.left x)) 0 (column-below sprite x shows),
             shows,
             within,
             place,
           ) refl
-      | inr hides ↦ rw (line-off (slice_index_or image line []) sprite x below hides, hides) refl
+      | inr hides ↦ rw (line-off numbers sprite x below hides, hides) refl
     ]

@@ -1,11 +1,13 @@
 pub mod Places
 pub mod Decoded
 pub mod Painted
+pub mod Boxes
 pub mod Dots
 pub mod Cells
 pub mod Masks
 pub mod Counts
 pub mod Layers
 pub mod Composed
+pub mod BareLines
 pub mod Stale
 pub use Rattle.pac_num.proofs.Tabulated

@@ -7,7 +7,7 @@ use Rattle.pac_tiles.specs.Tiles.{columns, rows, offset_of, tile_rom_size}
 use Rattle.pac_sprites.specs.Sprites.{sprite_rom_size}
 use Rattle.pac_colour.specs.Colours.{lookup_size}
 use Rattle.pac_picture.specs.declared.shadow.Shadow.{Shadow}
-use Rattle.pac_picture.specs.Picture.{VideoRoms, VideoMemory, tile_number, sprite_number}
+use Rattle.pac_picture.specs.Picture.{VideoRoms, VideoMemory, tile_number}
 
 -- the bytes that RAM has for the cells of a row of the picture, from left to right
 unfoldable pub cells_of : List ℕ → ℕ → List ℕ
@@ -44,10 +44,6 @@ all_differing shadows memory = sum (tabulate rows (differing_in shadows memory))
 -- the eight lines of a tile's colour numbers in a colour
 unfoldable pub tile_pattern : VideoRoms → ℕ → ℕ → List (List ℕ)
 tile_pattern roms colour tile = tabulate 8 (λ y. tabulate 8 (λ x. tile_number roms colour tile x y))
-
--- the sixteen lines of a sprite's colour numbers in a colour
-unfoldable pub sprite_image : VideoRoms → ℕ → ℕ → List (List ℕ)
-sprite_image roms colour code = tabulate 16 (λ y. tabulate 16 (λ x. sprite_number roms colour code x y))
 
 -- the ROMs have their sizes
 pub record AreSized (roms : VideoRoms) : Type 0 where

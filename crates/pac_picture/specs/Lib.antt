@@ -1,7 +1,9 @@
 pub mod Picture
 pub mod Layer
+pub mod Decoded
 pub mod State
 pub mod Painting
+pub mod BareLines
 pub mod Laws
 pub use Rattle.pac_num.specs.Tabulate
 pub use Rattle.pac_tiles.specs.Tiles

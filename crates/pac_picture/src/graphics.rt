@@ -1,164 +1,141 @@
-//! The ROMs that pictures are drawn from, decoded once for a set: each tile and each sprite in each colour, as
-//! colour numbers.
+//! The ROMs that pictures are drawn from, decoded once for a set: the pixel values of the lines of each tile and of each sprite.
+//! A colour's numbers are put in their places sixteen at a time.
 
-ghost use Rattle.std.specs.Prelude.{◌≡◌, ◌<◌, ℕ, ◌/◌, ◌%◌, IfOk, length, slice_index};
+ghost use Rattle.std.specs.Prelude.{◌≡◌, ◌<◌, ℕ, ◌+◌, ◌*◌, ◌/◌, ◌%◌, IfOk, length, slice_index, take, drop};
 ghost use Rattle.pac_num.specs.Tabulate.{tabulate};
 ghost use Rattle.pac_tiles.specs.Tiles as tile;
 ghost use Rattle.pac_sprites.specs.Sprites as sprite;
 ghost use Rattle.pac_colour.specs.Colours as colour_of;
-ghost use Rattle.pac_picture.specs.Picture.{tile_number, sprite_number};
-ghost use Rattle.pac_picture.specs.Layer.{tile_pattern, sprite_image};
+ghost use Rattle.pac_picture.specs.Picture.{sprite_number};
+ghost use Rattle.pac_picture.specs.Layer.{tile_pattern};
+ghost use Rattle.pac_picture.specs.Decoded.{tile_pair, sprite_values, AreValues, AreNumbersOf};
 
 use pac_colour::index;
 use std::alloc::{AllocError, Global};
 use std::marker::Model;
+use std::simd::prelude::*;
 
-/// How many colours tiles and sprites have.
-const COLOURS: u16 = 32;
-
-/// The bytes of the ROMs.
-#[derive(Drop)]
-struct Roms {
-    tiles: Vec<u8>,
-    sprites: Vec<u8>,
-    lookup: Vec<u8>,
+/// The colour numbers of sixteen pixel values, by the numbers of a colour.
+#[inline]
+fn coloured(numbers: &[u8; 16], values: &[u8; 16]) -> [u8; 16]
+    requires { AreValues values.now }
+    ensures { (k : ℕ) → k < 16 → slice_index result k ≡ slice_index numbers.now (slice_index values.now k) }
+{
+    u8x16::from_array(*numbers)
+        .swizzle_dyn(u8x16::from_array(*values))
+        .to_array()
 }
 
-impl Model for Roms {
-    ghost use Rattle.pac_picture.specs.Picture.{VideoRoms};
-    ghost use Rattle.pac_picture.specs.Layer.{AreSized};
-
-    ghost Value = { VideoRoms };
-
-    ghost view = { λ roms. record { tiles = roms.tiles.items; sprites = roms.sprites.items; lookup = roms.lookup.items } };
-
-    ghost invariant = { λ roms. AreSized (record { tiles = roms.tiles.items; sprites = roms.sprites.items; lookup = roms.lookup.items }) };
+/// The first eight and the last eight of sixteen bytes.
+#[inline]
+fn halves(both: &[u8; 16]) -> ([u8; 8], [u8; 8])
+    ensures first { result.0 ≡ take 8 both.now }
+    ensures last { result.1 ≡ take 8 (drop 8 both.now) }
+{
+    let mut first = [0; 8];
+    let mut last = [0; 8];
+    first.copy_from_slice(&both[..8]);
+    last.copy_from_slice(&both[8..]);
+    (first, last)
 }
 
-impl Roms {
-    /// The colour number of pixel (x, y) of a tile in a colour.
-    #[inline]
-    #[tactic(auto, unfolding(crate::specs::Picture::tile_number))]
-    fn tile_number(&self, colour: u8, tile: u8, x: u8, y: u8) -> u8
-        requires x { x < 8 }
-        requires y { y < 8 }
-        ensures { result ≡ tile_number self.now colour tile x y }
-    {
-        index(
-            &self.lookup,
-            colour,
-            pac_tiles::pixel(&self.tiles, tile, x, y),
-        )
+/// The pixel values on two lines of a tile, one after the other: those of the pair of a number, 0 to 3.
+fn tile_pair(rom: &[u8], code: u8, pair: u8) -> [u8; 16]
+    requires rom { length rom.now ≡ tile.tile_rom_size }
+    requires pair { pair < 4 }
+    ensures { result ≡ tile_pair rom.now code pair }
+{
+    let mut values = [0; 16];
+    for k in 0..16u8 {
+        values[k as usize] = pac_tiles::pixel(rom, code, k % 8, 2 * pair + k / 8);
     }
+    values
+}
 
-    /// The colour numbers on line y of a tile in a colour.
-    fn tile_line(&self, colour: u8, tile: u8, y: u8) -> [u8; 8]
-        requires y { y < 8 }
-        ensures { result ≡ tabulate 8 (λ x. tile_number self.now colour tile x y) }
-    {
-        let mut line = [0; 8];
-        for x in 0..8u8 {
-            line[x as usize] = self.tile_number(colour, tile, x, y);
-        }
-        line
+/// The pixel values of all tiles, by pairs of lines.
+fn tile_pairs(alloc: Global, rom: &[u8]) -> Result<Vec<[u8; 16]>, AllocError>
+    requires { length rom.now ≡ tile.tile_rom_size }
+    ensures { IfOk result (λ pairs. pairs.items ≡ tabulate 1024 (λ n. tile_pair rom.now (n / 4) (n % 4))) }
+{
+    let mut pairs = Vec::with_capacity(alloc, 1024)?;
+    for n in 0..1024u16 {
+        pairs.push(tile_pair(rom, (n / 4) as u8, (n % 4) as u8))?;
     }
+    Ok(pairs)
+}
 
-    /// The colour numbers of a tile in a colour, line by line.
-    fn pattern(&self, colour: u8, tile: u8) -> [[u8; 8]; 8]
-        ensures { result ≡ tile_pattern self.now colour tile }
-    {
-        let mut lines = [[0; 8]; 8];
-        for y in 0..8u8 {
-            lines[y as usize] = self.tile_line(colour, tile, y);
-        }
-        lines
+/// The pixel values on line y of a sprite.
+fn sprite_values(rom: &[u8], code: u8, y: u8) -> [u8; 16]
+    requires rom { length rom.now ≡ sprite.sprite_rom_size }
+    requires code { code < sprite.sprite_codes }
+    requires y { y < 16 }
+    ensures { result ≡ sprite_values rom.now code y }
+{
+    let mut values = [0; 16];
+    for x in 0..16u8 {
+        values[x as usize] = pac_sprites::pixel(rom, code, x, y);
     }
+    values
+}
 
-    /// All tiles in all colours.
-    fn patterns(&self, alloc: Global) -> Result<Vec<[[u8; 8]; 8]>, AllocError>
-        ensures { IfOk result (λ patterns. patterns.items ≡ tabulate 8192 (λ n. tile_pattern self.now (n / 256) (n % 256))) }
-    {
-        let mut patterns = Vec::with_capacity(alloc, 8192)?;
-        for n in 0..256 * COLOURS {
-            patterns.push(self.pattern((n / 256) as u8, (n % 256) as u8))?;
-        }
-        Ok(patterns)
+/// The pixel values of all sprites, line by line.
+fn sprite_lines(alloc: Global, rom: &[u8]) -> Result<Vec<[u8; 16]>, AllocError>
+    requires { length rom.now ≡ sprite.sprite_rom_size }
+    ensures { IfOk result (λ lines. lines.items ≡ tabulate 1024 (λ n. sprite_values rom.now (n / 16) (n % 16))) }
+{
+    let mut lines = Vec::with_capacity(alloc, 1024)?;
+    for n in 0..1024u16 {
+        lines.push(sprite_values(rom, (n / 16) as u8, (n % 16) as u8))?;
     }
+    Ok(lines)
+}
 
-    /// The colour number of pixel (x, y) of a sprite in a colour.
-    #[inline]
-    #[tactic(auto, unfolding(crate::specs::Picture::sprite_number))]
-    fn sprite_number(&self, colour: u8, code: u8, x: u8, y: u8) -> u8
-        requires code { code < sprite.sprite_codes }
-        requires x { x < 16 }
-        requires y { y < 16 }
-        ensures { result ≡ sprite_number self.now colour code x y }
-    {
-        index(
-            &self.lookup,
-            colour,
-            pac_sprites::pixel(&self.sprites, code, x, y),
-        )
+/// A colour's number of each pixel value: the first four of sixteen.
+#[inline]
+fn numbers(lookup: &[u8], colour: u8) -> [u8; 16]
+    requires { length lookup.now ≡ colour_of.lookup_size }
+    ensures { AreNumbersOf lookup.now colour result }
+{
+    let mut numbers = [0; 16];
+    for value in 0..4u8 {
+        numbers[value as usize] = index(lookup, colour, value);
     }
-
-    /// The colour numbers on line y of a sprite in a colour.
-    fn sprite_line(&self, colour: u8, code: u8, y: u8) -> [u8; 16]
-        requires code { code < sprite.sprite_codes }
-        requires y { y < 16 }
-        ensures { result ≡ tabulate 16 (λ x. sprite_number self.now colour code x y) }
-    {
-        let mut line = [0; 16];
-        for x in 0..16u8 {
-            line[x as usize] = self.sprite_number(colour, code, x, y);
-        }
-        line
-    }
-
-    /// The colour numbers of a sprite in a colour, line by line.
-    fn image(&self, colour: u8, code: u8) -> [[u8; 16]; 16]
-        requires code { code < sprite.sprite_codes }
-        ensures { result ≡ sprite_image self.now colour code }
-    {
-        let mut lines = [[0; 16]; 16];
-        for y in 0..16u8 {
-            lines[y as usize] = self.sprite_line(colour, code, y);
-        }
-        lines
-    }
-
-    /// All sprites in all colours.
-    fn images(&self, alloc: Global) -> Result<Vec<[[u8; 16]; 16]>, AllocError>
-        ensures { IfOk result (λ images. images.items ≡ tabulate 2048 (λ n. sprite_image self.now (n / 64) (n % 64))) }
-    {
-        let mut images = Vec::with_capacity(alloc, 2048)?;
-        for n in 0..64 * COLOURS {
-            images.push(self.image((n / 64) as u8, (n % 64) as u8))?;
-        }
-        Ok(images)
-    }
+    numbers
 }
 
 /// The ROMs that pictures are drawn from. Clauses see their bytes.
 #[derive(Drop)]
 pub struct Graphics {
-    roms: Roms,
-    patterns: Vec<[[u8; 8]; 8]>,
-    images: Vec<[[u8; 16]; 16]>,
+    tiles: Vec<u8>,
+    sprites: Vec<u8>,
+    lookup: Vec<u8>,
+    tile_pairs: Vec<[u8; 16]>,
+    sprite_lines: Vec<[u8; 16]>,
 }
 
 impl Model for Graphics {
     ghost use Rattle.std.specs.Prelude.{◌≡◌, ◌/◌, ◌%◌};
     ghost use Rattle.pac_num.specs.Tabulate.{tabulate};
     ghost use Rattle.pac_picture.specs.Picture.{VideoRoms};
-    ghost use Rattle.pac_picture.specs.Layer.{tile_pattern, sprite_image};
+    ghost use Rattle.pac_picture.specs.Layer.{AreSized};
+    ghost use Rattle.pac_picture.specs.Decoded.{tile_pair, sprite_values};
 
     ghost Value = { VideoRoms };
 
-    ghost view = { λ graphics. graphics.roms };
+    ghost view = { λ graphics. record {
+      tiles = graphics.tiles.items;
+      sprites = graphics.sprites.items;
+      lookup = graphics.lookup.items;
+    } };
 
     ghost invariant = { λ graphics. record {
-      patterns : graphics.patterns.items ≡ tabulate 8192 (λ n. tile_pattern graphics.roms (n / 256) (n % 256));
-      images : graphics.images.items ≡ tabulate 2048 (λ n. sprite_image graphics.roms (n / 64) (n % 64));
+      sized : AreSized (record {
+        tiles = graphics.tiles.items;
+        sprites = graphics.sprites.items;
+        lookup = graphics.lookup.items;
+      });
+      pairs : graphics.tile_pairs.items ≡ tabulate 1024 (λ n. tile_pair graphics.tiles.items (n / 4) (n % 4));
+      lines : graphics.sprite_lines.items ≡ tabulate 1024 (λ n. sprite_values graphics.sprites.items (n / 16) (n % 16));
     } };
 }
 
@@ -176,34 +153,66 @@ impl Graphics {
         requires lookup { length lookup.now ≡ colour_of.lookup_size }
         ensures { IfOk result (λ graphics. graphics ≡ record { tiles = tiles.now; sprites = sprites.now; lookup = lookup.now }) }
     {
-        let roms = Roms {
+        Ok(Graphics {
             tiles: Vec::from_slice(alloc, tiles)?,
             sprites: Vec::from_slice(alloc, sprites)?,
             lookup: Vec::from_slice(alloc, lookup)?,
-        };
-        let patterns = roms.patterns(alloc)?;
-        let images = roms.images(alloc)?;
-        Ok(Graphics {
-            roms,
-            patterns,
-            images,
+            tile_pairs: tile_pairs(alloc, tiles)?,
+            sprite_lines: sprite_lines(alloc, sprites)?,
         })
+    }
+
+    /// A colour's number of each pixel value.
+    #[inline]
+    fn numbers(&self, colour: u8) -> [u8; 16]
+        ensures { AreNumbersOf self.now.lookup colour result }
+    {
+        numbers(&self.lookup, colour)
+    }
+
+    /// The pixel values of a pair of a tile's lines.
+    #[inline]
+    fn tile_values(&self, code: u8, pair: u8) -> &[u8; 16]
+        requires { pair < 4 }
+        ensures values { result.now ≡ tile_pair self.now.tiles code pair }
+        ensures below { AreValues result.now }
+    {
+        &self.tile_pairs[4 * code as usize + pair as usize]
     }
 
     /// The colour numbers of a tile in a colour, line by line.
     #[inline]
-    pub(crate) fn pattern(&self, colour: u8, tile: u8) -> &[[u8; 8]; 8]
-        ensures { result.now ≡ tile_pattern self.now colour tile }
+    pub(crate) fn pattern(&self, colour: u8, code: u8) -> [[u8; 8]; 8]
+        ensures { result ≡ tile_pattern self.now colour code }
     {
-        &self.patterns[256 * (colour % 32) as usize + tile as usize]
+        let numbers = self.numbers(colour);
+        let mut lines = [[0; 8]; 8];
+        for pair in 0..4u8 {
+            let (upper, lower) = halves(&coloured(&numbers, self.tile_values(code, pair)));
+            lines[2 * pair as usize] = upper;
+            lines[2 * pair as usize + 1] = lower;
+        }
+        lines
     }
 
-    /// The colour numbers of a sprite, 0 to 63, in a colour, line by line.
+    /// The pixel values on line y of a sprite, 0 to 63.
     #[inline]
-    pub(crate) fn image(&self, colour: u8, code: u8) -> &[[u8; 16]; 16]
-        requires { code < sprite.sprite_codes }
-        ensures { result.now ≡ sprite_image self.now colour code }
+    fn sprite_values(&self, code: u8, y: u8) -> &[u8; 16]
+        requires code { code < sprite.sprite_codes }
+        requires y { y < 16 }
+        ensures values { result.now ≡ sprite_values self.now.sprites code y }
+        ensures below { AreValues result.now }
     {
-        &self.images[64 * (colour % 32) as usize + code as usize]
+        &self.sprite_lines[16 * code as usize + y as usize]
+    }
+
+    /// The colour numbers on line y of a sprite, 0 to 63, in a colour.
+    #[inline]
+    pub(crate) fn sprite_line(&self, colour: u8, code: u8, y: u8) -> [u8; 16]
+        requires code { code < sprite.sprite_codes }
+        requires y { y < 16 }
+        ensures { result ≡ tabulate 16 (λ x. sprite_number self.now colour code x y) }
+    {
+        coloured(&self.numbers(colour), self.sprite_values(code, y))
     }
 }

@@ -42,15 +42,22 @@ fn differing(shadow: &Shadow, tiles: &RowBytes, colours: &RowBytes) -> [bool; CO
     either(shadow.stale, &by_tile, &by_colour)
 }
 
-/// Draws a cell where it differs, and counts it.
+/// Draws a cell with a tile in a colour where it differs, and counts it.
 #[inline]
-fn redraw_cell(cells: &mut Cells, column: usize, pattern: &[[u8; 8]; 8], differs: bool) -> u32
+fn redraw_cell(
+    cells: &mut Cells,
+    graphics: &Graphics,
+    column: usize,
+    code: u8,
+    colour: u8,
+    differs: bool,
+) -> u32
     requires { column < tile.columns }
-    ensures cells { cells.new ≡ (if differs then slice_set cells.old column pattern.now else cells.old) }
+    ensures cells { cells.new ≡ (if differs then slice_set cells.old column (tile_pattern graphics.now colour code) else cells.old) }
     ensures count { result ≡ (if differs then 1 else 0) }
 {
     if differs {
-        cells[column] = *pattern;
+        cells[column] = graphics.pattern(colour, code);
         1
     } else {
         0
@@ -75,8 +82,14 @@ fn redraw(
 {
     let mut count = 0;
     for column in 0..COLUMNS {
-        let pattern = graphics.pattern(colours[column], tiles[column]);
-        count += redraw_cell(cells, column, pattern, mask[column]);
+        count += redraw_cell(
+            cells,
+            graphics,
+            column,
+            tiles[column],
+            colours[column],
+            mask[column],
+        );
     }
     count
 }

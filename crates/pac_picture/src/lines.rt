@@ -1,6 +1,6 @@
 //! The lines of a picture, as colour numbers.
 
-ghost use Rattle.std.specs.Prelude.{◌≡◌, ◌<◌, ◌/◌, ◌-◌, ℕ, [], IfOk};
+ghost use Rattle.std.specs.Prelude.{◌≡◌, ◌<◌, ◌/◌, ◌-◌, ℕ, [], true, IfOk};
 ghost use Rattle.std.specs.Prelude.{length, reverse, if◌then◌else◌, slice_index, slice_index_or, slice_set, EachIndex};
 ghost use Rattle.pac_num.specs.Tabulate.{tabulate};
 ghost use Rattle.pac_tiles.specs.Tiles as tile;
@@ -8,7 +8,9 @@ ghost use Rattle.pac_colour.specs.Colours as colour;
 ghost use Rattle.pac_picture.specs.Picture.{picture_line, picture_of};
 ghost use Rattle.pac_picture.specs.Layer.{shadow_at, drawn_from};
 ghost use Rattle.pac_picture.specs.State.{IsPicture, black, source_of};
+ghost use Rattle.pac_picture.specs.BareLines.{AreBare};
 
+use crate::bare::Bare;
 use crate::layer::Layer;
 use crate::painting::paint_sprites;
 use crate::screen::Screen;
@@ -37,6 +39,25 @@ fn compose_line(layer: &Layer, screen: &Screen<'_>, y: u8, out: &mut [u8; WIDTH]
     layer.line(source, out);
     paint_sprites(layer.graphics(), screen, source, out);
     turn(out, screen.flip());
+}
+
+/// Composes line y of the shown picture where it isn't composed already.
+#[inline]
+fn compose_unless(
+    is_composed: bool,
+    layer: &Layer,
+    screen: &Screen<'_>,
+    y: u8,
+    out: &mut [u8; WIDTH],
+)
+    requires y { y < tile.height }
+    requires drawn { shadow_at layer.now.shadows (source_of screen.now y / 8) ≡ drawn_from screen.now (source_of screen.now y / 8) }
+    requires composed { is_composed ≡ true → out.old ≡ picture_line layer.now.roms screen.now y }
+    ensures { out.new ≡ picture_line layer.now.roms screen.now y }
+{
+    if !is_composed {
+        compose_line(layer, screen, y, out);
+    }
 }
 
 /// The 224 lines of a picture, of 288 colour numbers each, from 0 to 15.
@@ -95,13 +116,27 @@ impl Lines {
         self.lines.copy_from_slice(&other.lines);
     }
 
-    /// Composes line y of the shown picture, through a layer whose row of that line is drawn from the screen.
-    pub(crate) fn compose_line(&mut self, y: u8, layer: &Layer, screen: &Screen<'_>)
+    /// Composes line y of the shown picture, through a layer whose row of that line is drawn from the screen: a line
+    /// on which no sprite stands or stood is there already.
+    pub(crate) fn compose_line(
+        &mut self,
+        y: u8,
+        layer: &Layer,
+        screen: &Screen<'_>,
+        bare: &mut Bare,
+    )
         requires y { y < tile.height }
         requires drawn { shadow_at layer.now.shadows (source_of screen.now y / 8) ≡ drawn_from screen.now (source_of screen.now y / 8) }
-        ensures { self.new ≡ slice_set self.old y (picture_line layer.now.roms screen.now y) }
+        requires bare { AreBare bare.old.lines bare.old.flip layer.now.roms layer.now.shadows self.old }
+        requires flip { bare.old.flip ≡ screen.now.flip }
+        ensures lines { self.new ≡ slice_set self.old y (picture_line layer.now.roms screen.now y) }
+        ensures bare { AreBare bare.new.lines bare.new.flip layer.now.roms layer.now.shadows self.new }
     {
-        compose_line(layer, screen, y, &mut self.lines[y as usize]);
+        let source = screen.source(y);
+        let has_sprite = screen.has_sprite_on(source);
+        let is_composed = bare.stays(source, has_sprite);
+        compose_unless(is_composed, layer, screen, y, &mut self.lines[y as usize]);
+        bare.take(source, has_sprite);
     }
 
     /// Composes all lines, through a layer that is drawn from the screen.

@@ -66,8 +66,8 @@ fn paint(graphics: &Graphics, sprite: &Sprite, y: u8, out: &mut [u8; WIDTH])
     let Some(line) = sprite.line_at(y) else {
         return;
     };
-    let image = graphics.image(sprite.colour, sprite.code);
-    paint_line(&image[line as usize], sprite, out);
+    let numbers = graphics.sprite_line(sprite.colour, sprite.code, line);
+    paint_line(&numbers, sprite, out);
 }
 
 /// Paints the eight sprites over line y of the picture: the first is in front of all, so it comes last.

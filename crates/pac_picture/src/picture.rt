@@ -6,6 +6,7 @@ ghost use Rattle.pac_colour.specs.Colours as colour;
 ghost use Rattle.pac_picture.specs.Layer.{AreStale, made_stale, stale_rows, cell_differs, shadow_at, cells_of};
 ghost use Rattle.pac_picture.specs.State.{IsPicture, black, palette_of, composed_picture, picture_with_line};
 
+use crate::bare::Bare;
 use crate::graphics::Graphics;
 use crate::layer::Layer;
 use crate::lines::Lines;
@@ -21,6 +22,7 @@ pub struct Picture {
     layer: Layer,
     palette: Vec<[u8; 3]>,
     lines: Lines,
+    bare: Bare,
     drawn: u32,
 }
 
@@ -28,6 +30,7 @@ impl Model for Picture {
     ghost use Rattle.std.specs.Prelude.{◌≡◌, length};
     ghost use Rattle.pac_colour.specs.Colours.{numbers};
     ghost use Rattle.pac_picture.specs.State.{PictureState};
+    ghost use Rattle.pac_picture.specs.BareLines.{AreBare};
 
     ghost Value = { PictureState };
 
@@ -39,7 +42,10 @@ impl Model for Picture {
       drawn = picture.drawn;
     } };
 
-    ghost invariant = { λ picture. length picture.palette.items ≡ numbers };
+    ghost invariant = { λ picture. record {
+      colours : length picture.palette.items ≡ numbers;
+      bare : AreBare picture.bare.lines picture.bare.flip picture.layer.roms picture.layer.shadows picture.lines;
+    } };
 }
 
 /// The colours of the 16 colour numbers.
@@ -75,6 +81,7 @@ impl Picture {
             layer,
             palette,
             lines,
+            bare: Bare::none(false),
             drawn: 0,
         })
     }
@@ -138,6 +145,7 @@ impl Picture {
         ensures picture { self.new ≡ record self.old { lines = lines.now; shadows = map made_stale self.old.shadows } }
         ensures stale { AreStale self.new.shadows }
     {
+        self.bare = Bare::none(false);
         self.lines.copy_from(lines);
         self.layer.set_stale();
     }
@@ -147,6 +155,7 @@ impl Picture {
     pub fn compose(&mut self, screen: &Screen<'_>)
         ensures { self.new ≡ composed_picture screen.now self.old }
     {
+        self.bare = Bare::none(screen.flip());
         self.drawn = self.layer.refresh_all(screen);
         self.lines.compose(&self.layer, screen);
     }
@@ -157,7 +166,12 @@ impl Picture {
         requires { y < tile.height }
         ensures { self.new ≡ picture_with_line y screen.now self.old }
     {
-        self.drawn = self.layer.refresh(screen.source(y) / 8, screen);
-        self.lines.compose_line(y, &self.layer, screen);
+        let row = screen.source(y) / 8;
+        let cells = self.layer.refresh(row, screen);
+        self.drawn = cells;
+        self.bare.redrawn(row, cells);
+        self.bare.turn(screen.flip());
+        self.lines
+            .compose_line(y, &self.layer, screen, &mut self.bare);
     }
 }

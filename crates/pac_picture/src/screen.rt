@@ -1,6 +1,6 @@
 //! What a program writes to choose the picture.
 
-ghost use Rattle.std.specs.Prelude.{◌≡◌, ◌<◌, length, if◌then◌else◌};
+ghost use Rattle.std.specs.Prelude.{◌≡◌, ◌<◌, ◌*◌, ◌-ℤ◌, ℕ, pos, false, length, slice_index, if◌then◌else◌};
 ghost use Rattle.pac_tiles.specs.Tiles as tile;
 ghost use Rattle.pac_sprites.specs.Sprites as sprite;
 ghost use Rattle.pac_picture.specs.Picture.{sprite_at, sprite_bytes};
@@ -11,6 +11,10 @@ use crate::size::{COLUMNS, HEIGHT, RowBytes};
 use pac_sprites::Sprite;
 use pac_tiles::offset;
 use std::marker::Model;
+use std::simd::prelude::*;
+
+/// For each byte of the sprites' coordinates, how many lines are in the box that it places: no columns are looked at.
+const BOX_LINES: [u8; 16] = [16, 0, 16, 0, 16, 0, 16, 0, 16, 0, 16, 0, 16, 0, 16, 0];
 
 /// The memory that a picture is composed from, borrowed. Clauses see it as its bytes.
 #[derive(Drop)]
@@ -109,6 +113,15 @@ impl<'a> Screen<'a> {
         )
     }
 
+    /// Whether a sprite stands on line y of the picture that isn't flipped, told by its box alone.
+    #[inline]
+    pub(crate) fn has_sprite_on(&self, y: u8) -> bool
+        requires { y < tile.height }
+        ensures { result ≡ false → (k : ℕ) → k < 8 → sprite.is_in_box (sprite_at self.now k).top y ≡ false }
+    {
+        boxes_at(self.coordinates, y) != 0
+    }
+
     /// The tiles of a row of cells.
     #[inline]
     pub(crate) fn tiles(&self, row: u8) -> RowBytes
@@ -126,6 +139,19 @@ impl<'a> Screen<'a> {
     {
         cells(self.colour_ram, row)
     }
+}
+
+/// Bits that say which of the eight sprites' boxes have line y of the picture; none of them has where it is 0.
+#[inline]
+fn boxes_at(coordinates: &[u8], y: u8) -> u64
+    requires coordinates { length coordinates.now ≡ sprite_bytes }
+    requires y { y < tile.height }
+    ensures { result ≡ 0 → (k : ℕ) → k < 8 →
+        sprite.is_in_box (pos (slice_index coordinates.now (2 * k)) -ℤ pos 31) y ≡ false }
+{
+    (u8x16::splat(y + 31) - u8x16::from_slice(coordinates))
+        .simd_lt(u8x16::from_array(BOX_LINES))
+        .to_bitmask()
 }
 
 /// The bytes of 1,024 that a row of cells has: the 32 in the middle follow one another.

@@ -21,16 +21,22 @@ pub struct Raw<'a> {
     pub wave: &'a [u8],
 }
 
+/// The bytes of all parts, one part after another: 25,120.
+#[derive(Drop)]
+struct SetBytes {
+    program: [u8; 16384],
+    tiles: [u8; 4096],
+    sprites: [u8; 4096],
+    colours: [u8; 32],
+    lookup: [u8; 256],
+    wave: [u8; 256],
+}
+
 /// The ROMs and PROMs of a board (Namco Pac-Man service schematics). Clauses see the bytes of each part; the parts
 /// have their sizes, and no call changes them.
 #[derive(Drop)]
 pub struct RomSet {
-    program: Vec<u8>,
-    tiles: Vec<u8>,
-    sprites: Vec<u8>,
-    colours: Vec<u8>,
-    lookup: Vec<u8>,
-    wave: Vec<u8>,
+    bytes: Box<SetBytes>,
 }
 
 impl Model for RomSet {
@@ -39,21 +45,21 @@ impl Model for RomSet {
     ghost Value = { Parts };
 
     ghost view = { λ set. record {
-      program = set.program.items;
-      tiles = set.tiles.items;
-      sprites = set.sprites.items;
-      colours = set.colours.items;
-      lookup = set.lookup.items;
-      wave = set.wave.items;
+      program = set.bytes.value.program;
+      tiles = set.bytes.value.tiles;
+      sprites = set.bytes.value.sprites;
+      colours = set.bytes.value.colours;
+      lookup = set.bytes.value.lookup;
+      wave = set.bytes.value.wave;
     } };
 
     ghost invariant = { λ set. IsWhole (record {
-      program = set.program.items;
-      tiles = set.tiles.items;
-      sprites = set.sprites.items;
-      colours = set.colours.items;
-      lookup = set.lookup.items;
-      wave = set.wave.items;
+      program = set.bytes.value.program;
+      tiles = set.bytes.value.tiles;
+      sprites = set.bytes.value.sprites;
+      colours = set.bytes.value.colours;
+      lookup = set.bytes.value.lookup;
+      wave = set.bytes.value.wave;
     }) };
 }
 
@@ -76,67 +82,77 @@ impl RomSet {
           wave = raw.now.wave.now;
         }) }
     {
-        Ok(RomSet {
-            program: Vec::from_slice(alloc, program)?,
-            tiles: Vec::from_slice(alloc, raw.tiles)?,
-            sprites: Vec::from_slice(alloc, raw.sprites)?,
-            colours: Vec::from_slice(alloc, raw.colours)?,
-            lookup: Vec::from_slice(alloc, raw.lookup)?,
-            wave: Vec::from_slice(alloc, raw.wave)?,
-        })
+        let mut bytes = Box::new(
+            alloc,
+            SetBytes {
+                program: [0; 16384],
+                tiles: [0; 4096],
+                sprites: [0; 4096],
+                colours: [0; 32],
+                lookup: [0; 256],
+                wave: [0; 256],
+            },
+        )?;
+        bytes.program.copy_from_slice(program);
+        bytes.tiles.copy_from_slice(raw.tiles);
+        bytes.sprites.copy_from_slice(raw.sprites);
+        bytes.colours.copy_from_slice(raw.colours);
+        bytes.lookup.copy_from_slice(raw.lookup);
+        bytes.wave.copy_from_slice(raw.wave);
+        Ok(RomSet { bytes })
     }
 
     /// The program ROM, 16,384 bytes.
     #[inline(always)]
-    pub fn program(&self) -> &[u8]
+    pub fn program(&self) -> &[u8; 16384]
         ensures bytes { result.now ≡ self.now.program }
         ensures size { length self.now.program ≡ spec.program_size }
     {
-        &self.program
+        &self.bytes.program
     }
 
     /// The tile ROM, 4,096 bytes.
     #[inline(always)]
-    pub fn tiles(&self) -> &[u8]
+    pub fn tiles(&self) -> &[u8; 4096]
         ensures bytes { result.now ≡ self.now.tiles }
         ensures size { length self.now.tiles ≡ spec.tiles_size }
     {
-        &self.tiles
+        &self.bytes.tiles
     }
 
     /// The sprite ROM, 4,096 bytes.
     #[inline(always)]
-    pub fn sprites(&self) -> &[u8]
+    pub fn sprites(&self) -> &[u8; 4096]
         ensures bytes { result.now ≡ self.now.sprites }
         ensures size { length self.now.sprites ≡ spec.sprites_size }
     {
-        &self.sprites
+        &self.bytes.sprites
     }
 
     /// The colour PROM, 32 bytes.
     #[inline(always)]
-    pub fn colours(&self) -> &[u8]
+    pub fn colours(&self) -> &[u8; 32]
         ensures bytes { result.now ≡ self.now.colours }
         ensures size { length self.now.colours ≡ spec.colour_prom_size }
     {
-        &self.colours
+        &self.bytes.colours
     }
 
     /// The lookup PROM, 256 bytes.
     #[inline(always)]
-    pub fn lookup(&self) -> &[u8]
+    pub fn lookup(&self) -> &[u8; 256]
         ensures bytes { result.now ≡ self.now.lookup }
         ensures size { length self.now.lookup ≡ spec.lookup_prom_size }
     {
-        &self.lookup
+        &self.bytes.lookup
     }
 
     /// The wave PROM, 256 bytes.
     #[inline(always)]
-    pub fn wave(&self) -> &[u8]
+    pub fn wave(&self) -> &[u8; 256]
         ensures bytes { result.now ≡ self.now.wave }
         ensures size { length self.now.wave ≡ spec.wave_prom_size }
     {
-        &self.wave
+        &self.bytes.wave
     }
 }

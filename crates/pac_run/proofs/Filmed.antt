@@ -14,13 +14,13 @@ use Rattle.pac_media.specs.Sound.{HasText, Gains, Delivers, SoundFails, Finishes
 use Rattle.pac_media.specs.Sound as media
 use Rattle.pac_media.proofs.Gathered.{fails-within, finishes-after}
 use Rattle.pac_board_course.specs.Output.{Output, Image, Sound, Show}
-use Rattle.pac_board_course.specs.Sinks.{TookAll, RefusesAt}
+use Rattle.pac_board_course.specs.Sinks.{TookAll, Cut}
 use Rattle.pac_run.specs.declared.fault.OutputFault.{OutputFault}
 use Rattle.pac_run.specs.declared.fault.Output.TheVariants as which
 use Rattle.pac_run.specs.declared.film.Film.{Film}
-use Rattle.pac_run.specs.Films.{film_took, film_refused, RefusedSample, RefusedImage}
-use Rattle.pac_run.specs.Recorded.{sound_text, IsRecorded, IsFlushed, StopsInImage, StopsInSound, StopsFilm, StopsAmong, GivesUp}
-use Rattle.pac_run.specs.Texts.{pictures_in, samples_in, images_text}
+use Rattle.pac_run.specs.Films.{film_took, film_refused, film_giving, RefusedSample, RefusedImage}
+use Rattle.pac_run.specs.Recorded.{IsRecorded, IsFlushed, StopsInImage, StopsInSound, StopsFilm, StopsAmong, GivesUp}
+use Rattle.pac_run.specs.Texts.{sound_text, pictures_in, samples_in, images_text}
 
 -- ---- texts of lists that are put together
 
@@ -29,7 +29,7 @@ pictures-append [] other = refl
 pictures-append (Sound sample ∷ one) other = pictures-append one other
 pictures-append (Show image ∷ one) other = ap (λ images. image ∷ images) (pictures-append one other)
 
-samples-append : (one other : List Output) → samples_in (one ++ other) ≡ samples_in one ++ samples_in other
+pub samples-append : (one other : List Output) → samples_in (one ++ other) ≡ samples_in one ++ samples_in other
 samples-append [] other = refl
 samples-append (Sound sample ∷ one) other = ap (λ samples. sample ∷ samples) (samples-append one other)
 samples-append (Show image ∷ one) other = samples-append one other
@@ -128,14 +128,6 @@ module _ {F W : Type 0} (took_f : F → List ℕ → F → Type 0) (refused_f : 
 
   -- ---- one was refused
 
-  told-of : (output : Output) (asked new : Film F W) → film_refused took_f refused_f took_w refused_w asked output new → IsSome new.fault
-  told-of (Sound sample) asked new refused = subst IsSome (sym refused.fault) refl
-  told-of (Show image) asked new refused = subst IsSome (sym refused.fault) refl
-
-  pub is-told : (taken left : List Output) (old new : Film F W)
-      → RefusesAt (film_took took_f took_w) (film_refused took_f refused_f took_w refused_w) old taken left new → IsSome new.fault
-  is-told taken left old new refuses = told-of refuses.first refuses.asked new refuses.refusal
-
   -- the fault that is kept is that of the output that refused
   some-same : (one other : OutputFault) → Some one ≡ Some other → one ≡ other
   some-same one other e = subst (λ it. IfSome it (λ value. one ≡ value)) e refl
@@ -208,12 +200,13 @@ module _ {F W : Type 0} (took_f : F → List ℕ → F → Type 0) (refused_f : 
       (stops-in-image taken image old asked mid new film refused ends.0 ends.1)
 
   -- among all outputs of a run
-  abbrev pub stops-among : (outputs taken left : List Output) (old mid new : Film F W) (fault : OutputFault) →
-      IsPrefix (taken ++ left) outputs
-      → RefusesAt (film_took took_f took_w) (film_refused took_f refused_f took_w refused_w) old taken left mid
+  abbrev pub stops-among : {given left : List Output} (outputs : List Output) (old mid new : Film F W) (fault : OutputFault)
+      → (cut : Cut (film_giving took_f refused_f took_w refused_w) old given left mid) → IsPrefix (cut.taken ++ left) outputs
       → Some fault ≡ mid.fault → GivesUp took_w refused_w mid fault.output new
       → StopsAmong took_f refused_f took_w refused_w outputs old fault.output fault.count new
-  stops-among outputs taken left old mid new fault among refuses told gives =
+  stops-among outputs old mid new fault cut among told gives =
+      let taken = cut.taken in
+      let refuses = cut.refuses in
       let rest = refuses.rest ++ among.0 in
       let all : taken ++ (refuses.first ∷ rest) ≡ outputs =
       sym (append_assoc taken (refuses.first ∷ refuses.rest) among.0)

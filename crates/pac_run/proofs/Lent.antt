@@ -18,9 +18,9 @@ use Rattle.pac_run.specs.declared.fault.Output.{Output as Which}
 use Rattle.pac_run.specs.declared.fault.OutputFault.{OutputFault}
 use Rattle.pac_run.specs.declared.fault.Output.TheVariants as which
 use Rattle.pac_run.specs.declared.film.Film.{Film}
-use Rattle.pac_run.specs.Recorded.{sound_text, IsRecorded, StopsFilm, StopsAmong, PerformsFilm, RecordsOutputs, FilmStops, WritesWholeText}
+use Rattle.pac_run.specs.Recorded.{IsRecorded, StopsFilm, StopsAmong, PerformsFilm, RecordsOutputs, FilmStops, WritesWholeText}
 use Rattle.pac_run.specs.Run.{Writing, TakesText, StopsInText, TookOrRefused, StopsAt, IsFilmHeldUp, FramesStop, WaveStops}
-use Rattle.pac_run.specs.Texts.{samples_in, images_text, wave_file_text, wave_so_far}
+use Rattle.pac_run.specs.Texts.{sound_text, samples_in, images_text, wave_file_text, wave_so_far}
 use Rattle.pac_run.specs.Watched.{AllTold, ToldTill, BreaksOff, IsTextStopped, IsCutShort, TookOutputs, FilmsTill, Films, WatchedTill}
 use Rattle.pac_run.specs.Watched.{WatchesOutputs}
 use Rattle.pac_run.proofs.Filmed.{frames-append, sound-append}
@@ -326,6 +326,14 @@ module _ {F W : Type 0} (took_f : F → List ℕ → F → Type 0) (refused_f : 
       no-report taken [] count stops = stops
       no-report taken (Show image ∷ more) count stops = stops
       no-report taken (Sound sample ∷ more) count stops = stops
+  film-stops outputs which.State count stops = absurd (no-state stops.taken stops.left count stops.film)
+    where
+      no-state : (taken left : List Output) (count : ℕ)
+          → StopsFilm (lent_took took_f) (lent_refused refused_f) (lent_took took_w) (lent_refused refused_w) taken left old which.State
+          count new → ⊥
+      no-state taken [] count stops = stops
+      no-state taken (Show image ∷ more) count stops = stops
+      no-state taken (Sound sample ∷ more) count stops = stops
   film-stops outputs which.Text count stops = absurd (no-words stops.taken stops.left count stops.film)
     where
       no-words : (taken left : List Output) (count : ℕ)
@@ -378,6 +386,7 @@ module _ {F W : Type 0} (took_f : F → List ℕ → F → Type 0) (refused_f : 
     )
     films-till which.Listing count films = film-stops shown which.Listing count films.0
     films-till which.Report count films = film-stops shown which.Report count films.0
+    films-till which.State count films = film-stops shown which.State count films.0
     films-till which.Text count films =
         record {
           before = films.before;

@@ -1,7 +1,10 @@
 pub mod Planned
+pub mod Begins
 pub mod Filmed
 pub mod Lent
 pub mod Traced
 pub mod Answered
+pub mod Resumed
 pub mod Watching
 pub mod Debugged
+pub mod Cut

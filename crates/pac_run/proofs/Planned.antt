@@ -17,12 +17,16 @@ use Rattle.pac_asm.specs.Assembled.{Assembled, items_of}
 use Rattle.pac_board_course.specs.RomParts.{Parts}
 use Rattle.pac_run.specs.declared.fault.RunFault.{RunFault}
 use Rattle.pac_run.specs.declared.fault.RunFault.TheVariants as fault
-use Rattle.pac_inputs.specs.Script.{script_of}
-use Rattle.pac_inputs.specs.declared.line.Stretch.{Stretch}
+use Rattle.pac_board_course.specs.Script.{script_of}
+use Rattle.pac_board_course.specs.Stretch.{Stretch}
 use Rattle.pac_board_course.specs.RomParts.{IsWhole}
-use Rattle.pac_board_course.specs.State.{BoardValue, power_on_board}
+use Rattle.pac_board_course.specs.State.{BoardValue}
 use Rattle.pac_run.specs.declared.inputs.RunInputs.{RunInputs}
-use Rattle.pac_run.specs.Plan.{◌>>=◌, set_told, set_in, fault_told, script_told, program_items, LieIn, Judges, IsPrepared}
+use Rattle.pac_run.specs.declared.fault.StateFault.{StateFault}
+use Rattle.pac_run.specs.Plan.{◌>>=◌, set_told, set_in, fault_told, script_told, program_items, LieIn, Judges, IsStateRefused, PlaysProgram}
+use Rattle.pac_run.specs.Start.{IsFirstBoard, RefusesState}
+use Rattle.pac_run.specs.Started.{IsPrepared, IsStarted, Prepares, StartsBoard}
+use Rattle.pac_run.proofs.Answered.{NoWrite, script-writes}
 use Rattle.pac_run.specs.Plan.{program_in, source_in, plan_of, plan_with}
 
 pub err-ok : {A : Type 0} (refused : RunFault) (value : A) → ◌≡◌ {A = Result A RunFault} (Err refused) (Ok value) → ⊥
@@ -70,16 +74,63 @@ plan-is inputs program set script one other third =
     ∙ (ap (λ it. it >>= λ set. script_told (script_of inputs.script.now) >>= λ script. Ok (plan_with inputs program set script)) other
     ∙ ap (λ it. it >>= λ script. Ok (plan_with inputs program set script)) third)
 
-pub prepared : (inputs : RunInputs) (program : Option Assembled) (set : Parts) (script : List Stretch) (board : BoardValue) (image : List ℕ)
-    → program_in (source_in inputs) ≡ Ok program
-    → set_in inputs.manifest.now inputs.parts.now program ≡ Ok set → script_told (script_of inputs.script.now) ≡ Ok script
-    → IsWhole set → LieIn program → board ≡ power_on_board set inputs.dip
-    → IsPrepared inputs (record { program = program; board = board; script = script; image = image })
-prepared inputs program set script board image one other third whole lie begins =
-    subst (λ it. IsPrepared inputs (record { program = program; board = it; script = script; image = image })) (sym begins)
-    (record {
-      plan_is = plan-is inputs program set script one other third;
-      board = refl;
-      whole = whole;
-      lie = items-lie inputs.manifest.now inputs.parts.now program set other lie;
-    })
+-- the script is refused, after a source and a set without a fault
+module _ (inputs : RunInputs) (program : Option Assembled) (set : Parts) (one : program_in (source_in inputs) ≡ Ok program)
+    (other : set_in inputs.manifest.now inputs.parts.now program ≡ Ok set) (from : Option (List ℕ))
+  where
+    abbrev judged : Result (List Stretch) RunFault
+    judged = script_told (script_of inputs.script.now)
+
+    unscripted : (why : RunFault) → judged ≡ Err why → plan_of inputs ≡ Err why
+    unfolding plan_of
+    unscripted why refused =
+        ap (λ it. it >>= λ program. set_in inputs.manifest.now inputs.parts.now program >>= λ set.
+        judged >>= λ script. Ok (plan_with inputs program set script)) one
+        ∙ (ap (λ it. it >>= λ set. judged >>= λ script. Ok (plan_with inputs program set script)) other
+        ∙ ap (λ it. it >>= λ script. Ok (plan_with inputs program set script)) refused)
+
+    pub script-refused : (why : RunFault) → Judges {A = List Stretch} (Err why) judged → Prepares inputs from (Err why)
+    script-refused (fault.Source told) refused = unscripted (fault.Source told) refused
+    script-refused (fault.Set told) refused = unscripted (fault.Set told) refused
+    script-refused (fault.Script told) refused = unscripted (fault.Script told) refused
+    script-refused (fault.State told) refused = absurd (subst NoWrite refused (script-writes (script_of inputs.script.now)))
+    script-refused (fault.Write output count) refused = unscripted (fault.Write output count) refused
+    script-refused fault.NoMemory refused = tt
+
+module _ (inputs : RunInputs) (program : Option Assembled) (set : Parts) (script : List Stretch)
+    (one : program_in (source_in inputs) ≡ Ok program) (other : set_in inputs.manifest.now inputs.parts.now program ≡ Ok set)
+    (third : script_told (script_of inputs.script.now) ≡ Ok script)
+  where
+    pub prepared : (from : Option (List ℕ)) (board : BoardValue) (image : List ℕ) → IsWhole set → LieIn program
+        → IsStarted (IsFirstBoard set inputs.dip script from) set script board
+        → IsPrepared inputs from (record { program = program; board = board; script = script; image = image })
+    prepared from board image whole lie started =
+        let same = sym started.set_is in
+        record {
+          plan_is = plan-is inputs program set script one other third
+              ∙ ap (λ set. Ok (plan_with inputs program set script)) same;
+          board = subst (λ set. IsStarted (IsFirstBoard set inputs.dip script from) set script board) same started;
+          whole = subst IsWhole same whole;
+          lie = subst (λ set. PlaysProgram set program) same
+              (items-lie inputs.manifest.now inputs.parts.now program set other lie);
+        }
+
+    -- a state file that is refused
+    pub state-refused : (from : Option (List ℕ)) (refusal : StateFault) → RefusesState set script from refusal
+        → IsStateRefused inputs from refusal
+    state-refused from refusal refuses =
+        record {
+          plan = plan_with inputs program set script;
+          plan_is = plan-is inputs program set script one other third;
+          refuses = refuses;
+        }
+
+    -- there was no board to begin with
+    pub unstarted : (from : Option (List ℕ)) (why : RunFault) → StartsBoard set inputs.dip script from (Err why)
+        → Prepares inputs from (Err why)
+    unstarted from (fault.State refusal) refuses = state-refused from refusal refuses
+    unstarted from fault.NoMemory refuses = tt
+    unstarted from (fault.Source refusal) refuses = absurd refuses
+    unstarted from (fault.Set refusal) refuses = absurd refuses
+    unstarted from (fault.Script refusal) refuses = absurd refuses
+    unstarted from (fault.Write output count) refuses = absurd refuses

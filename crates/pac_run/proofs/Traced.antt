@@ -1,34 +1,43 @@
--- A board that plays a plan, and the plan's trace.
-use Rattle.std.proofs.Common.{◌≡◌, ℕ, ◌*◌, ◌/◌, ◌^◌, ◌<◌, ◌≤◌, List, [], Option, Ok, sym, ap, subst, ◌∙◌, arith}
+-- A course's run, and a session's, is that of the plan.
+use Rattle.std.proofs.Common.{◌≡◌, ℕ, ◌+◌, ◌-◌, ◌*◌, ◌/◌, ◌^◌, ◌<◌, ◌≤◌, suc, min, arith}
+use Rattle.std.proofs.Common.{List, [], Option, None, Some, Ok, refl, sym, ap, subst, ◌∙◌}
 use Rattle.pac_board_course.specs.Stop.{Stop}
-use Rattle.pac_inputs.specs.Stretches.{total_frames, held, most_frames}
-use Rattle.pac_inputs.specs.declared.line.Stretch.{Stretch}
+use Rattle.pac_board_course.specs.Stretches.{total_frames, held, most_frames}
+use Rattle.pac_board_course.specs.Stretch.{Stretch}
 use Rattle.pac_asm.specs.Assembled.{Assembled}
 use Rattle.pac_board_course.specs.RomParts.{Parts, IsWhole}
-use Rattle.pac_board_course.specs.BoardView.{BoardView, power_on_board_view}
+use Rattle.pac_board_course.specs.BoardView.{BoardView, IsBoard, power_on_board_view}
 use Rattle.pac_board_course.specs.Carried.{walk_view}
+use Rattle.pac_board_course.specs.Entry.{Entry}
 use Rattle.pac_board_course.specs.History.{board_after_entries}
+use Rattle.pac_board_course.specs.Output.{Output, picture_count}
 use Rattle.pac_board_course.specs.Step.{Moment, frame_ticks}
-use Rattle.pac_board_course.specs.Trace.{by_history, by_view, play_step, run_at, trace, frame_steps}
+use Rattle.pac_board_course.specs.Trace.{by_history, by_view, frames_gone, play_step, resumed, run_at, trace, frame_steps}
 use Rattle.pac_board_course.specs.Walk.{Walk}
-use Rattle.pac_board_course.proofs.Agreed.{runs-agree, power-on-board}
+use Rattle.pac_board_course.proofs.Agreed.{runs-agree, resumed-runs-agree, power-on-board}
 use Rattle.pac_board_course.proofs.HostCarried.{steps-agree}
 use Rattle.pac_board_course.proofs.Outputs.{outputs-timed}
-use Rattle.pac_board_course.proofs.Runs.{walk-near}
+use Rattle.pac_board_course.proofs.Resumed.{resumed-runs-end}
+use Rattle.pac_board_course.proofs.ResumedTimes.{resumed-runs-are-timed}
+use Rattle.pac_board_course.proofs.Runs.{walk-below}
 use Rattle.pac_board_course.proofs.Walks.{play-timely}
-use Rattle.pac_board_course.specs.State.{power_on_board}
+use Rattle.pac_board_course.specs.State.{BoardState, BoardValue, nothing_due, power_on_board}
 use Rattle.pac_board_course.proofs.Begun.{courses-begin}
-use Rattle.pac_board_course.specs.Course.{CourseValue, begun, end_of, held_in, next_in, way_on}
+use Rattle.pac_board_course.specs.Course.{CourseValue, begun, board_asked, course_after, end_of, frame_microseconds}
+use Rattle.pac_board_course.specs.Course.{held_in, next_in, way_on}
 use Rattle.pac_debug.specs.Motions.{IsOutcome}
 use Rattle.pac_debug.specs.Running.{play_of, whole_run}
 use Rattle.pac_debug.specs.Session.{SessionValue}
-use Rattle.pac_debug.specs.RunTotals as told
+use Rattle.pac_board_course.specs.declared.outcome.Outcome.{Outcome}
 use Rattle.pac_run.specs.declared.inputs.RunInputs.{RunInputs}
-use Rattle.pac_run.specs.declared.plan.Prepared.{Prepared}
 use Rattle.pac_run.specs.Debugs.{IsReady, IsSeenThrough, setting_of_plan}
-use Rattle.pac_run.specs.Plan.{Plan, PlaysProgram, plan_with, program_items, IsPrepared}
-use Rattle.pac_run.specs.Recorded.{IsAtStart, HasPlayed, outcome_at}
-use Rattle.pac_run.specs.Run.{trace_of, outcome_of}
+use Rattle.pac_run.specs.Plan.{Plan, PlaysProgram, plan_with, program_items}
+use Rattle.pac_run.specs.Recorded.{course_contents, outcome_between}
+use Rattle.pac_run.specs.Resumes.{contents_from, end_state, outcome_since, resumed_of, run_from, without_history}
+use Rattle.pac_run.specs.Run.{RunContents, contents_of, trace_of, outcome_of}
+use Rattle.pac_run.specs.Start.{IsFirstBoard}
+
+-- ---- from power-on
 
 -- what a plan's set, program and script come to on a board from power-on, told by the view, is its trace
 module _ (inputs : RunInputs) (program : Option Assembled) (set : Parts) (script : List Stretch) (whole : IsWhole set)
@@ -44,63 +53,142 @@ module _ (inputs : RunInputs) (program : Option Assembled) (set : Parts) (script
     same-trace =
         sym (runs-agree set (program_items program) inputs.dip (frame_steps * total_frames script) (play_of script) whole lie)
 
-    pub same-end : (run : Walk BoardView) → run ≡ shown → outcome_at run.now run.stop ≡ outcome_of (trace_of plan inputs.dip)
+    -- a frame has gone by for each blank among the entries
+    pub same-blanks : (trace_of plan inputs.dip).now.time / frame_ticks ≡ (outcome_of (trace_of plan inputs.dip)).frames
+    same-blanks =
+        sym (outputs-timed set (program_items program) inputs.dip (frame_steps * total_frames script) (play_of script)).blanks
+
+    pub same-end : (run : Walk BoardView) → run ≡ shown
+        → ◌≡◌ {A = Outcome} (record {
+          frames = run.now.time / frame_ticks;
+          steps = run.now.steps;
+          ticks = run.now.time;
+          stop = run.stop;
+        }) (outcome_of (trace_of plan inputs.dip))
     same-end run is =
         let same = is ∙ same-trace in
         let now = ap (λ (run : Walk BoardView). run.now) same in
         let met = ap (λ (run : Walk BoardView). run.stop) same in
-        let blanks = (outputs-timed set (program_items program) inputs.dip (frame_steps * total_frames script) (play_of script)).blanks in
-        let frames = ap (λ (now : Moment BoardView). now.time / frame_ticks) now ∙ sym blanks in
+        let frames = ap (λ (now : Moment BoardView). now.time / frame_ticks) now ∙ same-blanks in
         λ i. record { frames = frames i; steps = (now i).steps; ticks = (now i).time; stop = met i }
 
--- the course of what was prepared is the plan's
-pub at-start : (inputs : RunInputs) (prepared : Prepared) (course : CourseValue) → IsPrepared inputs prepared
-    → course ≡ begun prepared.board prepared.script → IsAtStart inputs prepared.program course
-at-start inputs prepared course ready begins =
-    let set = ap (λ (course : CourseValue). course.board.set) begins in
-    let script = ap (λ (course : CourseValue). course.script) begins in
-    record {
-      plan_is =
-          ready.plan_is
-          ∙ ap (λ set. Ok (plan_with inputs prepared.program set prepared.script)) (sym set)
-          ∙ ap (λ script. Ok (plan_with inputs prepared.program course.board.set script)) (sym script);
-      course_is =
-          begins ∙ ap (λ board. begun board prepared.script) ready.board
-          ∙ ap (λ set. begun (power_on_board set inputs.dip) prepared.script) (sym set)
-          ∙ ap (begun (power_on_board course.board.set inputs.dip)) (sym script);
-      whole = subst IsWhole (sym set) ready.whole;
-      lie = subst (λ set. PlaysProgram set prepared.program) (sym set) ready.lie;
-    }
+-- ---- from the board that a run begins with
 
--- the course of a plan, from its beginning on
-module _ (inputs : RunInputs) (program : Option Assembled) (course : CourseValue) (ready : IsAtStart inputs program course) where
-  -- its run ends less than a step past its last frame
-  pub is-near : (new : CourseValue) (stop : Option Stop) → HasPlayed course stop new → total_frames course.script ≤ most_frames
-      → new.board.state.now.time / frame_ticks < 2 ^ 32
-  is-near new stop played few =
-      let starts = ap (λ (course : CourseValue). course.board.state.now.time) ready.course_is in
-      let gone = ap (λ (course : CourseValue). course.gone) ready.course_is in
-      let near = walk-near (next_in course) (end_of course) (play-timely (by_view course.board.set) (held_in course))
-      course.board.state.now (end_of course) (omega (arith, starts)) in
-      let time = ap (λ (course : CourseValue). course.board.state.now.time) played.course in
-      omega (arith, near, time, few, gone)
+module _ (inputs : RunInputs) (program : Option Assembled) (board : BoardValue) (script : List Stretch) (whole : IsWhole board.set)
+    (lie : PlaysProgram board.set program) (holds : IsBoard board.state.now.board)
+  where
+    abbrev played : Plan
+    played = plan_with inputs program board.set script
 
-  -- its run is that of the plan's history
-  shown-run : way_on course ≡ shown inputs program course.board.set course.script ready.whole ready.lie
-  shown-run = ap way_on ready.course_is ∙ courses-begin course.board.set inputs.dip course.script
+    abbrev viewed : Walk (List Entry) → Walk BoardView
+    viewed = walk_view (board_after_entries board.set board.state.now.board)
 
-  pub same-outputs : (way_on course).outputs ≡ (trace_of (plan_with inputs program course.board.set course.script) inputs.dip).outputs
-  same-outputs =
-      ap (λ (run : Walk BoardView). run.outputs)
-      (shown-run ∙ same-trace inputs program course.board.set course.script ready.whole ready.lie)
+    -- What a course has left is the plan's run, told by the view.
+    run-viewed : (from : Option (List ℕ)) → IsFirstBoard board.set inputs.dip script from board
+        → way_on (begun board script) ≡ viewed (run_from played inputs.dip from board)
+    run-viewed None is =
+        ap (λ board. way_on (begun board script)) is
+        ∙ courses-begin board.set inputs.dip script
+        ∙ same-trace inputs program board.set script whole lie
+        ∙ ap (λ (start : BoardValue). walk_view (board_after_entries board.set start.state.now.board) (trace_of played inputs.dip)) (sym is)
+    run-viewed (Some bytes) taken =
+        sym (resumed-runs-agree board.set (program_items program) board.state.now.board (play_of script)
+        (without_history board.state.now) whole lie holds).whole
 
-  pub same-outcome : (new : CourseValue) (stop : Option Stop) → HasPlayed course stop new
-      → outcome_at new.board.state.now stop ≡ outcome_of (trace_of (plan_with inputs program course.board.set course.script) inputs.dip)
-  same-outcome new stop played =
-      (λ i. outcome_at (played.course i).board.state.now (played.stop_is i))
-      ∙ same-end inputs program course.board.set course.script ready.whole ready.lie (way_on course) shown-run
+    -- The outcome counts from where it began.
+    counts : (from : Option (List ℕ)) → IsFirstBoard board.set inputs.dip script from board
+        → let end = run_from played inputs.dip from board in
+        (end.now.time / frame_ticks - board.state.now.time / frame_ticks
+        ≡ (contents_from played inputs.dip from board).outcome.frames)
+        × (end.now.steps - board.state.now.steps ≡ (contents_from played inputs.dip from board).outcome.steps)
+        × (end.now.time - board.state.now.time ≡ (contents_from played inputs.dip from board).outcome.ticks)
+    counts None is =
+        let time : board.state.now.time ≡ 0 = ap (λ (board : BoardValue). board.state.now.time) is in
+        let steps : board.state.now.steps ≡ 0 = ap (λ (board : BoardValue). board.state.now.steps) is in
+        let blanks = same-blanks inputs program board.set script whole lie in
+        (omega (arith, time, blanks), omega (arith, steps), omega (arith, time))
+    counts (Some bytes) taken =
+        let from = without_history board.state.now in
+        let ask = by_history board.set (program_items program) board.state.now.board in
+        let timed = (resumed-runs-are-timed ask (play_of script) from (frame_steps * total_frames script)).pictures in
+        let all = (resumed-runs-end ask (play_of script) from).enough in
+        let pictures : picture_count (resumed_of played board).outputs + frames_gone from ≡ frames_gone (resumed_of played board).now =
+        subst (λ (run : Walk (List Entry)). picture_count run.outputs + frames_gone from ≡ frames_gone run.now) all timed in
+        (omega (arith, pictures), refl, refl)
 
--- the same of a session's run
+    same-outcome : (from : Option (List ℕ)) → IsFirstBoard board.set inputs.dip script from board
+        → let end = run_from played inputs.dip from board in
+        outcome_between board.state.now.time board.state.now.steps (viewed end).now end.stop
+        ≡ (contents_from played inputs.dip from board).outcome
+    same-outcome None is =
+        let same = counts None is in
+        λ i. record { frames = same.0 i; steps = same.1 i; ticks = same.2 i; stop = (trace_of played inputs.dip).stop }
+    same-outcome (Some bytes) taken =
+        let same = counts (Some bytes) taken in
+        λ i. record { frames = same.0 i; steps = same.1 i; ticks = same.2 i; stop = (resumed_of played board).stop }
+
+    -- the contents of a run's texts, told by the outputs and the outcome
+    given-of : (outputs : List Output) (outcome : Outcome) → RunContents
+    given-of outputs outcome =
+        record { outputs = outputs; frames = total_frames script; listing = played.listing; outcome = outcome }
+
+    pub same-contents : (from : Option (List ℕ)) → IsFirstBoard board.set inputs.dip script from board
+        → course_contents inputs program (begun board script) ≡ contents_from played inputs.dip from board
+    same-contents from first =
+        ap (λ (run : Walk BoardView). record {
+          outputs = run.outputs;
+          frames = total_frames script;
+          listing = played.listing;
+          outcome = outcome_between board.state.now.time board.state.now.steps run.now run.stop;
+        }) (run-viewed from first)
+        ∙ rest from first
+      where
+        rest : (from : Option (List ℕ)) (first : IsFirstBoard board.set inputs.dip script from board)
+            → let end = run_from played inputs.dip from board in
+            ◌≡◌ {A = RunContents} (record {
+              outputs = end.outputs;
+              frames = total_frames script;
+              listing = played.listing;
+              outcome = outcome_between board.state.now.time board.state.now.steps (viewed end).now end.stop;
+            }) (contents_from played inputs.dip from board)
+        rest None is = ap (λ outcome. record {
+          outputs = (trace_of played inputs.dip).outputs;
+          frames = total_frames script;
+          listing = played.listing;
+          outcome = outcome;
+        }) (same-outcome None is)
+        rest (Some bytes) taken = ap (λ outcome. record {
+          outputs = (resumed_of played board).outputs;
+          frames = total_frames script;
+          listing = played.listing;
+          outcome = outcome;
+        }) (same-outcome (Some bytes) taken)
+
+    -- The state at its end is that of the course's board.
+    pub same-state : (from : Option (List ℕ)) → IsFirstBoard board.set inputs.dip script from board
+        → let course = begun board script in
+        (board_asked (course_after course (way_on course))).state
+        ≡ end_state board.set (total_frames script) board (run_from played inputs.dip from board)
+    same-state from first =
+        ap (λ (run : Walk BoardView). record {
+          now = run.now;
+          asked = board.state.asked
+              + frame_microseconds * min (total_frames script) (run.now.time / frame_ticks + 1 - board.state.now.time / frame_ticks);
+          due = nothing_due;
+        }) (run-viewed from first)
+
+-- ---- how far a course goes
+
+-- A run ends before another frame than its last one is over.
+pub is-near : (course : CourseValue) → course.gone ≡ course.board.state.now.time / frame_ticks → total_frames course.script ≤ most_frames
+    → (way_on course).now.time / frame_ticks < course.board.state.now.time / frame_ticks + 2 ^ 32
+is-near course gone few =
+    let bound = end_of course + frame_ticks in
+    let near = walk-below (next_in course) (end_of course) (play-timely (by_view course.board.set) (held_in course)) bound
+    (omega arith) course.board.state.now (end_of course) (omega (arith, gone)) in
+    omega (arith, near, gone, few)
+
+-- ---- a session's run
 module _ (inputs : RunInputs) (program : Option Assembled) (session : SessionValue) (frames : ℕ)
     (ready : IsReady inputs program session frames)
   where
@@ -117,12 +205,10 @@ module _ (inputs : RunInputs) (program : Option Assembled) (session : SessionVal
         ap (λ (run : Walk BoardView). run.outputs)
         (shown-whole ∙ same-trace inputs program session.setting.set session.setting.script ready.whole ready.lie)
 
-    pub session-outcome : (outcome : told.RunTotals) → IsOutcome session outcome
-        → record { frames = outcome.frames; steps = outcome.steps; ticks = outcome.ticks; stop = outcome.stop }
-        ≡ outcome_of (trace_of session_plan inputs.dip)
+    pub session-outcome : (outcome : Outcome) → IsOutcome session outcome → outcome ≡ outcome_of (trace_of session_plan inputs.dip)
     session-outcome outcome is =
-        (λ i. record { frames = is.frames i; steps = is.steps i; ticks = is.ticks i; stop = is.stop i })
-        ∙ same-end inputs program session.setting.set session.setting.script ready.whole ready.lie (whole_run session.setting) shown-whole
+        is ∙ same-end inputs program session.setting.set session.setting.script ready.whole ready.lie (whole_run session.setting)
+        shown-whole
 
     pub seen-through : IsSeenThrough session_plan inputs.dip
     seen-through index =

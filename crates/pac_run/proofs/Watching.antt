@@ -6,10 +6,10 @@ use Rattle.pac_media.specs.Counted.{Takes}
 use Rattle.pac_media.specs.Sound.{FinishesSound}
 use Rattle.pac_media.proofs.Gathered.{finishes-after}
 use Rattle.pac_board_course.specs.Output.{Output, Sound, Show}
-use Rattle.pac_board_course.specs.Sinks.{TookAll}
+use Rattle.pac_board_course.specs.Sinks.{Giving, TookAll}
 use Rattle.pac_debug.specs.Running.{Setting, whole_run}
 use Rattle.pac_debug.specs.Session.{SessionValue, session_at_start}
-use Rattle.pac_debug.specs.RunTotals as told
+use Rattle.pac_board_course.specs.declared.outcome.Outcome.{Outcome}
 use Rattle.pac_debug.specs.declared.line.CommandFault.{CommandFault}
 use Rattle.pac_debug.specs.declared.line.CommandFault.TheVariants as faults
 use Rattle.pac_debug.specs.Obeying.{Scene}
@@ -36,15 +36,15 @@ tells-of session left lines told fresh tells =
     record { left = left; tells = subst (λ it. TellsAll lines it told left) fresh tells }
 
 -- what a session leaves that its sink held up, and one that couldn't tell
-module _ {S T : Type 0} (took refused : S → Output → S → Type 0) (wrote : T → List ℕ → T → Type 0) (balked : T → T → Type 0)
-    (lines : List (List ℕ)) (old new : Scene S T) (result : Result told.RunTotals CommandFault) (fault : CommandFault)
+module _ {S T : Type 0} (to : Giving S) (wrote : T → List ℕ → T → Type 0) (balked : T → T → Type 0)
+    (lines : List (List ℕ)) (old new : Scene S T) (result : Result Outcome CommandFault) (fault : CommandFault)
     (is : result ≡ Err fault)
-    (watched : WatchesSession took refused wrote balked lines old result new) where
-  pub held-up : fault ≡ faults.Refused → IsWatchRefused took refused wrote lines old new
-  held-up here = subst (λ result. WatchesSession took refused wrote balked lines old result new) (is ∙ ap (λ it. Err it) here) watched
+    (watched : WatchesSession to wrote balked lines old result new) where
+  pub held-up : fault ≡ faults.Refused → IsWatchRefused to wrote lines old new
+  held-up here = subst (λ result. WatchesSession to wrote balked lines old result new) (is ∙ ap (λ it. Err it) here) watched
 
-  pub untold : (why : WriteFault) → fault ≡ faults.Text why → IsWatchUntold took wrote balked lines old why new
-  untold why here = subst (λ result. WatchesSession took refused wrote balked lines old result new) (is ∙ ap (λ it. Err it) here) watched
+  pub untold : (why : WriteFault) → fault ≡ faults.Text why → IsWatchUntold to.took wrote balked lines old why new
+  untold why here = subst (λ result. WatchesSession to wrote balked lines old result new) (is ∙ ap (λ it. Err it) here) watched
 
 module _ {F W : Type 0} (took_f : F → List ℕ → F → Type 0) (refused_f : F → F → Type 0) (took_w : W → List ℕ → W → Type 0)
     (refused_w : W → W → Type 0) where
@@ -65,6 +65,7 @@ module _ {F W : Type 0} (took_f : F → List ℕ → F → Type 0) (refused_f : 
     films-till told text which.Wave count stops tells = (stops, record { told = told; tells = tells; words = text })
     films-till told text which.Listing count stops tells = (stops, record { told = told; tells = tells; words = text })
     films-till told text which.Report count stops tells = (stops, record { told = told; tells = tells; words = text })
+    films-till told text which.State count stops tells = (stops, record { told = told; tells = tells; words = text })
     films-till told text which.Text count stops tells = absurd (no-text stops.taken stops.left old new count stops.film)
 
   -- the text broke: what was filmed till then is written
@@ -84,7 +85,7 @@ module _ {F W : Type 0} (took_f : F → List ℕ → F → Type 0) (refused_f : 
       (scene last : Scene (Film F W) T) (new : Film F W) (why : WriteFault) (fresh : scene.session
       ≡ session_at_start scene.session.setting 0)
       → (halt : IsWatchUntold (film_took took_f took_w) took refused lines scene why last)
-      → IsCutShort took_f took_w refused_w halt.taken scene.sink new
+      → IsCutShort took_f took_w refused_w halt.in_all.taken scene.sink new
       → FilmsTill took_f refused_f took_w refused_w took refused scene.session.setting lines scene.sink scene.text which.Text why.count new
       last.text
   told-off took refused lines scene last new why fresh halt cut =

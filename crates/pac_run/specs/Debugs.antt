@@ -1,7 +1,7 @@
 -- To be believed: what a run under a debugger writes, tells and answers.
 use Rattle.std.specs.Prelude.{◌≡◌, ℕ, ◌<◌, ◌≤◌, List, [], Option, Result, Ok, Err}
 use Rattle.std.specs.Str.Lines.{lines}
-use Rattle.pac_inputs.specs.Stretches.{total_frames, held}
+use Rattle.pac_board_course.specs.Stretches.{total_frames, held}
 use Rattle.pac_media.specs.Samples.{header_size}
 use Rattle.pac_board_course.specs.Entry.{Entry}
 use Rattle.pac_asm.specs.Assembled.{Assembled}
@@ -16,13 +16,14 @@ use Rattle.pac_board_course.specs.Step.{Next}
 use Rattle.pac_board_course.specs.Trace.{by_history, run_at, play_step}
 use Rattle.pac_board_course.specs.Walk.{Walk}
 use Rattle.pac_run.specs.declared.fault.Output.{Output}
-use Rattle.pac_run.specs.declared.fault.Output.TheVariants.{Frames, Wave, Listing, Report, Text}
+use Rattle.pac_run.specs.declared.fault.Output.TheVariants.{Frames, Wave, Listing, Report, State, Text}
 use Rattle.pac_run.specs.declared.fault.RunFault.{RunFault}
 use Rattle.pac_run.specs.declared.fault.RunFault.TheVariants as fault
 use Rattle.pac_run.specs.declared.inputs.RunInputs.{RunInputs}
-use Rattle.pac_run.specs.declared.outcome.Outcome.{Outcome}
+use Rattle.pac_board_course.specs.declared.outcome.Outcome.{Outcome}
 use Rattle.pac_run.specs.Plan.{Plan, PlaysProgram, plan_of, plan_with}
-use Rattle.pac_run.specs.Run.{Writing, Writers, TakesText, IsUnwritten, NothingWritten, IsRunWhole, IsCutAt, WithPlan, trace_of}
+use Rattle.pac_run.specs.Run.{Writing, Writers, TakesText, IsUnwritten, NothingWritten, IsRunWhole, IsCutAt}
+use Rattle.pac_run.specs.Run.{WithPlan, contents_of, trace_of}
 use Rattle.pac_run.specs.Watched.{AllTold, ToldTill, TextStops}
 
 -- the run that the session of a plan looks at
@@ -80,23 +81,24 @@ IsUntold plan dip commands to text count =
 -- Done: the four files are exactly those of the run without a session, and the text is what a session over that run tells.
 pub record IsDebugged {F W L R T : Type 0} (plan : Plan) (dip : ℕ) (commands : List ℕ) (to : Writers F W L R) (text : Writing T)
     (outcome : Outcome) : Type 0 where
-  pub files : IsRunWhole plan dip to outcome
+  pub files : IsRunWhole (contents_of plan dip) to outcome
   pub seen : IsSeenThrough plan dip
   pub told : HasTold plan dip commands text
 
 -- a refused write, by its output: what a run leaves then, and what the session has told till then
 abbrev pub IsBrokenAt : {F W L R T : Type 0} → Plan → ℕ → (commands : List ℕ) → Writers F W L R → Writing T → Output → ℕ → Type 0
-IsBrokenAt plan dip commands to text Listing count = IsCutAt plan dip to Listing count × IsUnwritten text
-IsBrokenAt plan dip commands to text Report count = IsCutAt plan dip to Report count × HasTold plan dip commands text
+IsBrokenAt plan dip commands to text Listing count = IsCutAt (contents_of plan dip) to Listing count × IsUnwritten text
+IsBrokenAt plan dip commands to text Report count = IsCutAt (contents_of plan dip) to Report count × HasTold plan dip commands text
+IsBrokenAt plan dip commands to text State count = ⊥
 IsBrokenAt plan dip commands to text Text count = record {
   listing : TakesText to.listing plan.listing;
   report : IsUnwritten to.report;
   untold : IsUntold plan dip commands to text count;
 }
 IsBrokenAt plan dip commands to text Frames count =
-    (files : IsCutAt plan dip to Frames count) × HasToldTill plan dip commands text files.film.held_up.taken
+    (files : IsCutAt (contents_of plan dip) to Frames count) × HasToldTill plan dip commands text files.film.held_up.taken
 IsBrokenAt plan dip commands to text Wave count =
-    (files : IsCutAt plan dip to Wave count) × (count < header_size → IsUnwritten text)
+    (files : IsCutAt (contents_of plan dip) to Wave count) × (count < header_size → IsUnwritten text)
     × ((past : header_size ≤ count) → HasToldTill plan dip commands text (files.film.held_up past).taken)
 
 abbrev pub Debugs : {F W L R T : Type 0} → RunInputs → (commands : List ℕ) → Writers F W L R → Writing T → Result Outcome RunFault → Type 0

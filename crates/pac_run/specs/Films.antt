@@ -6,6 +6,7 @@ use Rattle.pac_media.specs.Images.{ppm_of}
 use Rattle.pac_media.specs.Samples.{sample_text}
 use Rattle.pac_media.specs.Sound.{Gains, SoundFails}
 use Rattle.pac_board_course.specs.Output.{Output, Image, Sound, Show}
+use Rattle.pac_board_course.specs.Sinks.{Giving, by}
 use Rattle.pac_run.specs.declared.fault.Output.TheVariants as which
 use Rattle.pac_run.specs.declared.film.Film.{Film}
 
@@ -45,3 +46,8 @@ abbrev pub film_refused : {F W : Type 0} → (F → List ℕ → F → Type 0) �
     → Film F W → Output → Film F W → Type 0
 film_refused took_f refused_f took_w refused_w old (Sound sample) new = RefusedSample took_w refused_w old sample new
 film_refused took_f refused_f took_w refused_w old (Show image) new = RefusedImage took_f refused_f old image new
+
+-- both, as a sink says them of itself
+abbrev pub film_giving : {F W : Type 0} → (F → List ℕ → F → Type 0) → (F → F → Type 0) → (W → List ℕ → W → Type 0) → (W → W → Type 0)
+    → Giving (Film F W)
+film_giving took_f refused_f took_w refused_w = by (film_took took_f took_w) (film_refused took_f refused_f took_w refused_w)

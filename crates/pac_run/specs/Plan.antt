@@ -3,9 +3,9 @@ use Rattle.std.specs.Prelude.{◌≡◌, ℕ, List, [], Option, None, Some, opti
 use Rattle.pac_asm.specs.PlacedItems.{Item, AllLie}
 use Rattle.pac_asm.specs.Programs.{program_of}
 use Rattle.pac_asm.specs.declared.fault.AsmFault.{AsmFault}
-use Rattle.pac_inputs.specs.Script.{script_of}
-use Rattle.pac_inputs.specs.declared.line.Stretch.{Stretch}
-use Rattle.pac_inputs.specs.declared.fault.ScriptFault.{ScriptFault}
+use Rattle.pac_board_course.specs.Script.{script_of}
+use Rattle.pac_board_course.specs.Stretch.{Stretch}
+use Rattle.pac_board_course.specs.ScriptFault.{ScriptFault}
 use Rattle.pac_listing.specs.Listing.{listing, symbol_rows}
 use Rattle.pac_roms_manifest.specs.Manifests.{manifest_of}
 use Rattle.pac_roms_manifest.specs.Sets.{set_of}
@@ -14,12 +14,12 @@ use Rattle.pac_roms_manifest.specs.declared.fault.SetError.{SetError}
 use Rattle.pac_roms_manifest.specs.declared.fault.SetError.TheVariants as reading
 use Rattle.pac_roms_manifest.specs.declared.part.Part.{Part}
 use Rattle.pac_asm.specs.Assembled.{Assembled, items_of}
-use Rattle.pac_board_course.specs.RomParts.{Parts, IsWhole}
-use Rattle.pac_board_course.specs.State.{power_on_board}
+use Rattle.pac_board_course.specs.RomParts.{Parts}
 use Rattle.pac_run.specs.declared.inputs.RunInputs.{RunInputs}
-use Rattle.pac_run.specs.declared.plan.Prepared.{Prepared}
 use Rattle.pac_run.specs.declared.fault.RunFault.{RunFault}
 use Rattle.pac_run.specs.declared.fault.RunFault.TheVariants as fault
+use Rattle.pac_run.specs.declared.fault.StateFault.{StateFault}
+use Rattle.pac_run.specs.Start.{RefusesState}
 
 -- what is played on which set, by which script, and the listing
 pub record Plan : Type 0 where
@@ -108,14 +108,8 @@ LieIn (Some program) = AllLie program.rom (items_of program)
 abbrev pub PlaysProgram : Parts → Option Assembled → Type 0
 PlaysProgram set program = AllLie set.program (program_items program)
 
--- the plan, with the board at power-on
-pub record IsPrepared (inputs : RunInputs) (prepared : Prepared) : Type 0 where
-  pub plan_is : plan_of inputs ≡ Ok (plan_with inputs prepared.program prepared.board.set prepared.script)
-  pub board : prepared.board ≡ power_on_board prepared.board.set inputs.dip
-  pub whole : IsWhole prepared.board.set
-  pub lie : PlaysProgram prepared.board.set prepared.program
-
-abbrev pub Prepares : RunInputs → Result Prepared RunFault → Type 0
-Prepares inputs (Ok prepared) = IsPrepared inputs prepared
-Prepares inputs (Err fault.NoMemory) = Unit {0}
-Prepares inputs (Err refusal) = plan_of inputs ≡ Err refusal
+-- a state file that is refused, after inputs without a fault
+pub record IsStateRefused (inputs : RunInputs) (from : Option (List ℕ)) (refusal : StateFault) : Type 0 where
+  pub plan : Plan
+  pub plan_is : plan_of inputs ≡ Ok plan
+  pub refuses : RefusesState plan.set plan.script from refusal

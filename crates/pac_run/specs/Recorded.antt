@@ -1,6 +1,7 @@
 -- For proofs: what recording a board's outputs leaves of the film and the wave file, side by side.
-use Rattle.std.specs.Prelude.{◌≡◌, ℕ, ◌/◌, ◌≤◌, List, [], ◌∷◌, ◌++◌, length, Option, Result, Ok, Err}
+use Rattle.std.specs.Prelude.{◌≡◌, ℕ, ◌-◌, ◌/◌, ◌≤◌, List, [], ◌∷◌, ◌++◌, length, Option, Result, Ok, Err}
 use Rattle.pac_board_course.specs.Stop.{Stop}
+use Rattle.pac_board_course.specs.Stretches.{total_frames}
 use Rattle.pac_media.specs.Counted.{HasTaken, Takes, Refuses, file_count}
 use Rattle.pac_media.specs.WriteFault.{WriteFault}
 use Rattle.pac_media.specs.Samples.{samples_text}
@@ -9,23 +10,20 @@ use Rattle.pac_media.specs.Sound as media
 use Rattle.pac_board_course.specs.BoardView.{BoardView}
 use Rattle.pac_board_course.specs.Output.{Output, Image, Sound, Show}
 use Rattle.pac_board_course.specs.Step.{Moment, frame_ticks}
-use Rattle.pac_board_course.specs.RomParts.{IsWhole as HasAllParts}
-use Rattle.pac_board_course.specs.State.{power_on_board}
-use Rattle.pac_board_course.specs.Course.{CourseValue, begun, way_on, course_after}
+use Rattle.pac_board_course.specs.Course.{CourseValue, way_on, course_after}
 use Rattle.pac_asm.specs.Assembled.{Assembled}
 use Rattle.pac_run.specs.declared.inputs.RunInputs.{RunInputs}
-use Rattle.pac_run.specs.Plan.{PlaysProgram, plan_of, plan_with}
+use Rattle.pac_run.specs.Plan.{listing_in, source_in}
 use Rattle.pac_run.specs.declared.fault.Output.{Output as Which}
 use Rattle.pac_run.specs.declared.fault.Output.TheVariants as which
 use Rattle.pac_run.specs.declared.fault.OutputFault.{OutputFault}
+use Rattle.pac_run.specs.declared.fault.RunFault.{RunFault}
+use Rattle.pac_run.specs.declared.fault.RunFault.TheVariants as fault
 use Rattle.pac_run.specs.declared.film.Film.{Film}
-use Rattle.pac_run.specs.declared.outcome.Outcome.{Outcome}
-use Rattle.pac_run.specs.Run.{Writing, TakesText, StopsInText, FramesStop, WaveStops}
+use Rattle.pac_board_course.specs.declared.outcome.Outcome.{Outcome}
+use Rattle.pac_run.specs.Run.{Writing, Writers, RunContents, TakesText, StopsInText, FramesStop, WaveStops, IsRunWhole, IsCutAt}
+use Rattle.pac_run.specs.Texts.{sound_text}
 use Rattle.pac_run.specs.Texts as text
-
--- the sound of outputs, for a wave file that owes so many samples
-abbrev pub sound_text : ℕ → List Output → List ℕ
-sound_text owed outputs = samples_text (text.filled_samples owed (text.samples_in outputs))
 
 -- ---- a film over any writers
 
@@ -88,21 +86,34 @@ abbrev pub GivesUp : {F W : Type 0} → (W → List ℕ → W → Type 0) → (W
 GivesUp took refused old which.Frames new = (new.frames ≡ old.frames) × IsFlushed took refused old.wave [] new.wave
 GivesUp took refused old other new = new ≡ old
 
--- the course of a plan, at its beginning
-pub record IsAtStart (inputs : RunInputs) (program : Option Assembled) (course : CourseValue) : Type 0 where
-  pub plan_is : plan_of inputs ≡ Ok (plan_with inputs program course.board.set course.script)
-  pub course_is : course ≡ begun (power_on_board course.board.set inputs.dip) course.script
-  pub whole : HasAllParts course.board.set
-  pub lie : PlaysProgram course.board.set program
-
 -- a course that came to its end or to this stop
 pub record HasPlayed (old : CourseValue) (stop : Option Stop) (new : CourseValue) : Type 0 where
   pub course : new ≡ course_after old (way_on old)
   pub stop_is : stop ≡ (way_on old).stop
 
--- what a run came to that ended at this moment
-abbrev pub outcome_at : Moment BoardView → Option Stop → Outcome
-outcome_at now stop = record { frames = now.time / frame_ticks; steps = now.steps; ticks = now.time; stop = stop }
+-- what a run came to that began at a time, after so many steps, and ended at this moment
+abbrev pub outcome_between : (time steps : ℕ) → Moment BoardView → Option Stop → Outcome
+outcome_between time steps now stop = record {
+  frames = now.time / frame_ticks - time / frame_ticks;
+  steps = now.steps - steps;
+  ticks = now.time - time;
+  stop = stop;
+}
+
+-- what is left of a course, as the contents of four texts
+abbrev pub course_contents : RunInputs → Option Assembled → CourseValue → RunContents
+course_contents inputs program course = record {
+  outputs = (way_on course).outputs;
+  frames = total_frames course.script;
+  listing = listing_in (source_in inputs) program;
+  outcome = outcome_between course.board.state.now.time course.board.state.now.steps (way_on course).now (way_on course).stop;
+}
+
+-- a run's four texts, whole, or up to a refused write
+abbrev pub WritesRun : {F W L R : Type 0} → RunContents → Writers F W L R → Result Outcome RunFault → Type 0
+WritesRun run to (Ok outcome) = IsRunWhole run to outcome
+WritesRun run to (Err (fault.Write output count)) = IsCutAt run to output count
+WritesRun run to (Err other) = ⊥
 
 -- ---- two writers
 

@@ -2,7 +2,7 @@
 use Rattle.std.specs.Prelude.{◌≡◌, ℕ, ◌<◌, ◌≤◌, List, [], ◌∷◌, ◌++◌, length, Result, Ok, Err, ◌⊎◌}
 use Rattle.pac_media.specs.Counted.{file_count}
 use Rattle.pac_media.specs.Writes.{StopsAfter}
-use Rattle.pac_inputs.specs.Stretches.{total_frames}
+use Rattle.pac_board_course.specs.Stretches.{total_frames}
 use Rattle.pac_board_course.specs.Entry.{Entry}
 use Rattle.pac_media.specs.Samples.{header_size}
 use Rattle.pac_board_course.specs.BoardView.{power_on_board_view}
@@ -12,11 +12,11 @@ use Rattle.pac_board_course.specs.Trace.{by_history, trace}
 use Rattle.pac_board_course.specs.Walk.{Walk}
 use Rattle.pac_debug.specs.Running.{play_of}
 use Rattle.pac_run.specs.declared.fault.Output.{Output as Which}
-use Rattle.pac_run.specs.declared.fault.Output.TheVariants.{Frames, Wave, Listing, Report, Text}
+use Rattle.pac_run.specs.declared.fault.Output.TheVariants.{Frames, Wave, Listing, Report}
 use Rattle.pac_run.specs.declared.fault.RunFault.{RunFault}
 use Rattle.pac_run.specs.declared.fault.RunFault.TheVariants as fault
 use Rattle.pac_run.specs.declared.inputs.RunInputs.{RunInputs}
-use Rattle.pac_run.specs.declared.outcome.Outcome.{Outcome}
+use Rattle.pac_board_course.specs.declared.outcome.Outcome.{Outcome}
 use Rattle.pac_run.specs.Plan.{Plan, plan_of}
 use Rattle.pac_run.specs.Texts as text
 
@@ -28,15 +28,31 @@ trace_of plan dip = trace (by_history plan.set plan.items (power_on_board_view d
 abbrev pub outcome_of : Walk (List Entry) → Outcome
 outcome_of end = record { frames = blank_count end.now.board; steps = end.now.steps; ticks = end.now.time; stop = end.stop }
 
--- the texts of frames, wave and report; that of the listing is the plan's
-abbrev pub frames_text : Plan → ℕ → List ℕ
-frames_text plan dip = text.images_text (trace_of plan dip).outputs
+-- What the four texts of a run are made from: what it gives out, in order, of a script of so many frames; the listing; and what it
+-- came to.
+pub record RunContents : Type 0 where
+  pub outputs : List Output
+  pub frames : ℕ
+  pub listing : List ℕ
+  pub outcome : Outcome
 
-abbrev pub wave_text : Plan → ℕ → List ℕ
-wave_text plan dip = text.wave_file_text (total_frames plan.script) (trace_of plan dip).outputs
+abbrev pub frames_text : RunContents → List ℕ
+frames_text run = text.images_text run.outputs
 
-abbrev pub report_text : Plan → ℕ → List ℕ
-report_text plan dip = text.report (outcome_of (trace_of plan dip)) (total_frames plan.script)
+abbrev pub wave_text : RunContents → List ℕ
+wave_text run = text.wave_file_text run.frames run.outputs
+
+abbrev pub report_text : RunContents → List ℕ
+report_text run = text.report run.outcome run.frames
+
+-- the contents of a plan's run from power-on
+abbrev pub contents_of : Plan → ℕ → RunContents
+contents_of plan dip = record {
+  outputs = (trace_of plan dip).outputs;
+  frames = total_frames plan.script;
+  listing = plan.listing;
+  outcome = outcome_of (trace_of plan dip);
+}
 
 -- ---- the four writers
 
@@ -127,39 +143,39 @@ pub record NothingWritten {F W L R : Type 0} (to : Writers F W L R) : Type 0 whe
   pub report : IsUnwritten to.report
 
 -- done: each output has exactly its text
-pub record IsRunWhole {F W L R : Type 0} (plan : Plan) (dip : ℕ) (to : Writers F W L R) (outcome : Outcome) : Type 0 where
-  pub outcome_is : outcome ≡ outcome_of (trace_of plan dip)
-  pub frames : TakesText to.frames (frames_text plan dip)
-  pub wave : TakesText to.wave (wave_text plan dip)
-  pub listing : TakesText to.listing plan.listing
-  pub report : TakesText to.report (report_text plan dip)
+pub record IsRunWhole {F W L R : Type 0} (run : RunContents) (to : Writers F W L R) (outcome : Outcome) : Type 0 where
+  pub outcome_is : outcome ≡ run.outcome
+  pub frames : TakesText to.frames (frames_text run)
+  pub wave : TakesText to.wave (wave_text run)
+  pub listing : TakesText to.listing run.listing
+  pub report : TakesText to.report (report_text run)
 
 -- a refused write, by its output: that one took so many bytes of its text; those before it are whole, those after it untouched,
 -- and of frames and wave, which are written side by side, the other one has what was given till then
-abbrev pub IsCutAt : {F W L R : Type 0} → Plan → ℕ → Writers F W L R → Which → ℕ → Type 0
-IsCutAt plan dip to Listing count = record {
-  listing : StopsInText to.listing plan.listing count;
+abbrev pub IsCutAt : {F W L R : Type 0} → RunContents → Writers F W L R → Which → ℕ → Type 0
+IsCutAt run to Listing count = record {
+  listing : StopsInText to.listing run.listing count;
   frames : IsUnwritten to.frames;
   wave : IsUnwritten to.wave;
   report : IsUnwritten to.report;
 }
-IsCutAt plan dip to Frames count = record {
-  listing : TakesText to.listing plan.listing;
-  film : FramesStop to.frames to.wave (total_frames plan.script) (trace_of plan dip).outputs count;
+IsCutAt run to Frames count = record {
+  listing : TakesText to.listing run.listing;
+  film : FramesStop to.frames to.wave run.frames run.outputs count;
   report : IsUnwritten to.report;
 }
-IsCutAt plan dip to Wave count = record {
-  listing : TakesText to.listing plan.listing;
-  film : WaveStops to.frames to.wave (total_frames plan.script) (trace_of plan dip).outputs count;
+IsCutAt run to Wave count = record {
+  listing : TakesText to.listing run.listing;
+  film : WaveStops to.frames to.wave run.frames run.outputs count;
   report : IsUnwritten to.report;
 }
-IsCutAt plan dip to Report count = record {
-  listing : TakesText to.listing plan.listing;
-  frames : TakesText to.frames (frames_text plan dip);
-  wave : TakesText to.wave (wave_text plan dip);
-  report : StopsInText to.report (report_text plan dip) count;
+IsCutAt run to Report count = record {
+  listing : TakesText to.listing run.listing;
+  frames : TakesText to.frames (frames_text run);
+  wave : TakesText to.wave (wave_text run);
+  report : StopsInText to.report (report_text run) count;
 }
-IsCutAt plan dip to Text count = ⊥
+IsCutAt run to other count = ⊥
 
 -- the plan of the inputs, and a fact of it
 pub record WithPlan (inputs : RunInputs) (fact : Plan → Type 0) : Type 0 where
@@ -168,7 +184,7 @@ pub record WithPlan (inputs : RunInputs) (fact : Plan → Type 0) : Type 0 where
   pub holds : fact plan
 
 abbrev pub Runs : {F W L R : Type 0} → RunInputs → Writers F W L R → Result Outcome RunFault → Type 0
-Runs inputs to (Ok outcome) = WithPlan inputs (λ plan. IsRunWhole plan inputs.dip to outcome)
-Runs inputs to (Err (fault.Write output count)) = WithPlan inputs (λ plan. IsCutAt plan inputs.dip to output count)
+Runs inputs to (Ok outcome) = WithPlan inputs (λ plan. IsRunWhole (contents_of plan inputs.dip) to outcome)
+Runs inputs to (Err (fault.Write output count)) = WithPlan inputs (λ plan. IsCutAt (contents_of plan inputs.dip) to output count)
 Runs inputs to (Err fault.NoMemory) = NothingWritten to
 Runs inputs to (Err refusal) = (plan_of inputs ≡ Err refusal) × NothingWritten to

@@ -10,7 +10,7 @@ use Rattle.pac_media.specs.Images.{ppm_of}
 use Rattle.pac_media.specs.Samples.{wav_header, samples_text}
 use Rattle.pac_board_course.specs.ModelLaws.{frame_samples}
 use Rattle.pac_board_course.specs.Output.{Output, Image, Sound, Show}
-use Rattle.pac_run.specs.declared.outcome.Outcome.{Outcome}
+use Rattle.pac_board_course.specs.declared.outcome.Outcome.{Outcome}
 
 -- the pictures and the samples among outputs, in order
 abbrev pub pictures_in : List Output → List Image
@@ -31,9 +31,12 @@ images_text outputs = flat_map (λ (image : Image). ppm_of image.lines image.pal
 abbrev pub filled_samples : ℕ → List ℤ → List ℤ
 filled_samples count samples = samples ++ replicate (count - length samples) (pos 0)
 
+-- the bytes of so many samples
+abbrev pub sound_text : ℕ → List Output → List ℕ
+sound_text count outputs = samples_text (filled_samples count (samples_in outputs))
+
 abbrev pub wave_file_text : ℕ → List Output → List ℕ
-wave_file_text frames outputs = wav_header (frame_samples * frames)
-    ++ samples_text (filled_samples (frame_samples * frames) (samples_in outputs))
+wave_file_text frames outputs = wav_header (frame_samples * frames) ++ sound_text (frame_samples * frames) outputs
 
 -- a wave file as far as these outputs go, without the zeros after them
 abbrev pub wave_so_far : ℕ → List Output → List ℕ

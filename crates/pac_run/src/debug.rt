@@ -1,40 +1,21 @@
 //! A run under a debugger as one call.
 
-ghost use Rattle.std.specs.Prelude.{◌≡◌, IfOk, IfErr, Err};
+ghost use Rattle.std.specs.Prelude.{◌≡◌, IfOk, IfErr, None, Err};
 ghost use Rattle.pac_debug.specs.Session.{IsNew, session_at_start};
 ghost use Rattle.pac_run.specs.declared.fault.RunFault.TheVariants.{NoMemory};
-ghost use Rattle.pac_run.specs.Plan.{Prepares};
 ghost use Rattle.pac_run.specs.Debugs.{Debugs, IsReady};
+ghost use Rattle.pac_run.specs.Started.{Prepares};
 
 use crate::fault::{Output, RunFault};
 use crate::inputs::RunInputs;
-use crate::outcome::Outcome;
 use crate::plan::{Prepared, prepare};
 use crate::run::{list, report_on};
 use crate::watch::watch_run;
 use pac_asm::Program;
-use pac_board_course::Board;
+use pac_board_course::{Board, Outcome, Script};
 use pac_debug::Session;
-use pac_inputs::Script;
 use pac_media::{Image, Out};
 use std::alloc::Global;
-
-/// What a session's run came to, as a run tells it.
-fn outcome_of(outcome: pac_debug::RunTotals) -> Outcome
-    ensures { result ≡ record {
-      frames = outcome.frames;
-      steps = outcome.steps;
-      ticks = outcome.ticks;
-      stop = outcome.stop;
-    } }
-{
-    Outcome {
-        frames: outcome.frames,
-        steps: outcome.steps,
-        ticks: outcome.ticks,
-        stop: outcome.stop,
-    }
-}
 
 /// Writes all that a session's run gives out, in order: the listing; then wave, frames and the session's text, as they come; then
 /// the report.
@@ -63,7 +44,7 @@ fn write_watched<F: Out, W: Out, L: Out, R: Out, T: Out>(
         return Err(RunFault::Write(Output::Listing, fault.count));
     }
     let outcome = match watch_run(session, commands, image, frames, wave, text) {
-        Ok(outcome) => outcome_of(outcome),
+        Ok(outcome) => outcome,
         Err(fault) => return Err(RunFault::Write(fault.output, fault.count)),
     };
     match report_on(report, outcome, total) {
@@ -104,14 +85,14 @@ struct Ready {
 /// What is played, made from what is given.
 fn make_ready(alloc: Global, inputs: &RunInputs) -> Result<Ready, RunFault>
     ensures ready { IfOk result (λ it. IsReady inputs.now it.program it.session it.total) }
-    ensures refused { IfErr result (λ fault. Prepares inputs.now (Err fault)) }
+    ensures refused { IfErr result (λ fault. Prepares inputs.now None (Err fault)) }
 {
     let Prepared {
         program,
         board,
         script,
         image,
-    } = prepare(alloc, inputs)?;
+    } = prepare(alloc, inputs, None)?;
     let total = script.frames();
     let session = session(alloc, board, script)?;
     Ok(Ready {

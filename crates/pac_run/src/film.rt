@@ -1,7 +1,7 @@
 //! Where a run's pictures and samples go: the film and the wave file, side by side.
 
 ghost use Rattle.std.specs.Prelude.{◌≡◌, Some, IsSome, IfOk};
-ghost use Rattle.pac_inputs.specs.Stretches.{total_frames};
+ghost use Rattle.pac_board_course.specs.Stretches.{total_frames};
 ghost use Rattle.pac_run.specs.Films.{film_took, film_refused};
 ghost use Rattle.pac_board_course.specs.Course.{way_on};
 ghost use Rattle.pac_board_course.specs.State.{nothing_due};

@@ -1,18 +1,17 @@
 //! What a run plays, made from what it is given. All of its memory is found here.
 
-ghost use Rattle.std.specs.Prelude.{◌≡◌, length, option_map, option_copied, IfOk, IfErr, IfSome};
-ghost use Rattle.pac_board_course.specs.State.{power_on_board};
-ghost use Rattle.pac_inputs.specs.Script.{script_of};
+ghost use Rattle.std.specs.Prelude.{◌≡◌, length, option_map, option_copied, IfOk, IfSome};
+ghost use Rattle.pac_board_course.specs.Script.{script_of};
 ghost use Rattle.pac_asm.specs.Assembled.{Assembled};
 ghost use Rattle.pac_board_course.specs.RomParts.{IsWhole, program_size};
-ghost use Rattle.pac_run.specs.declared.fault.RunFault.TheVariants.{NoMemory};
-ghost use Rattle.pac_run.specs.Plan.{program_in, set_in, script_told, fault_told, Judges, LieIn, Prepares};
+ghost use Rattle.pac_run.specs.Plan.{program_in, set_in, script_told, fault_told, Judges, LieIn};
+ghost use Rattle.pac_run.specs.Started.{Prepares};
 
 use crate::fault::RunFault;
 use crate::inputs::RunInputs;
+use crate::start::first_board;
 use pac_asm::{AsmError, Program, assemble};
-use pac_board_course::{Board, RomSet};
-use pac_inputs::{Script, ScriptError, read_script};
+use pac_board_course::{Board, RomSet, Script, ScriptError, read_script};
 use pac_media::Image;
 use pac_roms_manifest::{Part, SetError, load_set, read_manifest};
 use std::alloc::Global;
@@ -22,7 +21,7 @@ use std::alloc::Global;
 pub struct Prepared {
     /// The program of the source, if there is one.
     pub program: Option<Program>,
-    /// The board at power-on.
+    /// The board that the run begins with.
     pub board: Board,
     /// The script.
     pub script: Script,
@@ -112,27 +111,25 @@ fn script(alloc: Global, text: &[u8]) -> Result<Script, RunFault>
     }
 }
 
-/// The board of a set at power-on, and room for an image.
-fn board(alloc: Global, set: RomSet, switches: u8) -> Result<(Board, Image), RunFault>
-    ensures err { IfErr result (λ fault. fault ≡ NoMemory) }
-    ensures ok { IfOk result (λ made. made.0 ≡ power_on_board set switches) }
-{
-    let image = Image::new(alloc)?;
-    match Board::init(alloc, set, switches) {
-        Ok(board) => Ok((board, image)),
-        Err(_) => Err(RunFault::NoMemory),
-    }
-}
-
-/// What is played: the source is judged first, then the set, then the script.
+/// What is played: the source is judged first, then the set, then the script, then the state file that the run begins with, if
+/// there is one.
 #[tactic(auto, unfolding(crate::specs::Plan::plan_of))]
-pub fn prepare(alloc: Global, inputs: &RunInputs) -> Result<Prepared, RunFault>
-    ensures { Prepares inputs.now result }
+pub fn prepare(alloc: Global, inputs: &RunInputs, from: Option<&[u8]>) -> Result<Prepared, RunFault>
+    ensures { Prepares inputs.now (option_copied from.entry) result }
 {
     let program = program(alloc, inputs.source)?;
     let set = set(alloc, inputs.manifest, inputs.parts, &program)?;
-    let script = script(alloc, inputs.script)?;
-    let (board, image) = board(alloc, set, inputs.dip)?;
+    let script = match script(alloc, inputs.script) {
+        Ok(script) => script,
+        Err(fault) => return Err(fault),
+    };
+    let board = match first_board(alloc, set, inputs.dip, from, &script) {
+        Ok(board) => board,
+        Err(fault) => return Err(fault),
+    };
+    let Ok(image) = Image::new(alloc) else {
+        return Err(RunFault::NoMemory);
+    };
     Ok(Prepared {
         program,
         board,

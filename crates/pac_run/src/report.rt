@@ -5,9 +5,8 @@ ghost use Rattle.pac_board_course.specs.CauseVariants.{Opcode, Vector};
 ghost use Rattle.pac_media.specs.Counted.{Puts};
 ghost use Rattle.pac_run.specs.Texts as text;
 
-use crate::outcome::Outcome;
 use itoa::Buffer;
-use pac_board_course::{Cause, Stop};
+use pac_board_course::{Cause, Outcome, Stop};
 use pac_listing::{hex_byte, hex_word};
 use pac_media::{Counted, Out, WriteFault};
 

@@ -1,23 +1,22 @@
 //! The run as one call.
 
-ghost use Rattle.std.specs.Prelude.{◌≡◌, ◌/◌, ◌^◌, ◌<◌, option_copied};
+ghost use Rattle.std.specs.Prelude.{◌≡◌, ◌+◌, ◌/◌, ◌^◌, ◌<◌, IfOk, option_copied};
 ghost use Rattle.pac_media.specs.Counted.{Puts};
 ghost use Rattle.pac_board_course.specs.Step.{frame_ticks};
-ghost use Rattle.pac_board_course.specs.Course.{begun};
+ghost use Rattle.pac_board_course.specs.Course.{FitsAsked, FitsTime, begun, course_after, way_on};
+ghost use Rattle.pac_board_course.specs.State.{nothing_due};
 ghost use Rattle.pac_run.specs.Plan.{listing_in};
-ghost use Rattle.pac_run.specs.Recorded.{IsAtStart, WritesWholeText, outcome_at};
+ghost use Rattle.pac_run.specs.Recorded.{WritesRun, WritesWholeText, course_contents, outcome_between};
 ghost use Rattle.pac_run.specs.Run.{Runs};
 ghost use Rattle.pac_run.specs.Texts as text;
 
 use crate::fault::{Output, RunFault};
 use crate::film::record_run;
 use crate::inputs::RunInputs;
-use crate::outcome::Outcome;
 use crate::plan::{Prepared, prepare};
 use crate::report::put_report;
 use pac_asm::Program;
-use pac_board_course::{Board, Course, FRAME_TICKS, Stop};
-use pac_inputs::Script;
+use pac_board_course::{Board, Course, FRAME_TICKS, Outcome, Script, Stop};
 use pac_listing::write_listing;
 use pac_media::{Counted, Image, Out, WriteFault};
 use std::alloc::Global;
@@ -65,32 +64,30 @@ pub(crate) fn report_on<R: Out>(
     put_report(&mut file, outcome, total)
 }
 
-/// What a run came to that ended on this board.
-fn outcome_of(board: &Board, stop: Option<Stop>) -> Outcome
-    requires { board.now.state.now.time / frame_ticks < 2 ^ 32 }
-    ensures { result ≡ outcome_at board.now.state.now stop }
+/// What a run came to that began at this time, after so many steps, and ended on this board.
+fn outcome_since(time: u64, steps: u64, board: &Board, stop: Option<Stop>) -> Outcome
+    requires { board.now.state.now.time / frame_ticks < time / frame_ticks + 2 ^ 32 }
+    ensures { result ≡ outcome_between time steps board.now.state.now stop }
 {
     Outcome {
-        frames: (board.time() / FRAME_TICKS) as u32,
-        steps: board.steps(),
-        ticks: board.time(),
+        frames: (board.time() / FRAME_TICKS).saturating_sub(time / FRAME_TICKS) as u32,
+        steps: board.steps().saturating_sub(steps),
+        ticks: board.time().saturating_sub(time),
         stop,
     }
 }
 
-/// A script on a board at power-on, at its beginning.
-fn begin(board: Board, script: Script) -> Course
-    requires time { board.state.now.time ≡ 0 }
-    requires asked { board.state.asked ≡ 0 }
+/// A script on a board, at its beginning.
+pub(crate) fn begin(board: Board, script: Script) -> Course
+    requires time { FitsTime board script }
+    requires asked { FitsAsked board script }
     ensures { result ≡ begun board script }
 {
-    // (says that a script is short, so that its run fits the board's time)
-    script.frames();
     Course::new(board, script)
 }
 
 /// Writes all that a run gives out, in order: the listing, then wave and frames, then the report.
-fn write_all<F: Out, W: Out, L: Out, R: Out>(
+pub(crate) fn write_all<F: Out, W: Out, L: Out, R: Out>(
     inputs: &RunInputs,
     program: &Option<Program>,
     course: &mut Course,
@@ -100,8 +97,10 @@ fn write_all<F: Out, W: Out, L: Out, R: Out>(
     listing: &mut L,
     report: &mut R,
 ) -> Result<Outcome, RunFault>
-    requires { IsAtStart inputs.now program.now course.old }
-    ensures { Runs inputs.now (record {
+    requires due { course.old.board.state.due ≡ nothing_due }
+    requires begins { course.old.gone ≡ course.old.board.state.now.time / frame_ticks }
+    ensures played { IfOk result (λ outcome. course.new ≡ course_after course.old (way_on course.old)) }
+    ensures written { WritesRun (course_contents inputs.now program.now course.old) (record {
       frames = record { took = F.took; refused = F.refused; old = frames.old; new = frames.new };
       wave = record { took = W.took; refused = W.refused; old = wave.old; new = wave.new };
       listing = record { took = L.took; refused = L.refused; old = listing.old; new = listing.new };
@@ -109,6 +108,8 @@ fn write_all<F: Out, W: Out, L: Out, R: Out>(
     }) result }
 {
     let total = course.frames();
+    let time = course.board().time();
+    let steps = course.board().steps();
     if let Err(fault) = list(listing, inputs.source, program) {
         return Err(RunFault::Write(Output::Listing, fault.count));
     }
@@ -116,7 +117,7 @@ fn write_all<F: Out, W: Out, L: Out, R: Out>(
         Ok(stop) => stop,
         Err(fault) => return Err(RunFault::Write(fault.output, fault.count)),
     };
-    let outcome = outcome_of(course.board(), stop);
+    let outcome = outcome_since(time, steps, course.board(), stop);
     match report_on(report, outcome, total) {
         Ok(()) => Ok(outcome),
         Err(fault) => Err(RunFault::Write(Output::Report, fault.count)),
@@ -147,7 +148,7 @@ pub fn run_all<F: Out, W: Out, L: Out, R: Out>(
         board,
         script,
         image,
-    } = prepare(alloc, inputs)?;
+    } = prepare(alloc, inputs, None)?;
     let mut course = begin(board, script);
     write_all(
         inputs,

@@ -2,7 +2,7 @@
 
 ghost use Rattle.std.specs.Prelude.{◌≡◌, IfOk};
 ghost use Rattle.std.specs.Str.Lines.{lines};
-ghost use Rattle.pac_inputs.specs.Stretches.{total_frames};
+ghost use Rattle.pac_board_course.specs.Stretches.{total_frames};
 ghost use Rattle.pac_debug.specs.Motions.{IsOutcome};
 ghost use Rattle.pac_debug.specs.Running.{whole_run};
 ghost use Rattle.pac_debug.specs.Session.{session_at_start};
@@ -10,7 +10,7 @@ ghost use Rattle.pac_run.specs.Watched.{Films, WatchesOutputs};
 
 use crate::fault::{Output, OutputFault};
 use crate::film::{FRAME_SAMPLES, Film};
-use pac_debug::{CommandFault, RunTotals, Session, watch};
+use pac_debug::{CommandFault, Outcome, Session, watch};
 use pac_media::{Counted, Frames, Image, Out, WaveFile};
 
 impl<F: Out, W: Out> Film<F, W> {
@@ -21,7 +21,7 @@ impl<F: Out, W: Out> Film<F, W> {
         session: Session,
         commands: &[u8],
         text: &mut Counted<T>,
-    ) -> Result<RunTotals, OutputFault>
+    ) -> Result<Outcome, OutputFault>
         requires { session ≡ session_at_start session.setting 0 }
         ensures outcome { IfOk result (IsOutcome session) }
         ensures film { Films F.took F.refused W.took W.refused T.took T.refused session.setting
@@ -57,7 +57,7 @@ pub fn watch_run<F: Out, W: Out, T: Out>(
     frames: &mut F,
     wave: &mut W,
     text: &mut T,
-) -> Result<RunTotals, OutputFault>
+) -> Result<Outcome, OutputFault>
     requires { session ≡ session_at_start session.setting 0 }
     ensures outcome { IfOk result (IsOutcome session) }
     ensures texts { WatchesOutputs

@@ -4,7 +4,7 @@ use Rattle.clap.specs.declared.error.kind.ErrorKind.{ErrorKind}
 use Rattle.clap.specs.declared.error.kind.ErrorKind.TheVariants as kind
 use Rattle.pac_run.specs.WriteFault.{WriteFault}
 use Rattle.pac_run.specs.declared.fault.Output.TheVariants.{Text}
-use Rattle.pac_run.specs.declared.outcome.Outcome.{Outcome}
+use Rattle.pac_run.specs.Outcome.{Outcome}
 use Rattle.pac_run_command.specs.declared.failure.Failure.{Failure}
 use Rattle.pac_run_command.specs.declared.failure.Failure.TheVariants.{Read, Write, Memory}
 use Rattle.pac_run_command.specs.declared.failure.Target.TheVariants.{Of}

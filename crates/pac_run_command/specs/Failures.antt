@@ -8,6 +8,7 @@ use Rattle.pac_asm.specs.Codes as asm
 use Rattle.pac_run.specs.Stop.{Stop}
 use Rattle.pac_run.specs.ScriptCodes as inputs
 use Rattle.pac_run.specs.SetCodes as manifest
+use Rattle.pac_run.specs.StateCodes as states
 use Rattle.pac_run_files.specs.Names.{told_name}
 use Rattle.pac_run_files.specs.declared.given.ReadFault.{ReadFault}
 use Rattle.pac_run_files.specs.declared.given.ReadFault.TheVariants as reading
@@ -15,7 +16,7 @@ use Rattle.pac_run.specs.Names.{output_name}
 use Rattle.pac_run.specs.declared.fault.RunFault.{RunFault}
 use Rattle.pac_run.specs.declared.fault.RunFault.TheVariants as run
 use Rattle.pac_run_command.specs.declared.failure.Failure.{Failure}
-use Rattle.pac_run_command.specs.declared.failure.Failure.TheVariants.{Read, Source, Set, Script, Extent, Write, Memory, Words}
+use Rattle.pac_run_command.specs.declared.failure.Failure.TheVariants.{Read, Source, Set, Script, State, Extent, Write, Memory, Words}
 use Rattle.pac_run_command.specs.declared.failure.Target.{Target}
 use Rattle.pac_run_command.specs.declared.failure.Target.TheVariants.{Of, Rom}
 
@@ -30,6 +31,7 @@ message (Read name) = codes "read fault " ++ told_name name.now
 message (Source fault) = codes "refused " ++ asm.asm_fault_text fault
 message (Set fault) = codes "refused " ++ manifest.set_fault_text fault
 message (Script fault) = codes "refused " ++ inputs.script_fault_text fault
+message (State fault) = codes "refused " ++ states.state_fault_text fault
 message Extent = codes "refused X1"
 message (Write output count) = codes "write fault " ++ target_name output ++ codes " after " ++ decimal count ++ codes " bytes"
 message Memory = codes "out of memory"
@@ -41,6 +43,7 @@ failure_status (Read name) = 3
 failure_status (Source fault) = 1
 failure_status (Set fault) = 1
 failure_status (Script fault) = 1
+failure_status (State fault) = 1
 failure_status Extent = 1
 failure_status (Write output count) = 3
 failure_status Memory = 4
@@ -71,6 +74,7 @@ abbrev pub failure_of : RunFault → Failure
 failure_of (run.Source fault) = Source fault
 failure_of (run.Set fault) = Set fault
 failure_of (run.Script fault) = Script fault
+failure_of (run.State fault) = State fault
 failure_of (run.Write output count) = Write (Of output) count
 failure_of run.NoMemory = Memory
 

@@ -7,6 +7,7 @@ use Rattle.pac_run_command.specs.declared.failure.Failure.{Failure}
 use Rattle.pac_run_command.specs.declared.failure.Failure.TheVariants.{Read, Write, Memory}
 use Rattle.pac_run_command.specs.declared.failure.Target.{Target}
 use Rattle.pac_run_command.specs.declared.failure.Target.TheVariants.{Of, Rom}
+use Rattle.pac_run_command.specs.Programs.{Assembling}
 use Rattle.pac_run_files.specs.declared.files.FileKind.TheVariants.{Any}
 use Rattle.pac_run_files.specs.Files.{FindsFile, as_given, IsUnread, Handling, AllCreated, AllClosed, FirstUncreated}
 
@@ -19,10 +20,6 @@ asm_paths asked = asked.rom ∷ asked.listing ∷ []
 
 abbrev pub asm_output_files : {File : Type 0} → AsmOutputs File → List File
 asm_output_files outputs = outputs.rom ∷ outputs.listing ∷ []
-
--- what assembling a source does with the two files, as they were created and as it left them
-abbrev pub Assembling : Type 0 → Type 1
-Assembling File = (source : List ℕ) → Result Unit Failure → (created left : AsmOutputs File) → Type 0
 
 -- both were created, then the source was assembled, and then both were closed as this left them: no more is written to them
 pub record IsMade {Disk File : Type 0} (finds : FindsFile) (handling : Handling Disk File) (assembles : Assembling File) (asked : AskedAsm)

@@ -7,14 +7,16 @@ use Rattle.clap.specs.declared.error.kind.ErrorKind.TheVariants.{OutOfMemory}
 use Rattle.pac_run_options.specs.CommandLine.{Asked, asm, run, debug, dis}
 use Rattle.pac_run.specs.declared.fault.Output.{Output}
 use Rattle.pac_run.specs.declared.fault.Output.TheVariants.{Report, Text}
-use Rattle.pac_run.specs.declared.outcome.Outcome.{Outcome}
+use Rattle.pac_run.specs.Run.{Writing}
 use Rattle.pac_run_command.specs.declared.failure.Failure.{Failure}
 use Rattle.pac_run_command.specs.declared.failure.Failure.TheVariants.{Write}
 use Rattle.pac_run_command.specs.declared.failure.Target.TheVariants.{Of}
 use Rattle.pac_run_command.specs.Endings.{Ending, FailureEnds, WordsEnd, WorkEnds}
 use Rattle.pac_run_files.specs.Files.{FindsFile, Handling}
-use Rattle.pac_run_command.specs.Making.{Assembling, Makes, TellsDisassembly}
-use Rattle.pac_run_command.specs.Outputs.{Performing, PlaysRun, WatchesRun}
+use Rattle.pac_run_command.specs.Making.{Makes, TellsDisassembly}
+use Rattle.pac_run_command.specs.Outputs.{PlaysRun, WatchesRun}
+use Rattle.pac_run_command.specs.Programs.{Assembling, Performing, assembling, performing, watching}
+use Rattle.pac_run_command.specs.Texts.{WritesDisassembly}
 
 -- The files, and what each piece of work leaves of the outputs by its answer. Report and text are standard output; `silent` says
 -- that the report got nothing, and `untold` that the text did.
@@ -22,12 +24,27 @@ pub record Desk (Disk File C : Type 0) : Type 1 where
   pub finds : FindsFile
   pub handling : Handling Disk File
   pub assembles : Assembling File
-  pub performs : Result Outcome Failure → Performing File
-  pub watches : (commands : List ℕ) → Result Outcome Failure → Performing File
+  pub performs : (from : Option (List ℕ)) → Performing File
+  pub watches : (commands : List ℕ) → Performing File
   pub disassembles : (bytes : List ℕ) → Result Unit Failure → Type 0
   pub silent : Type 0
   pub untold : Type 0
   pub ending : Ending C
+
+-- that of files whose writers say this of themselves, with report and text before and after the work
+abbrev pub desk_of : {Disk File R T C : Type 0} → FindsFile → Handling Disk File → (took : File → List ℕ → File → Type 0)
+    → (refused : File → File → Type 0) → (report : Writing R) → (text : Writing T) → Ending C → Desk Disk File C
+desk_of finds handling took refused report text ending = record {
+  finds = finds;
+  handling = handling;
+  assembles = assembling took refused;
+  performs = performing took refused report;
+  watches = watching took refused report text;
+  disassembles = λ bytes answer. WritesDisassembly bytes text answer;
+  silent = report.new ≡ report.old;
+  untold = text.new ≡ text.old;
+  ending = ending;
+}
 
 -- work that is done or fails, and how it ends
 pub record FinishesWork {C : Type 0} (work : Result Unit Failure → Type 0) (ending : Ending C) : Type 0 where
@@ -82,7 +99,7 @@ without_output finds handling assembles ending = record {
   finds = finds;
   handling = handling;
   assembles = assembles;
-  performs = λ answer inputs created left. ⊥;
+  performs = λ from answer inputs created left. ⊥;
   watches = λ commands answer inputs created left. ⊥;
   disassembles = λ bytes answer. ⊥;
   silent = ⊤;

@@ -7,7 +7,7 @@ ghost use Rattle.pac_run_options.specs.CommandLine.{told_asm};
 ghost use Rattle.pac_run_command.specs.Failures.{Opens};
 ghost use Rattle.pac_run_files.specs.Files.{AllClosed, AllCreated, FirstUncreated};
 ghost use Rattle.pac_run_command.specs.Making.{Makes, asm_outputs, asm_paths, asm_output_files};
-ghost use Rattle.pac_run_command.specs.Programs.{Assembles};
+ghost use Rattle.pac_run_command.specs.Programs.{Assembles, assembling, writing};
 
 use crate::failure::{Failure, Target, read_failure};
 use pac_asm::{AsmError, Program, assemble};
@@ -19,7 +19,7 @@ use std::alloc::Global;
 
 /// Writes the ROM of a program.
 fn put_rom<R: Out>(rom: &mut R, program: &Program) -> Result<(), WriteFault>
-    ensures { WritesWholeText (record { took = R.took; refused = R.refused; old = rom.old; new = rom.new }) program.now.rom result }
+    ensures { WritesWholeText (writing R.took R.refused rom.old rom.new) program.now.rom result }
 {
     let mut file = Counted::new(rom);
     file.put(program.rom())
@@ -27,7 +27,7 @@ fn put_rom<R: Out>(rom: &mut R, program: &Program) -> Result<(), WriteFault>
 
 /// Writes the listing of a program.
 fn put_listing<L: Out>(listing: &mut L, program: &Program, source: &[u8]) -> Result<(), WriteFault>
-    ensures { WritesWholeText (record { took = L.took; refused = L.refused; old = listing.old; new = listing.new })
+    ensures { WritesWholeText (writing L.took L.refused listing.old listing.new)
         (texts.listing program.now source.now) result }
 {
     let mut file = Counted::new(listing);
@@ -42,8 +42,8 @@ pub fn write_program<R: Out, L: Out>(
     rom: &mut R,
     listing: &mut L,
 ) -> Result<(), Failure<'static>>
-    ensures { Assembles source.now (record { took = R.took; refused = R.refused; old = rom.old; new = rom.new })
-        (record { took = L.took; refused = L.refused; old = listing.old; new = listing.new }) result }
+    ensures { Assembles source.now (writing R.took R.refused rom.old rom.new)
+        (writing L.took L.refused listing.old listing.new) result }
 {
     let program = match assemble(alloc, source) {
         Ok(program) => program,
@@ -103,10 +103,8 @@ pub fn asm<'a, D: FileSystem>(
     disk: &mut D,
     files: &AsmFiles<'a>,
 ) -> Result<(), Failure<'a>>
-    ensures { Makes (D.finds disk.old) (record { creates = D.creates; closes = D.closes }) (λ source answer created left. Assembles source
-        (record { took = D.File.took; refused = D.File.refused; old = created.rom; new = left.rom })
-        (record { took = D.File.took; refused = D.File.refused; old = created.listing; new = left.listing }) answer)
-        (told_asm files.now) disk.old result disk.new }
+    ensures { Makes (D.finds disk.old) (record { creates = D.creates; closes = D.closes })
+        (assembling D.File.took D.File.refused) (told_asm files.now) disk.old result disk.new }
 {
     let source = match read_file(alloc, disk, files.source) {
         Ok(source) => source,

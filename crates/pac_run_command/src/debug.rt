@@ -3,8 +3,8 @@
 ghost use Rattle.std.specs.Prelude.{◌≡◌, ◌≤◌};
 ghost use Rattle.pac_run_options.specs.CommandLine.{told_debug, told_run};
 ghost use Rattle.pac_run_command.specs.Failures as told;
-ghost use Rattle.pac_run_command.specs.Outputs.{RecordsRun, WatchesRun};
-ghost use Rattle.pac_run_command.specs.Programs.{PerformsWatched};
+ghost use Rattle.pac_run_command.specs.Outputs.{RecordsRun, WatchesRun, from_power_on};
+ghost use Rattle.pac_run_command.specs.Programs.{PerformsWatched, watching, writing};
 
 use crate::failure::{Failure, failure_of, read_failure};
 use crate::given::inputs_of;
@@ -15,7 +15,7 @@ use pac_run::{Out, Outcome, RunInputs, debug_all};
 use pac_run_files::{
     FileSystem, Given, NamedFile, manifest_in, parts_of, read_parts, read_watched,
 };
-use pac_run_options::DebugFiles;
+use pac_run_options::{DebugFiles, PlayFiles};
 use std::alloc::Global;
 
 /// A run of the program under a debugger: that of `debug_all`, its fault told as a failure.
@@ -30,11 +30,11 @@ pub fn debug_inputs<F: Out, W: Out, L: Out, R: Out, T: Out>(
     text: &mut T,
 ) -> Result<Outcome, Failure<'static>>
     ensures { PerformsWatched inputs.now commands.now (record {
-      frames = record { took = F.took; refused = F.refused; old = frames.old; new = frames.new };
-      wave = record { took = W.took; refused = W.refused; old = wave.old; new = wave.new };
-      listing = record { took = L.took; refused = L.refused; old = listing.old; new = listing.new };
-      report = record { took = R.took; refused = R.refused; old = report.old; new = report.new };
-    }) (record { took = T.took; refused = T.refused; old = text.old; new = text.new }) result }
+      frames = writing F.took F.refused frames.old frames.new;
+      wave = writing W.took W.refused wave.old wave.new;
+      listing = writing L.took L.refused listing.old listing.new;
+      report = writing R.took R.refused report.old report.new;
+    }) (writing T.took T.refused text.old text.new) result }
 {
     match debug_all(alloc, inputs, commands, frames, wave, listing, report, text) {
         Ok(outcome) => Ok(outcome),
@@ -54,19 +54,21 @@ pub fn record_watched<D: FileSystem, R: Out, T: Out>(
     named: &[NamedFile],
 ) -> Result<Outcome, Failure<'static>>
     ensures { RecordsRun (record { creates = D.creates; closes = D.closes })
-        (λ answer inputs created left. PerformsWatched inputs commands.now (record {
-          frames = record { took = D.File.took; refused = D.File.refused; old = created.frames; new = left.frames };
-          wave = record { took = D.File.took; refused = D.File.refused; old = created.wave; new = left.wave };
-          listing = record { took = D.File.took; refused = D.File.refused; old = created.listing; new = left.listing };
-          report = record { took = R.took; refused = R.refused; old = report.old; new = report.new };
-        }) (record { took = T.took; refused = T.refused; old = text.old; new = text.new }) answer)
-        ((report.new ≡ report.old) × (text.new ≡ text.old)) (told_run files.now.run) given.now named.now disk.old result disk.new }
+        (watching D.File.took D.File.refused (writing R.took R.refused report.old report.new)
+        (writing T.took T.refused text.old text.new) commands.now)
+        ((report.new ≡ report.old) × (text.new ≡ text.old)) (from_power_on (told_run files.now.run)) given.now named.now
+        disk.old result disk.new }
 {
     let Ok(parts) = parts_of(alloc, named) else {
         return Err(Failure::Memory);
     };
     let inputs = inputs_of(&files.run, given, &parts);
-    let mut outputs = match create_outputs(disk, &files.run) {
+    let files = PlayFiles {
+        run: files.run,
+        load: None,
+        save: None,
+    };
+    let mut outputs = match create_outputs(disk, &files) {
         Ok(outputs) => outputs,
         Err(failure) => return Err(failure),
     };
@@ -95,12 +97,8 @@ pub fn debug<D: FileSystem, R: Out, T: Out, C: Teller>(
     files: &DebugFiles,
 ) -> u8
     ensures watches { WatchesRun (D.finds disk.old) (record { creates = D.creates; closes = D.closes })
-        (λ commands answer inputs created left. PerformsWatched inputs commands (record {
-          frames = record { took = D.File.took; refused = D.File.refused; old = created.frames; new = left.frames };
-          wave = record { took = D.File.took; refused = D.File.refused; old = created.wave; new = left.wave };
-          listing = record { took = D.File.took; refused = D.File.refused; old = created.listing; new = left.listing };
-          report = record { took = R.took; refused = R.refused; old = report.old; new = report.new };
-        }) (record { took = T.took; refused = T.refused; old = text.old; new = text.new }) answer)
+        (watching D.File.took D.File.refused (writing R.took R.refused report.old report.new)
+        (writing T.took T.refused text.old text.new))
         ((report.new ≡ report.old) × (text.new ≡ text.old))
         (record { tells = C.tells; explains = C.explains; old = console.old; new = console.new; status = result })
         (told_debug files.now) disk.old disk.new }

@@ -4,6 +4,7 @@ ghost use Rattle.std.specs.Prelude.{◌≡◌};
 ghost use Rattle.pac_dis.specs.Lines.{disassembly};
 ghost use Rattle.pac_run.specs.Recorded.{WritesWholeText};
 ghost use Rattle.pac_run_command.specs.Making.{TellsDisassembly};
+ghost use Rattle.pac_run_command.specs.Programs.{writing};
 ghost use Rattle.pac_run_command.specs.Texts.{WritesDisassembly};
 
 use crate::failure::{Failure, Target, read_failure};
@@ -17,8 +18,7 @@ const MOST_BYTES: usize = 65_536;
 
 /// Writes the instructions of bytes, from address 0000H on, a line each.
 fn put_text<W: Out>(text: &mut W, bytes: &[u8]) -> Result<(), WriteFault>
-    ensures { WritesWholeText (record { took = W.took; refused = W.refused; old = text.old; new = text.new })
-        (disassembly bytes.now) result }
+    ensures { WritesWholeText (writing W.took W.refused text.old text.new) (disassembly bytes.now) result }
 {
     let mut file = Counted::new(text);
     put_disassembly(&mut file, bytes)
@@ -26,7 +26,7 @@ fn put_text<W: Out>(text: &mut W, bytes: &[u8]) -> Result<(), WriteFault>
 
 /// Writes the instructions of 1 to 65,536 bytes, from address 0000H on, a line each.
 pub fn write_text<W: Out>(bytes: &[u8], text: &mut W) -> Result<(), Failure<'static>>
-    ensures { WritesDisassembly bytes.now (record { took = W.took; refused = W.refused; old = text.old; new = text.new }) result }
+    ensures { WritesDisassembly bytes.now (writing W.took W.refused text.old text.new) result }
 {
     if bytes.is_empty() || bytes.len() > MOST_BYTES {
         return Err(Failure::Extent);
@@ -45,7 +45,7 @@ pub fn dis<'a, D: FileSystem, W: Out>(
     name: &'a str,
 ) -> Result<(), Failure<'a>>
     ensures { TellsDisassembly (D.finds disk.now)
-        (λ bytes answer. WritesDisassembly bytes (record { took = W.took; refused = W.refused; old = text.old; new = text.new }) answer)
+        (λ bytes answer. WritesDisassembly bytes (writing W.took W.refused text.old text.new) answer)
         (text.new ≡ text.old) name.now result }
 {
     match read_file(alloc, disk, name) {

@@ -4,7 +4,7 @@ ghost use Rattle.std.specs.Prelude.{◌≡◌, ◌≤◌, Some};
 ghost use Rattle.pac_run_command.specs.Failures as told;
 
 use pac_asm::AsmFault;
-use pac_run::{Output, RunFault, ScriptFault, SetFault, Stop};
+use pac_run::{Output, RunFault, ScriptFault, SetFault, StateFault, Stop};
 use pac_run_files::{ReadFault, Told};
 use std::fmt;
 
@@ -29,6 +29,8 @@ pub enum Failure<'a> {
     Set(SetFault),
     /// The script has a fault.
     Script(ScriptFault),
+    /// The state file has a fault, or no run with this script can begin from it.
+    State(StateFault),
     /// X1: what is to be disassembled has no byte, or more than 65,536.
     Extent,
     /// An output refused after this count of its bytes.
@@ -65,6 +67,7 @@ impl fmt::Display for Failure<'_> {
             Failure::Source(fault) => write!(f, "refused {fault}"),
             Failure::Set(fault) => write!(f, "refused {fault}"),
             Failure::Script(fault) => write!(f, "refused {fault}"),
+            Failure::State(fault) => write!(f, "refused {fault}"),
             Failure::Extent => f.write_str("refused X1"),
             Failure::Write(output, count) => {
                 write!(f, "write fault {output} after {count} bytes")
@@ -82,7 +85,8 @@ impl Failure<'_> {
         ensures most { result ≤ told.most_status }
     {
         match self {
-            Failure::Source(_) | Failure::Set(_) | Failure::Script(_) | Failure::Extent => 1,
+            Failure::Source(_) | Failure::Set(_) | Failure::Script(_) => 1,
+            Failure::State(_) | Failure::Extent => 1,
             Failure::Read(_) | Failure::Write(_, _) => 3,
             Failure::Memory => 4,
             Failure::Words => 2,
@@ -108,6 +112,7 @@ pub(crate) fn failure_of(fault: RunFault) -> Failure<'static>
         RunFault::Source(fault) => Failure::Source(fault),
         RunFault::Set(fault) => Failure::Set(fault),
         RunFault::Script(fault) => Failure::Script(fault),
+        RunFault::State(fault) => Failure::State(fault),
         RunFault::Write(output, count) => Failure::Write(Target::Of(output), count),
         RunFault::NoMemory => Failure::Memory,
     }

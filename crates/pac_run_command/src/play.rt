@@ -1,46 +1,49 @@
-//! `run`: a ROM set, a script and perhaps a source become frames, sound, a listing and a report.
+//! `run`: a ROM set, a script and perhaps a source become frames, sound, a listing and a report, from power-on or from a board that was
+//! saved.
 
-ghost use Rattle.std.specs.Prelude.{◌≡◌, ◌≤◌};
-ghost use Rattle.pac_run_options.specs.CommandLine.{told_run};
+ghost use Rattle.std.specs.Prelude.{◌≡◌, ◌≤◌, option_copied};
+ghost use Rattle.pac_run_options.specs.CommandLine.{told_play};
 ghost use Rattle.pac_run_command.specs.Endings.{RunEnds};
 ghost use Rattle.pac_run_command.specs.Failures as told;
 ghost use Rattle.pac_run_command.specs.Failures.{Opens};
 ghost use Rattle.pac_run_files.specs.Files.{AllClosed, AllCreated, FirstUncreated};
 ghost use Rattle.pac_run_command.specs.Outputs.{PlaysRun, RecordsRun, run_output_files, run_outputs, run_paths};
-ghost use Rattle.pac_run_command.specs.Programs.{PerformsRun};
+ghost use Rattle.pac_run_command.specs.Programs.{PerformsRun, performing, writing};
 
 use crate::failure::{Failure, Target, end_status, failure_of, read_failure};
-use crate::given::inputs_of;
+use crate::given::{bytes_in, inputs_of};
 use crate::program::tell;
 use crate::teller::Teller;
-use pac_run::{Out, Outcome, Output, RunInputs, run_all};
-use pac_run_files::{FileSystem, Given, NamedFile, manifest_in, parts_of, read_given, read_parts};
-use pac_run_options::RunFiles;
+use pac_run::{Out, Outcome, Output, RunInputs, resume_all};
+use pac_run_files::{FileSystem, Given, NamedFile, manifest_in, parts_of, read_parts, read_played};
+use pac_run_options::PlayFiles;
 use std::alloc::Global;
 
-/// A run of the program: that of `run_all`, its fault told as a failure.
-pub fn run_inputs<F: Out, W: Out, L: Out, R: Out>(
+/// A run of the program: that of `resume_all`, its fault told as a failure.
+pub fn run_inputs<F: Out, W: Out, L: Out, R: Out, S: Out>(
     alloc: Global,
     inputs: &RunInputs,
+    from: Option<&[u8]>,
     frames: &mut F,
     wave: &mut W,
     listing: &mut L,
     report: &mut R,
+    state: &mut S,
 ) -> Result<Outcome, Failure<'static>>
-    ensures { PerformsRun inputs.now (record {
-      frames = record { took = F.took; refused = F.refused; old = frames.old; new = frames.new };
-      wave = record { took = W.took; refused = W.refused; old = wave.old; new = wave.new };
-      listing = record { took = L.took; refused = L.refused; old = listing.old; new = listing.new };
-      report = record { took = R.took; refused = R.refused; old = report.old; new = report.new };
-    }) result }
+    ensures { PerformsRun inputs.now (option_copied from.entry) (record {
+      frames = writing F.took F.refused frames.old frames.new;
+      wave = writing W.took W.refused wave.old wave.new;
+      listing = writing L.took L.refused listing.old listing.new;
+      report = writing R.took R.refused report.old report.new;
+    }) (writing S.took S.refused state.old state.new) result }
 {
-    match run_all(alloc, inputs, frames, wave, listing, report) {
+    match resume_all(alloc, inputs, from, frames, wave, listing, report, state) {
         Ok(outcome) => Ok(outcome),
         Err(fault) => Err(failure_of(fault)),
     }
 }
 
-/// The files of a run's frames, wave and listing.
+/// The files of a run's frames, wave, listing and state.
 #[derive(Drop)]
 pub struct Outputs<F> {
     /// The file of the pictures.
@@ -49,45 +52,69 @@ pub struct Outputs<F> {
     pub wave: F,
     /// The file of the listing.
     pub listing: F,
+    /// The file of the board's state at the end, if one is named.
+    pub state: Option<F>,
 }
 
-/// Creates the files of frames, wave and listing, in this order.
+/// Creates the files of frames, wave and listing, in this order, and then that of the state, if one is named.
 pub fn create_outputs<D: FileSystem>(
     disk: &mut D,
-    files: &RunFiles,
+    files: &PlayFiles,
 ) -> Result<Outputs<D::File>, Failure<'static>>
     ensures { Opens
-        (λ outputs. AllCreated (record { creates = D.creates; closes = D.closes }) disk.old (run_paths (told_run files.now))
+        (λ outputs. AllCreated (record { creates = D.creates; closes = D.closes }) disk.old (run_paths (told_play files.now))
         (run_output_files outputs) disk.new)
-        (λ output. FirstUncreated (record { creates = D.creates; closes = D.closes }) disk.old (run_outputs (told_run files.now))
+        (λ output. FirstUncreated (record { creates = D.creates; closes = D.closes }) disk.old (run_outputs (told_play files.now))
         output disk.new) result }
 {
-    let Some(frames) = disk.create(files.frames) else {
+    let Some(frames) = disk.create(files.run.frames) else {
         return Err(Failure::Write(Target::Of(Output::Frames), 0));
     };
-    let Some(wave) = disk.create(files.wave) else {
+    let Some(wave) = disk.create(files.run.wave) else {
         disk.close(frames);
         return Err(Failure::Write(Target::Of(Output::Wave), 0));
     };
-    let Some(listing) = disk.create(files.listing) else {
+    let Some(listing) = disk.create(files.run.listing) else {
         disk.close(wave);
         disk.close(frames);
         return Err(Failure::Write(Target::Of(Output::Listing), 0));
+    };
+    let path = match files.save {
+        Some(path) => path,
+        None => {
+            return Ok(Outputs {
+                frames,
+                wave,
+                listing,
+                state: None,
+            });
+        }
+    };
+    let Some(state) = disk.create(path) else {
+        disk.close(listing);
+        disk.close(wave);
+        disk.close(frames);
+        return Err(Failure::Write(Target::Of(Output::State), 0));
     };
     Ok(Outputs {
         frames,
         wave,
         listing,
+        state: Some(state),
     })
 }
 
-/// Closes the files of frames, wave and listing, in this order.
+/// Closes the files of frames, wave, listing and state, in this order.
 pub fn close_outputs<D: FileSystem>(disk: &mut D, outputs: Outputs<D::File>)
     ensures { AllClosed (record { creates = D.creates; closes = D.closes }) disk.old (run_output_files outputs) disk.new }
 {
     disk.close(outputs.frames);
     disk.close(outputs.wave);
     disk.close(outputs.listing);
+    match outputs.state {
+        Some(state) => disk.close(state),
+        None => {}
+    }
 }
 
 /// Creates the outputs, runs what was read, and closes them.
@@ -95,22 +122,19 @@ pub fn record<D: FileSystem, R: Out>(
     alloc: Global,
     disk: &mut D,
     report: &mut R,
-    files: &RunFiles,
+    files: &PlayFiles,
     given: &Given,
+    from: Option<&[u8]>,
     named: &[NamedFile],
 ) -> Result<Outcome, Failure<'static>>
     ensures { RecordsRun (record { creates = D.creates; closes = D.closes })
-        (λ answer inputs created left. PerformsRun inputs (record {
-          frames = record { took = D.File.took; refused = D.File.refused; old = created.frames; new = left.frames };
-          wave = record { took = D.File.took; refused = D.File.refused; old = created.wave; new = left.wave };
-          listing = record { took = D.File.took; refused = D.File.refused; old = created.listing; new = left.listing };
-          report = record { took = R.took; refused = R.refused; old = report.old; new = report.new };
-        }) answer) (report.new ≡ report.old) (told_run files.now) given.now named.now disk.old result disk.new }
+        (performing D.File.took D.File.refused (writing R.took R.refused report.old report.new) (option_copied from.entry))
+        (report.new ≡ report.old) (told_play files.now) given.now named.now disk.old result disk.new }
 {
     let Ok(parts) = parts_of(alloc, named) else {
         return Err(Failure::Memory);
     };
-    let inputs = inputs_of(files, given, &parts);
+    let inputs = inputs_of(&files.run, given, &parts);
     let mut outputs = match create_outputs(disk, files) {
         Ok(outputs) => outputs,
         Err(failure) => return Err(failure),
@@ -118,10 +142,12 @@ pub fn record<D: FileSystem, R: Out>(
     let ran = run_inputs(
         alloc,
         &inputs,
+        from,
         &mut outputs.frames,
         &mut outputs.wave,
         &mut outputs.listing,
         report,
+        &mut outputs.state,
     );
     close_outputs(disk, outputs);
     ran
@@ -140,35 +166,33 @@ pub(crate) fn end<C: Teller>(console: &mut C, ran: Result<Outcome, Failure>) -> 
 }
 
 /// Runs what the files of a command line hold, and answers the exit status. All is read before an output is created: source,
-/// manifest, script, and the files that the manifest names.
+/// manifest, script, the state that the run begins from, if one is named, and the files that the manifest names.
 pub fn play<D: FileSystem, R: Out, C: Teller>(
     alloc: Global,
     disk: &mut D,
     report: &mut R,
     console: &mut C,
-    files: &RunFiles,
+    files: &PlayFiles,
 ) -> u8
     ensures plays { PlaysRun (D.finds disk.old) (record { creates = D.creates; closes = D.closes })
-        (λ answer inputs created left. PerformsRun inputs (record {
-          frames = record { took = D.File.took; refused = D.File.refused; old = created.frames; new = left.frames };
-          wave = record { took = D.File.took; refused = D.File.refused; old = created.wave; new = left.wave };
-          listing = record { took = D.File.took; refused = D.File.refused; old = created.listing; new = left.listing };
-          report = record { took = R.took; refused = R.refused; old = report.old; new = report.new };
-        }) answer) (report.new ≡ report.old)
+        (performing D.File.took D.File.refused (writing R.took R.refused report.old report.new)) (report.new ≡ report.old)
         (record { tells = C.tells; explains = C.explains; old = console.old; new = console.new; status = result })
-        (told_run files.now) disk.old disk.new }
+        (told_play files.now) disk.old disk.new }
     ensures most { result ≤ told.most_status }
 {
-    let given = match read_given(alloc, disk, files) {
-        Ok(given) => given,
+    let (given, state) = match read_played(alloc, disk, files) {
+        Ok(read) => read,
         Err(fault) => return tell(console, read_failure(fault)),
     };
     let Ok(manifest) = manifest_in(alloc, &given.manifest) else {
         return tell(console, Failure::Memory);
     };
-    let named = match read_parts(alloc, disk, files.set, &manifest) {
+    let named = match read_parts(alloc, disk, files.run.set, &manifest) {
         Ok(named) => named,
         Err(fault) => return tell(console, read_failure(fault)),
     };
-    end(console, record(alloc, disk, report, files, &given, &named))
+    end(
+        console,
+        record(alloc, disk, report, files, &given, bytes_in(&state), &named),
+    )
 }

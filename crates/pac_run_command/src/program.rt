@@ -1,14 +1,13 @@
 //! The program: its words are read, its work is done, and a failure is told.
 
 ghost use Rattle.std.specs.Prelude.{◌≡◌, ◌≢◌, ◌≤◌, [], map, string_bytes};
-ghost use Rattle.clap.specs.Words.{fault_of, kind_of};
-ghost use Rattle.pac_run_options.specs.CommandLine.{pacboard, request_of};
+ghost use Rattle.clap.specs.Words.{kind_of};
+ghost use Rattle.pac_run_options.specs.CommandLine.{faults_of, request_of};
 ghost use Rattle.pac_run_command.specs.Endings.{FailureEnds, WordsEnd, WorkEnds};
 ghost use Rattle.pac_run_command.specs.Failures as told;
 ghost use Rattle.pac_run_command.specs.Machine.{IsUnheard, RunsOn, WorksOn};
-ghost use Rattle.pac_run_command.specs.Programs.{Assembles, PerformsRun, PerformsWatched};
-ghost use Rattle.pac_run_command.specs.Texts.{WritesDisassembly};
-ghost use Rattle.pac_run_command.specs.Works.{Works, WorksUnkept, without_output};
+ghost use Rattle.pac_run_command.specs.Programs.{assembling, writing};
+ghost use Rattle.pac_run_command.specs.Works.{Works, WorksUnkept, desk_of, without_output};
 ghost use Rattle.pac_run_command.specs.declared.failure.Failure.TheVariants.{Write};
 ghost use Rattle.pac_run_command.specs.declared.failure.Target.TheVariants.{Of};
 
@@ -83,11 +82,9 @@ pub(crate) fn work_unkept<D: FileSystem, C: Teller>(
 ) -> u8
     ensures status { result ≤ told.most_status }
     ensures works { WorksUnkept (without_output (D.finds disk.old) (record { creates = D.creates; closes = D.closes })
-        (λ source answer created left. Assembles source
-        (record { took = D.File.took; refused = D.File.refused; old = created.rom; new = left.rom })
-        (record { took = D.File.took; refused = D.File.refused; old = created.listing; new = left.listing }) answer)
+        (assembling D.File.took D.File.refused)
         (record { tells = C.tells; explains = C.explains; old = console.old; new = console.new; status = result }))
-        (fault_of pacboard (map string_bytes words.now)) (request_of (map string_bytes words.now)) disk.old disk.new }
+        (faults_of (map string_bytes words.now)) (request_of (map string_bytes words.now)) disk.old disk.new }
 {
     match options(alloc, words) {
         Ok(Request::Asm(files)) => end(console, asm(alloc, disk, &files)),
@@ -105,8 +102,8 @@ pub fn run_words<R: Files + AllocGlobal, C: Print + Eprint>(
     words: &[String],
 ) -> u8
     ensures status { result ≤ told.most_status }
-    ensures words { fault_of pacboard (map string_bytes words.now) ≢ []
-        → told.IsWordsStatus (fault_of pacboard (map string_bytes words.now)) result }
+    ensures words { faults_of (map string_bytes words.now) ≢ []
+        → told.IsWordsStatus (faults_of (map string_bytes words.now)) result }
     ensures works { WorksOn (record {
       finds = ⟦<HostFiles<'static, R> as FileSystem>⟧.finds;
       handling = record {
@@ -119,7 +116,7 @@ pub fn run_words<R: Files + AllocGlobal, C: Print + Eprint>(
       stream_refused = ⟦<Through<io::Printer<'static, C>> as Out>⟧.refused;
       tells = ⟦<HostConsole<'static, C> as Teller>⟧.tells;
       explains = ⟦<HostConsole<'static, C> as Teller>⟧.explains;
-    }) (fault_of pacboard (map string_bytes words.now)) (request_of (map string_bytes words.now)) result }
+    }) (faults_of (map string_bytes words.now)) (request_of (map string_bytes words.now)) result }
 {
     let mut disk = HostFiles { rt };
     let mut report = Through {
@@ -149,32 +146,12 @@ pub fn work<D: FileSystem, R: Out, T: Out, C: Teller>(
     words: &[String],
 ) -> u8
     ensures status { result ≤ told.most_status }
-    ensures words { fault_of pacboard (map string_bytes words.now) ≢ []
-        → told.IsWordsStatus (fault_of pacboard (map string_bytes words.now)) result }
-    ensures works { Works (record {
-      finds = D.finds disk.old;
-      handling = record { creates = D.creates; closes = D.closes };
-      assembles = λ source answer created left. Assembles source
-          (record { took = D.File.took; refused = D.File.refused; old = created.rom; new = left.rom })
-          (record { took = D.File.took; refused = D.File.refused; old = created.listing; new = left.listing }) answer;
-      performs = λ answer inputs created left. PerformsRun inputs (record {
-        frames = record { took = D.File.took; refused = D.File.refused; old = created.frames; new = left.frames };
-        wave = record { took = D.File.took; refused = D.File.refused; old = created.wave; new = left.wave };
-        listing = record { took = D.File.took; refused = D.File.refused; old = created.listing; new = left.listing };
-        report = record { took = R.took; refused = R.refused; old = report.old; new = report.new };
-      }) answer;
-      watches = λ commands answer inputs created left. PerformsWatched inputs commands (record {
-        frames = record { took = D.File.took; refused = D.File.refused; old = created.frames; new = left.frames };
-        wave = record { took = D.File.took; refused = D.File.refused; old = created.wave; new = left.wave };
-        listing = record { took = D.File.took; refused = D.File.refused; old = created.listing; new = left.listing };
-        report = record { took = R.took; refused = R.refused; old = report.old; new = report.new };
-      }) (record { took = T.took; refused = T.refused; old = text.old; new = text.new }) answer;
-      disassembles = λ bytes answer. WritesDisassembly bytes
-          (record { took = T.took; refused = T.refused; old = text.old; new = text.new }) answer;
-      silent = report.new ≡ report.old;
-      untold = text.new ≡ text.old;
-      ending = record { tells = C.tells; explains = C.explains; old = console.old; new = console.new; status = result };
-    }) (fault_of pacboard (map string_bytes words.now)) (request_of (map string_bytes words.now)) disk.old disk.new }
+    ensures words { faults_of (map string_bytes words.now) ≢ []
+        → told.IsWordsStatus (faults_of (map string_bytes words.now)) result }
+    ensures works { Works (desk_of (D.finds disk.old) (record { creates = D.creates; closes = D.closes }) D.File.took D.File.refused
+        (writing R.took R.refused report.old report.new) (writing T.took T.refused text.old text.new)
+        (record { tells = C.tells; explains = C.explains; old = console.old; new = console.new; status = result }))
+        (faults_of (map string_bytes words.now)) (request_of (map string_bytes words.now)) disk.old disk.new }
 {
     match options(alloc, words) {
         Ok(Request::Asm(files)) => end(console, asm(alloc, disk, &files)),

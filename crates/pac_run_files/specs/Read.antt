@@ -7,7 +7,7 @@ use Rattle.pac_roms_manifest.specs.Manifests.{manifest_of, file_of_part}
 use Rattle.pac_roms_manifest.specs.Parts.{parts_in_order}
 use Rattle.pac_roms_manifest.specs.declared.manifest.Manifest.{Manifest}
 use Rattle.pac_roms_manifest.specs.declared.part.Part.{Part}
-use Rattle.pac_run_options.specs.CommandLine.{AskedRun, AskedDebug}
+use Rattle.pac_run_options.specs.CommandLine.{AskedRun, AskedPlay, AskedDebug}
 use Rattle.pac_run_files.specs.declared.given.Given.{Given}
 use Rattle.pac_run_files.specs.declared.given.ReadFault.{ReadFault}
 use Rattle.pac_run_files.specs.declared.given.ReadFault.TheVariants.{Unreadable, Memory}
@@ -21,26 +21,32 @@ ReadsFiles read unread (Ok value) = read value
 ReadsFiles read unread (Err (Unreadable name)) = unread name.now
 ReadsFiles read unread (Err Memory) = ⊤
 
--- the files that the command line names, in the order in which they are read: source, manifest, script
-abbrev pub source_files : Option (List ℕ) → List WantedFile
-source_files None = []
-source_files (Some name) = as_given name ∷ []
+-- a file that the command line may name
+abbrev pub files_if_named : Option (List ℕ) → List WantedFile
+files_if_named None = []
+files_if_named (Some name) = as_given name ∷ []
 
+-- the files of a run that the command line names, in the order in which they are read: source, manifest, script
 abbrev pub given_files : AskedRun → List WantedFile
-given_files asked = source_files asked.source ++ as_given asked.set ∷ as_given asked.script ∷ []
+given_files asked = files_if_named asked.source ++ as_given asked.set ∷ as_given asked.script ∷ []
+
+-- the files that the command line of `run` names: those of a run, and then the state that it begins with
+abbrev pub played_files : AskedPlay → List WantedFile
+played_files asked = given_files asked.run ++ files_if_named asked.load
 
 -- the files that the command line of `debug` names: those of a run, and then the commands
 abbrev pub watched_files : AskedDebug → List WantedFile
 watched_files asked = given_files asked.run ++ as_given asked.commands ∷ []
 
-abbrev pub HasSource : FindsFile → Option (List ℕ) → Option (Vec ℕ Global) → Type 0
-HasSource finds None None = ⊤
-HasSource finds (Some name) (Some bytes) = finds Any name (Some bytes.items)
-HasSource finds name bytes = ⊥
+-- what was read of a file that the command line may name
+abbrev pub HasIfNamed : FindsFile → Option (List ℕ) → Option (Vec ℕ Global) → Type 0
+HasIfNamed finds None None = ⊤
+HasIfNamed finds (Some name) (Some bytes) = finds Any name (Some bytes.items)
+HasIfNamed finds name bytes = ⊥
 
--- what was read of the files that the command line names
+-- what was read of the files of a run that the command line names
 pub record HasGivenFiles (finds : FindsFile) (asked : AskedRun) (given : Given) : Type 0 where
-  pub source : HasSource finds asked.source given.source
+  pub source : HasIfNamed finds asked.source given.source
   pub manifest : finds Any asked.set (Some given.manifest.items)
   pub script : finds Any asked.script (Some given.script.items)
 

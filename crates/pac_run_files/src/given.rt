@@ -1,13 +1,14 @@
 //! The files that the command line of a run names, as they are read.
 
 ghost use Rattle.std.specs.Prelude.{◌≤◌, IfOk, Some, length, option_copied};
-ghost use Rattle.pac_run_options.specs.CommandLine.{told_debug, told_run};
+ghost use Rattle.pac_run_options.specs.CommandLine.{told_debug, told_play, told_run};
 ghost use Rattle.pac_run_files.specs.declared.files.FileKind.TheVariants.{Any};
 ghost use Rattle.pac_run_files.specs.Files.{FirstUnread, IsUnread, as_given, most_read};
-ghost use Rattle.pac_run_files.specs.Read.{HasGivenFiles, HasSource, ReadsFiles, given_files, source_files, watched_files};
+ghost use Rattle.pac_run_files.specs.Read.{HasGivenFiles, HasIfNamed, ReadsFiles, files_if_named};
+ghost use Rattle.pac_run_files.specs.Read.{given_files, played_files, watched_files};
 
 use crate::files::{FileKind, FileSystem, ReadError};
-use pac_run_options::{DebugFiles, RunFiles};
+use pac_run_options::{DebugFiles, PlayFiles, RunFiles};
 use std::alloc::Global;
 
 /// Why files weren't read.
@@ -62,20 +63,20 @@ pub fn read_file<'a, D: FileSystem>(
     read_path(alloc, disk, FileKind::Any, name, name)
 }
 
-/// Reads the source, where one is named.
-fn read_source<'a, D: FileSystem>(
+/// Reads a file, where one is named.
+fn read_if_named<'a, D: FileSystem>(
     alloc: Global,
     disk: &D,
     name: Option<&'a str>,
 ) -> Result<Option<Vec<u8>>, ReadFault<'a>>
-    ensures { ReadsFiles (HasSource (D.finds disk.now) (option_copied name.entry))
-        (FirstUnread (D.finds disk.now) (source_files (option_copied name.entry))) result }
+    ensures { ReadsFiles (HasIfNamed (D.finds disk.now) (option_copied name.entry))
+        (FirstUnread (D.finds disk.now) (files_if_named (option_copied name.entry))) result }
 {
     let Some(name) = name else {
         return Ok(None);
     };
     match read_file(alloc, disk, name) {
-        Ok(source) => Ok(Some(source)),
+        Ok(bytes) => Ok(Some(bytes)),
         Err(fault) => Err(fault),
     }
 }
@@ -89,7 +90,7 @@ pub fn read_given<'a, D: FileSystem>(
     ensures { ReadsFiles (HasGivenFiles (D.finds disk.now) (told_run files.now))
         (FirstUnread (D.finds disk.now) (given_files (told_run files.now))) result }
 {
-    let source = match read_source(alloc, disk, files.source) {
+    let source = match read_if_named(alloc, disk, files.source) {
         Ok(source) => source,
         Err(fault) => return Err(fault),
     };
@@ -103,6 +104,28 @@ pub fn read_given<'a, D: FileSystem>(
             manifest,
             script,
         }),
+        Err(fault) => Err(fault),
+    }
+}
+
+/// Reads the files that the command line of `run` names: those of a run, and then the state that it begins with, if it names
+/// one.
+pub fn read_played<'a, D: FileSystem>(
+    alloc: Global,
+    disk: &D,
+    files: &PlayFiles<'a>,
+) -> Result<(Given, Option<Vec<u8>>), ReadFault<'a>>
+    ensures { ReadsFiles
+        (λ read. HasGivenFiles (D.finds disk.now) (told_run files.now.run) read.0
+        × HasIfNamed (D.finds disk.now) (told_play files.now).load read.1)
+        (FirstUnread (D.finds disk.now) (played_files (told_play files.now))) result }
+{
+    let run = match read_given(alloc, disk, &files.run) {
+        Ok(run) => run,
+        Err(fault) => return Err(fault),
+    };
+    match read_if_named(alloc, disk, files.load) {
+        Ok(state) => Ok((run, state)),
         Err(fault) => Err(fault),
     }
 }

@@ -7,6 +7,6 @@ mod names;
 mod parts;
 
 pub use files::{FileKind, FileSystem, HostFiles, ReadError, read_whole};
-pub use given::{Given, ReadFault, read_file, read_given, read_watched};
+pub use given::{Given, ReadFault, read_file, read_given, read_played, read_watched};
 pub use names::{Told, is_within};
 pub use parts::{NamedFile, manifest_in, parts_of, read_parts};

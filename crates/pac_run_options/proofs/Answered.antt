@@ -1,15 +1,15 @@
 -- Words that clap finds no fault with say all that a request needs.
 use Rattle.std.proofs.Common.{◌≡◌, ◌∙◌, ◌&&◌, ◌||◌, Bool, cond, codes, true, false, not, refl, sym, ap, subst, List, [], ◌∷◌, ◌++◌}
-use Rattle.std.proofs.Common.{drop, Option, Some, None, is_some, true≢false}
+use Rattle.std.proofs.Common.{inl, inr, drop, Option, Some, None, is_some, true≢false}
 use Rattle.std.specs.Prelude.{find, fold, slice_get, take, option_and_then, option_map}
 use Rattle.std.specs.List.{list_any}
 use Rattle.std.specs.Option.{option_map_or}
 use Rattle.std.specs.Str.{bytes_eq}
 use Rattle.clap.specs.Facts.{explicit_source}
-use Rattle.clap.specs.Kinds.{check_kinds}
+use Rattle.clap.specs.Kinds.{check_kinds, or_else}
 use Rattle.clap.specs.Walk.{Row, Rule, Text, answers_to, at_row, default_rows, finished, first_of, has_row, more_values, nothing_held}
 use Rattle.clap.specs.Walk.{one_of, reading_by, row_text, rows_after, settled, walk, walk_from, with_default}
-use Rattle.clap.specs.Words.{HasKind, HasMatchesOf, is_simple, is_simple_and_free, subcommand_of, subcommand_rows_of}
+use Rattle.clap.specs.Words.{HasKind, HasMatchesOf, Kinds, is_simple, is_simple_and_free, subcommand_of, subcommand_rows_of}
 use Rattle.clap.specs.declared.error.Error.{Error}
 use Rattle.clap.specs.declared.parser.matches.ArgMatches.{ArgMatches}
 use Rattle.clap.specs.Simple.{App, Shape, entered, filled, filled_from, help_rule, label_of, names_of, new_shape, rows_at, version_rule}
@@ -19,10 +19,10 @@ use Rattle.clap.specs.declared.parser.matches.ValueSource.TheVariants.{DefaultVa
 use Rattle.clap.proofs.WalkLemmas.{both}
 use Rattle.std.proofs.lemmas.Bool.{or_parts}
 use Rattle.pac_lemmas.proofs.Options.{some-from-is_some}
-use Rattle.pac_run_options.specs.CommandLine.{Asked, asked_command, asked_asm, asked_debug, asked_dis, asked_run, asm, asm_command}
-use Rattle.pac_run_options.specs.CommandLine.{byte_of_text, debug}
-use Rattle.pac_run_options.specs.CommandLine.{debug_command, dip_option, dis, dis_command, pacboard, request_of, required_option, run}
-use Rattle.pac_run_options.specs.CommandLine.{run_command, run_rules}
+use Rattle.pac_run_options.specs.CommandLine.{Asked, asked_asm, asked_command, asked_debug, asked_dis, asked_play, asked_run, asm}
+use Rattle.pac_run_options.specs.CommandLine.{asm_command, byte_of_text, conflict_of, debug, debug_command, dip_option, dis}
+use Rattle.pac_run_options.specs.CommandLine.{dis_command, faults_of, option, pacboard, request_of, required_option, run, run_command}
+use Rattle.pac_run_options.specs.CommandLine.{run_rules, unless_refused}
 use Rattle.pac_run_options.proofs.Levels.{AreFine, AreGood, is_good, level_good, new_row, or_both, some_kind}
 
 -- ---- what is given
@@ -156,7 +156,9 @@ run_rules_fine rest fine = (
 )
 
 run_fine : AreFine run_built.rules
-run_fine = run_rules_fine (filled help_rule ∷ []) ((tt, refl), tt)
+run_fine =
+    run_rules_fine (filled (option (codes "load")) ∷ filled (option (codes "save")) ∷ filled help_rule ∷ [])
+    (((refl, λ e. absurd (true≢false (sym e))), refl), (((refl, λ e. absurd (true≢false (sym e))), refl), ((tt, refl), tt)))
 
 debug_fine : AreFine debug_built.rules
 debug_fine =
@@ -209,7 +211,7 @@ run_asked rows other good there all =
     (rw (a.1, b.1, c.1, d.1, e.1, n.1) refl, listing.1)
 
 run_said : (rows : List Row) → AreGood rows → has_row (codes "dip") rows ≡ true → check_fault run_built rows false ≡ []
-    → is_some (option_map run (asked_run rows)) ≡ true
+    → is_some (option_map run (asked_play rows)) ≡ true
 run_said rows good there none =
     let all = missing (list_any (λ a. a.required && not (is_given a.id rows)) run_built.rules) none in
     let files = some-from-is_some _ (run_asked rows false good there all).0 in
@@ -227,21 +229,26 @@ debug_said rows good there none =
 
 -- ---- the whole line
 
-run_there : (words : List Text) → has_row (codes "dip") (rows_after run_built.rules [] words) ≡ true
-run_there words =
-    let end = (walk run_built.rules [] nothing_held words).held in
-    let before = fold with_default (settled run_built.rules end).rows (take 6 run_built.rules) in
-    no_default (codes "dip") (filled help_rule) (with_default before (filled dip_option))
-    (default_lands (filled dip_option) (codes "201") before refl)
+module _ (words : List Text) where
+  run_there : has_row (codes "dip") (rows_after run_built.rules [] words) ≡ true
+  run_there =
+      let end = (walk run_built.rules [] nothing_held words).held in
+      let before = fold with_default (settled run_built.rules end).rows (take 6 run_built.rules) in
+      let after = with_default before (filled dip_option) in
+      let load = filled (option (codes "load")) in
+      let save = filled (option (codes "save")) in
+      no_default (codes "dip") (filled help_rule) (with_default (with_default after load) save)
+      (no_default (codes "dip") save (with_default after load)
+      (no_default (codes "dip") load after (default_lands (filled dip_option) (codes "201") before refl)))
 
-debug_there : (words : List Text) → has_row (codes "dip") (rows_after debug_built.rules [] words) ≡ true
-debug_there words =
-    let end = (walk debug_built.rules [] nothing_held words).held in
-    let before = fold with_default (settled debug_built.rules end).rows (take 6 debug_built.rules) in
-    let after = with_default before (filled dip_option) in
-    let commands = filled (required_option (codes "commands")) in
-    no_default (codes "dip") (filled help_rule) (with_default after commands)
-    (no_default (codes "dip") commands after (default_lands (filled dip_option) (codes "201") before refl))
+  debug_there : has_row (codes "dip") (rows_after debug_built.rules [] words) ≡ true
+  debug_there =
+      let end = (walk debug_built.rules [] nothing_held words).held in
+      let before = fold with_default (settled debug_built.rules end).rows (take 6 debug_built.rules) in
+      let after = with_default before (filled dip_option) in
+      let commands = filled (required_option (codes "commands")) in
+      no_default (codes "dip") (filled help_rule) (with_default after commands)
+      (no_default (codes "dip") commands after (default_lands (filled dip_option) (codes "201") before refl))
 
 abbrev top_built : Shape
 top_built = record (new_shape (codes "pacboard")) {
@@ -302,7 +309,8 @@ said words none =
     let defaults = or_both (defaults_fault (settled top_built.rules end.held).rows top_built.rules) _ settles.1 in
     stops end.stopped below.0 (one_there (is_some (entered app_built end.stopped)) (finished top_built.rules end.held) defaults.1)
 
-pub answered : (words : List Text) → fault_of pacboard words ≡ [] → is_some (request_of words) ≡ true
+answered : (words : List Text) → fault_of pacboard words ≡ []
+    → is_some (option_and_then asked_command (subcommand_of pacboard words)) ≡ true
 unfolding pacboard
 answered words none = said (drop 1 words) none
 
@@ -320,16 +328,41 @@ pub no_fault : (app : App) (words : List Text) → app ≡ pacboard → (is_simp
     → fault_of pacboard words ≡ []
 no_fault app words is h = ap (λ (a : App). fault_of a words) (sym is) ∙ h (ap is_simple_and_free is ∙ free)
 
+pub its_command : (app : App) (words : List Text) (m : ArgMatches) → app ≡ pacboard → HasMatchesOf app words m
+    → subcommand_rows_of m ≡ subcommand_of pacboard words
+its_command app words m is h = (h (ap is_simple is ∙ simple)).1 ∙ ap (λ (a : App). subcommand_of a words) is
+
+-- an error of clap is one of the command line
 pub its_fault : (app : App) (words : List Text) (e : Error) → app ≡ pacboard
     → (is_simple_and_free app ≡ true → HasKind (fault_of app words) e)
-    → HasKind (fault_of pacboard words) e
-its_fault app words e is h = subst (λ (a : App). HasKind (fault_of a words) e) is (h (ap is_simple_and_free is ∙ free))
+    → HasKind (faults_of words) e
+unfolding faults_of
+its_fault app words e is h =
+    first (fault_of pacboard words) (subst (λ (a : App). HasKind (fault_of a words) e) is (h (ap is_simple_and_free is ∙ free)))
+  where
+    first : (kinds : Kinds) → HasKind kinds e → HasKind (or_else kinds (conflict_of (subcommand_of pacboard words))) e
+    first [] (inl k) = inl k
+    first [] (inr none) = absurd none
+    first (k ∷ ks) h = h
 
-pub its_request : (app : App) (words : List Text) (m : ArgMatches) → app ≡ pacboard → HasMatchesOf app words m
-    → option_and_then asked_command (subcommand_rows_of m) ≡ request_of words
-its_request app words m is h =
-    ap (option_and_then asked_command) ((h (ap is_simple is ∙ simple)).1 ∙ ap (λ (a : App). subcommand_of a words) is)
+-- ---- where clap finds no fault
 
--- with no fault there is a request
-pub never_none : (words : List Text) → fault_of pacboard words ≡ [] → request_of words ≡ None → ⊥
-never_none words none is = true≢false (sym (answered words none) ∙ ap (λ (o : Option Asked). is_some o) is)
+module _ (words : List Text) (command : Option (Text × List Row)) (none : fault_of pacboard words ≡ [])
+    (is : command ≡ subcommand_of pacboard words) where
+  -- the errors are those of the conflict
+  pub conflict_left : faults_of words ≡ conflict_of command
+  unfolding faults_of
+  conflict_left = ap (λ (kinds : Kinds). or_else kinds (conflict_of (subcommand_of pacboard words))) none ∙ ap conflict_of (sym is)
+
+  -- without that, the request is that of the subcommand
+  pub its_request : conflict_of command ≡ [] → request_of words ≡ option_and_then asked_command command
+  unfolding request_of
+  its_request fine =
+      ap (λ (kinds : Kinds). unless_refused kinds (option_and_then asked_command (subcommand_of pacboard words))) (conflict_left ∙ fine)
+      ∙ ap (option_and_then asked_command) (sym is)
+
+  -- and there is one
+  pub never_none : option_and_then asked_command command ≡ None → ⊥
+  never_none asked =
+      true≢false (sym (answered words none) ∙ ap (λ (o : Option (Text × List Row)). is_some (option_and_then asked_command o)) (sym is)
+      ∙ ap (λ (o : Option Asked). is_some o) asked)

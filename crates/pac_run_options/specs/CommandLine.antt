@@ -1,14 +1,19 @@
 -- To be believed: the command line of the program as `clap` knows it, and what its words ask for.
-use Rattle.std.specs.Prelude.{ℕ, true, false, pos, List, [], ◌∷◌, ◌++◌, Option, Some, None}
+use Rattle.std.specs.Prelude.{ℕ, Bool, true, false, pos, List, [], ◌∷◌, ◌++◌, ◌&&◌, Option, Some, None}
 use Rattle.std.specs.Prelude.{if◌then◌else◌, codes, fold, option_map, option_and_then}
+use Rattle.std.specs.Option.{option_map_or}
 use Rattle.std.specs.Str.{bytes_eq}
 use Rattle.std.specs.Str.Parse.{digits_value, without_leading_plus}
-use Rattle.clap.specs.Words.{App, Row, Rule, Shape, Text, first_of, new_rule, one_of, subcommand_of, with_rule}
+use Rattle.clap.specs.Words.{App, Kinds, Row, Rule, Shape, Text, fault_of, first_of, new_rule, one_of, subcommand_of, with_rule}
 use Rattle.clap.specs.Simple.{new_shape}
+use Rattle.clap.specs.Kinds.{or_else}
+use Rattle.clap.specs.Takes.{is_given}
 use Rattle.clap.specs.ValueTests.{is_unsigned_in}
+use Rattle.clap.specs.declared.error.kind.ErrorKind.TheVariants.{ArgumentConflict}
 use Rattle.clap.specs.declared.builder.value_parser.ValueParser.TheVariants as parser
 use Rattle.pac_run_options.specs.declared.request.AsmFiles.{AsmFiles}
 use Rattle.pac_run_options.specs.declared.request.DebugFiles.{DebugFiles}
+use Rattle.pac_run_options.specs.declared.request.PlayFiles.{PlayFiles}
 use Rattle.pac_run_options.specs.declared.request.RunFiles.{RunFiles}
 use Rattle.pac_run_options.specs.declared.request.Request.{Request}
 use Rattle.pac_run_options.specs.declared.request.Request.TheVariants as request
@@ -41,6 +46,10 @@ abbrev pub run_rules : List Rule
 run_rules = required_option (codes "set") ∷ required_option (codes "script") ∷ required_option (codes "frames")
     ∷ required_option (codes "wave") ∷ required_option (codes "listing") ∷ option (codes "source") ∷ dip_option ∷ []
 
+-- a run, and the states that it begins and ends with
+abbrev pub play_rules : List Rule
+play_rules = run_rules ++ option (codes "load") ∷ option (codes "save") ∷ []
+
 abbrev pub debug_rules : List Rule
 debug_rules = run_rules ++ required_option (codes "commands") ∷ []
 
@@ -57,7 +66,7 @@ abbrev pub asm_command : Shape
 asm_command = command (codes "asm") asm_rules
 
 abbrev pub run_command : Shape
-run_command = command (codes "run") run_rules
+run_command = command (codes "run") play_rules
 
 abbrev pub debug_command : Shape
 debug_command = command (codes "debug") debug_rules
@@ -100,13 +109,19 @@ pub record AskedRun : Type 0 where
   pub source : Option Text
   pub dip : ℕ
 
+-- a run, and the names of the states that it begins and ends with
+pub record AskedPlay : Type 0 where
+  pub run : AskedRun
+  pub load : Option Text
+  pub save : Option Text
+
 pub record AskedDebug : Type 0 where
   pub run : AskedRun
   pub commands : Text
 
 pub data Asked : Type 0 where
   asm : AskedAsm → Asked
-  run : AskedRun → Asked
+  run : AskedPlay → Asked
   debug : AskedDebug → Asked
   dis : Text → Asked
 
@@ -146,6 +161,11 @@ asked_run rows =
     (first_of (codes "script") rows))
     (first_of (codes "set") rows)
 
+abbrev pub asked_play : List Row → Option AskedPlay
+asked_play rows =
+    option_map (λ run. record { run = run; load = first_of (codes "load") rows; save = first_of (codes "save") rows })
+    (asked_run rows)
+
 abbrev pub asked_debug : List Row → Option AskedDebug
 asked_debug rows =
     option_and_then (λ run.
@@ -160,13 +180,33 @@ asked_dis rows = first_of (codes "file") rows
 abbrev pub asked_command : Text × List Row → Option Asked
 asked_command p =
     if bytes_eq p.0 (codes "asm") then option_map asm (asked_asm p.1)
-    else (if bytes_eq p.0 (codes "run") then option_map run (asked_run p.1)
+    else (if bytes_eq p.0 (codes "run") then option_map run (asked_play p.1)
     else (if bytes_eq p.0 (codes "debug") then option_map debug (asked_debug p.1)
     else (if bytes_eq p.0 (codes "dis") then option_map dis (asked_dis p.1) else None)))
 
--- what the words of a command line ask for, the program's name first
-abbrev pub request_of : List Text → Option Asked
-request_of words = option_and_then asked_command (subcommand_of pacboard words)
+-- ---- what is refused
+
+-- the words give both a state to begin with and the DIP switches, which stand in that state
+abbrev pub has_conflict : List Row → Bool
+has_conflict rows = is_given (codes "load") rows && is_given (codes "dip") rows
+
+-- the kinds of error of a subcommand with the values of its words, where `clap` finds none
+abbrev pub conflict_of : Option (Text × List Row) → Kinds
+conflict_of command =
+    if option_map_or (λ p. bytes_eq p.0 (codes "run") && has_conflict p.1) command false then ArgumentConflict ∷ [] else []
+
+-- the kinds of error that a command line may have, by its words, the program's name first: those of `clap`, and then that one
+unfoldable pub faults_of : List Text → Kinds
+faults_of words = or_else (fault_of pacboard words) (conflict_of (subcommand_of pacboard words))
+
+-- what is asked for where nothing is refused
+abbrev pub unless_refused : Kinds → Option Asked → Option Asked
+unless_refused [] asked = asked
+unless_refused (kind ∷ more) asked = None
+
+-- what a command line asks for, by its words, the program's name first
+unfoldable pub request_of : List Text → Option Asked
+request_of words = unless_refused (faults_of words) (option_and_then asked_command (subcommand_of pacboard words))
 
 -- ---- what the code tells
 
@@ -184,11 +224,18 @@ told_run files = record {
   dip = files.dip;
 }
 
+abbrev pub told_play : PlayFiles → AskedPlay
+told_play files = record {
+  run = told_run files.run;
+  load = option_map (λ s. s.now) files.load;
+  save = option_map (λ s. s.now) files.save;
+}
+
 abbrev pub told_debug : DebugFiles → AskedDebug
 told_debug files = record { run = told_run files.run; commands = files.commands.now }
 
 abbrev pub told_request : Request → Asked
 told_request (request.Asm files) = asm (told_asm files)
-told_request (request.Run files) = run (told_run files)
+told_request (request.Run files) = run (told_play files)
 told_request (request.Debug files) = debug (told_debug files)
 told_request (request.Dis file) = dis file.now

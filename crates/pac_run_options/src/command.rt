@@ -1,11 +1,12 @@
 //! The command line as `clap` knows it: the subcommands, and what each takes.
 
 ghost use Rattle.std.specs.Prelude.{◌≡◌, IfOk, false, map};
-ghost use Rattle.clap.specs.Words.{app_of, rule_of};
+ghost use Rattle.clap.specs.Words.{app_of, kind_of, rule_of};
 ghost use Rattle.clap.specs.declared.builder.command.Command.TheViews.{out-Command as fields_of};
 ghost use Rattle.pac_run_options.specs.CommandLine as line;
 
-use clap::{Arg, Command};
+use clap::error::ErrorKind;
+use clap::{Arg, Command, Error};
 use std::alloc::{AllocError, Global};
 
 /// The whole command line. A subcommand is required, and there is one level of them.
@@ -41,7 +42,7 @@ fn asm_command<'a>(alloc: Global) -> Result<Command<'a>, AllocError>
     )
 }
 
-/// `run` with its options.
+/// `run`: the options of a run, and the states that it begins and ends with, `[--load FILE] [--save FILE]`.
 fn run_command<'a>(alloc: Global) -> Result<Command<'a>, AllocError>
     ensures shape { IfOk result (λ command. app_of command ≡ line.app_of_command line.run_command) }
     ensures local { IfOk result (λ command. (fields_of command).has_globals ≡ false) }
@@ -49,7 +50,19 @@ fn run_command<'a>(alloc: Global) -> Result<Command<'a>, AllocError>
     let command = Command::new(alloc, "run").about(
         "Runs a ROM set by a script, and writes its pictures and its sound",
     );
-    with_run_options(alloc, command)
+    with_run_options(alloc, command)?
+        .arg(option(
+            alloc,
+            "load",
+            "FILE",
+            "The state file that the run begins with, in place of power-on",
+        ))?
+        .arg(option(
+            alloc,
+            "save",
+            "FILE",
+            "Gets the state of the board at the run's end",
+        ))
 }
 
 /// `debug` with the options of a run and `--commands FILE`.
@@ -163,4 +176,15 @@ fn dip_option<'a>(alloc: Global) -> Arg<'a>
     option(alloc, "dip", "N", "The DIP switches, a byte from 0 to 255")
         .value_parser(clap::value_parser!(u8))
         .default_value("201")
+}
+
+/// The error of DIP switches that are given beside a state to begin with, in the form in which `clap` tells such a conflict.
+pub fn dip_conflict(alloc: Global) -> Result<Error, AllocError>
+    ensures { IfOk result (λ error. kind_of error ≡ ErrorKind.ArgumentConflict) }
+{
+    let mut command = run_command(alloc)?.bin_name("pacboard run")?;
+    command.error(
+        ErrorKind::ArgumentConflict,
+        "the argument '--dip <N>' cannot be used with '--load <FILE>'",
+    )
 }

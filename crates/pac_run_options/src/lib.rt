@@ -6,4 +6,4 @@ mod reading;
 mod request;
 
 pub use reading::options;
-pub use request::{AsmFiles, DebugFiles, Request, RunFiles};
+pub use request::{AsmFiles, DebugFiles, PlayFiles, Request, RunFiles};

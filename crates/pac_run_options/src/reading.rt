@@ -1,26 +1,58 @@
 //! From the words of a command line to what they ask for.
 
 ghost use Rattle.std.specs.Prelude.{◌≡◌, IfOk, Some, map, option_and_then, option_map};
-ghost use Rattle.clap.specs.Words.{FailsBy, fault_of, found_of, rows_of, subcommand_rows_of};
+ghost use Rattle.clap.specs.Takes.{is_given};
+ghost use Rattle.clap.specs.Words.{FailsBy, found_of, rows_of, subcommand_rows_of};
 ghost use Rattle.pac_run_options.specs.CommandLine as line;
 
-use crate::command::pacboard;
-use crate::request::{AsmFiles, DebugFiles, Request, RunFiles};
+use crate::command::{dip_conflict, pacboard};
+use crate::request::{AsmFiles, DebugFiles, PlayFiles, Request, RunFiles};
+use clap::parser::ValueSource;
 use clap::{ArgMatches, Error};
 use std::alloc::Global;
 use std::convert::AsStr;
 
 /// Reads the words of a command line, the program's name first.
 ///
-/// An error is `clap`'s own, whose text says what is wrong or is the help or version that was asked for.
+/// An error is `clap`'s own, whose text says what is wrong or is the help or version that was asked for. Words that `clap`
+/// accepts are refused where they give a run both a state to begin with and the DIP switches, which stand in that state.
 pub fn options<'a, S: AsStr>(alloc: Global, words: &'a [S]) -> Result<Request<'a>, Error>
     ensures asked { IfOk result (λ request. line.request_of (map S.text words.entry.now) ≡ Some (line.told_request request)) }
-    ensures refused { FailsBy (fault_of line.pacboard (map S.text words.entry.now)) result }
+    ensures refused { FailsBy (line.faults_of (map S.text words.entry.now)) result }
 {
     let matches = pacboard(alloc)?.try_get_matches_from(words)?;
+    refuse_conflict(alloc, &matches)?;
     match request(&matches) {
         Some(request) => Ok(request),
         None => unreachable!(),
+    }
+}
+
+/// Refuses the DIP switches beside a state that a run begins with.
+fn refuse_conflict(alloc: Global, matches: &ArgMatches<'_>) -> Result<(), Error>
+    ensures { FailsBy (line.conflict_of (subcommand_rows_of matches.now)) result }
+{
+    match matches.subcommand() {
+        Some(("run", values)) if has_conflict(values) => Err(dip_conflict(alloc)?),
+        _ => Ok(()),
+    }
+}
+
+/// Whether both a state to begin with and the DIP switches are given.
+fn has_conflict(values: &ArgMatches<'_>) -> bool
+    ensures { result ≡ line.has_conflict (rows_of (found_of values.now)) }
+{
+    is_given(values, "load") && is_given(values, "dip")
+}
+
+/// Whether the words give an option, and it hasn't only its default.
+fn is_given(values: &ArgMatches<'_>, id: &str) -> bool
+    ensures { result ≡ is_given id.now (rows_of (found_of values.now)) }
+{
+    match values.value_source(id) {
+        Some(ValueSource::DefaultValue) => false,
+        Some(ValueSource::CommandLine) => true,
+        None => values.contains_id(id),
     }
 }
 
@@ -31,7 +63,7 @@ fn request<'a>(matches: &ArgMatches<'a>) -> Option<Request<'a>>
     let (name, values) = matches.subcommand()?;
     match name {
         "asm" => Some(Request::Asm(asm_files(values)?)),
-        "run" => Some(Request::Run(run_files(values)?)),
+        "run" => Some(Request::Run(play_files(values)?)),
         "debug" => Some(Request::Debug(debug_files(values)?)),
         "dis" => Some(Request::Dis(values.get_str("file")?)),
         _ => None,
@@ -49,7 +81,18 @@ fn asm_files<'a>(values: &ArgMatches<'a>) -> Option<AsmFiles<'a>>
     })
 }
 
-/// The files and switches of `run`, where all are there.
+/// The files of `run`, where all are there that have to be.
+fn play_files<'a>(values: &ArgMatches<'a>) -> Option<PlayFiles<'a>>
+    ensures { option_map line.told_play result ≡ line.asked_play (rows_of (found_of values.now)) }
+{
+    Some(PlayFiles {
+        run: run_files(values)?,
+        load: values.get_str("load"),
+        save: values.get_str("save"),
+    })
+}
+
+/// The files and switches of a run, where all are there that have to be.
 fn run_files<'a>(values: &ArgMatches<'a>) -> Option<RunFiles<'a>>
     ensures { option_map line.told_run result ≡ line.asked_run (rows_of (found_of values.now)) }
 {

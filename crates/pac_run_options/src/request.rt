@@ -6,7 +6,7 @@ pub enum Request<'a> {
     /// `asm`: a source is assembled.
     Asm(AsmFiles<'a>),
     /// `run`: a ROM set is run by a script.
-    Run(RunFiles<'a>),
+    Run(PlayFiles<'a>),
     /// `debug`: a ROM set is run by a script, and a debugger's commands are done on it.
     Debug(DebugFiles<'a>),
     /// `dis`: the file of this name is disassembled.
@@ -24,7 +24,7 @@ pub struct AsmFiles<'a> {
     pub listing: &'a str,
 }
 
-/// The files of `run`, and the switches of the board.
+/// The files of a run that it has in any case, and the switches of the board.
 #[derive(Clone, Copy, Debug, PartialEq, Eq)]
 pub struct RunFiles<'a> {
     /// The manifest of the ROM set.
@@ -41,6 +41,17 @@ pub struct RunFiles<'a> {
     pub source: Option<&'a str>,
     /// The byte of the DIP switches: 201 where the words don't say it.
     pub dip: u8,
+}
+
+/// The files of `run`: those that a run has in any case, and the states that it begins and ends with.
+#[derive(Clone, Copy, Debug, PartialEq, Eq)]
+pub struct PlayFiles<'a> {
+    /// The files that a run has in any case, and the switches of the board.
+    pub run: RunFiles<'a>,
+    /// The state that the run begins with, in place of power-on.
+    pub load: Option<&'a str>,
+    /// The file that gets the state at the run's end.
+    pub save: Option<&'a str>,
 }
 
 /// The files of `debug`: those of a run, and its commands.

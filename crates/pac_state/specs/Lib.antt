@@ -1,3 +1,4 @@
+pub mod Codes
 pub mod Files
 pub mod Reading
 pub mod Saved

@@ -1,32 +1,47 @@
 //! Why a state file was not loaded.
 
+ghost use Rattle.std.specs.Prelude.{Some};
+
 use pac_board::RomSet;
+use std::fmt;
 use thiserror::Error;
 
 /// Why a state file gives no board.
 #[derive(Clone, Copy, Debug, PartialEq, Eq, Error)]
 pub enum LoadFault {
     /// V1: the file doesn't begin as a state file.
-    #[error("V1")]
     NoState,
     /// V2: it has another version than 1 and 2.
-    #[error("V2")]
     OtherVersion,
     /// V3: it has another size than 67,756 bytes.
-    #[error("V3")]
     Size,
     /// V4: a field has a value that no board has, or that is written in another way.
-    #[error("V4")]
     OutOfRange,
     /// V5: the digest at its end isn't that of the bytes before.
-    #[error("V5")]
     Damaged,
     /// V6: it is of a board with another ROM set.
-    #[error("V6")]
     OtherSet,
     /// There wasn't the memory for a board.
-    #[error("no memory")]
     NoMemory,
+}
+
+impl fmt::Display for LoadFault {
+    ghost use Rattle.pac_state.specs.Codes.{load_fault_text};
+
+    ghost output = { λ fault. Some (load_fault_text fault) };
+
+    /// The code of the fault.
+    fn fmt<W: fmt::Write>(&self, f: &mut fmt::Formatter<W>) -> fmt::Result {
+        match self {
+            LoadFault::NoState => f.write_str("V1"),
+            LoadFault::OtherVersion => f.write_str("V2"),
+            LoadFault::Size => f.write_str("V3"),
+            LoadFault::OutOfRange => f.write_str("V4"),
+            LoadFault::Damaged => f.write_str("V5"),
+            LoadFault::OtherSet => f.write_str("V6"),
+            LoadFault::NoMemory => f.write_str("no memory"),
+        }
+    }
 }
 
 /// A state file was not loaded; the ROM set comes back.

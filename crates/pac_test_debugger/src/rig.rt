@@ -5,7 +5,7 @@ ghost use Rattle.pac_debug_session.specs.Session.{IsNew};
 
 use pac_board::kept::Kept;
 use pac_board::{Board, Raw, RomSet};
-use pac_debug_session::{RunTotals, Session};
+use pac_debug_session::{Outcome, Session};
 use pac_inputs::read_script;
 use std::alloc::{AllocError, Global};
 use std::marker::Model;
@@ -25,23 +25,17 @@ pub const INTERRUPT: [u8; 58] = [
 pub const NO_MODE: [u8; 7] = [0x3E, 0x01, 0x32, 0x00, 0x50, 0xFB, 0x76];
 
 /// What two frames of `CELL` come to: 20 T-states of its first two instructions, and then 4 a step.
-pub const TOTALS: RunTotals = RunTotals {
+pub const TOTALS: Outcome = Outcome {
     frames: 2,
     steps: 25_341,
     ticks: 101_376,
     stop: None,
 };
 
-/// Whether a run came to this, without a stop, and its sink has so many outputs.
-pub fn is_total(ended: Option<(RunTotals, usize)>, wanted: RunTotals, outputs: usize) -> bool {
+/// Whether a run came to this, and its sink has so many outputs.
+pub fn is_total(ended: Option<(Outcome, usize)>, wanted: Outcome, outputs: usize) -> bool {
     match ended {
-        Some((totals, taken)) => {
-            totals.frames == wanted.frames
-                && totals.steps == wanted.steps
-                && totals.ticks == wanted.ticks
-                && totals.stop.is_none()
-                && taken == outputs
-        }
+        Some((outcome, taken)) => outcome == wanted && taken == outputs,
         None => false,
     }
 }

@@ -16,6 +16,12 @@ const MOST_LARGE: usize = 100_000;
 /// The bytes of the first large block that is tried.
 const LARGEST: usize = 1 << 40;
 
+/// The bytes of a page of the stack.
+const PAGE: usize = 4096;
+
+/// The pages that the stack is given before the address space is taken: two MiB, many times what a call of the product goes down.
+const STACK: usize = 512;
+
 /// Blocks that nothing uses, which leave no memory to anything else. Clauses see how many small ones are
 /// still held.
 #[derive(Drop)]
@@ -33,11 +39,13 @@ impl Model for Hoard {
 }
 
 impl Hoard {
-    /// Takes so many small blocks, one after another, and then all that is left, in blocks ever smaller.
+    /// Takes so many small blocks, one after another, and then all that is left, in blocks ever smaller. The stack is deepened first: once
+    /// no address is left, the kernel can't lengthen it, and kills a program that goes further down.
     pub fn take(alloc: Global, count: usize) -> Result<Hoard, AllocError>
         ensures { IfOk result (λ hoard. hoard ≡ count) }
     {
-        let mut large = Vec::with_capacity(alloc, MOST_LARGE)?;
+        let touched = usize::from(deepen(&[0; PAGE], STACK));
+        let mut large = Vec::with_capacity(alloc, MOST_LARGE + touched)?;
         let small = small_blocks(alloc, count)?;
         take_the_rest(alloc, &mut large)?;
         Ok(Hoard { small, large })
@@ -81,6 +89,18 @@ pub fn refusals<F: Fn(Global) -> Answer>(alloc: Global, most: usize, call: F) ->
         };
     }
     None
+}
+
+/// Goes so many pages down the stack, writes to each of them, and comes back. The answer is of all that was written, so that no compiler
+/// leaves the way out.
+#[inline(never)]
+fn deepen(above: &[u8; PAGE], pages: usize) -> u8 {
+    if pages == 0 {
+        return above[0];
+    }
+    let mut page = *above;
+    page[pages % PAGE] ^= 1;
+    deepen(&page, pages - 1) ^ page[pages % PAGE]
 }
 
 /// So many small blocks.

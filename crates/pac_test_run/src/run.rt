@@ -4,6 +4,7 @@ mod ample;
 mod cut_texts;
 mod once;
 mod outputs;
+mod resumed;
 mod runs;
 mod scarce;
 mod writers;

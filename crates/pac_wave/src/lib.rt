@@ -1,7 +1,7 @@
 //! The wave generator: three voices that walk through the wave PROM, and the sound samples that they add up to.
 #![tactic(auto)]
 
-ghost use Rattle.std.specs.Prelude.{◌≡◌, ◌<◌, ◌∷◌, [], length};
+ghost use Rattle.std.specs.Prelude.{◌≡◌, ◌<◌, ◌∷◌, []};
 ghost use Rattle.pac_wave.specs.Settings.{IsLevel};
 ghost use Rattle.pac_wave.specs.Wave.{Fit20Bits, power_on_accumulators, accumulators_of_list};
 ghost use Rattle.pac_wave.specs.Wave as spec;
@@ -106,8 +106,7 @@ impl Wave {
     /// The next sound sample, -23,040 to 20,160, from the wave PROM's 256 bytes and the 32 registers, of which the
     /// low four bits count; register n is the one at address 5040H + n. While sound is off the sample is 0 and the
     /// accumulators stay; else they grow by their voices' frequencies after the sample.
-    pub fn tick(&mut self, prom: &[u8], registers: &[u8; 32], on: bool) -> i16
-        requires prom { length prom.now ≡ spec.prom_size }
+    pub fn tick(&mut self, prom: &[u8; 256], registers: &[u8; 32], on: bool) -> i16
         ensures sample { result ≡ spec.sound_sample prom.now registers.now self.old on }
         ensures accumulators { self.new ≡ spec.accumulators_after registers.now on self.old }
         ensures within { spec.IsSample result }

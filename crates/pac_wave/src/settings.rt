@@ -1,6 +1,7 @@
 //! What the registers say of the voices, told once for as many samples as they stay the same.
 
-ghost use Rattle.std.specs.Prelude.{◌≡◌, ◌<◌, ◌+◌, ◌*◌, length};
+ghost use Rattle.std.specs.Prelude.{◌≡◌, ◌<◌, ◌≤◌, ◌+◌, ◌*◌, true, take, drop};
+ghost use Rattle.std.specs.Int.{w64, to_le_bytes};
 ghost use Rattle.pac_wave.specs.Settings.{IsLevel, voice_setting};
 ghost use Rattle.pac_wave.specs.Wave as spec;
 
@@ -95,6 +96,28 @@ fn read_setting(registers: &[u8; 32], voice: Voice) -> Setting
     }
 }
 
+/// Eight registers as one number.
+#[inline]
+fn word(registers: &[u8; 32], place: usize) -> u64
+    requires { place ≤ 24 }
+    ensures { to_le_bytes w64 result ≡ take 8 (drop place registers.now) }
+{
+    let mut eight = [0; 8];
+    eight.copy_from_slice(&registers[place..place + 8]);
+    u64::from_le_bytes(eight)
+}
+
+/// Whether all registers hold the same, told without looking at single ones.
+#[inline]
+fn are_same(one: &[u8; 32], other: &[u8; 32]) -> bool
+    ensures { result ≡ true → one.now ≡ other.now }
+{
+    (word(one, 0) == word(other, 0))
+        & (word(one, 8) == word(other, 8))
+        & (word(one, 16) == word(other, 16))
+        & (word(one, 24) == word(other, 24))
+}
+
 /// Registers, with what they say of each voice. Clauses see the registers.
 #[derive(Drop)]
 pub(crate) struct Settings {
@@ -138,7 +161,7 @@ impl Settings {
     pub(crate) fn follow(&mut self, registers: &[u8; 32])
         ensures { self.new ≡ registers.now }
     {
-        if self.registers != *registers {
+        if !are_same(&self.registers, registers) {
             *self = Settings::of(registers);
         }
     }
@@ -160,8 +183,7 @@ impl Settings {
 
     /// What a voice puts into the sound, from the wave PROM's 256 bytes.
     #[inline]
-    pub(crate) fn level(&self, prom: &[u8], voice: Voice, accumulator: u32) -> i16
-        requires prom { length prom.now ≡ spec.prom_size }
+    pub(crate) fn level(&self, prom: &[u8; 256], voice: Voice, accumulator: u32) -> i16
         requires accumulator { accumulator < spec.accumulator_range }
         ensures level { result ≡ spec.level prom.now self.now voice accumulator }
         ensures within { IsLevel result }

@@ -1,13 +1,12 @@
 //! The board's memory made from its fields, told by them, and written over by another's.
 
-ghost use Rattle.std.specs.Prelude.{◌≡◌, ◌↔◌, IfOk, true, length};
+ghost use Rattle.std.specs.Prelude.{◌≡◌, ◌↔◌, true, length};
 ghost use Rattle.pac_map.specs.Fields.{AreMemoryFields, view_of_fields};
 ghost use Rattle.pac_map.specs.View.{HoldWhatTheyCan};
 
 use super::{Memory, kept};
 use pac_inputs::Inputs;
 use pac_latch::Latch;
-use std::alloc::{AllocError, Global};
 
 /// The fields of the board's memory, as a save file has them.
 #[derive(Clone, Copy)]
@@ -60,30 +59,30 @@ impl MemoryFields<'_> {
 }
 
 /// A copy of N bytes of RAM.
-fn copied<const N: usize>(alloc: Global, bytes: &[u8; N]) -> Result<Box<[u8; N]>, AllocError>
-    ensures bytes { IfOk result (λ copy. copy.value ≡ bytes.now) }
+#[inline]
+fn copied<const N: usize>(bytes: &[u8; N]) -> [u8; N]
+    ensures bytes { result ≡ bytes.now }
     ensures size { length bytes.now ≡ N }
 {
-    Ok(Box::new(alloc, *bytes)?)
+    *bytes
 }
 
 impl Memory {
-    /// The memory of these fields: each register holds what it can, and the count is in its range. Refused for want of
-    /// memory alone.
-    pub fn of(alloc: Global, fields: &MemoryFields) -> Result<Memory, AllocError>
+    /// The memory of these fields: each register holds what it can, and the count is in its range.
+    pub fn of(fields: &MemoryFields) -> Memory
         requires { AreMemoryFields fields.now }
-        ensures { IfOk result (λ memory. memory ≡ view_of_fields fields.now) }
+        ensures { result ≡ view_of_fields fields.now }
     {
-        Ok(Memory {
+        Memory {
             switches: fields.switches,
             held: fields.held,
-            tile: copied(alloc, fields.tile)?,
-            colour: copied(alloc, fields.colour)?,
-            work: copied(alloc, fields.work)?,
+            tile: copied(fields.tile),
+            colour: copied(fields.colour),
+            work: copied(fields.work),
             coordinates: fields.coordinates,
             registers: fields.registers,
             latch: Latch::of(fields.latch, fields.vector, fields.requested, fields.count),
-        })
+        }
     }
 
     /// The fields of the memory.
@@ -112,9 +111,9 @@ impl Memory {
     {
         self.switches = other.switches;
         self.held = other.held;
-        self.tile.copy_from_slice(&other.tile[..]);
-        self.colour.copy_from_slice(&other.colour[..]);
-        self.work.copy_from_slice(&other.work[..]);
+        self.tile = other.tile;
+        self.colour = other.colour;
+        self.work = other.work;
         self.coordinates = other.coordinates;
         self.registers = other.registers;
         self.latch.copy_from(&other.latch);

@@ -74,13 +74,15 @@ fn a_vector_that_is_no_restart(rt: HostRuntime) -> Result<(), Fail> {
     Ok(())
 }
 
-// LD A,1 / LD (5000H),A / LD SP,4FF0H / IM 1 / EI / HALT: the blank's request is accepted after the step that met it.
+/// LD A,1 / LD (5000H),A / LD SP,4FF0H / IM 1 / EI / HALT.
+static MODE_1: [u8; 12] = [
+    0x3E, 1, 0x32, 0x00, 0x50, 0x31, 0xF0, 0x4F, 0xED, 0x56, 0xFB, 0x76,
+];
+
+// The blank's request is accepted after the step that met it.
 #[test]
 fn a_blank_is_accepted_in_mode_1(rt: HostRuntime) -> Result<(), Fail> {
-    let bytes = [
-        0x3E, 1, 0x32, 0x00, 0x50, 0x31, 0xF0, 0x4F, 0xED, 0x56, 0xFB, 0x76,
-    ];
-    let mut rig = Rig::new(rt.alloc(), &bytes)?;
+    let mut rig = Rig::new(rt.alloc(), &MODE_1)?;
     assert!(rt; rig.runs(FRAME, 50_690, None));
     assert!(rt; rig.is_at(12_667, 50_690, 0x000C));
     assert!(rt; rig.accepts(13));
@@ -89,16 +91,22 @@ fn a_blank_is_accepted_in_mode_1(rt: HostRuntime) -> Result<(), Fail> {
     Ok(())
 }
 
-// LD A,3FH / LD I,A / IM 2 / LD SP,4FF0H / LD A,0FAH / OUT (0),A / LD A,1 / LD (5000H),A / EI / HALT, and at 3FFAH the
-// word 0100H. R counts 12 fetches, 12,652 of the halted processor and the acceptance, in seven bits.
+/// LD A,3FH / LD I,A / IM 2 / LD SP,4FF0H / LD A,0FAH / OUT (0),A / LD A,1 / LD (5000H),A / EI / HALT, and at 3FFAH the word 0100H.
+static MODE_2: [(usize, &[u8]); 2] = [
+    (
+        0,
+        &[
+            0x3E, 0x3F, 0xED, 0x47, 0xED, 0x5E, 0x31, 0xF0, 0x4F, 0x3E, 0xFA, 0xD3, 0x00, 0x3E, 1,
+            0x32, 0x00, 0x50, 0xFB, 0x76,
+        ],
+    ),
+    (0x3FFA, &[0x00, 0x01]),
+];
+
+// R counts 12 fetches, 12,652 of the halted processor and the acceptance, in seven bits.
 #[test]
 fn a_blank_is_accepted_in_mode_2(rt: HostRuntime) -> Result<(), Fail> {
-    let bytes = [
-        0x3E, 0x3F, 0xED, 0x47, 0xED, 0x5E, 0x31, 0xF0, 0x4F, 0x3E, 0xFA, 0xD3, 0x00, 0x3E, 1,
-        0x32, 0x00, 0x50, 0xFB, 0x76,
-    ];
-    let pieces: [(usize, &[u8]); 2] = [(0, &bytes), (0x3FFA, &[0x00, 0x01])];
-    let mut rig = Rig::of(rt.alloc(), &pieces, SWITCHES)?;
+    let mut rig = Rig::of(rt.alloc(), &MODE_2, SWITCHES)?;
     assert!(rt; rig.ticks(FRAME).is_some());
     assert!(rt; rig.pc() == 0x0014);
     assert!(rt; rig.accepts(19));
@@ -138,28 +146,32 @@ fn a_kick_keeps_the_watchdog_off(rt: HostRuntime) -> Result<(), Fail> {
     Ok(())
 }
 
-// Writes of AAH to C040H, 6041H and 0042H.
+/// Writes of AAH to C040H, 6041H and 0042H.
+static WRITES: [u8; 12] = [
+    0x3E, 0xAA, 0x32, 0x40, 0xC0, 0x32, 0x41, 0x60, 0x32, 0x42, 0x00, 0x76,
+];
+
+/// Addresses, and what is read there after these writes.
+static READS: [(u16, u8); 10] = [
+    (0x4040, 0xAA),
+    (0x4041, 0xAA),
+    (0x4042, 0x00),
+    (0x0042, 0x00),
+    (0x8000, 0x3E),
+    (0x4800, 0xBF),
+    (0x5000, 0xFE),
+    (0x5040, 0xFF),
+    (0x5080, 0xC9),
+    (0x50C0, 0xFF),
+];
+
 #[test]
 fn the_bus_from_the_program(rt: HostRuntime) -> Result<(), Fail> {
-    let bytes = [
-        0x3E, 0xAA, 0x32, 0x40, 0xC0, 0x32, 0x41, 0x60, 0x32, 0x42, 0x00, 0x76,
-    ];
-    let mut rig = Rig::new(rt.alloc(), &bytes)?;
+    let mut rig = Rig::new(rt.alloc(), &WRITES)?;
     rig.hold(Inputs::P1_UP);
     assert!(rt; rig.ticks(FRAME).is_some());
-    for (address, byte) in [
-        (0x4040, 0xAA),
-        (0x4041, 0xAA),
-        (0x4042, 0x00),
-        (0x0042, 0x00),
-        (0x8000, 0x3E),
-        (0x4800, 0xBF),
-        (0x5000, 0xFE),
-        (0x5040, 0xFF),
-        (0x5080, 0xC9),
-        (0x50C0, 0xFF),
-    ] {
-        assert!(rt; rig.peek(address) == byte, "{address}");
+    for (address, byte) in &READS {
+        assert!(rt; rig.peek(*address) == *byte, "{address}");
     }
     rig.let_go(Inputs::P1_UP);
     assert!(rt; rig.peek(0x5000) == 0xFF);
@@ -187,10 +199,16 @@ fn time_in_slices(rt: HostRuntime) -> Result<(), Fail> {
     Ok(())
 }
 
-/// The program of the next test.
-const REPEATS: [u8; 18] = [
-    0x31, 0xF0, 0x4F, 0xED, 0x56, 0x01, 0x02, 0x00, 0x21, 0x00, 0x00, 0x11, 0x00, 0x4C, 0xFB, 0xC3,
-    0x00, 0x01,
+/// LD SP,4FF0H / IM 1 / LD BC,2 / LD HL,0 / LD DE,4C00H / EI / JP 0100H, and LDIR there.
+static REPEATS: [(usize, &[u8]); 2] = [
+    (
+        0,
+        &[
+            0x31, 0xF0, 0x4F, 0xED, 0x56, 0x01, 0x02, 0x00, 0x21, 0x00, 0x00, 0x11, 0x00, 0x4C,
+            0xFB, 0xC3, 0x00, 0x01,
+        ],
+    ),
+    (0x100, &[0xED, 0xB0]),
 ];
 
 /// Whether eight steps lead through the program up to the first repeat, which leaves 1 in BC.
@@ -202,14 +220,12 @@ fn repeats_once(rig: &mut Rig) -> bool {
     is_stepped && rig.is_at(8, 62 + 21, 0x0100) && matches!(rig.registers(), [_, 0, 1, _])
 }
 
-// LD SP,4FF0H / IM 1 / LD BC,2 / LD HL,0 / LD DE,4C00H / EI / JP 0100H, and LDIR there: after its first repeat a request is
-// accepted, and where none stands the second one follows.
+// After the first repeat a request is accepted, and where none stands the second one follows.
 #[test]
 fn a_request_between_two_repeats(rt: HostRuntime) -> Result<(), Fail> {
-    let pieces: [(usize, &[u8]); 2] = [(0, &REPEATS), (0x100, &[0xED, 0xB0])];
-    let mut rig = Rig::of(rt.alloc(), &pieces, SWITCHES)?;
+    let mut rig = Rig::of(rt.alloc(), &REPEATS, SWITCHES)?;
     assert!(rt; repeats_once(&mut rig));
-    let mut requested = rig.requested(rt.alloc(), &pieces)?;
+    let mut requested = rig.requested(rt.alloc(), &REPEATS)?;
     assert!(rt; requested.accepts(13));
     assert!(rt; requested.is_at(9, 62 + 21 + 13, 0x0038));
     assert!(rt; requested.has_pushed(0x00, 0x01));
@@ -239,13 +255,15 @@ fn a_stack_around_the_end_of_memory(rt: HostRuntime) -> Result<(), Fail> {
     Ok(())
 }
 
-// LD SP,4FF0H / LD HL,0FFFFH / LD (4FEEH),HL / JP 0FFFFH: a port is read as FFH, which is RST 38H, and 0000H is pushed over FFFFH.
+/// LD SP,4FF0H / LD HL,0FFFFH / LD (4FEEH),HL / JP 0FFFFH.
+static TO_A_PORT: [u8; 12] = [
+    0x31, 0xF0, 0x4F, 0x21, 0xFF, 0xFF, 0x22, 0xEE, 0x4F, 0xC3, 0xFF, 0xFF,
+];
+
+// A port is read as FFH, which is RST 38H, and 0000H is pushed over FFFFH.
 #[test]
 fn code_in_a_port(rt: HostRuntime) -> Result<(), Fail> {
-    let bytes = [
-        0x31, 0xF0, 0x4F, 0x21, 0xFF, 0xFF, 0x22, 0xEE, 0x4F, 0xC3, 0xFF, 0xFF,
-    ];
-    let mut rig = Rig::new(rt.alloc(), &bytes)?;
+    let mut rig = Rig::new(rt.alloc(), &TO_A_PORT)?;
     assert!(rt; comes_to(&mut rig, 4, 10 + 10 + 16 + 10, 0xFFFF));
     assert!(rt; rig.pair(0x4FEE) == [0xFF, 0xFF]);
     assert!(rt; rig.steps());

@@ -1,6 +1,6 @@
 //! Boards that are saved, and boards of files.
 
-use super::files::file;
+use super::files::{Piece, file};
 use crate::rig::{CELL, FLIP, Rig};
 use pac_board::kept::Taken;
 use pac_board::{Board, Fault, Fields, InterruptMode, Regs};
@@ -70,13 +70,18 @@ fn has_registers(board: &Board) -> bool {
     are_counted(&regs) && is_after_ei(&regs)
 }
 
-#[test]
-fn registers_of_a_file(rt: HostRuntime) -> Result<(), Fail> {
-    let bytes: [u8; 28] = [
+/// A file's registers, flip-flops and mode.
+static REGISTERS: [Piece<'static>; 1] = [(
+    30,
+    &[
         1, 2, 3, 4, 5, 6, 7, 8, 9, 10, 11, 12, 13, 14, 15, 16, 17, 18, 19, 20, 21, 22, 23, 24, 25,
         26, 0b1010, 2,
-    ];
-    let rig = Rig::of_file(rt.alloc(), &CELL, &[(30, &bytes)])?;
+    ],
+)];
+
+#[test]
+fn registers_of_a_file(rt: HostRuntime) -> Result<(), Fail> {
+    let rig = Rig::of_file(rt.alloc(), &CELL, &REGISTERS)?;
     assert!(rt; has_registers(rig.board()));
     Ok(())
 }
@@ -90,38 +95,30 @@ fn has(board: &Board, bytes: &[(u16, u8)]) -> bool {
     is_right
 }
 
-/// A board whose RAMs have a byte at their beginnings and at the end of the last, with two inputs held.
-fn filled(alloc: Global) -> Result<Rig, AllocError> {
-    Rig::of_file(
-        alloc,
-        &CELL,
-        &[
-            (82, &[0x11]),
-            (1106, &[0x22]),
-            (2130, &[0x33]),
-            (3153, &[0x44]),
-            (3218, &[0x01, 0x20, 0x55]),
-        ],
-    )
-}
+/// A file whose RAMs have a byte at their beginnings and at the end of the last, with two inputs held.
+static FILLED: [Piece<'static>; 5] = [
+    (82, &[0x11]),
+    (1106, &[0x22]),
+    (2130, &[0x33]),
+    (3153, &[0x44]),
+    (3218, &[0x01, 0x20, 0x55]),
+];
+
+/// Addresses, and what the processor reads there then.
+static READS: [(u16, u8); 7] = [
+    (0x4000, 0x11),
+    (0x4400, 0x22),
+    (0x4C00, 0x33),
+    (0x4FFF, 0x44),
+    (0x5000, 0xFE),
+    (0x5040, 0xDF),
+    (0x5080, 0x55),
+];
 
 #[test]
 fn memory_of_a_file(rt: HostRuntime) -> Result<(), Fail> {
-    let rig = filled(rt.alloc())?;
-    assert!(rt;
-        has(
-            rig.board(),
-            &[
-                (0x4000, 0x11),
-                (0x4400, 0x22),
-                (0x4C00, 0x33),
-                (0x4FFF, 0x44),
-                (0x5000, 0xFE),
-                (0x5040, 0xDF),
-                (0x5080, 0x55)
-            ]
-        )
-    );
+    let rig = Rig::of_file(rt.alloc(), &CELL, &FILLED)?;
+    assert!(rt; has(rig.board(), &READS));
     Ok(())
 }
 
@@ -143,22 +140,16 @@ fn latches_of_a_file(rt: HostRuntime) -> Result<(), Fail> {
     Ok(())
 }
 
-/// A board with coordinates, registers of the wave generator, accumulators, and a sample that is due.
-fn sounding(alloc: Global) -> Result<Rig, AllocError> {
-    Rig::of_file(
-        alloc,
-        &CELL,
-        &[
-            (3154, &[0x77, 0x88]),
-            (3175, &[7]),
-            (3201, &[9]),
-            (3202, &[1, 2, 3, 0, 4, 5, 6, 0, 7, 8, 9, 0]),
-            (3221, &[1, 0xFE, 0xFF]),
-        ],
-    )
-}
+/// A file with coordinates, registers of the wave generator, accumulators, and a sample that is due.
+static SOUNDING: [Piece<'static>; 5] = [
+    (3154, &[0x77, 0x88]),
+    (3175, &[7]),
+    (3201, &[9]),
+    (3202, &[1, 2, 3, 0, 4, 5, 6, 0, 7, 8, 9, 0]),
+    (3221, &[1, 0xFE, 0xFF]),
+];
 
-/// Whether the fields are those of that board.
+/// Whether the fields are those of that file.
 fn are_sounding(fields: &Fields) -> bool {
     fields.memory.coordinates[..2] == [0x77, 0x88]
         && fields.memory.registers[5] == 7
@@ -175,7 +166,7 @@ fn is_sounding(board: &Board) -> bool {
 
 #[test]
 fn devices_of_a_file(rt: HostRuntime) -> Result<(), Fail> {
-    let rig = sounding(rt.alloc())?;
+    let rig = Rig::of_file(rt.alloc(), &CELL, &SOUNDING)?;
     assert!(rt; is_sounding(rig.board()));
     Ok(())
 }

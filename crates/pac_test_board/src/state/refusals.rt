@@ -8,61 +8,41 @@ use pac_test_set::{rom_set, rom_set_with, tiles};
 use std::alloc::{AllocError, Global};
 use std::test::Fail;
 
-// Another first byte, also of a file that is cut after it.
+/// Places of a file, the bytes that stand there, the file's bytes, and its fault.
+static REFUSED: [(usize, &[u8], usize, LoadFault); 22] = [
+    // another first byte, also of a file that is cut after it
+    (0, b"x", SIZE, LoadFault::NoState),
+    (7, b"x", SIZE, LoadFault::NoState),
+    (0, b"x", 1, LoadFault::NoState),
+    (7, b"x", 8, LoadFault::NoState),
+    // versions 3, 0 and 258; half a version isn't judged
+    (8, &[3], SIZE, LoadFault::OtherVersion),
+    (8, &[0], 10, LoadFault::OtherVersion),
+    (9, &[1], 10, LoadFault::OtherVersion),
+    (8, &[3], 9, LoadFault::Size),
+    // a field that is out of its range, and bits that nothing has: flags, mode, steps, request, watchdog, what is due, and colour numbers
+    (56, &[16], SIZE, LoadFault::OutOfRange),
+    (57, &[3], SIZE, LoadFault::OutOfRange),
+    (66, &[1], SIZE, LoadFault::OutOfRange),
+    (3170, &[1], SIZE, LoadFault::OutOfRange),
+    (3175, &[16], SIZE, LoadFault::OutOfRange),
+    (3204, &[16], SIZE, LoadFault::OutOfRange),
+    (3216, &[2], SIZE, LoadFault::OutOfRange),
+    (3217, &[16], SIZE, LoadFault::OutOfRange),
+    (3221, &[4], SIZE, LoadFault::OutOfRange),
+    (3222, &[1], SIZE, LoadFault::OutOfRange),
+    (3224, &[16], SIZE, LoadFault::OutOfRange),
+    (67_735, &[16], SIZE, LoadFault::OutOfRange),
+    // a time of 2^52 + 23, and 2^50 + 1 microseconds
+    (58, &[23, 0, 0, 0, 0, 0, 16], SIZE, LoadFault::OutOfRange),
+    (74, &[1, 0, 0, 0, 0, 0, 4], SIZE, LoadFault::OutOfRange),
+];
+
 #[test]
-fn other_files(rt: HostRuntime) {
-    for (at, count) in [(0usize, SIZE), (7, SIZE), (0, 1), (7, 8)] {
-        let is_right = is_refused(rt.alloc(), at, b"x", count, LoadFault::NoState);
+fn other_files_versions_and_fields(rt: HostRuntime) {
+    for (at, bytes, count, fault) in &REFUSED {
+        let is_right = is_refused(rt.alloc(), *at, bytes, *count, *fault);
         assert!(rt; is_right, "byte {at} of {count}");
-    }
-}
-
-// Versions 3, 0 and 258; half a version isn't judged.
-#[test]
-fn other_versions(rt: HostRuntime) {
-    for (at, byte, count, fault) in [
-        (8usize, 3u8, SIZE, LoadFault::OtherVersion),
-        (8, 0, 10, LoadFault::OtherVersion),
-        (9, 1, 10, LoadFault::OtherVersion),
-        (8, 3, 9, LoadFault::Size),
-    ] {
-        let is_right = is_refused(rt.alloc(), at, &[byte], count, fault);
-        assert!(rt; is_right, "{byte} in {count}");
-    }
-}
-
-// A field that is out of its range, and bits that nothing has.
-#[test]
-fn fields_out_of_range(rt: HostRuntime) {
-    // flags, mode, steps, request, watchdog, what is due, and colour numbers
-    for (at, byte) in [
-        (56usize, 16u8),
-        (57, 3),
-        (66, 1),
-        (3170, 1),
-        (3175, 16),
-        (3204, 16),
-        (3216, 2),
-        (3217, 16),
-        (3221, 4),
-        (3222, 1),
-        (3224, 16),
-        (67_735, 16),
-    ] {
-        let is_right = is_refused(rt.alloc(), at, &[byte], SIZE, LoadFault::OutOfRange);
-        assert!(rt; is_right, "byte {at}");
-    }
-}
-
-// A time of 2^52 + 23, and 2^50 + 1 microseconds.
-#[test]
-fn times_out_of_range(rt: HostRuntime) {
-    for (at, bytes) in [
-        (58usize, [23, 0, 0, 0, 0, 0, 16u8]),
-        (74, [1, 0, 0, 0, 0, 0, 4]),
-    ] {
-        let is_right = is_refused(rt.alloc(), at, &bytes, SIZE, LoadFault::OutOfRange);
-        assert!(rt; is_right, "byte {at}");
     }
 }
 

@@ -1,7 +1,7 @@
 //! How sessions answer command lines.
 
 use crate::rig::Rig;
-use pac_debug::{CommandFault, RunTotals, command, commands, watch};
+use pac_debug::{CommandFault, Outcome, command, commands, watch};
 use pac_out::counted::Counted;
 use pac_out::faulty::Faulty;
 use pac_out::memory::MemoryWriter;
@@ -37,7 +37,7 @@ impl Rig {
     }
 
     /// Does what the lines of a text ask, goes on to the end of the run, and tells what it came to and how many outputs the sink has then.
-    pub fn watch(self, alloc: Global, lines: &str) -> Option<(RunTotals, usize)> {
+    pub fn watch(self, alloc: Global, lines: &str) -> Option<(Outcome, usize)> {
         let mut text = text_of(alloc, 1000)?;
         let (session, mut kept) = self.into_parts();
         match watch(session, lines.as_bytes(), &mut kept, &mut text) {

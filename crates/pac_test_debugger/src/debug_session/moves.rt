@@ -1,7 +1,7 @@
 //! How sessions are moved, by calls with small answers. Before each move what is due is offered.
 
 use crate::rig::Rig;
-use pac_debug_session::{Motion, MotionEnd, RunTotals};
+use pac_debug_session::{Motion, MotionEnd, Outcome};
 
 impl Rig {
     /// Goes forwards, and tells why it rests; nothing where the sink refused.
@@ -63,12 +63,12 @@ impl Rig {
     }
 
     /// Goes to the end of the run, step by step, and tells what it came to; nothing where the sink refused.
-    pub fn finish(&mut self) -> Option<RunTotals> {
+    pub fn finish(&mut self) -> Option<Outcome> {
         self.session.finish(&mut self.kept).ok()
     }
 
     /// Goes to the end of the run at once, and tells what it came to and how many outputs the sink has then; nothing where it refused.
-    pub fn play_on(self) -> Option<(RunTotals, usize)> {
+    pub fn play_on(self) -> Option<(Outcome, usize)> {
         let (session, mut kept) = self.into_parts();
         match session.play_on(&mut kept) {
             Ok(totals) => Some((totals, kept.taken().len())),

@@ -2,7 +2,7 @@
 
 use crate::cell::CELL;
 use pac_out::faulty::Faulty;
-use pac_run::{RunFault, RunInputs, debug_all, run_all};
+use pac_run::{RunFault, RunInputs, debug_all, resume_all, run_all};
 use pac_test_set::{Files, Part, SET, SWITCHES, Tables, text_of};
 use std::alloc::{AllocError, Global};
 use std::marker::Model;
@@ -123,6 +123,31 @@ impl Outputs {
         };
         let files = Files::new();
         self.take(alloc, &inputs(given, &manifest, &files.parts()))
+    }
+
+    /// Runs what is given from a state file, or from power-on, and saves the end; why there is no outcome, if there is none.
+    pub fn resume(
+        &mut self,
+        alloc: Global,
+        given: &Given,
+        from: Option<&[u8]>,
+        state: &mut Faulty,
+    ) -> Option<RunFault> {
+        let Ok(manifest) = text_of(alloc, &given.tables) else {
+            return Some(RunFault::NoMemory);
+        };
+        let files = Files::new();
+        resume_all(
+            alloc,
+            &inputs(given, &manifest, &files.parts()),
+            from,
+            &mut self.frames,
+            &mut self.wave,
+            &mut self.listing,
+            &mut self.report,
+            state,
+        )
+        .err()
     }
 
     /// Runs what is given under a debugger; whether it comes to an outcome.

@@ -1,22 +1,30 @@
 //! Command lines, what they ask for, and how `clap` refuses them.
 
 use clap::error::ErrorKind;
-use pac_run_options::{AsmFiles, DebugFiles, Request, RunFiles, options};
-use std::test::Fail;
+use pac_run_options::{AsmFiles, DebugFiles, PlayFiles, Request, RunFiles, options};
+use std::alloc::Global;
 
-/// The kind of error that `clap` answers to the words, if it refuses them.
-fn kind_of<'a>(rt: &HostRuntime, words: &'a [&'a str]) -> Option<ErrorKind> {
-    match options(rt.alloc(), words) {
-        Ok(_) => None,
-        Err(error) => Some(error.kind()),
+/// Whether these words ask for this.
+fn ask_for<'a>(alloc: Global, words: &'a [&'a str], wanted: &Request<'a>) -> bool {
+    match options(alloc, words) {
+        Ok(request) => request == *wanted,
+        Err(_) => false,
+    }
+}
+
+/// Whether `clap` refuses these words with an error of this kind.
+fn are_refused<'a>(alloc: Global, words: &'a [&'a str], kind: ErrorKind) -> bool {
+    match options(alloc, words) {
+        Ok(_) => false,
+        Err(error) => error.kind() == kind,
     }
 }
 
 /// A line of `asm`, in another order than its help shows.
-static ASM: [&str; 6] = ["pacboard", "asm", "--listing", "l", "a", "--rom=r"];
+const ASM: [&str; 6] = ["pacboard", "asm", "--listing", "l", "a", "--rom=r"];
 
 /// A line of `run` with all its options, in another order than its help shows.
-static RUN_ALL: [&str; 15] = [
+const RUN_ALL: [&str; 15] = [
     "pacboard",
     "run",
     "--dip=7",
@@ -35,7 +43,7 @@ static RUN_ALL: [&str; 15] = [
 ];
 
 /// A line of `run` with what is required.
-static RUN: [&str; 12] = [
+const RUN: [&str; 12] = [
     "pacboard",
     "run",
     "--set",
@@ -50,8 +58,27 @@ static RUN: [&str; 12] = [
     "l",
 ];
 
+/// A line of `run` from one state file into another.
+const RUN_ON: [&str; 15] = [
+    "pacboard",
+    "run",
+    "--set",
+    "s",
+    "--save=n",
+    "--script",
+    "t",
+    "--frames",
+    "f",
+    "--wave",
+    "w",
+    "--listing",
+    "l",
+    "--load",
+    "o",
+];
+
 /// A line of `debug` with what is required.
-static DEBUG: [&str; 13] = [
+const DEBUG: [&str; 13] = [
     "pacboard",
     "debug",
     "--set=s",
@@ -67,75 +94,112 @@ static DEBUG: [&str; 13] = [
     "l",
 ];
 
+/// The files that each of those lines names for a run.
+const FILES: RunFiles<'static> = RunFiles {
+    set: "s",
+    script: "t",
+    frames: "f",
+    wave: "w",
+    listing: "l",
+    source: None,
+    dip: 201,
+};
+
+/// A run of them from power-on.
+const PLAY: PlayFiles<'static> = PlayFiles {
+    run: FILES,
+    load: None,
+    save: None,
+};
+
+/// Command lines, with what they ask for.
+static ASKED: [(&[&str], Request<'static>); 6] = [
+    (
+        &ASM,
+        Request::Asm(AsmFiles {
+            source: "a",
+            rom: "r",
+            listing: "l",
+        }),
+    ),
+    (&RUN, Request::Run(PLAY)),
+    (
+        &DEBUG,
+        Request::Debug(DebugFiles {
+            run: FILES,
+            commands: "c",
+        }),
+    ),
+    (
+        &RUN_ALL,
+        Request::Run(PlayFiles {
+            run: RunFiles {
+                source: Some("a"),
+                dip: 7,
+                ..FILES
+            },
+            ..PLAY
+        }),
+    ),
+    (
+        &RUN_ON,
+        Request::Run(PlayFiles {
+            load: Some("o"),
+            save: Some("n"),
+            ..PLAY
+        }),
+    ),
+    (&["pacboard", "dis", "code"], Request::Dis("code")),
+];
+
 #[test]
-fn each_subcommand(rt: HostRuntime) -> Result<(), Fail> {
-    let alloc = rt.alloc();
-    let asm = AsmFiles {
-        source: "a",
-        rom: "r",
-        listing: "l",
-    };
-    let mut run = RunFiles {
-        set: "s",
-        script: "t",
-        frames: "f",
-        wave: "w",
-        listing: "l",
-        source: None,
-        dip: 201,
-    };
-    assert_eq!(rt; options(alloc, ASM.as_slice())?, Request::Asm(asm));
-    assert_eq!(rt; options(alloc, RUN.as_slice())?, Request::Run(run));
-    let debug = DebugFiles { run, commands: "c" };
-    assert_eq!(rt; options(alloc, DEBUG.as_slice())?, Request::Debug(debug));
-    run.source = Some("a");
-    run.dip = 7;
-    assert_eq!(rt; options(alloc, RUN_ALL.as_slice())?, Request::Run(run));
-    assert_eq!(rt;
-        options(alloc, &["pacboard", "dis", "code"])?,
-        Request::Dis("code")
-    );
-    Ok(())
+fn each_subcommand(rt: HostRuntime) {
+    for (words, request) in &ASKED {
+        assert!(rt; ask_for(rt.alloc(), words, request), "{words:?}");
+    }
 }
+
+/// Command lines that `clap` refuses, or answers by itself, with the kinds of its errors.
+static REFUSED: [(&[&str], ErrorKind); 16] = [
+    (&["pacboard"], ErrorKind::MissingSubcommand),
+    (&[], ErrorKind::MissingSubcommand),
+    (&["pacboard", "fly"], ErrorKind::InvalidSubcommand),
+    (&["pacboard", "debug"], ErrorKind::MissingRequiredArgument),
+    (&["pacboard", "--help"], ErrorKind::DisplayHelp),
+    (&["pacboard", "--version"], ErrorKind::DisplayVersion),
+    (&["pacboard", "run", "--help"], ErrorKind::DisplayHelp),
+    (&["pacboard", "dis"], ErrorKind::MissingRequiredArgument),
+    (&["pacboard", "dis", "a", "b"], ErrorKind::UnknownArgument),
+    (
+        &["pacboard", "asm", "a", "--rom", "b"],
+        ErrorKind::MissingRequiredArgument,
+    ),
+    (
+        &["pacboard", "asm", "--rom", "b", "--rom", "c"],
+        ErrorKind::ArgumentConflict,
+    ),
+    (
+        &["pacboard", "asm", "--wave", "b"],
+        ErrorKind::UnknownArgument,
+    ),
+    (
+        &["pacboard", "run", "--dip", "256"],
+        ErrorKind::ValueValidation,
+    ),
+    (
+        &["pacboard", "run", "--dip", "x"],
+        ErrorKind::ValueValidation,
+    ),
+    (&["pacboard", "run", "--dip=-1"], ErrorKind::ValueValidation),
+    (
+        &["pacboard", "run", "--dip", "-1"],
+        ErrorKind::UnknownArgument,
+    ),
+];
 
 #[test]
 fn refusals_and_help(rt: HostRuntime) {
-    for (words, kind) in [
-        (["pacboard"].as_slice(), ErrorKind::MissingSubcommand),
-        (&[], ErrorKind::MissingSubcommand),
-        (&["pacboard", "fly"], ErrorKind::InvalidSubcommand),
-        (&["pacboard", "debug"], ErrorKind::MissingRequiredArgument),
-        (&["pacboard", "--help"], ErrorKind::DisplayHelp),
-        (&["pacboard", "--version"], ErrorKind::DisplayVersion),
-        (&["pacboard", "run", "--help"], ErrorKind::DisplayHelp),
-        (&["pacboard", "dis"], ErrorKind::MissingRequiredArgument),
-        (&["pacboard", "dis", "a", "b"], ErrorKind::UnknownArgument),
-        (
-            &["pacboard", "asm", "a", "--rom", "b"],
-            ErrorKind::MissingRequiredArgument,
-        ),
-        (
-            &["pacboard", "asm", "--rom", "b", "--rom", "c"],
-            ErrorKind::ArgumentConflict,
-        ),
-        (
-            &["pacboard", "asm", "--wave", "b"],
-            ErrorKind::UnknownArgument,
-        ),
-        (
-            &["pacboard", "run", "--dip", "256"],
-            ErrorKind::ValueValidation,
-        ),
-        (
-            &["pacboard", "run", "--dip", "x"],
-            ErrorKind::ValueValidation,
-        ),
-        (&["pacboard", "run", "--dip=-1"], ErrorKind::ValueValidation),
-        (
-            &["pacboard", "run", "--dip", "-1"],
-            ErrorKind::UnknownArgument,
-        ),
-    ] {
-        assert_eq!(rt; kind_of(&rt, words), Some(kind));
+    for (words, kind) in &REFUSED {
+        assert!(rt; are_refused(rt.alloc(), words, *kind), "{words:?}");
     }
 }

@@ -1,5 +1,6 @@
+use Rattle.pac_board.specs.Sinks.{by}
 use Rattle.pac_board.proofs.Hosts.{calls-of-the-history}
 use Rattle.pac_board.proofs.laws.calls_are_of_the_history.Goals as goal
 
 pub returns : goal.returns
-returns g c = calls-of-the-history g.S.Sink.took g.S.Sink.refused
+returns g c = calls-of-the-history (by g.S.Sink.took g.S.Sink.refused)

@@ -1,5 +1,6 @@
+use Rattle.pac_board.specs.Sinks.{by}
 use Rattle.pac_board.proofs.Pieces.{refusals-taken-up}
 use Rattle.pac_board.proofs.laws.refusals_are_taken_up.Goals as goal
 
 pub returns : goal.returns
-returns g c = refusals-taken-up g.S.Sink.took g.S.Sink.refused
+returns g c = refusals-taken-up (by g.S.Sink.took g.S.Sink.refused)

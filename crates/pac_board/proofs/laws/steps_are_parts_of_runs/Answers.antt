@@ -1,5 +1,6 @@
+use Rattle.pac_board.specs.Sinks.{by}
 use Rattle.pac_board.proofs.Parts.{steps-are-parts}
 use Rattle.pac_board.proofs.laws.steps_are_parts_of_runs.Goals as goal
 
 pub returns : goal.returns
-returns g c = steps-are-parts g.S.Sink.took g.S.Sink.refused
+returns g c = steps-are-parts (by g.S.Sink.took g.S.Sink.refused)

@@ -1,6 +1,7 @@
 use Rattle.std.proofs.Common.{Ok, Err, ap}
 use Rattle.std.proofs.lemmas.Result.{err_from_is_err_and}
 use Rattle.std.specs.Str.Lines.{lines}
+use Rattle.pac_board.specs.Sinks.{by}
 use Rattle.pac_debug.specs.Obeying.{Scene}
 use Rattle.pac_debug.proofs.Giving.{lines-given}
 use Rattle.pac_debug.proofs.LineByLine.{leads-on, leads-to-end, leads-to-fault}
@@ -8,7 +9,7 @@ use Rattle.pac_debug.proofs.lines.commands.Goals as goal
 
 pub loop-line-preserved : goal.loop-line-preserved
 loop-line-preserved g c =
-    leads-on g.S.Sink.took g.S.Sink.refused g.W.Out.took g.W.Out.refused (lines c.args.bytes.now) (lines c.loop-line.rest.now)
+    leads-on (by g.S.Sink.took g.S.Sink.refused) g.W.Out.took g.W.Out.refused (lines c.args.bytes.now) (lines c.loop-line.rest.now)
     (lines c.in-Some.after.now) c.in-Some.line.now
     (record { session = c.args.session.now; sink = c.args.sink.now; text = c.args.text.now })
     (record { session = c.loop-line.session; sink = c.loop-line.sink; text = c.loop-line.text })
@@ -27,12 +28,12 @@ returns-in_err-command-clause-given g c =
     let whole = lines c.args.bytes.now in
     let fault = c.in_err-command.field-0.0 in
     let obeyed =
-    leads-to-fault g.S.Sink.took g.S.Sink.refused g.W.Out.took g.W.Out.refused whole (lines c.loop-line.rest.now)
+    leads-to-fault (by g.S.Sink.took g.S.Sink.refused) g.W.Out.took g.W.Out.refused whole (lines c.loop-line.rest.now)
     (lines c.in-Some.after.now) c.in-Some.line.now old now next fault c.in-Some.ensures.some c.loop-line.invariant
     c.in_err-command.ensures in
     let told = err_from_is_err_and c.from_residual.result c.from_residual.ensures.1 in
     rw (told.1, told.2)
-    (lines-given g.S.Sink.took g.S.Sink.refused g.W.Out.took g.W.Out.refused whole (Err fault) old next obeyed)
+    (lines-given (by g.S.Sink.took g.S.Sink.refused) g.W.Out.took g.W.Out.refused whole (Err fault) old next obeyed)
 
 pub returns-clause-given : goal.returns-clause-given
 returns-clause-given g c =
@@ -42,6 +43,6 @@ returns-clause-given g c =
     = record { session = c.loop-line.session; sink = c.loop-line.sink; text = c.loop-line.text } in
     let whole = lines c.args.bytes.now in
     let obeyed =
-    leads-to-end g.S.Sink.took g.S.Sink.refused g.W.Out.took g.W.Out.refused whole (lines c.loop-line.rest.now) old now
+    leads-to-end (by g.S.Sink.took g.S.Sink.refused) g.W.Out.took g.W.Out.refused whole (lines c.loop-line.rest.now) old now
     (ap lines c.in_default.ensures.none) c.loop-line.invariant in
-    lines-given g.S.Sink.took g.S.Sink.refused g.W.Out.took g.W.Out.refused whole (Ok tt) old now obeyed
+    lines-given (by g.S.Sink.took g.S.Sink.refused) g.W.Out.took g.W.Out.refused whole (Ok tt) old now obeyed

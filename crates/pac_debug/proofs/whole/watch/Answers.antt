@@ -1,6 +1,7 @@
 -- The lines, and then the run's end.
 use Rattle.std.proofs.lemmas.Result.{err_from_is_err_and}
 use Rattle.std.specs.Str.Lines.{lines}
+use Rattle.pac_board.specs.Sinks.{by}
 use Rattle.pac_debug.specs.Obeying.{Scene}
 use Rattle.pac_debug.proofs.ToTheEnd.{finished, held-up, ended-early}
 use Rattle.pac_debug.proofs.whole.watch.Goals as goal
@@ -16,7 +17,7 @@ returns-in_err-commands g c =
     (record {
       left = mid.session;
       watched =
-          ended-early g.S.Sink.took g.S.Sink.refused g.W.Out.took g.W.Out.refused (lines c.args.bytes.now) old mid
+          ended-early (by g.S.Sink.took g.S.Sink.refused) g.W.Out.took g.W.Out.refused (lines c.args.bytes.now) old mid
           c.in_err-commands.field-0.0 c.in_err-commands.ensures.obeys c.in_err-commands.ensures.given;
     })
 
@@ -29,7 +30,7 @@ returns-in-Ok g c =
     record {
       left = c.in-Ok.ensures.left;
       watched =
-          finished g.S.Sink.took g.S.Sink.refused g.W.Out.took g.W.Out.refused (lines c.args.bytes.now) old mid
+          finished (by g.S.Sink.took g.S.Sink.refused) g.W.Out.took g.W.Out.refused (lines c.args.bytes.now) old mid
           c.in_ok-commands.field-0 c.in_ok-commands.ensures.obeys c.in_ok-commands.ensures.given _ c.in-Ok.ensures.left _
           c.in-Ok.ensures.finishes;
     }
@@ -43,7 +44,7 @@ returns-in-Err g c =
     record {
       left = c.in-Err.ensures.left;
       watched =
-          held-up g.S.Sink.took g.S.Sink.refused g.W.Out.took g.W.Out.refused (lines c.args.bytes.now) old mid
+          held-up (by g.S.Sink.took g.S.Sink.refused) g.W.Out.took g.W.Out.refused (lines c.args.bytes.now) old mid
           c.in_ok-commands.field-0 c.in_ok-commands.ensures.obeys c.in_ok-commands.ensures.given c.in-Err.ensures.left _
           c.in-Err.ensures.finishes;
     }

@@ -12,12 +12,19 @@ slice_bounds-pixels-end c =
     ap length c.loop-y.invariant.drawn ∙ image-length c.args.palette.now c.loop-y.kept c.requires.colours c.loop-y.invariant.picture in
     search (rules, size)
 
-pub redraw_line-requires-clause-drawn : goal.redraw_line-requires-clause-drawn
-redraw_line-requires-clause-drawn c =
+pub redraw_line-requires : goal.redraw_line-requires
+redraw_line-requires c =
     let part : 15 + 864 * c.loop-y.y + 864 - (15 + 864 * c.loop-y.y) ≡ 864 = omega arith in
-    ap (λ n. take n (drop (15 + 864 * c.loop-y.y) c.loop-y.image)) part
-    ∙ (ap (λ bytes. take 864 (drop (15 + 864 * c.loop-y.y) bytes)) c.loop-y.invariant.drawn
-    ∙ line-part c.args.palette.now c.loop-y.kept c.loop-y.y c.requires.colours c.loop-y.invariant.picture c.loop-y-test.true)
+    record {
+      colours = c.requires.colours;
+      size = search rules;
+      new = λ x _. rw c.row.ensures.line (c.row.ensures.picture.below x c.loop-y.y);
+      below = λ x _. c.loop-y.invariant.picture.below x c.loop-y.y;
+      drawn = ap (λ n. take n (drop (15 + 864 * c.loop-y.y) c.loop-y.image)) part
+          ∙ (ap (λ bytes. take 864 (drop (15 + 864 * c.loop-y.y) bytes)) c.loop-y.invariant.drawn
+          ∙ line-part c.args.palette.now c.loop-y.kept c.loop-y.y c.requires.colours c.loop-y.invariant.picture c.loop-y-test.true);
+      same = refl;
+    }
 
 pub loop-y-preserved : goal.loop-y-preserved
 loop-y-preserved c = record {

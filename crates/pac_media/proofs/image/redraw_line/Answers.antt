@@ -8,9 +8,8 @@ pub returns : goal.returns
 returns c =
     let all : 32 * c.loop-part.part ≡ 288 = omega (arith, c.loop-part-test.false, c.loop-part.auto.part-end) in
     let same = all-kept c.args.palette.now c.args.numbers.now c.loop-part.pixels c.loop-part.kept (32 * c.loop-part.part) all
-    c.requires.colours
-    c.told-numbers c.loop-part.invariant.long c.loop-part.invariant.drawn in
+    c.told-numbers c.loop-part.invariant in
     record {
-      drawn = c.loop-part.invariant.drawn.drawn ∙ ap (flat_map (palette_colour c.args.palette.now)) same;
+      drawn = c.loop-part.invariant.drawn ∙ ap (flat_map (palette_colour c.args.palette.now)) same;
       kept = same;
     }

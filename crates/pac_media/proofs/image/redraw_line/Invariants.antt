@@ -1,9 +1,6 @@
-use Rattle.std.proofs.Common.{◌≡◌, ◌*◌, length}
+use Rattle.std.proofs.Common.{◌*◌}
 use Rattle.pac_media.specs.Drawn.{IsDrawnTo}
 use Rattle.pac_media.proofs.image.redraw_line.Given as goal
 
 abbrev pub invariant-loop-part : goal.invariant-loop-part
-invariant-loop-part l = record {
-  long : length l.pixels ≡ 864;
-  drawn : IsDrawnTo l.palette (32 * l.part) l.numbers l.pixels l.kept;
-}
+invariant-loop-part l = IsDrawnTo l.palette (32 * l.part) l.numbers l.pixels l.kept

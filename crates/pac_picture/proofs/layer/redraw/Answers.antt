@@ -15,7 +15,7 @@ loop-column-init c = record {
 pub loop-column-preserved : goal.loop-column-preserved
 loop-column-preserved c =
     let inside : c.loop-column.column < length c.loop-column.cells = omega (arith, c.loop-column.invariant.long, c.loop-column-test.true) in
-    let is = rw c.pattern-pattern.ensures at c.redraw_cell-count.ensures.cells in
+    let is = c.redraw_cell-count.ensures.cells in
     let one = one-at-most _ _ c.redraw_cell-count.ensures.count in
     record {
       long = c.redraw_cell-count.array_long;

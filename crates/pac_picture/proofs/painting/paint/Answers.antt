@@ -14,6 +14,6 @@ returns c =
     record {
       dots = λ x inside.
           c.paint_line.ensures.dots x inside
-          ∙ dot-on c.args.graphics.now c.args.sprite.now c.image-image.result.now c.in-Some.line x c.args.y _
-          c.image-image.ensures on.0 on.1 (rw c.in-Some.is at c.line_at.ensures.below);
+          ∙ dot-on c.args.graphics.now c.args.sprite.now c.sprite_line-numbers.result c.in-Some.line x c.args.y _
+          c.sprite_line-numbers.ensures on.0 on.1;
     }

@@ -39,7 +39,7 @@ returns-in-Ok-report_on g c =
     })
     (writing g.T.Out.took g.T.Out.refused c.args.text.now c.watch_run.new.text)
     c.args.program.now c.args.session c.args.total c.requires _ c.in-Ok.ensures.outcome
-    c.in-Ok.ensures.texts c.in_default.ensures c.outcome_of-outcome.result c.outcome_of-outcome.ensures
+    c.in-Ok.ensures.texts c.in_default.ensures
     c.in-Ok-report_on.ensures
 
 pub returns-in-Err-report_on : goal.returns-in-Err-report_on
@@ -53,5 +53,5 @@ returns-in-Err-report_on g c =
     })
     (writing g.T.Out.took g.T.Out.refused c.args.text.now c.watch_run.new.text)
     c.args.program.now c.args.session c.args.total c.requires _ c.in-Ok.ensures.outcome
-    c.in-Ok.ensures.texts c.in_default.ensures c.outcome_of-outcome.result c.outcome_of-outcome.ensures
+    c.in-Ok.ensures.texts c.in_default.ensures
     c.in-Err-report_on.fault.count c.in-Err-report_on.ensures

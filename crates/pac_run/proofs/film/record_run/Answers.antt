@@ -1,5 +1,5 @@
 use Rattle.std.proofs.Common.{None, ◌∙◌}
-use Rattle.pac_inputs.specs.Stretches.{total_frames}
+use Rattle.pac_board_course.specs.Stretches.{total_frames}
 use Rattle.pac_board_course.specs.Course.{way_on}
 use Rattle.pac_run.proofs.Lent.{delivered, header-broke, header-counted, records}
 use Rattle.pac_run.proofs.film.record_run.Goals as goal

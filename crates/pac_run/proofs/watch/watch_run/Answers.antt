@@ -1,6 +1,6 @@
 use Rattle.std.proofs.Common.{None, ◌∙◌, arith, refl}
 use Rattle.std.specs.Str.Lines.{lines}
-use Rattle.pac_inputs.specs.Stretches.{total_frames}
+use Rattle.pac_board_course.specs.Stretches.{total_frames}
 use Rattle.pac_debug.specs.Running.{whole_run}
 use Rattle.pac_run.proofs.Lent.{delivered, header-broke, header-short, header-counted, films}
 use Rattle.pac_run.proofs.watch.watch_run.Goals as goal

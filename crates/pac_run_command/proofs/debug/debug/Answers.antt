@@ -17,7 +17,7 @@ returns-in-Err-read_parts-clause-watches g c =
       reason = unread-reason {A = Vec NamedFile Global}
           (λ parts. HasParts finds c.args.files.now.run.set.now (manifest_part_names c.in-Ok-manifest_in.manifest) parts.items) _ _
           c.in-Err-read_parts.fault c.read_failure-in-Err-read_parts.result
-          (λ name first. inr (record { commands = c.in-Ok.read.1.items; commands_are = c.in-Ok.ensures.1; part = unread name first }))
+          (λ name first. inr (record { last = c.in-Ok.read.1.items; is_had = c.in-Ok.ensures.1; holds = unread name first }))
           c.in-Err-read_parts.ensures c.read_failure-in-Err-read_parts.ensures;
       fails = c.tell-in-Err-read_parts.ensures.fails;
       unchanged = refl;
@@ -37,10 +37,9 @@ pub returns-clause-watches : goal.returns-clause-watches
 returns-clause-watches g c =
     let finds = g.D.FileSystem.finds c.args.disk.now in
     inr (record {
-      commands = c.deref-2.result.now;
-      commands_are = subst (λ commands. finds Any c.args.files.now.commands.now (Some commands)) (sym c.deref-2.ensures.value)
-          c.in-Ok.ensures.1;
-      run = record {
+      last = c.deref-2.result.now;
+      is_had = subst (λ commands. finds Any c.args.files.now.commands.now (Some commands)) (sym c.deref-2.ensures.value) c.in-Ok.ensures.1;
+      holds = record {
         given = c.in-Ok.read.0;
         parts = c.deref-3.result.now;
         read = all-read finds (told_run c.args.files.now.run) c.in-Ok.read.0 c.in-Ok.ensures.0 c.deref.result.now

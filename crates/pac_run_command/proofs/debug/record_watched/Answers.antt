@@ -1,4 +1,4 @@
-use Rattle.std.proofs.Common.{inl, rules}
+use Rattle.std.proofs.Common.{inl, refl, rules}
 use Rattle.pac_run_command.proofs.debug.record_watched.Goals as goal
 
 pub returns : goal.returns
@@ -12,7 +12,8 @@ returns g c = inl (record {
     frames = c.debug_inputs-ran.new.frames;
     wave = c.debug_inputs-ran.new.wave;
     listing = c.debug_inputs-ran.new.listing;
+    state = c.in-Ok-create_outputs.outputs.state;
   };
-  performed = c.debug_inputs-ran.ensures;
+  performed = (c.debug_inputs-ran.ensures, refl);
   all_closed = c.close_outputs.ensures;
 })

@@ -9,13 +9,14 @@ use Rattle.pac_run_command.proofs.play.play.Goals as goal
 pub returns-in-Err-read_parts-clause-plays : goal.returns-in-Err-read_parts-clause-plays
 returns-in-Err-read_parts-clause-plays g c =
     let finds = g.D.FileSystem.finds c.args.disk.now in
-    let unread = part-unread finds (told_run c.args.files.now) c.in-Ok.given c.in-Ok.ensures c.deref.result.now
+    let unread = part-unread finds (told_run c.args.files.now.run) c.in-Ok.read.0 c.in-Ok.ensures.0 c.deref.result.now
     c.in-Ok-manifest_in.manifest c.deref.ensures.value c.in-Ok-manifest_in.ensures in
     inl (record {
       failure = c.read_failure-in-Err-read_parts.result;
       reason = unread-reason {A = Vec NamedFile Global}
-          (λ parts. HasParts finds c.args.files.now.set.now (manifest_part_names c.in-Ok-manifest_in.manifest) parts.items) _ _
-          c.in-Err-read_parts.fault c.read_failure-in-Err-read_parts.result (λ name first. inr (unread name first))
+          (λ parts. HasParts finds c.args.files.now.run.set.now (manifest_part_names c.in-Ok-manifest_in.manifest) parts.items) _ _
+          c.in-Err-read_parts.fault c.read_failure-in-Err-read_parts.result
+          (λ name first. inr (record { last = c.in-Ok.read.1; is_had = c.in-Ok.ensures.1; holds = unread name first }))
           c.in-Err-read_parts.ensures c.read_failure-in-Err-read_parts.ensures;
       fails = c.tell-in-Err-read_parts.ensures.fails;
       unchanged = refl;
@@ -33,12 +34,16 @@ returns-in_default-clause-plays g c = inl (record {
 
 pub returns-clause-plays : goal.returns-clause-plays
 returns-clause-plays g c = inr (record {
-  given = c.in-Ok.given;
-  parts = c.deref-2.result.now;
-  read = all-read (g.D.FileSystem.finds c.args.disk.now) (told_run c.args.files.now) c.in-Ok.given c.in-Ok.ensures c.deref.result.now
-      c.in-Ok-manifest_in.manifest c.deref.ensures.value c.in-Ok-manifest_in.ensures c.deref-2.result.now c.in-Ok-read_parts.named.items
-      c.deref-2.ensures.value c.in-Ok-read_parts.ensures;
-  answer = c.record.result;
-  records = c.record.ensures;
-  ends = c.end.ensures.ends;
+  last = c.in-Ok.read.1;
+  is_had = c.in-Ok.ensures.1;
+  holds = record {
+    given = c.in-Ok.read.0;
+    parts = c.deref-2.result.now;
+    read = all-read (g.D.FileSystem.finds c.args.disk.now) (told_run c.args.files.now.run) c.in-Ok.read.0 c.in-Ok.ensures.0
+        c.deref.result.now c.in-Ok-manifest_in.manifest c.deref.ensures.value c.in-Ok-manifest_in.ensures c.deref-2.result.now
+        c.in-Ok-read_parts.named.items c.deref-2.ensures.value c.in-Ok-read_parts.ensures;
+    answer = c.record.result;
+    records = rw (← c.bytes_in.ensures) c.record.ensures;
+    ends = c.end.ensures.ends;
+  };
 })

@@ -12,6 +12,7 @@ returns g c = inl (record {
     frames = c.run_inputs-ran.new.frames;
     wave = c.run_inputs-ran.new.wave;
     listing = c.run_inputs-ran.new.listing;
+    state = c.run_inputs-ran.new.state;
   };
   performed = c.run_inputs-ran.ensures;
   all_closed = c.close_outputs.ensures;

@@ -1,6 +1,6 @@
 -- The time that went by, and a refusal.
 use Rattle.std.proofs.Common.{◌≡◌, ◌+◌, ◌≤◌, ap, arith, rules}
-use Rattle.pac_board.specs.Sinks.{TookAll}
+use Rattle.pac_board.specs.Sinks.{by, TookAll}
 use Rattle.pac_board.specs.State.{BoardValue, due_outputs, most_asked, time_of}
 use Rattle.pac_board.proofs.Turns.{more_asked, run-later, run-refused}
 use Rattle.pac_board.proofs.board.Board.exec.Goals as goal
@@ -20,5 +20,5 @@ returns-in-Err g c =
     let within : old.state.asked + c.args.us ≤ most_asked = omega arith in
     let same : c.offer.new.self ≡ more_asked old c.args.us = search rules in
     let before : TookAll g.S.Sink.took c.args.sink.now (due_outputs old) c.offer.new.sink = search rules in
-    run-refused g.S.Sink.took g.S.Sink.refused old c.offer.new.self c.run.new.self c.args.us _
+    run-refused (by g.S.Sink.took g.S.Sink.refused) old c.offer.new.self c.run.new.self c.args.us _
     c.args.sink.now c.offer.new.sink c.run.new.sink within (ap time_of asked) same before c.in-Err.ensures

@@ -1,5 +1,6 @@
 -- A frame's answer is the board's, and the next frame's inputs are held where it has ended.
 use Rattle.std.proofs.Common.{◌≡◌, ◌+◌, ◌*◌, ◌/◌, ◌<◌, ◌≤◌, inl, inr, refl, rules}
+use Rattle.pac_board.specs.Sinks.{by}
 use Rattle.pac_board.specs.State.{board_with_inputs}
 use Rattle.pac_board_course.specs.Frames.{frame_end}
 use Rattle.pac_board_course.proofs.Answered.{frame-answered, next_mask}
@@ -14,7 +15,7 @@ returns-then-time-frame g c =
     let held : c.hold.new.board ≡ board_with_inputs c.go_to-played.new.self (next_mask old) = search rules in
     let script : c.self.inside.script ≡ old.script = search rules in
     let gone : c.self.inside.gone ≡ old.gone = search rules in
-    frame-answered g.S.Sink.took g.S.Sink.refused old c.go_to-played.new.self c.hold.new.board c.self.inside.script c.self.inside.gone
+    frame-answered (by g.S.Sink.took g.S.Sink.refused) old c.go_to-played.new.self c.hold.new.board c.self.inside.script c.self.inside.gone
     c.args.sink.now c.go_to-played.new.sink c.go_to-played.result c.self.inside.board (50688 * (c.time.result / 50688 + 1)) begins ends
     c.requires.early c.go_to-played.ensures (inl (ended, held)) script gone
 
@@ -26,6 +27,6 @@ returns-else-time-frame g c =
     let early : c.go_to-played.new.self.state.now.time < frame_end old = search rules in
     let script : c.self.inside.script ≡ old.script = search rules in
     let gone : c.self.inside.gone ≡ old.gone = search rules in
-    frame-answered g.S.Sink.took g.S.Sink.refused old c.go_to-played.new.self c.go_to-played.new.self c.self.inside.script
+    frame-answered (by g.S.Sink.took g.S.Sink.refused) old c.go_to-played.new.self c.go_to-played.new.self c.self.inside.script
     c.self.inside.gone c.args.sink.now c.go_to-played.new.sink c.go_to-played.result c.self.inside.board
     (50688 * (c.time.result / 50688 + 1)) begins ends c.requires.early c.go_to-played.ensures (inr (early, refl)) script gone

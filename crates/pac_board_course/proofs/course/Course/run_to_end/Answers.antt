@@ -1,6 +1,7 @@
 -- From frame to frame, to the end of the run.
 use Rattle.std.proofs.Common.{◌≡◌, ◌≤◌, true, false, is_some, rules}
 use Rattle.std.proofs.lemmas.Result.{err_from_is_err_and}
+use Rattle.pac_board.specs.Sinks.{by}
 use Rattle.pac_board_course.specs.Course.{end_of}
 use Rattle.pac_board_course.proofs.Whole.{underway-held-up, underway-closed, underway-more, underway-ends}
 use Rattle.pac_board_course.proofs.course.Course.run_to_end.Goals as goal
@@ -9,22 +10,22 @@ pub returns-in_err-stop : goal.returns-in_err-stop
 returns-in_err-stop g c =
     let told = err_from_is_err_and c.from_residual.result c.from_residual.ensures.1 in
     rw told.1
-    (underway-held-up g.S.Sink.took g.S.Sink.refused c.args.self.now c.args.sink.now c.frames.self c.play_frame.new.self c.frames.sink
+    (underway-held-up (by g.S.Sink.took g.S.Sink.refused) c.args.self.now c.args.sink.now c.frames.self c.play_frame.new.self c.frames.sink
     c.play_frame.new.sink c.frames.invariant c.in_err-stop.ensures)
 
 pub returns-then-is_some : goal.returns-then-is_some
 returns-then-is_some g c =
     let met : is_some c.in_ok-stop.stop ≡ true = search rules in
-    underway-closed g.S.Sink.took g.S.Sink.refused c.args.self.now c.args.sink.now c.frames.self c.play_frame.new.self
+    underway-closed (by g.S.Sink.took g.S.Sink.refused) c.args.self.now c.args.sink.now c.frames.self c.play_frame.new.self
     c.in_ok-stop.stop c.frames.sink c.play_frame.new.sink c.frames.invariant met c.in_ok-stop.ensures
 
 pub frames-preserved : goal.frames-preserved
 frames-preserved g c =
     let open_yet : is_some c.in_ok-stop.stop ≡ false = search rules in
-    underway-more g.S.Sink.took g.S.Sink.refused c.args.self.now c.args.sink.now c.frames.self c.play_frame.new.self
+    underway-more (by g.S.Sink.took g.S.Sink.refused) c.args.self.now c.args.sink.now c.frames.self c.play_frame.new.self
     c.in_ok-stop.stop c.frames.sink c.play_frame.new.sink c.frames.invariant open_yet c.in_ok-stop.ensures
 
 pub returns : goal.returns
 returns g c =
     let late : end_of c.frames.self ≤ c.frames.self.board.state.now.time = search rules in
-    underway-ends g.S.Sink.took g.S.Sink.refused c.args.self.now c.args.sink.now c.frames.self c.frames.sink c.frames.invariant late
+    underway-ends (by g.S.Sink.took g.S.Sink.refused) c.args.self.now c.args.sink.now c.frames.self c.frames.sink c.frames.invariant late

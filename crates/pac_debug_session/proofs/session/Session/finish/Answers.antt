@@ -1,6 +1,7 @@
 -- To the end of the run.
 use Rattle.std.proofs.Common.{inl, inr}
 use Rattle.std.proofs.lemmas.Result.{err_from_is_err_and}
+use Rattle.pac_board_course.specs.Sinks.{by}
 use Rattle.pac_debug_session.proofs.Finished.{finished, finish-refused, rests-there}
 use Rattle.pac_debug_session.proofs.session.Session.finish.Goals as goal
 
@@ -13,7 +14,7 @@ outcome-requires g c = (
 
 pub returns : goal.returns
 returns g c =
-    finished g.S.Sink.took g.S.Sink.refused c.args.self.now c.args.sink.now c.offer.new.sink c.in_ok-offer.ensures.1 c.offer.new.self
+    finished (by g.S.Sink.took g.S.Sink.refused) c.args.self.now c.args.sink.now c.offer.new.sink c.in_ok-offer.ensures.1 c.offer.new.self
     c.travel.new.self c.travel.new.sink c.in_ok-ending.ending c.outcome.result c.in_ok-offer.ensures.0 c.in_ok-ending.ensures
     c.outcome.ensures c.facts.ensures
 
@@ -26,5 +27,5 @@ pub returns-in_err-ending : goal.returns-in_err-ending
 returns-in_err-ending g c =
     let told = err_from_is_err_and c.from_residual-in_err-ending.result c.from_residual-in_err-ending.ensures.1 in
     rw told.1
-    (inr (finish-refused g.S.Sink.took g.S.Sink.refused c.args.self.now c.args.sink.now c.offer.new.sink c.in_ok-offer.ensures.1
+    (inr (finish-refused (by g.S.Sink.took g.S.Sink.refused) c.args.self.now c.args.sink.now c.offer.new.sink c.in_ok-offer.ensures.1
     c.offer.new.self c.travel.new.self c.travel.new.sink c.in_ok-offer.ensures.0 c.in_err-ending.ensures))

@@ -1,6 +1,6 @@
 -- The session stands at what the slot keeps.
 use Rattle.std.proofs.Common.{◌≡◌, ℕ, ◌<◌, true, None, Some, Option, Ok, length, map, get_or, refl, ap, subst, sym, ◌∙◌, arith}
-use Rattle.pac_board.specs.State.{BoardValue, nothing_due}
+use Rattle.pac_board_course.specs.State.{BoardValue, nothing_due}
 use Rattle.pac_debug_session.specs.declared.session.Empty.{Empty}
 use Rattle.pac_debug_session.specs.Inside.{session_setting}
 use Rattle.pac_debug_session.specs.Keeping.{mark_of}

@@ -1,7 +1,7 @@
 -- The slot keeps what stands.
 use Rattle.std.proofs.Common.{◌≡◌, ℕ, true, List, Option, set, map, ap, subst, sym, ◌∙◌}
 use Rattle.std.proofs.lemmas.List.{map-set}
-use Rattle.pac_board.specs.State.{nothing_due}
+use Rattle.pac_board_course.specs.State.{nothing_due}
 use Rattle.pac_debug_session.specs.declared.kept.SessionSnapshot.{SessionSnapshot}
 use Rattle.pac_debug_session.specs.Inside.{AreSlotsRight, session_setting}
 use Rattle.pac_debug_session.specs.Keeping.{kept_of, mark_of}

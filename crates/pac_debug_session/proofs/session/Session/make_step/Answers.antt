@@ -1,18 +1,22 @@
 -- One step of the run: what stood before it stands after it.
-use Rattle.std.proofs.Common.{◌≡◌, ℕ, max, List, map, refl, ap, sym, subst, ◌∙◌, arith}
-use Rattle.pac_board.specs.Once.{Once}
-use Rattle.pac_board.specs.Regs.{Regs}
-use Rattle.pac_board.specs.RomParts.{Parts}
-use Rattle.pac_board.specs.BoardView.{BoardView}
-use Rattle.pac_board.specs.Step.{Moment}
-use Rattle.pac_board.specs.State.{due_outputs_in, nothing_due}
+use Rattle.std.proofs.Common.{◌≡◌, ℕ, ◌<◌, max, List, [], map, refl, ap, sym, subst, ◌∙◌, arith}
+use Rattle.pac_board_course.specs.Once.{Once}
+use Rattle.pac_board_course.specs.Regs.{Regs}
+use Rattle.pac_board_course.specs.RomParts.{Parts}
+use Rattle.pac_board_course.specs.BoardView.{BoardView}
+use Rattle.pac_board_course.specs.Step.{Moment}
+use Rattle.pac_board_course.specs.State.{due_outputs, due_outputs_in, nothing_due}
+use Rattle.pac_board_course.specs.Idle.{Idle}
+use Rattle.pac_board_course.specs.IdleVariants.{OutputsDue, TimeIsOver}
+use Rattle.pac_board_course.specs.Course.{CourseValue, end_of}
+use Rattle.pac_board_course.specs.Plays.{CourseWasIdle}
 use Rattle.pac_debug_session.specs.declared.history.PastStep.{PastStep}
-use Rattle.pac_debug_session.specs.Inside.{IsStanding, AreSlotsRight}
-use Rattle.pac_debug_session.specs.Keeping.{Ring, kept_of, ring_after_index, mark_of}
+use Rattle.pac_debug_session.specs.Inside.{IsStanding, AreSlotsRight, session_setting}
+use Rattle.pac_debug_session.specs.Keeping.{Ring, kept_of, ring_after_index, mark_of, told_after}
 use Rattle.pac_debug_session.specs.Motions.{MakesStep}
 use Rattle.pac_debug_session.specs.Running.{is_late}
 use Rattle.pac_debug_session.specs.Session.{SessionValue}
-use Rattle.pac_debug_session.specs.Steps.{told_after}
+use Rattle.pac_debug_session.proofs.Indices.{early-time}
 use Rattle.pac_debug_session.proofs.Steppings.{made-step, made-once, made-outputs, right-later, with_board}
 use Rattle.pac_debug_session.proofs.session.Session.make_step.Goals as goal
 
@@ -23,19 +27,35 @@ told-is history new index steps pc regs board once told at same here =
     told ∙ ap (λ n. told_after history n pc once) at
     ∙ ap (λ n. told_after history steps n once) (here ∙ ap (λ (r : Regs). r.pc) same)
 
+-- a step that is asked for with nothing due and time left is done
+never-idle : (course : CourseValue) (why : Idle) → due_outputs course.board ≡ [] → course.board.state.now.time < end_of course
+    → CourseWasIdle course why → ⊥
+never-idle course OutputsDue nothing early idle = idle.1 nothing
+never-idle course TimeIsOver nothing early idle = omega arith
+
+pub unreachable-requires : goal.unreachable-requires
+unreachable-requires c =
+    let inside = c.self.inside in
+    let nothing : inside.board.state.due ≡ nothing_due = ap (λ (s : SessionValue). s.due) c.self.view_is ∙ c.requires.nothing in
+    let early = early-time (session_setting inside) inside.board.state.now.steps
+    (ap (λ (s : SessionValue). is_late s.setting s.index) c.self.view_is ∙ c.requires.early) in
+    let time = ap (λ (m : Moment BoardView). m.time) c.self.invariant.standing.now_is in
+    never-idle (record { board = inside.board; script = inside.script; gone = 0 }) c.in_default.field-0
+    (ap (λ due. due_outputs_in inside.board.set inside.board.state.now.board due) nothing) (omega arith) c.in_default.ensures.1
+
 pub invariant_of-self : goal.invariant_of-self
 invariant_of-self c =
     let inside = c.self.inside in
     let board = inside.board in
-    let new = c.play_step-once.new.board in
+    let new = c.play_step.new.board in
     let nothing : board.state.due ≡ nothing_due = ap (λ (s : SessionValue). s.due) c.self.view_is ∙ c.requires.nothing in
     let early = ap (λ (s : SessionValue). is_late s.setting s.index) c.self.view_is ∙ c.requires.early in
     let told =
-    told-is inside.history c.tell.new.history c.steps-index.result board.state.now.steps c.regs-pc.result.pc c.regs-pc.result
-    board.state.now.regs c.play_step-once.result c.tell.ensures c.steps-index.ensures c.regs-pc.ensures refl in
+    told-is inside.history c.tell.new.self c.steps-index.result board.state.now.steps c.regs-pc.result.pc c.regs-pc.result
+    board.state.now.regs c.in-Ok.once c.tell.ensures c.steps-index.ensures c.regs-pc.ensures refl in
     let made =
-    made-step board inside.switches inside.script inside.history inside.furthest inside.checkpoints c.play_step-once.result new
-    c.tell.new.history c.self.invariant.standing nothing c.self.invariant.unasked early c.play_step-once.ensures told in
+    made-step board inside.switches inside.script inside.history inside.furthest inside.checkpoints c.in-Ok.once new
+    c.tell.new.self c.self.invariant.standing nothing c.self.invariant.unasked early c.in-Ok.ensures told in
     let far : max inside.furthest new.state.now.steps ≡ c.max-self-inside.result
     = sym (c.max-self-inside.ensures ∙ ap (λ n. max inside.furthest n) c.steps.ensures) in
     let ring : ring_after_index board.state.now.steps inside.checkpoints (kept_of board inside.history) ≡ c.take_at.new.checkpoints
@@ -46,9 +66,9 @@ invariant_of-self c =
       unasked = made.asked ∙ c.self.invariant.unasked;
       standing =
           subst (λ n. IsStanding (record { set = new.set; switches = inside.switches; script = inside.script }) new.state.now
-          c.tell.new.history n c.take_at.new.checkpoints) far
+          c.tell.new.self n c.take_at.new.checkpoints) far
           (subst (λ (after : Ring). IsStanding (record { set = new.set; switches = inside.switches; script = inside.script }) new.state.now
-          c.tell.new.history (max inside.furthest new.state.now.steps) after) ring made.standing);
+          c.tell.new.self (max inside.furthest new.state.now.steps) after) ring made.standing);
       slots =
           subst (λ (set : Parts). AreSlotsRight (record { set = set; switches = inside.switches; script = inside.script })
           c.max-self-inside.result inside.slots.items) (sym made.set)
@@ -61,17 +81,17 @@ pub returns : goal.returns
 returns c =
     let inside = c.self.inside in
     let board = inside.board in
-    let new = c.play_step-once.new.board in
-    let once = c.play_step-once.result in
+    let new = c.play_step.new.board in
+    let once = c.in-Ok.once in
     let marks = map mark_of inside.slots.items in
     let nothing : board.state.due ≡ nothing_due = ap (λ (s : SessionValue). s.due) c.self.view_is ∙ c.requires.nothing in
     let early = ap (λ (s : SessionValue). is_late s.setting s.index) c.self.view_is ∙ c.requires.early in
     let told =
-    told-is inside.history c.tell.new.history c.steps-index.result board.state.now.steps c.regs-pc.result.pc c.regs-pc.result
-    board.state.now.regs c.play_step-once.result c.tell.ensures c.steps-index.ensures c.regs-pc.ensures refl in
+    told-is inside.history c.tell.new.self c.steps-index.result board.state.now.steps c.regs-pc.result.pc c.regs-pc.result
+    board.state.now.regs c.in-Ok.once c.tell.ensures c.steps-index.ensures c.regs-pc.ensures refl in
     let made =
-    made-step board inside.switches inside.script inside.history inside.furthest inside.checkpoints c.play_step-once.result new
-    c.tell.new.history c.self.invariant.standing nothing c.self.invariant.unasked early c.play_step-once.ensures told in
+    made-step board inside.switches inside.script inside.history inside.furthest inside.checkpoints c.in-Ok.once new
+    c.tell.new.self c.self.invariant.standing nothing c.self.invariant.unasked early c.in-Ok.ensures told in
     let far : max inside.furthest new.state.now.steps ≡ c.max-self-inside.result
     = sym (c.max-self-inside.ensures ∙ ap (λ n. max inside.furthest n) c.steps.ensures) in
     subst (λ (s : SessionValue). MakesStep s once
@@ -83,8 +103,8 @@ returns c =
       outputs =
           ap (λ (now : Moment BoardView). due_outputs_in new.set now.board new.state.due) (sym made.standing.now_is)
           ∙ made-outputs board inside.switches inside.script inside.history inside.furthest inside.checkpoints once new
-          c.self.invariant.standing c.play_step-once.ensures;
+          c.self.invariant.standing c.in-Ok.ensures;
       once_is =
           made-once board inside.switches inside.script inside.history inside.furthest inside.checkpoints once new
-          c.self.invariant.standing c.play_step-once.ensures;
+          c.self.invariant.standing c.in-Ok.ensures;
     })

@@ -1,7 +1,8 @@
 -- Where a run goes no further it is the whole run.
-use Rattle.std.proofs.Common.{◌/◌, ap, sym, ◌∙◌, arith}
-use Rattle.pac_board.specs.BoardView.{BoardView}
-use Rattle.pac_board.specs.Step.{Moment, frame_ticks}
+use Rattle.std.proofs.Common.{ap, sym, ◌∙◌, arith}
+use Rattle.pac_board_course.specs.BoardView.{BoardView}
+use Rattle.pac_board_course.specs.Step.{Moment}
+use Rattle.pac_board_course.specs.Course.{outcome_at}
 use Rattle.pac_debug_session.specs.Running.{now_at}
 use Rattle.pac_debug_session.specs.Session.{SessionValue}
 use Rattle.pac_debug_session.proofs.Indices.{open-up-to}
@@ -22,12 +23,9 @@ returns c =
     let whole = whole-there s c.requires.0 c.args.ending c.facts.ensures c.requires.1 in
     let within = c.facts.ensures.within in
     let opened = open-up-to s.setting s.index (λ earlier less. c.facts.ensures.goes earlier (omega arith)) in
-    record {
-      frames = c.blanks.ensures.count ∙ ap (λ (m : Moment BoardView). m.time / frame_ticks) (sym whole.now);
-      steps = c.index.ensures ∙ sym opened.steps ∙ ap (λ (m : Moment BoardView). m.steps) (sym whole.now);
-      ticks =
-          c.time.ensures.time ∙ ap (λ (m : Moment BoardView). m.time) c.self.invariant.standing.now_is
-          ∙ ap (λ (t : SessionValue). (now_at t.setting t.index).time) c.self.view_is
-          ∙ ap (λ (m : Moment BoardView). m.time) (sym whole.now);
-      stop = c.stop.ensures ∙ sym whole.stop_is;
-    }
+    let steps = c.index.ensures ∙ sym opened.steps in
+    let ticks =
+    c.time.ensures.time ∙ ap (λ (m : Moment BoardView). m.time) c.self.invariant.standing.now_is
+    ∙ ap (λ (t : SessionValue). (now_at t.setting t.index).time) c.self.view_is in
+    (λ i. record { frames = c.blanks.ensures.count i; steps = steps i; ticks = ticks i; stop = c.stop.ensures i })
+    ∙ (λ i. outcome_at (sym whole.now i) (sym whole.stop_is i))

@@ -1,21 +1,23 @@
 -- What was due, what was done before, and then the way on of a course.
 use Rattle.std.proofs.Common.{◌≤◌, ◌+◌, ◌*◌, inl, inr, ap, sym, subst, ◌∙◌}
 use Rattle.std.proofs.lemmas.Result.{err_from_is_err_and}
-use Rattle.pac_inputs.specs.Stretches.{most_frames}
-use Rattle.pac_board.specs.State.{BoardValue}
-use Rattle.pac_board.specs.Step.{frame_ticks}
-use Rattle.pac_debug_session.specs.Playing.{course_of, totals_at}
+use Rattle.pac_board_course.specs.Sinks.{by}
+use Rattle.pac_board_course.specs.Stretches.{most_frames}
+use Rattle.pac_board_course.specs.State.{BoardValue}
+use Rattle.pac_board_course.specs.Step.{frame_ticks}
+use Rattle.pac_board_course.specs.Course.{outcome_at}
+use Rattle.pac_debug_session.specs.Playing.{course_of}
 use Rattle.pac_debug_session.proofs.PlayedOn.{stands-there, played, ends-near, held-up}
 use Rattle.pac_debug_session.proofs.session.Session.play_on.Goals as goal
 
-pub totals-requires : goal.totals-requires
-totals-requires g c =
+pub outcome_on-requires : goal.outcome_on-requires
+outcome_on-requires g c =
     let old = c.args.self in
     let there =
-    stands-there g.S.Sink.took g.S.Sink.refused old c.facts.ensures c.args.sink.now c.offer.new.sink c.in_ok-offer.ensures.1
+    stands-there (by g.S.Sink.took g.S.Sink.refused) old c.facts.ensures c.args.sink.now c.offer.new.sink c.in_ok-offer.ensures.1
     c.offer.new.self c.replay.new.self c.furthest-furthest.result c.in_ok-offer.ensures.0 c.furthest-furthest.ensures c.replay.ensures in
     subst (λ (board : BoardValue). board.state.now.time ≤ frame_ticks * (most_frames + 1)) (sym c.board.ensures)
-    (ends-near g.S.Sink.took g.S.Sink.refused old c.facts.ensures c.args.sink.now c.offer.new.sink c.in_ok-offer.ensures.1
+    (ends-near (by g.S.Sink.took g.S.Sink.refused) old c.facts.ensures c.args.sink.now c.offer.new.sink c.in_ok-offer.ensures.1
     c.into_course-course.result c.run_to_end.new.self c.in_ok-stop.stop c.run_to_end.new.sink
     (c.into_course-course.ensures ∙ ap course_of there) c.in_ok-stop.ensures)
 
@@ -23,13 +25,13 @@ pub returns : goal.returns
 returns g c =
     let old = c.args.self in
     let there =
-    stands-there g.S.Sink.took g.S.Sink.refused old c.facts.ensures c.args.sink.now c.offer.new.sink c.in_ok-offer.ensures.1
+    stands-there (by g.S.Sink.took g.S.Sink.refused) old c.facts.ensures c.args.sink.now c.offer.new.sink c.in_ok-offer.ensures.1
     c.offer.new.self c.replay.new.self c.furthest-furthest.result c.in_ok-offer.ensures.0 c.furthest-furthest.ensures c.replay.ensures in
     let whole =
-    played g.S.Sink.took g.S.Sink.refused old c.facts.ensures c.args.sink.now c.offer.new.sink c.in_ok-offer.ensures.1
-    c.into_course-course.result c.run_to_end.new.self c.in_ok-stop.stop c.run_to_end.new.sink c.totals.result
+    played (by g.S.Sink.took g.S.Sink.refused) old c.facts.ensures c.args.sink.now c.offer.new.sink c.in_ok-offer.ensures.1
+    c.into_course-course.result c.run_to_end.new.self c.in_ok-stop.stop c.run_to_end.new.sink c.outcome_on.result
     (c.into_course-course.ensures ∙ ap course_of there) c.in_ok-stop.ensures
-    (c.totals.ensures ∙ ap (λ board. totals_at board c.in_ok-stop.stop) c.board.ensures) in
+    (c.outcome_on.ensures ∙ ap (λ (board : BoardValue). outcome_at board.state.now c.in_ok-stop.stop) c.board.ensures) in
     record { left = whole.0; finishes = whole.1 }
 
 pub returns-in_err-offer : goal.returns-in_err-offer
@@ -41,11 +43,11 @@ pub returns-in_err-stop : goal.returns-in_err-stop
 returns-in_err-stop g c =
     let old = c.args.self in
     let there =
-    stands-there g.S.Sink.took g.S.Sink.refused old c.facts.ensures c.args.sink.now c.offer.new.sink c.in_ok-offer.ensures.1
+    stands-there (by g.S.Sink.took g.S.Sink.refused) old c.facts.ensures c.args.sink.now c.offer.new.sink c.in_ok-offer.ensures.1
     c.offer.new.self c.replay.new.self c.furthest-furthest.result c.in_ok-offer.ensures.0 c.furthest-furthest.ensures c.replay.ensures in
     let told = err_from_is_err_and c.from_residual-in_err-stop.result c.from_residual-in_err-stop.ensures.1 in
     let stays =
-    held-up g.S.Sink.took g.S.Sink.refused old c.facts.ensures c.args.sink.now c.offer.new.sink c.in_ok-offer.ensures.1
+    held-up (by g.S.Sink.took g.S.Sink.refused) old c.facts.ensures c.args.sink.now c.offer.new.sink c.in_ok-offer.ensures.1
     c.into_course-course.result c.run_to_end.new.self c.run_to_end.new.sink (c.into_course-course.ensures ∙ ap course_of there)
     c.in_err-stop.ensures in
     rw told.1 (record { left = stays.0; finishes = inr stays.1 })

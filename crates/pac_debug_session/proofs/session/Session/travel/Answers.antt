@@ -1,8 +1,9 @@
 -- From step to step.
 use Rattle.std.proofs.Common.{◌≡◌, false, true, Option, Ok, ap, sym, subst, ◌∙◌}
 use Rattle.std.proofs.lemmas.Result.{err_from_is_err_and}
-use Rattle.pac_board.specs.Stop.{Stop}
-use Rattle.pac_board.specs.declared.sink.Refused.{Refused}
+use Rattle.pac_board_course.specs.Sinks.{by}
+use Rattle.pac_board_course.specs.Stop.{Stop}
+use Rattle.pac_board_course.specs.Refused.{Refused}
 use Rattle.pac_debug_session.specs.declared.motion.MotionEnd.{MotionEnd}
 use Rattle.pac_debug_session.specs.Motions.{has_met, HasTravelled, StepsOn, motion_ending}
 use Rattle.pac_debug_session.specs.Running.{is_late}
@@ -13,7 +14,9 @@ use Rattle.pac_debug_session.proofs.session.Session.travel.Goals as goal
 
 pub onwards-init : goal.onwards-init
 onwards-init g c = record {
-  under = underway-begins g.S.Sink.took c.args.self.now c.args.motion c.args.sink.now c.facts.ensures c.requires.nothing;
+  under =
+      underway-begins (by g.S.Sink.took g.S.Sink.refused) c.args.self.now c.args.motion c.args.sink.now c.facts.ensures
+      c.requires.nothing;
   from_is = c.index-from.ensures;
   blanks_is = c.blanks-blanks.ensures.count;
   bound = c.blanks-blanks.ensures.bound;
@@ -27,9 +30,10 @@ onwards-preserved g c =
     = ap (λ n. has_met s c.args.motion n s.index) (sym c.onwards.invariant.from_is) ∙ sym c.has_met.ensures ∙ c.if-has_met.false in
     record {
       under =
-          underway-more g.S.Sink.took old c.args.motion c.args.sink.now s c.step_on.new.self c.onwards.sink c.step_on.new.sink
+          underway-more (by g.S.Sink.took g.S.Sink.refused) old c.args.motion c.args.sink.now s c.step_on.new.self c.onwards.sink
+          c.step_on.new.sink
           c.onwards.invariant.under unmet
-          (subst (λ (found : Option Stop). StepsOn {E = Refused} g.S.Sink.took g.S.Sink.refused s c.onwards.sink (Ok found)
+          (subst (λ (found : Option Stop). StepsOn {E = Refused} (by g.S.Sink.took g.S.Sink.refused) s c.onwards.sink (Ok found)
           c.step_on.new.self c.step_on.new.sink) c.in_default.is c.in_ok-stop.ensures);
       from_is = c.onwards.invariant.from_is;
       blanks_is = c.onwards.invariant.blanks_is;
@@ -40,16 +44,18 @@ pub onwards-smaller : goal.onwards-smaller
 onwards-smaller g c =
     let s = c.onwards.self in
     let early : is_late s.setting s.index ≡ false = sym c.is_late.ensures ∙ c.if-is_late.false in
-    time-falls g.S.Sink.took c.args.self.now c.args.motion c.args.sink.now s c.step_on.new.self c.onwards.sink c.step_on.new.sink
+    time-falls (by g.S.Sink.took g.S.Sink.refused) c.args.self.now c.args.motion c.args.sink.now s c.step_on.new.self c.onwards.sink
+    c.step_on.new.sink
     c.facts.ensures c.onwards.invariant.under early
-    (subst (λ (found : Option Stop). StepsOn {E = Refused} g.S.Sink.took g.S.Sink.refused s c.onwards.sink (Ok found)
+    (subst (λ (found : Option Stop). StepsOn {E = Refused} (by g.S.Sink.took g.S.Sink.refused) s c.onwards.sink (Ok found)
     c.step_on.new.self c.step_on.new.sink) c.in_default.is c.in_ok-stop.ensures)
 
 pub returns-then-is_late : goal.returns-then-is_late
 returns-then-is_late g c =
     let s = c.onwards.self in
     let late : is_late s.setting s.index ≡ true = sym c.is_late.ensures ∙ c.if-is_late.true in
-    underway-late g.S.Sink.took c.args.self.now c.args.motion c.args.sink.now s c.onwards.sink c.onwards.invariant.under late
+    underway-late (by g.S.Sink.took g.S.Sink.refused) c.args.self.now c.args.motion c.args.sink.now s c.onwards.sink
+    c.onwards.invariant.under late
 
 pub returns-then-has_met : goal.returns-then-has_met
 returns-then-has_met g c =
@@ -60,7 +66,8 @@ returns-then-has_met g c =
     = ap (λ n. has_met s c.args.motion n s.index) (sym c.onwards.invariant.from_is) ∙ sym c.has_met.ensures ∙ c.if-has_met.true in
     let word = c.word.ensures ∙ ap (motion_ending c.args.motion) c.breaks.ensures in
     subst (λ (why : MotionEnd). HasTravelled g.S.Sink.took old c.args.motion c.args.sink.now why s c.onwards.sink) (sym word)
-    (underway-met g.S.Sink.took old c.args.motion c.args.sink.now s c.onwards.sink c.onwards.invariant.under early met)
+    (underway-met (by g.S.Sink.took g.S.Sink.refused) old c.args.motion c.args.sink.now s c.onwards.sink
+    c.onwards.invariant.under early met)
 
 pub returns-in-Some : goal.returns-in-Some
 returns-in-Some g c =
@@ -69,9 +76,11 @@ returns-in-Some g c =
     let early : is_late s.setting s.index ≡ false = sym c.is_late.ensures ∙ c.if-is_late.false in
     let unmet : has_met s c.args.motion old.index s.index ≡ false
     = ap (λ n. has_met s c.args.motion n s.index) (sym c.onwards.invariant.from_is) ∙ sym c.has_met.ensures ∙ c.if-has_met.false in
-    underway-stopped g.S.Sink.took old c.args.motion c.args.sink.now s c.step_on.new.self c.onwards.sink c.step_on.new.sink c.in-Some.stop
+    underway-stopped (by g.S.Sink.took g.S.Sink.refused) old c.args.motion c.args.sink.now s c.step_on.new.self c.onwards.sink
+    c.step_on.new.sink
+    c.in-Some.stop
     c.onwards.invariant.under early unmet
-    (subst (λ (found : Option Stop). StepsOn {E = Refused} g.S.Sink.took g.S.Sink.refused s c.onwards.sink (Ok found)
+    (subst (λ (found : Option Stop). StepsOn {E = Refused} (by g.S.Sink.took g.S.Sink.refused) s c.onwards.sink (Ok found)
     c.step_on.new.self c.step_on.new.sink) c.in-Some.is c.in_ok-stop.ensures)
 
 pub returns-in_err-stop : goal.returns-in_err-stop
@@ -82,5 +91,5 @@ returns-in_err-stop g c =
     let unmet : has_met s c.args.motion old.index s.index ≡ false
     = ap (λ n. has_met s c.args.motion n s.index) (sym c.onwards.invariant.from_is) ∙ sym c.has_met.ensures ∙ c.if-has_met.false in
     rw told.1
-    (underway-refused g.S.Sink.took old c.args.motion c.args.sink.now g.S.Sink.refused s c.step_on.new.self c.onwards.sink
+    (underway-refused (by g.S.Sink.took g.S.Sink.refused) old c.args.motion c.args.sink.now s c.step_on.new.self c.onwards.sink
     c.step_on.new.sink c.onwards.invariant.under unmet c.in_err-stop.ensures)

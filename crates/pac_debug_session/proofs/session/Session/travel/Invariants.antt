@@ -1,12 +1,13 @@
 -- So far no index rests; the time that is left falls.
 use Rattle.std.proofs.Common.{◌≡◌, ◌-◌, ◌<◌, ◌^◌}
+use Rattle.pac_board_course.specs.Sinks.{by}
 use Rattle.pac_debug_session.specs.Running.{now_at, limit, blanks_at}
 use Rattle.pac_debug_session.proofs.Travelled.{IsUnderway}
 use Rattle.pac_debug_session.proofs.session.Session.travel.Given as goal
 
 abbrev pub invariant-onwards : goal.invariant-onwards
 invariant-onwards g l = record {
-  under : IsUnderway g.S.Sink.took l.fn.self l.motion l.fn.sink l.self l.sink;
+  under : IsUnderway (by g.S.Sink.took g.S.Sink.refused) l.fn.self l.motion l.fn.sink l.self l.sink;
   from_is : l.from ≡ l.fn.self.index;
   blanks_is : l.blanks ≡ blanks_at l.fn.self.setting l.fn.self.index;
   bound : l.blanks < 2 ^ 40;

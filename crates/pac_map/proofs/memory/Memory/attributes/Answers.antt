@@ -12,6 +12,5 @@ rest-taken bytes long =
 
 pub returns-clause-bytes : goal.returns-clause-bytes
 returns-clause-bytes c =
-    ap (λ bytes. take 16 (drop 1008 bytes)) c.deref.ensures
-    ∙ rest-taken c.self.inside.work.value c.self.invariant.work
+    rest-taken c.self.inside.work c.self.invariant.work
     ∙ ap sprite_attributes c.self.view_is

@@ -8,10 +8,10 @@ pub invariant_of-result : goal.invariant_of-result
 invariant_of-result c = subst IsWellFormed (sym (λ i. record {
   switches = c.args.switches;
   held = c.from_bits_retain.ensures tt i;
-  tile = c.in_ok-tile.ensures i;
-  colour = c.in_ok-colour.ensures i;
-  work = c.in_ok-work.ensures i;
-  coordinates = c.zeros.ensures i;
-  registers = c.zeros-2.ensures i;
+  tile = c.zeros.ensures i;
+  colour = c.zeros-2.ensures i;
+  work = c.zeros-3.ensures i;
+  coordinates = c.zeros-4.ensures i;
+  registers = c.zeros-5.ensures i;
   latched = c.new.ensures i;
 })) (power-on-well-formed c.args.switches)

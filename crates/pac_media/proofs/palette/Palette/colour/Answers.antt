@@ -1,4 +1,4 @@
-use Rattle.std.proofs.Common.{◌≡◌, ◌<◌, ◌+◌, ◌*◌, ap, take, ◌∙◌, length, rules, arith, slice_index}
+use Rattle.std.proofs.Common.{◌≡◌, ◌<◌, ◌+◌, ◌*◌, ap, take, ◌∙◌, length, rules, arith, slice_index, get_or, []}
 use Rattle.std.proofs.lemmas.List.{places}
 use Rattle.pac_media.specs.Images.{palette_colour}
 use Rattle.pac_media.proofs.Pixels.{pair-pixels, pixels-step, all-pixels}
@@ -7,11 +7,14 @@ use Rattle.pac_media.proofs.palette.Palette.colour.Goals as goal
 pub loop-k-preserved : goal.loop-k-preserved
 loop-k-preserved c =
     let first : 2 * c.loop-k.k < length c.args.numbers.now = omega (arith, c.requires.size, c.loop-k-test.true) in
+    let inside : c.loop-k.k < 4 = omega (arith, c.loop-k-test.true) in
     let second : 2 * c.loop-k.k + 1 < length c.args.numbers.now = omega (arith, c.requires.size, c.loop-k-test.true) in
     let two = pair-pixels c.args.self.now c.self.inside.colours.items c.self.inside.pairs.items c.as_slice-pairs.result.now
     c.pair-two.result
     (slice_index c.args.numbers.now (2 * c.loop-k.k)) (slice_index c.args.numbers.now (2 * c.loop-k.k + 1)) c.self.view_is
-    c.self.invariant.made c.as_slice-pairs.ensures.value c.pair-two.ensures (c.requires.below (2 * c.loop-k.k) first)
+    c.self.invariant.made c.as_slice-pairs.ensures.value
+    (c.pair-two.ensures ∙ ap (λ place. get_or c.as_slice-pairs.result.now place []) (c.pair_places-places.ensures c.loop-k.k inside))
+    (c.requires.below (2 * c.loop-k.k) first)
     (c.requires.below (2 * c.loop-k.k + 1) second) in
     record {
       long = search (rules, places);
@@ -30,7 +33,9 @@ returns c =
     let last = pair-pixels c.args.self.now c.self.inside.colours.items c.self.inside.pairs.items c.as_slice-pairs.result.now
     c.pair-last.result
     (slice_index c.args.numbers.now 6) (slice_index c.args.numbers.now 7) c.self.view_is
-    c.self.invariant.made c.as_slice-pairs.ensures.value c.pair-last.ensures (c.requires.below 6 sixth) (c.requires.below 7 seventh) in
+    c.self.invariant.made c.as_slice-pairs.ensures.value
+    (c.pair-last.ensures ∙ ap (λ place. get_or c.as_slice-pairs.result.now place []) (c.pair_places-places.ensures 3 (omega arith)))
+    (c.requires.below 6 sixth) (c.requires.below 7 seventh) in
     all-pixels (palette_colour c.args.self.now) c.args.numbers.now c.loop-k.pixels c.copy_from_slice-2.new.self c.pair-last.result _
     c.requires.size c.loop-k.invariant.long (search (rules, places)) c.copy_from_slice-2.ensures.after last
     (rw all at c.loop-k.invariant.filled) (search (rules, places))

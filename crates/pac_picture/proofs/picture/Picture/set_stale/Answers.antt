@@ -1,9 +1,17 @@
 use Rattle.std.proofs.Common.{ap}
 use Rattle.pac_picture.specs.Layer.{LayerState}
 use Rattle.pac_picture.proofs.Stale.{made-are-stale}
+use Rattle.pac_picture.proofs.BareLines.{stale-bare}
 use Rattle.pac_picture.proofs.picture.Picture.set_stale.Goals as goal
 
 pub returns-clause-stale : goal.returns-clause-stale
 returns-clause-stale c =
     made-are-stale c.self.inside.layer.shadows _ (ap (λ (layer : LayerState). layer.shadows) c.set_stale.ensures.layer)
     c.set_stale.ensures.high
+
+pub invariant_of-self : goal.invariant_of-self
+invariant_of-self c = record {
+  colours = c.self.invariant.colours;
+  bare = rw c.set_stale.ensures.layer (stale-bare c.self.inside.bare.lines c.self.inside.bare.flip c.self.inside.layer.roms
+      c.self.inside.layer.shadows c.self.inside.lines c.self.invariant.bare c.set_stale.ensures.high);
+}

@@ -1,5 +1,4 @@
 use Rattle.std.proofs.Common.{refl}
-use Rattle.pac_board_course.specs.State.{due_outputs}
 use Rattle.pac_board_course.proofs.Taken.{refused-among}
 use Rattle.pac_board_course.specs.Course.{way_on}
 use Rattle.pac_run.proofs.Filmed.{recorded, stops-among, stops-at-zeros}
@@ -18,7 +17,6 @@ returns-in-Err-finish-clause-film g c =
 pub returns-in-Err-clause-film : goal.returns-in-Err-clause-film
 returns-in-Err-clause-film g c =
     let held_up = c.in-Err.ensures in
-    stops-among g.F.Out.took g.F.Out.refused g.W.Out.took g.W.Out.refused (way_on c.args.course.now).outputs held_up.taken
-    (due_outputs c.run_to_end.new.self.board) c.args.self.now c.run_to_end.new.sink c.give_up.new.self c.give_up.result
-    (refused-among c.args.course.now (due_outputs c.run_to_end.new.self.board) held_up.steps held_up.taken held_up.parts) held_up.refuses
+    stops-among g.F.Out.took g.F.Out.refused g.W.Out.took g.W.Out.refused (way_on c.args.course.now).outputs c.args.self.now
+    c.run_to_end.new.sink c.give_up.new.self c.give_up.result held_up.cut (refused-among c.args.course.now held_up.steps held_up.cut)
     c.give_up.ensures.told c.give_up.ensures.left

@@ -3,7 +3,8 @@ use mathlib.Core.List.{IsPrefix}
 use Rattle.std.specs.Str.Lines.{lines}
 use Rattle.pac_board_course.specs.Sinks.{TookAll}
 use Rattle.pac_debug.specs.Running.{whole_run}
-use Rattle.pac_run.specs.Films.{film_took, film_refused}
+use Rattle.pac_debug.specs.Session.{session_due_outputs}
+use Rattle.pac_run.specs.Films.{film_took, film_giving}
 use Rattle.pac_run.proofs.Filmed.{recorded, stops-among, stops-at-zeros}
 use Rattle.pac_run.proofs.Watching.{all-to-give, tells-of, held-up, untold, films-till, cut-short, told-off}
 use Rattle.pac_debug.proofs.HeldUp.{told-up-to, all-told}
@@ -40,34 +41,32 @@ returns-in-Err-clause-film g c =
 
 pub returns-in-Err-Refused-clause-film : goal.returns-in-Err-Refused-clause-film
 returns-in-Err-Refused-clause-film g c =
-    let refused = held-up
-    (film_took g.F.Out.took g.W.Out.took) (film_refused g.F.Out.took g.F.Out.refused g.W.Out.took g.W.Out.refused) g.T.Out.took
-    g.T.Out.refused (lines c.args.commands.now)
+    let to = film_giving g.F.Out.took g.F.Out.refused g.W.Out.took g.W.Out.refused in
+    let refused = held-up to g.T.Out.took g.T.Out.refused (lines c.args.commands.now)
     (record { session = c.args.session; sink = c.args.self.now; text = c.args.text.now })
     (record { session = c.watch.ensures.left; sink = c.watch.new.sink; text = c.watch.new.text }) c.watch.result c.in-Err-Refused.field-0
     c.in-Err-Refused.is c.watch.ensures.watched c.in-Err-Refused.field-0-is in
     films-till g.F.Out.took g.F.Out.refused g.W.Out.took g.W.Out.refused g.T.Out.took g.T.Out.refused c.args.session.setting
     (lines c.args.commands.now) c.args.self.now c.give_up.new.self c.args.text.now c.watch.new.text refused.told refused.text.takes
     c.give_up.result.output c.give_up.result.count
-    (stops-among g.F.Out.took g.F.Out.refused g.W.Out.took g.W.Out.refused (whole_run c.args.session.setting).outputs refused.taken
-    refused.left c.args.self.now c.watch.new.sink c.give_up.new.self c.give_up.result
-    (subst (λ outputs. IsPrefix (refused.taken ++ refused.left) outputs) (all-to-give c.args.session c.requires) refused.among)
-    refused.refuses c.give_up.ensures.told c.give_up.ensures.left)
-    (told-up-to (film_took g.F.Out.took g.W.Out.took) (film_refused g.F.Out.took g.F.Out.refused g.W.Out.took g.W.Out.refused)
-    g.T.Out.took (lines c.args.commands.now)
+    (stops-among g.F.Out.took g.F.Out.refused g.W.Out.took g.W.Out.refused (whole_run c.args.session.setting).outputs c.args.self.now
+    c.watch.new.sink c.give_up.new.self c.give_up.result refused.in_all.cut
+    (subst (λ outputs. IsPrefix (refused.in_all.cut.taken ++ session_due_outputs c.watch.ensures.left) outputs)
+    (all-to-give c.args.session c.requires) refused.among)
+    c.give_up.ensures.told c.give_up.ensures.left)
+    (told-up-to to g.T.Out.took (lines c.args.commands.now)
     (record { session = c.args.session; sink = c.args.self.now; text = c.args.text.now })
     (record { session = c.watch.ensures.left; sink = c.watch.new.sink; text = c.watch.new.text }) c.requires refused)
 
 pub returns-in-Err-Text-clause-film : goal.returns-in-Err-Text-clause-film
 returns-in-Err-Text-clause-film g c =
     let halt = untold
-    (film_took g.F.Out.took g.W.Out.took) (film_refused g.F.Out.took g.F.Out.refused g.W.Out.took g.W.Out.refused) g.T.Out.took
-    g.T.Out.refused (lines c.args.commands.now)
+    (film_giving g.F.Out.took g.F.Out.refused g.W.Out.took g.W.Out.refused) g.T.Out.took g.T.Out.refused (lines c.args.commands.now)
     (record { session = c.args.session; sink = c.args.self.now; text = c.args.text.now })
     (record { session = c.watch.ensures.left; sink = c.watch.new.sink; text = c.watch.new.text }) c.watch.result c.in-Err-Text.field-0
     c.in-Err-Text.is c.watch.ensures.watched c.in-Err-Text.fault c.in-Err-Text.field-0-is in
     told-off g.F.Out.took g.F.Out.refused g.W.Out.took g.W.Out.refused g.T.Out.took g.T.Out.refused (lines c.args.commands.now)
     (record { session = c.args.session; sink = c.args.self.now; text = c.args.text.now })
     (record { session = c.watch.ensures.left; sink = c.watch.new.sink; text = c.watch.new.text }) _ c.in-Err-Text.fault c.requires halt
-    (cut-short g.F.Out.took g.F.Out.refused g.W.Out.took g.W.Out.refused halt.taken c.args.self.now c.watch.new.sink _ c.flush.result
-    halt.sink c.flush.ensures.written refl)
+    (cut-short g.F.Out.took g.F.Out.refused g.W.Out.took g.W.Out.refused halt.in_all.taken c.args.self.now c.watch.new.sink _
+    c.flush.result halt.in_all.sink_is c.flush.ensures.written refl)

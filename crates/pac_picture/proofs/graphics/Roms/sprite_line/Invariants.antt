@@ -1,9 +1,0 @@
-use Rattle.std.proofs.Common.{◌≡◌, ◌<◌, ℕ, length, get_or}
-use Rattle.pac_picture.specs.Picture.{sprite_number}
-use Rattle.pac_picture.proofs.graphics.Roms.sprite_line.Given as goal
-
-abbrev pub invariant-loop-x : goal.invariant-loop-x
-invariant-loop-x l = record {
-  long : length l.line ≡ 16;
-  filled : (k : ℕ) → k < l.x → get_or l.line k 0 ≡ sprite_number l.fn.self l.colour l.code k l.y;
-}

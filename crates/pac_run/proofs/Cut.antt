@@ -1,0 +1,234 @@
+-- A run whose end was saved, and that is resumed from the file, is the run at once.
+use Rattle.std.proofs.Common.{◌≡◌, ℕ, ◌+◌, ◌-◌, ◌*◌, ◌/◌, ◌%◌, ◌<◌, ◌≤◌, zero, suc, min, pos, nat_le, arith}
+use Rattle.std.proofs.Common.{Bool, true, false, not, ◌&&◌, ◌||◌, is_some}
+use Rattle.std.proofs.Common.{List, [], ◌∷◌, ◌++◌, length, replicate, Option, None}
+use Rattle.std.proofs.Common.{Some, refl, sym, ap, subst, ◌∙◌, append-nil, length-append}
+use Rattle.std.proofs.lemmas.Bool.Decides.{nat_tests}
+use Rattle.pac_asm.specs.PlacedItems.{Item, AllLie}
+use Rattle.pac_board_course.specs.BoardView.{BoardView, IsBoard}
+use Rattle.pac_board_course.specs.Carried.{walk_view}
+use Rattle.pac_board_course.specs.Course.{frame_microseconds}
+use Rattle.pac_board_course.specs.Entry.{Entry}
+use Rattle.pac_board_course.specs.History.{board_after_entries}
+use Rattle.pac_board_course.specs.ModelLaws.{IsTimely, frame_samples}
+use Rattle.pac_board_course.specs.Output.{Output, Sound, Show, picture_count, sound_count}
+use Rattle.pac_board_course.specs.Resumed.{HasItsFrames, JoinsPlays}
+use Rattle.pac_board_course.specs.RomParts.{Parts, IsWhole}
+use Rattle.pac_board_course.specs.State.{BoardState, BoardValue, nothing_due}
+use Rattle.pac_board_course.specs.Step.{Moment, Next, Goes, Ends, frame_ticks, sample_ticks}
+use Rattle.pac_board_course.specs.Stop.{Stop}
+use Rattle.pac_board_course.specs.Trace.{Play, by_history, by_view, frames_gone, plays_joined}
+use Rattle.pac_board_course.specs.Trace.{resumed, resumed_end, resumed_start, resumed_step}
+use Rattle.pac_board_course.specs.Walk.{Walk, onward_if, walk, walk_after_step}
+use Rattle.pac_board_course.proofs.Agreed.{resumed-runs-agree}
+use Rattle.pac_board_course.proofs.Resumed.{plays-join, stopped-runs-stay}
+use Rattle.pac_board_course.proofs.ResumedTimes.{resumed-runs-have-their-frames}
+use Rattle.pac_board_course.proofs.Walks.{play-timely}
+use Rattle.pac_media.specs.Samples.{samples_text}
+use Rattle.pac_state.specs.Files.{IsState}
+use Rattle.pac_state.specs.Text.{written_version}
+use Rattle.pac_run.specs.Cuts.{IsCutWell, JoinsRuns, RunsAreCut, SavedStatesAreTakenUp, StoppedRunsEnd, frames_sound, saved_board}
+use Rattle.pac_run.specs.Resumes.{end_state, frames_asked, outcome_since, run_of_play, without_history}
+use Rattle.pac_run.specs.Start.{is_between_frames}
+use Rattle.pac_run.specs.Texts.{images_text, samples_in, sound_text}
+use Rattle.pac_run.proofs.Begins.{both-true}
+use Rattle.pac_run.proofs.Filmed.{frames-append, samples-append, sound-append}
+
+-- ---- counting
+
+samples-counted : (outputs : List Output) → length (samples_in outputs) ≡ sound_count outputs
+samples-counted [] = refl
+samples-counted (Sound sample ∷ more) = ap suc (samples-counted more)
+samples-counted (Show image ∷ more) = samples-counted more
+
+pictures-counted : (one other : List Output) → picture_count (one ++ other) ≡ picture_count one + picture_count other
+pictures-counted [] other = omega arith
+pictures-counted (Sound sample ∷ more) other = pictures-counted more other
+pictures-counted (Show image ∷ more) other = let e = pictures-counted more other in omega (arith, e)
+
+-- ---- time and steps grow
+
+module _ {Board : Type 0} (next : Moment Board → Next Board) (limit : ℕ) (timely : (now : Moment Board) → IsTimely now (next now))
+    (from : Moment Board) where
+  record HasGrown (w : Walk Board) : Type 0 where
+    pub time : from.time ≤ w.now.time
+    pub steps : from.steps ≤ w.now.steps
+
+  grown-after : (w : Walk Board) (h : Next Board) → IsTimely w.now h → HasGrown w → HasGrown (walk_after_step w h)
+  grown-after w (Goes now outputs kind) times has =
+      record {
+        time = let a = times.0 in let b = has.time in omega (arith, a, b);
+        steps = let a = times.2 in let b = has.steps in omega (arith, a, b);
+      }
+  grown-after w (Ends stop) times has = record { time = has.time; steps = has.steps }
+
+  grown-onward : (w : Walk Board) (stop : Option Stop) (late : Bool) → HasGrown w → HasGrown (onward_if next w stop late)
+  grown-onward w (Some stop) late has = has
+  grown-onward w None true has = has
+  grown-onward w None false has = grown-after w (next w.now) (timely w.now) has
+
+  grown : (n : ℕ) → HasGrown (walk next limit from n)
+  grown zero = record { time = omega arith; steps = omega arith }
+  grown (suc n) = let w = walk next limit from n in grown-onward w w.stop (nat_le limit w.now.time) (grown n)
+
+run-grown : (set : Parts) (items : List Item) (play : Play) (board : BoardValue)
+    → (board.state.now.time ≤ (run_of_play set items play board).now.time)
+    × (board.state.now.steps ≤ (run_of_play set items play board).now.steps)
+run-grown set items play board =
+    let ask = by_history set items board.state.now.board in
+    let from = without_history board.state.now in
+    let has = grown (resumed_step ask play (frames_gone from)) (resumed_end play (frames_gone from))
+    (play-timely ask (λ frame. play.held (frame - frames_gone from))) (resumed_start ask play from)
+    (resumed_end play (frames_gone from)) in
+    (has.time, has.steps)
+
+-- ---- between two frames
+
+pub is-near : (state : BoardState) → is_between_frames state ≡ true → state.now.time % frame_ticks < sample_ticks
+is-near state between =
+    let e = (both-true (not (is_some state.due.sample || state.due.picture)) (not (nat_le sample_ticks (state.now.time % frame_ticks)))
+    between).1 in
+    grind (arith, nat_tests)
+
+-- ---- a run in two
+
+module _ (set : Parts) (items : List Item) (first second : Play) (board : BoardValue) (whole : IsWhole set)
+    (lie : AllLie set.program items) (holds : IsBoard board.state.now.board) (between : is_between_frames board.state ≡ true)
+    (open_yet : (run_of_play set items first board).stop ≡ None)
+  where
+    abbrev one : Walk (List Entry)
+    one = run_of_play set items first board
+
+    abbrev saved : BoardValue
+    saved = saved_board set first board one
+
+    near : board.state.now.time % frame_ticks < sample_ticks
+    near = is-near board.state between
+
+    has-frames : HasItsFrames (by_history set items board.state.now.board) first (without_history board.state.now)
+    has-frames =
+        resumed-runs-have-their-frames (by_history set items board.state.now.board) first (without_history board.state.now) open_yet
+
+    still-between : is_between_frames saved.state ≡ true
+    still-between = let e = has-frames.near near in grind (arith, nat_tests)
+
+    -- the first run, told by the view
+    abbrev first_viewed : Walk BoardView
+    first_viewed = resumed (by_view set) first board.state.now
+
+    one-viewed : walk_view (board_after_entries set board.state.now.board) one ≡ first_viewed
+    one-viewed =
+        (resumed-runs-agree set items board.state.now.board first (without_history board.state.now) whole lie holds).whole
+
+    module _ (held : IsBoard saved.state.now.board) where
+      abbrev two : Walk (List Entry)
+      two = run_of_play set items second saved
+
+      abbrev all : Walk (List Entry)
+      all = run_of_play set items (plays_joined first second) board
+
+      two-viewed : walk_view (board_after_entries set saved.state.now.board) two ≡ resumed (by_view set) second first_viewed.now
+      two-viewed =
+          (resumed-runs-agree set items saved.state.now.board second (without_history saved.state.now) whole lie held).whole
+          ∙ ap (λ (run : Walk BoardView). resumed (by_view set) second run.now) one-viewed
+
+      all-viewed : walk_view (board_after_entries set board.state.now.board) all
+          ≡ resumed (by_view set) (plays_joined first second) board.state.now
+      all-viewed =
+          (resumed-runs-agree set items board.state.now.board (plays_joined first second) (without_history board.state.now) whole lie
+          holds).whole
+
+      joins : JoinsPlays (by_view set) first second board.state.now
+      joins = plays-join set first second board.state.now (sym (ap (λ (run : Walk BoardView). run.stop) one-viewed) ∙ open_yet)
+
+      -- what they give, and where they end
+      outputs-joined : one.outputs ++ two.outputs ≡ all.outputs
+      outputs-joined =
+          (λ i. (one-viewed i).outputs ++ (two-viewed i).outputs) ∙ joins.outputs
+          ∙ sym (ap (λ (run : Walk BoardView). run.outputs) all-viewed)
+
+      ends-joined : (walk_view (board_after_entries set saved.state.now.board) two).now
+          ≡ (walk_view (board_after_entries set board.state.now.board) all).now
+      ends-joined =
+          ap (λ (run : Walk BoardView). run.now) two-viewed ∙ joins.now ∙ sym (ap (λ (run : Walk BoardView). run.now) all-viewed)
+
+      stops-joined : two.stop ≡ all.stop
+      stops-joined =
+          ap (λ (run : Walk BoardView). run.stop) two-viewed ∙ joins.stop ∙ sym (ap (λ (run : Walk BoardView). run.stop) all-viewed)
+
+      -- the sound of the first half has all of its samples, and no zeros
+      samples-whole : length (samples_in one.outputs) ≡ frame_samples * first.frames
+      samples-whole = samples-counted one.outputs ∙ has-frames.samples near
+
+      no-zeros : frames_sound first.frames one.outputs ≡ samples_text (samples_in one.outputs)
+      no-zeros =
+          let count : frame_samples * first.frames - length (samples_in one.outputs) ≡ 0 = omega (arith, samples-whole) in
+          ap (λ count. samples_text (samples_in one.outputs ++ replicate count (pos 0))) count
+          ∙ ap samples_text (append-nil (samples_in one.outputs))
+
+      same-zeros : frame_samples * second.frames - length (samples_in two.outputs)
+          ≡ frame_samples * (first.frames + second.frames) - length (samples_in (one.outputs ++ two.outputs))
+      same-zeros =
+          let sum = ap length (samples-append one.outputs two.outputs) ∙ length-append (samples_in one.outputs) (samples_in two.outputs) in
+          omega (arith, sum, samples-whole)
+
+      sound-joined : frames_sound first.frames one.outputs ++ frames_sound second.frames two.outputs
+          ≡ frames_sound (first.frames + second.frames) all.outputs
+      sound-joined =
+          let total = frame_samples * (first.frames + second.frames) in
+          (λ i. no-zeros i ++ samples_text (samples_in two.outputs ++ replicate (same-zeros i) (pos 0)))
+          ∙ sound-append total one.outputs two.outputs ∙ ap (sound_text total) outputs-joined
+
+      -- the microseconds asked for
+      asked-joined : frame_microseconds * frames_asked first.frames board one + frame_microseconds * frames_asked second.frames saved two
+          ≡ frame_microseconds * frames_asked (first.frames + second.frames) board all
+      asked-joined =
+          let gone = has-frames.gone in
+          let ends = ap (λ (now : Moment BoardView). now.time) ends-joined in
+          let grows = (run-grown set items second saved).0 in
+          omega (arith, gone, ends, grows)
+
+      states-joined : end_state set second.frames saved two ≡ end_state set (first.frames + second.frames) board all
+      states-joined =
+          let asked : saved.state.asked + frame_microseconds * frames_asked second.frames saved two
+          ≡ board.state.asked + frame_microseconds * frames_asked (first.frames + second.frames) board all
+          = omega (arith, asked-joined) in
+          λ i. record { now = ends-joined i; asked = asked i; due = nothing_due }
+
+      -- what they came to
+      runs-joined : JoinsRuns set first second board saved one two all
+      runs-joined =
+          let ends = ends-joined in
+          let one_grown = run-grown set items first board in
+          let two_grown = run-grown set items second saved in
+          let frames : picture_count one.outputs + picture_count two.outputs ≡ picture_count all.outputs =
+          sym (pictures-counted one.outputs two.outputs) ∙ ap picture_count outputs-joined in
+          let time = ap (λ (now : Moment BoardView). now.time) ends in
+          let steps = ap (λ (now : Moment BoardView). now.steps) ends in
+          let all_steps : (one.now.steps - board.state.now.steps) + (two.now.steps - one.now.steps) ≡ all.now.steps - board.state.now.steps
+          = omega (arith, steps, one_grown.1, two_grown.1) in
+          let all_ticks : (one.now.time - board.state.now.time) + (two.now.time - one.now.time) ≡ all.now.time - board.state.now.time
+          = omega (arith, time, one_grown.0, two_grown.0) in
+          record {
+            images = sym (frames-append one.outputs two.outputs) ∙ ap images_text outputs-joined;
+            sound = sound-joined;
+            state = states-joined;
+            outcome = λ i. record { frames = frames i; steps = all_steps i; ticks = all_ticks i; stop = stops-joined i };
+          }
+
+-- ---- the laws
+
+pub runs-are-cut : RunsAreCut
+runs-are-cut set items first second board whole lie holds between open_yet =
+    record {
+      between = still-between set items first second board whole lie holds between open_yet;
+      joins = runs-joined set items first second board whole lie holds between open_yet;
+    }
+
+pub stopped-runs-end : StoppedRunsEnd
+stopped-runs-end set items first second board stop met =
+    stopped-runs-stay (by_history set items board.state.now.board) first second (without_history board.state.now) stop met
+
+pub saved-states-are-taken-up : SavedStatesAreTakenUp
+saved-states-are-taken-up set script state board holds taken =
+    taken.board_is (record { version = written_version; known = refl; state = state; is_state = holds; text = refl })

@@ -1,0 +1,19 @@
+use Rattle.std.proofs.Common.{◌∙◌, ap}
+use Rattle.std.proofs.lemmas.Result.{IfOk-weaker}
+use Rattle.clap.specs.Simple.{app_of_fields}
+use Rattle.pac_run_options.specs.CommandLine as line
+use Rattle.pac_run_options.proofs.Commands.{still_local, with_one}
+use Rattle.pac_run_options.proofs.command.run_command.Goals as goal
+
+pub returns-clause-shape : goal.returns-clause-shape
+returns-clause-shape c = IfOk-weaker c.arg-2.result _ _ (λ r h.
+    with_one _ _ _ _ _ h c.option-2.ensures.local c.option-2.ensures.rule
+    (with_one _ _ _ _ _ c.in_ok-arg.ensures c.option.ensures.local c.option.ensures.rule
+    (c.in_ok-with_run_options.ensures.shape
+    ∙ ap (line.with_rules line.run_rules) (ap app_of_fields c.about-command.ensures ∙ c.new.ensures.app)))) c.arg-2.ensures
+
+pub returns-clause-local : goal.returns-clause-local
+returns-clause-local c = IfOk-weaker c.arg-2.result _ _ (λ r h.
+    still_local _ _ _ _ h c.option-2.ensures.local
+    (still_local _ _ _ _ c.in_ok-arg.ensures c.option.ensures.local
+    (c.in_ok-with_run_options.ensures.local ∙ rw c.about-command.ensures c.new.ensures.local))) c.arg-2.ensures

@@ -1,0 +1,12 @@
+//! Tests of what a run shows and plays, of pictures, samples and media files: each module is named like the crate that it tests, but for
+//! what several of them use.
+#![tactic(auto)]
+
+#[cfg(test)]
+mod media;
+#[cfg(test)]
+mod picture;
+#[cfg(test)]
+mod rig;
+#[cfg(test)]
+mod set;

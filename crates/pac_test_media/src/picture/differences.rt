@@ -1,0 +1,59 @@
+//! Lists of bytes compared a vector at a time.
+
+use pac_picture::laws::changed;
+use std::process::Abort;
+
+/// Lengths of lists.
+static LENGTHS: [usize; 7] = [0, 1, 15, 16, 17, 1008, 1024];
+
+/// The bytes of a list.
+static NOW: [u8; 1024] = [0x5A; 1024];
+
+/// Marks where the first bytes, so many, differ from that list's.
+fn mark(shadow: &[u8; 1024], length: usize, mask: &mut [bool; 1024]) {
+    if length <= 1024 {
+        changed(&NOW[..length], &shadow[..length], &mut mask[..length]);
+    }
+}
+
+/// Sets a byte.
+fn set(bytes: &mut [u8; 1024], place: usize, byte: u8) {
+    if let Some(one) = bytes.get_mut(place) {
+        *one = byte;
+    }
+}
+
+/// How many of the first marks, so many, are set.
+fn marks(mask: &[bool; 1024], length: usize) -> usize {
+    mask.iter().take(length).filter(|differs| **differs).count()
+}
+
+/// Whether of the first marks, so many, the one at a place alone is set.
+fn is_alone(mask: &[bool; 1024], length: usize, place: usize) -> bool {
+    mask.get(place) == Some(&true) && marks(mask, length) == 1
+}
+
+/// Lists of a length are told apart at each place, and marks beyond it stay.
+fn are_told_apart(rt: &impl Abort, length: usize) {
+    let mut shadow = [0x5Au8; 1024];
+    let mut mask = [true; 1024];
+    mark(&shadow, length, &mut mask);
+    assert!(rt; marks(&mask, length) == 0, "length {length}");
+    assert!(rt;
+        marks(&mask, 1024) == 1024usize.saturating_sub(length),
+        "length {length}"
+    );
+    for place in 0..length {
+        set(&mut shadow, place, 0x5B);
+        mark(&shadow, length, &mut mask);
+        assert!(rt; is_alone(&mask, length, place), "place {place} of {length}");
+        set(&mut shadow, place, 0x5A);
+    }
+}
+
+#[test]
+fn each_place_is_told_apart(rt: HostRuntime) {
+    for length in &LENGTHS {
+        are_told_apart(&rt, *length);
+    }
+}

@@ -1,0 +1,187 @@
+//! A picture over the bytes that a program may write, changed by calls and asked by calls with small answers.
+
+use crate::set::picture;
+use pac_picture::{Lines, Picture, Screen};
+use std::alloc::{AllocError, Global};
+use std::marker::Model;
+use std::ops::Range;
+use std::process::Abort;
+
+/// What a program may write.
+#[derive(Clone, Copy)]
+struct Memory {
+    tile_ram: [u8; 1024],
+    colour_ram: [u8; 1024],
+    attributes: [u8; 16],
+    coordinates: [u8; 16],
+    flip: bool,
+}
+
+impl Memory {
+    /// All of it 0.
+    fn new() -> Memory {
+        Memory {
+            tile_ram: [0; 1024],
+            colour_ram: [0; 1024],
+            attributes: [0; 16],
+            coordinates: [0; 16],
+            flip: false,
+        }
+    }
+
+    /// The screen of it.
+    fn screen(&self) -> Screen<'_> {
+        Screen::new(
+            &self.tile_ram,
+            &self.colour_ram,
+            &self.attributes,
+            &self.coordinates,
+            self.flip,
+        )
+    }
+}
+
+/// A picture and what a program has written. Clauses see nothing of either, and it is dropped by a function of its own: so a test that
+/// owns one has a single value without parts for its proof to carry from step to step.
+pub struct Rig {
+    picture: Picture,
+    memory: Memory,
+}
+
+impl Model for Rig {
+    ghost Value = { Unit {0} };
+
+    ghost view = { λ _. tt };
+}
+
+impl Drop for Rig {
+    /// Drops both parts.
+    fn drop(self) {
+        let Rig {
+            picture: _,
+            memory: _,
+        } = self;
+    }
+}
+
+/// Writes a byte where there is a place for it.
+fn write(ram: &mut [u8], place: usize, byte: u8) {
+    if let Some(one) = ram.get_mut(place) {
+        *one = byte;
+    }
+}
+
+impl Rig {
+    /// This picture, and memory that is all 0.
+    pub fn over(picture: Picture) -> Rig {
+        let memory = Memory::new();
+        Rig { picture, memory }
+    }
+
+    /// A black picture of the tests' set, and memory that is all 0.
+    pub fn new(alloc: Global) -> Result<Rig, AllocError> {
+        Ok(Rig::over(picture(alloc)?))
+    }
+
+    /// Writes a byte of the tile RAM.
+    pub fn tile(&mut self, place: usize, byte: u8) {
+        write(&mut self.memory.tile_ram, place, byte);
+    }
+
+    /// Writes a byte of the colour RAM.
+    pub fn colour(&mut self, place: usize, byte: u8) {
+        write(&mut self.memory.colour_ram, place, byte);
+    }
+
+    /// Writes the four bytes of a sprite.
+    pub fn sprite(&mut self, number: usize, attributes: [u8; 2], coordinates: [u8; 2]) {
+        let place = number.saturating_mul(2);
+        let next = place.saturating_add(1);
+        write(&mut self.memory.attributes, place, attributes[0]);
+        write(&mut self.memory.attributes, next, attributes[1]);
+        write(&mut self.memory.coordinates, place, coordinates[0]);
+        write(&mut self.memory.coordinates, next, coordinates[1]);
+    }
+
+    /// Flips the screen, or sets it upright again.
+    pub fn flip(&mut self, flip: bool) {
+        self.memory.flip = flip;
+    }
+
+    /// Composes the whole picture.
+    pub fn compose(&mut self) {
+        self.picture.compose(&self.memory.screen());
+    }
+
+    /// Composes a line, 0 to 223.
+    pub fn compose_line(&mut self, y: u8) {
+        if y < 224 {
+            self.picture.compose_line(y, &self.memory.screen());
+        }
+    }
+
+    /// Makes every cell count as differing.
+    pub fn set_stale(&mut self) {
+        self.picture.set_stale();
+    }
+
+    /// Takes its lines from others.
+    pub fn copy_from(&mut self, lines: &Lines) {
+        self.picture.copy_from(lines);
+    }
+
+    /// The last composing has drawn so many cells.
+    pub fn has_drawn(&self, rt: &impl Abort, count: u32) {
+        assert_eq!(rt; self.picture.drawn(), count);
+    }
+
+    /// The number at a place, if the picture has that.
+    pub fn number(&self, x: usize, y: u8) -> Option<u8> {
+        if y < 224 {
+            self.picture.row(y).get(x).copied()
+        } else {
+            None
+        }
+    }
+
+    /// Whether a colour number has these levels of red, green and blue.
+    pub fn has_colour(&self, number: u8, colour: [u8; 3]) -> bool {
+        number < 16 && self.picture.colour(number) == colour
+    }
+
+    /// Whether a line is this one of another picture.
+    pub fn has_line(&self, y: u8, other: &Rig, line: u8) -> bool {
+        y < 224 && line < 224 && self.picture.row(y) == other.picture.row(line)
+    }
+
+    /// Black lines, but for one that is this picture's line 0.
+    pub fn first_line_at(&self, alloc: Global, y: u8) -> Result<Lines, AllocError> {
+        let mut lines = Lines::new(alloc)?;
+        if y < 224 {
+            lines.set_row(y, self.picture.lines().row(0));
+        }
+        Ok(lines)
+    }
+
+    /// The picture.
+    pub fn picture(&self) -> &Picture {
+        &self.picture
+    }
+
+    /// Whether it has one number in a rectangle, and 0 everywhere else.
+    pub fn shows(&self, columns: Range<u16>, lines: Range<u8>, number: u8) -> bool {
+        let mut is_right = true;
+        for y in 0..224u8 {
+            let row = self.picture.row(y);
+            for x in 0..288u16 {
+                let inside = lines.start <= y
+                    && y < lines.end
+                    && columns.start <= x
+                    && x < columns.end;
+                let wanted = if inside { number } else { 0 };
+                is_right = is_right && row[x as usize] == wanted;
+            }
+        }
+        is_right
+    }
+}
