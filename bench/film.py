@@ -1,11 +1,12 @@
 #!/usr/bin/env python3
 """Times `pacboard run` and plain Rust on one film.
 
-    bench/film.py PLAIN PACBOARD [ROUNDS]
+    bench/film.py PLAIN PACBOARD [ROUNDS [SOURCE SET SCRIPT]]
 
-PLAIN is what bench/bench.rs was compiled to, PACBOARD the built program. Both write 1,200 frames of the mixed program, with
-their samples, into a folder of a file system in memory. Frames and wave are compared: a difference ends the script. Printed are
-the least times of the processor in some rounds, in user mode and in the system.
+PLAIN is what bench/bench.rs was compiled to, PACBOARD the built program. Both make the film of a source with its manifest and script, or
+1,200 frames of the mixed program where none are given: into a folder of a file system in memory, where frames and wave are compared (a
+difference ends the script), and to /dev/null. The two take turns. Printed are the least times of the processor in some rounds, in user mode
+and in the system.
 """
 import filecmp
 import os
@@ -13,9 +14,12 @@ import resource
 import subprocess
 import sys
 import tempfile
+import tomllib
 
 FRAMES = 1200
 SIZES = {"tiles": (4096, 37), "sprites": (4096, 91), "lookup": (256, 7), "wave": (256, 5), "colours": (32, 29)}
+INPUTS = ["P1_UP", "P1_LEFT", "P1_RIGHT", "P1_DOWN", "RACK_TEST", "COIN1", "COIN2", "CREDIT"]
+INPUTS += ["P2_UP", "P2_LEFT", "P2_RIGHT", "P2_DOWN", "BOARD_TEST", "START1", "START2", "COCKTAIL"]
 
 
 def rom(size, factor):
@@ -23,11 +27,42 @@ def rom(size, factor):
     return bytes((n % 4096 * factor + n // 16) & 255 for n in range(size))
 
 
-def source():
-    """The mixed program's source."""
+def lay_mixed(at):
+    """Lays source, manifest and script of the mixed program into the folder, and answers their names."""
     path = os.path.join(os.path.dirname(os.path.abspath(__file__)), "..", "crates", "pacbench", "src", "mixed.rt")
     with open(path, "rb") as file:
-        return file.read().split(b'= b"\n')[1].split(b'";')[0]
+        lay(at("mixed.asm"), file.read().split(b'= b"\n')[1].split(b'";')[0])
+    for name, (size, factor) in SIZES.items():
+        lay(at(name + ".rom"), rom(size, factor))
+    lay(at("set.toml"), "".join(f'{name}.file = "{name}.rom"\n' for name in SIZES).encode())
+    lay(at("mixed.script"), b"%d -\n" % FRAMES)
+    return at("mixed.asm"), at("set.toml"), at("mixed.script")
+
+
+def lay(name, data):
+    """Writes a file."""
+    with open(name, "wb") as file:
+        file.write(data)
+
+
+def spans_of(script):
+    """A script's lines as plain Rust reads them: frames, and what IN0 and IN1 read, where a 0 is an input that is held."""
+    with open(script) as file:
+        rows = [line.split() for line in file if line.split() and not line.split()[0].startswith("#")]
+    for frames, names in rows:
+        held = sum(1 << INPUTS.index(name) for name in names.split(",") if name != "-")
+        yield f"{frames} {~held & 255} {~held >> 8 & 255}\n"
+
+
+def lay_plain(at, pacboard, source, manifest, script):
+    """Lays what plain Rust reads: the ROMs, the assembled program among them, and the script."""
+    subprocess.run([pacboard, "asm", source, "--rom", at("program"), "--listing", os.devnull], check=True)
+    with open(manifest, "rb") as file:
+        table = tomllib.load(file)
+    for name in SIZES:
+        with open(os.path.join(os.path.dirname(manifest), table[name]["file"]), "rb") as file:
+            lay(at(name), file.read())
+    lay(at("inputs"), "".join(spans_of(script)).encode())
 
 
 def timed(words):
@@ -38,17 +73,22 @@ def timed(words):
     return after.ru_utime - before.ru_utime, after.ru_stime - before.ru_stime
 
 
-def lay(folder, name, data):
-    """Writes a file of the folder."""
-    with open(os.path.join(folder, name), "wb") as file:
-        file.write(data)
+def compare(where, rounds, commands):
+    """Runs both in turn so many times, and prints the least times of each."""
+    times = {name: [] for name in commands}
+    for _ in range(rounds):
+        for name, words in commands.items():
+            times[name].append(timed(words))
+    for name, rows in times.items():
+        user, system = (min(column) for column in zip(*rows))
+        print(f"{where}, {name}: {user:.3f} seconds in user mode, {system:.3f} in the system", flush=True)
 
 
 def main():
     if "--help" in sys.argv[1:]:
         return print(__doc__.strip())
-    if len(sys.argv) not in (3, 4) or not "".join(sys.argv[3:] or "1").isdigit():
-        print("film.py: usage: bench/film.py PLAIN PACBOARD [ROUNDS]; --help tells more", file=sys.stderr)
+    if len(sys.argv) not in (3, 4, 7) or not "".join(sys.argv[3:4] or "1").isdigit():
+        print("film.py: usage: bench/film.py PLAIN PACBOARD [ROUNDS [SOURCE SET SCRIPT]]; --help tells more", file=sys.stderr)
         return 2
     plain, pacboard = map(os.path.abspath, sys.argv[1:3])
     for program in (plain, pacboard):
@@ -57,21 +97,20 @@ def main():
             return 2
     rounds = int(sys.argv[3]) if len(sys.argv) > 3 else 1
     with tempfile.TemporaryDirectory(dir="/dev/shm") as folder:
-        for name, (size, factor) in SIZES.items():
-            lay(folder, name, rom(size, factor))
-        lay(folder, "set.toml", "".join(f'{name}.file = "{name}"\n' for name in SIZES).encode())
-        lay(folder, "mixed.asm", source())
-        lay(folder, "mixed.script", b"%d -\n" % FRAMES)
         at = lambda name: os.path.join(folder, name)
-        ours = [pacboard, "run", "--source", at("mixed.asm"), "--set", at("set.toml"), "--script", at("mixed.script")]
-        ours += ["--frames", at("ours.ppm"), "--wave", at("ours.wav"), "--listing", at("listing")]
-        for name, words in ("plain Rust", [plain, "film", folder]), ("pacboard", ours):
-            times = [timed(words) for _ in range(rounds)]
-            user, system = (min(column) for column in zip(*times))
-            print(f"{name}: {user:.3f} seconds in user mode, {system:.3f} in the system")
+        source, manifest, script = map(os.path.abspath, sys.argv[4:] or lay_mixed(at))
+        lay_plain(at, pacboard, source, manifest, script)
+        ours = [pacboard, "run", "--source", source, "--set", manifest, "--script", script, "--listing", os.devnull]
+        files = ["--frames", at("ours.ppm"), "--wave", at("ours.wav")]
+        compare("into memory", rounds, {"plain Rust": [plain, "film", folder], "pacboard": ours + files})
         for kind in "ppm", "wav":
             if not filecmp.cmp(at("plain." + kind), at("ours." + kind), shallow=False):
                 sys.exit(f"film.py: the files of kind {kind} differ")
+            os.remove(at("plain." + kind))
+            os.symlink(os.devnull, at("plain." + kind))
+        nowhere = ["--frames", os.devnull, "--wave", os.devnull]
+        compare("to /dev/null", rounds, {"plain Rust": [plain, "film", folder], "pacboard": ours + nowhere})
+    return 0
 
 
 sys.exit(main())
