@@ -1,4 +1,5 @@
 pub mod Indices
+pub mod Histories
 pub mod Steppings
 pub mod Forwards
 pub mod Travelled

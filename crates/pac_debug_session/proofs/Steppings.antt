@@ -24,7 +24,7 @@ use Rattle.pac_debug_session.specs.declared.kept.SessionSnapshot.{SessionSnapsho
 use Rattle.pac_debug_session.specs.declared.kept.SlotContents.{SlotContents}
 use Rattle.pac_debug_session.specs.Inside.{IsStanding, AreSlotsRight}
 use Rattle.pac_debug_session.specs.Keeping.{Ring, mark_of, kept_of, ring_with_checkpoint, ring_after_index, IsKeptAt, AreCheckpoints}
-use Rattle.pac_debug_session.specs.Keeping.{told_after}
+use Rattle.pac_debug_session.specs.Told.{told_after}
 use Rattle.pac_debug_session.specs.Motions.{checkpoint_steps, checkpoint_count, session_after_step}
 use Rattle.pac_debug_session.specs.Past.{past_steps, past_of, told_at, told_step_count}
 use Rattle.pac_debug_session.specs.Running.{Setting, now_at, next_from, next_at, is_late, stop_in, stop_at, goes_at}

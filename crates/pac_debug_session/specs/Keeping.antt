@@ -1,25 +1,17 @@
 -- For proofs: what a session keeps beside its board: the steps that are told, the checkpoints, and what the slots have.
 use Rattle.std.specs.Prelude.{◌≡◌, ◌≤◌, ℕ, ◌+◌, ◌-◌, ◌*◌, ◌==◌, Bool, true, false, List, [], ◌∷◌, ◌++◌, Option, None, Some}
 use Rattle.std.specs.Prelude.{if◌then◌else◌, drop}
-use Rattle.circular_buffer.specs.Buffer.{keep_last}
-use Rattle.pac_board_course.specs.Once.{Once}
-use Rattle.pac_board_course.specs.OnceVariants.{Stepped, Stopped}
 use Rattle.pac_board_course.specs.State.{BoardValue, nothing_due}
 use Rattle.pac_debug_session.specs.declared.history.PastStep.{PastStep}
 use Rattle.pac_debug_session.specs.declared.kept.SessionSnapshot.{SessionSnapshot}
 use Rattle.pac_debug_session.specs.declared.kept.SlotContents.{SlotContents}
 use Rattle.pac_debug_session.specs.Motions.{checkpoint_steps, checkpoint_count}
-use Rattle.pac_debug_session.specs.Past.{told_at, told_step_count}
+use Rattle.pac_debug_session.specs.Past.{told_at}
 use Rattle.pac_debug_session.specs.Running.{Setting, now_at}
 
 -- what is kept of a board, with the steps that are told then
 abbrev pub kept_of : BoardValue → List PastStep → SessionSnapshot
 kept_of board steps = record { snapshot = board.state; history = steps }
-
--- a step after those that are told, unless it was a stop
-abbrev pub told_after : List PastStep → (index pc : ℕ) → Once → List PastStep
-told_after steps index pc (Stepped ticks kind) = keep_last told_step_count (steps ++ record { index = index; pc = pc; kind = kind } ∷ [])
-told_after steps index pc (Stopped stop) = steps
 
 -- the checkpoints, the oldest first, and how many were ever taken
 pub record Ring : Type 0 where

@@ -1,5 +1,6 @@
 pub mod Running
 pub mod Past
+pub mod Told
 pub mod Session
 pub mod Motions
 pub mod Keeping

@@ -1,11 +1,10 @@
 //! The steps that were done last.
 
-ghost use Rattle.std.specs.Prelude.{◌≡◌, ◌≤◌, [], ◌∷◌, ◌++◌, IfOk, length, slice_get, option_copied, Some};
+ghost use Rattle.std.specs.Prelude.{◌≡◌, ◌≤◌, [], ◌∷◌, ◌++◌, IfOk, length, slice_get};
 ghost use Rattle.circular_buffer.specs.Buffer.{keep_last};
-ghost use Rattle.pac_debug_session.specs.Keeping.{told_after};
+ghost use Rattle.pac_debug_session.specs.Told.{told_after};
 ghost use Rattle.pac_debug_session.specs.Past.{told_step_count};
 
-use circular_buffer::HeapCircularBuffer;
 use pac_board_course::{Once, StepKind};
 use std::alloc::{AllocError, Global};
 use std::marker::Model;
@@ -24,23 +23,35 @@ pub struct PastStep {
     pub kind: StepKind,
 }
 
-/// The last 256 steps, the oldest first.
+/// What stands where no step was written yet. It is never told.
+const NO_STEP: PastStep = PastStep {
+    index: 0,
+    pc: 0,
+    kind: StepKind::Halted,
+};
+
+/// The last 256 steps, the oldest first: a ring, in which each step is written over the oldest one.
 #[derive(Drop)]
 pub struct History {
-    steps: HeapCircularBuffer<PastStep>,
+    ring: Vec<PastStep>,
+    /// Where the next step is written.
+    next: usize,
+    count: usize,
 }
 
 impl Model for History {
-    ghost use Rattle.std.specs.Prelude.{◌≡◌, ◌≤◌, List, length};
+    ghost use Rattle.std.specs.Prelude.{◌≡◌, ◌≤◌, ◌<◌, List, length};
     ghost use Rattle.pac_debug_session.specs.declared.history.PastStep.{PastStep};
+    ghost use Rattle.pac_debug_session.specs.Told.{told_in};
 
     ghost Value = { List PastStep };
 
-    ghost view = { λ history. history.steps.items };
+    ghost view = { λ history. told_in history.ring.items history.next history.count };
 
     ghost invariant = { λ history. record {
-      capacity : history.steps.capacity ≡ 256;
-      full : length history.steps.items ≤ 256;
+      room : length history.ring.items ≡ 256;
+      next : history.next < 256;
+      count : history.count ≤ 256;
     } };
 }
 
@@ -50,7 +61,9 @@ impl History {
         ensures { IfOk result (λ history. history ≡ []) }
     {
         Ok(History {
-            steps: HeapCircularBuffer::with_capacity(alloc, TOLD_STEPS)?,
+            ring: vec![in alloc; NO_STEP; TOLD_STEPS]?,
+            next: 0,
+            count: 0,
         })
     }
 
@@ -59,7 +72,9 @@ impl History {
     pub fn push(&mut self, step: PastStep)
         ensures { self.new ≡ keep_last told_step_count (self.old ++ step ∷ []) }
     {
-        self.steps.extend_from_slice(&[step]);
+        self.ring[self.next] = step;
+        self.next = (self.next + 1) % TOLD_STEPS;
+        self.count = (self.count + 1).min(TOLD_STEPS);
     }
 
     /// Adds what a step from an index and an address was, unless it was a stop.
@@ -80,10 +95,9 @@ impl History {
     pub fn copy_from(&mut self, other: &History)
         ensures { self.new ≡ other.now }
     {
-        let (first, second) = other.steps.as_slices();
-        self.steps.clear();
-        self.steps.extend_from_slice(first);
-        self.steps.extend_from_slice(second);
+        self.ring.copy_from_slice(&other.ring);
+        self.next = other.next;
+        self.count = other.count;
     }
 
     /// How many steps are told, 0 to 256.
@@ -91,13 +105,17 @@ impl History {
         ensures count { result ≡ length self.now }
         ensures within { result ≤ told_step_count }
     {
-        self.steps.len()
+        self.count
     }
 
     /// The step at a place, the oldest being 0.
     pub fn get(&self, place: usize) -> Option<PastStep>
         ensures { result ≡ slice_get self.now place }
     {
-        self.steps.get(place).copied()
+        if place >= self.count {
+            return None;
+        }
+        let oldest = self.next + TOLD_STEPS - self.count;
+        self.ring.get((oldest + place) % TOLD_STEPS).copied()
     }
 }

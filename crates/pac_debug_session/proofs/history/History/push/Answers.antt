@@ -1,22 +1,14 @@
--- No more than 256 are kept.
-use Rattle.std.proofs.Common.{◌≡◌, ℕ, ◌≤◌, List, [], ◌∷◌, ◌++◌, ◌-◌, length, ap, sym, subst, ◌∙◌, arith}
-use Rattle.std.proofs.lemmas.List.{length-drop}
-use Rattle.circular_buffer.specs.Buffer.{Buffer, keep_last}
-use Rattle.pac_debug_session.specs.declared.history.PastStep.{PastStep}
+-- One more is written over the oldest, and the last 256 are told.
+use Rattle.std.proofs.Common.{◌+◌, ◌%◌, [], ◌∷◌, ◌++◌, set, ap, ◌∙◌}
+use Rattle.circular_buffer.specs.Buffer.{keep_last}
+use Rattle.pac_debug_session.specs.Told.{told_in}
+use Rattle.pac_debug_session.proofs.Histories.{told-on}
 use Rattle.pac_debug_session.proofs.history.History.push.Goals as goal
 
-few : (n : ℕ) (xs : List PastStep) → length (keep_last n xs) ≤ n
-few n xs = omega (arith, length-drop (length xs - n) xs)
-
-pub invariant_of-self : goal.invariant_of-self
-invariant_of-self c =
-    let room = c.self.invariant.capacity in
-    let whole = c.extend_from_slice.ensures in
-    let capacity : c.extend_from_slice.new.self.capacity ≡ c.self.inside.steps.capacity = ap (λ (b : Buffer PastStep). b.capacity) whole in
-    let fewer = few c.self.inside.steps.capacity (c.self.inside.steps.items ++ c.args.step ∷ []) in
-    record {
-      capacity = capacity ∙ room;
-      full =
-          subst (λ (b : Buffer PastStep). length b.items ≤ 256) (sym whole)
-          (subst (λ n. length (keep_last c.self.inside.steps.capacity (c.self.inside.steps.items ++ c.args.step ∷ [])) ≤ n) room fewer);
-    }
+pub returns : goal.returns
+returns c =
+    let ring = c.self.inside.ring.items in
+    let next = c.self.inside.next in
+    ap (told_in (set ring next c.args.step) ((next + 1) % 256)) c.min-self-inside.ensures
+    ∙ told-on ring next c.self.inside.count c.self.invariant.room c.self.invariant.next c.self.invariant.count c.args.step
+    ∙ ap (λ told. keep_last 256 (told ++ c.args.step ∷ [])) c.self.view_is

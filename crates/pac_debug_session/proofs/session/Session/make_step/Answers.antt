@@ -12,7 +12,8 @@ use Rattle.pac_board_course.specs.Course.{CourseValue, end_of}
 use Rattle.pac_board_course.specs.Plays.{CourseWasIdle}
 use Rattle.pac_debug_session.specs.declared.history.PastStep.{PastStep}
 use Rattle.pac_debug_session.specs.Inside.{IsStanding, AreSlotsRight, session_setting}
-use Rattle.pac_debug_session.specs.Keeping.{Ring, kept_of, ring_after_index, mark_of, told_after}
+use Rattle.pac_debug_session.specs.Keeping.{Ring, kept_of, ring_after_index, mark_of}
+use Rattle.pac_debug_session.specs.Told.{told_after}
 use Rattle.pac_debug_session.specs.Motions.{MakesStep}
 use Rattle.pac_debug_session.specs.Running.{is_late}
 use Rattle.pac_debug_session.specs.Session.{SessionValue}

@@ -1,0 +1,19 @@
+-- For proofs: the ring of the steps that are told, and what is told after one more.
+use Rattle.std.specs.Prelude.{ℕ, List, [], ◌∷◌, ◌++◌, drop, take}
+use Rattle.circular_buffer.specs.Buffer.{keep_last}
+use Rattle.pac_board_course.specs.Once.{Once}
+use Rattle.pac_board_course.specs.OnceVariants.{Stepped, Stopped}
+use Rattle.pac_debug_session.specs.declared.history.PastStep.{PastStep}
+use Rattle.pac_debug_session.specs.Past.{told_step_count}
+
+-- A ring, from the place at which the next one is written, where the oldest one stands; and so many of the last ones in it.
+abbrev pub turned : {A : Type 0} → List A → (next : ℕ) → List A
+turned ring next = drop next ring ++ take next ring
+
+abbrev pub told_in : {A : Type 0} → List A → (next count : ℕ) → List A
+told_in ring next count = keep_last count (turned ring next)
+
+-- a step after those that are told, unless it was a stop
+abbrev pub told_after : List PastStep → (index pc : ℕ) → Once → List PastStep
+told_after steps index pc (Stepped ticks kind) = keep_last told_step_count (steps ++ record { index = index; pc = pc; kind = kind } ∷ [])
+told_after steps index pc (Stopped stop) = steps
