@@ -7,6 +7,7 @@ pub mod Walked
 pub mod Turns
 pub mod Bursts
 pub mod Waits
+pub mod Rests
 pub mod Singles
 pub mod Stretches
 pub mod Pieces

@@ -4,6 +4,7 @@ pub mod Events
 pub mod Calls
 pub mod Turns
 pub mod Bursts
+pub mod Rests
 pub mod Laws
 pub mod Fields
 pub mod Kept

@@ -1,11 +1,12 @@
 //! The calls that make steps, and offer what they give to a sink.
 
-ghost use Rattle.std.specs.Prelude.{◌≡◌, ◌<◌, ◌≤◌, ◌^◌, []};
+ghost use Rattle.std.specs.Prelude.{◌≡◌, ◌<◌, ◌≤◌, ◌^◌, [], true};
 ghost use Rattle.pac_board.specs.State.{latest, due_outputs, nothing_due, steps_counted};
 ghost use Rattle.pac_board.specs.Calls.{Offers, IsAdvanced, Advances, StepsOnce, Executes};
 ghost use Rattle.pac_board.specs.Sinks.{by};
 ghost use Rattle.pac_board.specs.Turns.{Turns, GoesTo};
 ghost use Rattle.pac_board.specs.Bursts.{IsStretched, Stretches};
+ghost use Rattle.pac_board.specs.Rests.{waits, HasRested};
 
 use crate::board::Board;
 use crate::due::Due;
@@ -155,6 +156,27 @@ impl Board {
         let stop = self.go_on(limit);
         self.give(sink)?;
         Ok(stop)
+    }
+
+    /// Whether the processor is halted, and no interrupt is accepted before the next events.
+    #[inline]
+    pub fn is_waiting(&self) -> bool
+        ensures { result ≡ waits self.now }
+    {
+        self.machine.is_waiting()
+    }
+
+    /// Where the processor waits, does in one go the halted steps that begin before a limit and before the next sample; what the last
+    /// of them gives is due then.
+    #[inline]
+    pub fn rest(&mut self, limit: u64)
+        requires waiting { waits self.old ≡ true }
+        requires early { self.old.state.now.time < limit }
+        requires limit { limit ≤ latest }
+        requires nothing { due_outputs self.old ≡ [] }
+        ensures { HasRested self.old limit self.new }
+    {
+        self.go_on(limit);
     }
 
     /// Does steps while the time is before a limit, up to a stop, and offers what each gives.
