@@ -4,6 +4,7 @@ pub mod Whole
 pub mod Answered
 pub mod Begun
 pub mod Taken
+pub mod Rested
 pub use Rattle.pac_board.proofs.Agreed
 pub use Rattle.pac_board.proofs.HostCarried
 pub use Rattle.pac_board.proofs.Outputs

@@ -1,6 +1,7 @@
 pub mod Course
 pub mod Plays
 pub mod Frames
+pub mod Rests
 pub mod Laws
 pub use Rattle.pac_inputs.specs.Codes as ScriptCodes
 pub use Rattle.pac_inputs.specs.Script
@@ -8,6 +9,7 @@ pub use Rattle.pac_inputs.specs.Stretches
 pub use Rattle.pac_inputs.specs.declared.fault.ScriptFault
 pub use Rattle.pac_inputs.specs.declared.line.Stretch
 pub use Rattle.pac_board.specs.BoardView
+pub use Rattle.pac_board.specs.Bursts
 pub use Rattle.pac_board.specs.Calls
 pub use Rattle.pac_board.specs.Carried
 pub use Rattle.pac_board.specs.Cause
@@ -20,6 +22,7 @@ pub use Rattle.pac_board.specs.Once
 pub use Rattle.pac_board.specs.OnceVariants
 pub use Rattle.pac_board.specs.Output
 pub use Rattle.pac_board.specs.Regs
+pub use Rattle.pac_board.specs.Rests as BoardRests
 pub use Rattle.pac_board.specs.Resumed
 pub use Rattle.pac_board.specs.RomParts
 pub use Rattle.pac_board.specs.Shown
@@ -27,6 +30,7 @@ pub use Rattle.pac_board.specs.Sinks
 pub use Rattle.pac_board.specs.State
 pub use Rattle.pac_board.specs.Step
 pub use Rattle.pac_board.specs.StepKind
+pub use Rattle.pac_board.specs.StepKindVariants
 pub use Rattle.pac_board.specs.Stop
 pub use Rattle.pac_board.specs.Trace
 pub use Rattle.pac_board.specs.Walk

@@ -4,6 +4,7 @@
 mod course;
 mod laws;
 mod outcome;
+mod rest;
 
 pub use course::{Course, FRAME_MICROSECONDS, hold, play_step};
 pub use laws::{courses_are_resumed, courses_begin, courses_go_on};
@@ -13,3 +14,4 @@ pub use pac_board::{
     RomSet, SAMPLE_TICKS, Sink, Snapshot, StepKind, Stop,
 };
 pub use pac_inputs::{Script, ScriptError, ScriptFault, read_script};
+pub use rest::play_rest;
