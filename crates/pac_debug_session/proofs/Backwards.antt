@@ -1,17 +1,15 @@
 -- The way back, over plain values: a checkpoint is found by its place, and steps are done again.
-use Rattle.std.proofs.Common.{◌≡◌, ℕ, zero, suc, ◌+◌, ◌-◌, ◌*◌, ◌<◌, ◌≤◌, true, max, Some, List, [], ◌∷◌, slice_get, sym, ap, subst}
-use Rattle.std.proofs.Common.{◌∙◌, arith}
-use Rattle.pac_board_course.specs.StepKind.{StepKind}
-use Rattle.pac_board_course.specs.Once.{Once}
-use Rattle.pac_board_course.specs.BoardView.{BoardView}
-use Rattle.pac_board_course.specs.Output.{Output}
-use Rattle.pac_board_course.specs.Step.{Moment, Goes}
+use Rattle.std.proofs.Common.{◌≡◌, ℕ, zero, suc, ◌+◌, ◌-◌, ◌*◌, ◌<◌, ◌≤◌, true, max, Option, None, Some, List, [], ◌∷◌, slice_get}
+use Rattle.std.proofs.Common.{sym, ap, subst, ◌∙◌, arith}
+use Rattle.pac_board_course.specs.Stop.{Stop}
+use Rattle.pac_board_course.specs.Step.{Goes}
 use Rattle.pac_board_course.specs.State.{nothing_due, steps_counted}
 use Rattle.pac_debug_session.specs.declared.kept.SessionSnapshot.{SessionSnapshot}
 use Rattle.pac_debug_session.specs.Keeping.{IsKeptAt, AreCheckpoints}
-use Rattle.pac_debug_session.specs.Motions.{checkpoint_steps, checkpoint_count, session_after_step, MakesStep, replayed_to}
-use Rattle.pac_debug_session.specs.Running.{Setting, next_at, goes_at}
+use Rattle.pac_debug_session.specs.Motions.{checkpoint_steps, checkpoint_count, replayed_to}
+use Rattle.pac_debug_session.specs.Running.{Setting, stop_in, goes_at}
 use Rattle.pac_debug_session.specs.Session.{SessionValue, IsSession}
+use Rattle.pac_debug_session.specs.Strides.{MakesStride, MakesSteps}
 use Rattle.pac_debug_session.proofs.Indices.{goes-on}
 use Rattle.pac_debug_session.proofs.Travelled.{counted-sum}
 
@@ -32,44 +30,51 @@ checkpoint-there setting taken (first ∷ ks) (suc place) k so_far is enough =
     subst (λ n. IsKeptAt setting (checkpoint_steps * (n - checkpoint_count)) k) same
     (checkpoint-there setting (taken + 1) ks place k so_far.1 is (omega arith))
 
--- ---- a step that is done again
+-- ---- steps that are done again
 
-module _ (old s mid new : SessionValue) (once : Once) (facts : IsSession old) where
-  again : (now : Moment BoardView) (outputs : List Output) (kind : StepKind) → next_at s.setting s.index ≡ Goes now outputs kind
-      → s ≡ replayed_to old s.index → old.index ≤ s.index → s.index < old.furthest → MakesStep s once mid
-      → new ≡ record mid { due = nothing_due } → old.due ≡ nothing_due → new ≡ replayed_to old (s.index + 1)
-  again now outputs kind is session after less made let_go nothing =
+pub record IsAgain (old s new : SessionValue) (most : ℕ) : Type 0 where
+  pub session : new ≡ replayed_to old new.index
+  pub later : s.index < new.index
+  pub near : new.index ≤ s.index + most
+
+module _ (old s mid new : SessionValue) (most : ℕ) (facts : IsSession old) (session : s ≡ replayed_to old s.index)
+    (after : old.index ≤ s.index) (seen : s.index + most ≤ old.furthest) (let_go : new ≡ record mid { due = nothing_due })
+    (nothing : old.due ≡ nothing_due) where
+  again : MakesStride s most mid → IsAgain old s new most
+  again made =
       let i = s.index in
-      let far : max old.furthest (i + 1) ≡ old.furthest = omega arith in
-      let count : steps_counted (steps_counted old.made (i - old.index)) (i + 1 - i) ≡ steps_counted old.made (i + 1 - old.index)
-      = counted-sum old.made old.index i (i + 1) after (omega arith) in
-      let one : 1 ≡ i + 1 - i = omega arith in
-      let mid_is : mid ≡ session_after_step (Goes now outputs kind) s mid.due = made.session
-      ∙ ap (λ h. session_after_step h s mid.due) is in
-      let_go
-      ∙ ap (λ (t : SessionValue). record t { due = nothing_due }) mid_is
+      let end : ℕ = made.last + 1 in
+      let few = made.few in
+      let along = made.alike.after in
+      let far : max old.furthest end ≡ old.furthest = omega arith in
+      let count : steps_counted (steps_counted old.made (i - old.index)) (end - i) ≡ steps_counted old.made (end - old.index)
+      = counted-sum old.made old.index i end after (omega arith) in
+      let whole : new ≡ replayed_to old end
+      = let_go
+      ∙ ap (λ (t : SessionValue). record t { due = nothing_due }) made.session
       ∙ ap (λ (t : SessionValue). record t {
-        index = i + 1;
-        furthest = max t.furthest (i + 1);
+        index = end;
+        furthest = max t.furthest end;
         due = nothing_due;
-        made = steps_counted t.made 1;
-      })
-      session
+        made = steps_counted t.made (end - i);
+      }) session
       ∙ ap (λ n. record old {
-        index = i + 1;
+        index = end;
         furthest = n;
         due = nothing_due;
-        made = steps_counted (steps_counted old.made (i - old.index)) 1;
+        made = steps_counted (steps_counted old.made (i - old.index)) (end - i);
       }) far
-      ∙ ap (λ n. record old { index = i + 1; due = nothing_due; made = steps_counted (steps_counted old.made (i - old.index)) n }) one
-      ∙ ap (λ n. record old { index = i + 1; due = nothing_due; made = n }) count
-      ∙ ap (λ due. record old { index = i + 1; due = due; made = steps_counted old.made (i + 1 - old.index) }) (sym nothing)
+      ∙ ap (λ n. record old { index = end; due = nothing_due; made = n }) count
+      ∙ ap (λ due. record old { index = end; due = due; made = steps_counted old.made (end - old.index) }) (sym nothing) in
+      let index : new.index ≡ end = ap (λ (t : SessionValue). t.index) whole in
+      record { session = whole ∙ ap (replayed_to old) (sym index); later = omega arith; near = omega arith }
 
-  pub replayed-on : s ≡ replayed_to old s.index → old.index ≤ s.index → s.index < old.furthest → MakesStep s once mid
-      → new ≡ record mid { due = nothing_due } → old.due ≡ nothing_due → new ≡ replayed_to old (s.index + 1)
-  replayed-on session after less made let_go nothing =
+  pub replayed-on : (stop : Option Stop) → 1 ≤ most → MakesSteps s most stop mid → IsAgain old s new most
+  replayed-on None some made = again made
+  replayed-on (Some stop) some made =
       let setting = ap (λ (t : SessionValue). t.setting) session in
       let goes : goes_at s.setting s.index ≡ true
-      = ap (λ run. goes_at run s.index) setting ∙ facts.goes s.index less in
+      = ap (λ run. goes_at run s.index) setting ∙ facts.goes s.index (omega arith) in
       let on = goes-on s.setting s.index goes in
-      again on.now on.outputs on.kind on.is session after less made let_go nothing
+      let met : stop_in (Goes on.now on.outputs on.kind) ≡ Some stop = ap stop_in (sym on.is) ∙ made.stop_is in
+      absurd (cc)

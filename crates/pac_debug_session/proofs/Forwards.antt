@@ -1,5 +1,6 @@
 -- One step forwards of a session: what its step gives is offered where it is fresh.
-use Rattle.std.proofs.Common.{◌≡◌, ℕ, suc, ◌+◌, ◌-◌, ◌*◌, ◌==◌, nat_le, ◌<◌, ◌≤◌, Bool, true, false, not, ◌&&◌, is_none, max, Some, Ok, Err}
+use Rattle.std.proofs.Common.{◌≡◌, ℕ, suc, ◌+◌, ◌-◌, ◌*◌, ◌==◌, nat_le, ◌<◌, ◌≤◌, Bool, true, false, not, ◌&&◌, is_none, min, max}
+use Rattle.std.proofs.Common.{Option, None, Some, Ok, Err, if◌then◌else◌}
 use Rattle.std.proofs.Common.{List, [], ◌++◌, length, drop, refl, sym, ap, subst, ◌∙◌, append_assoc, arith}
 use Rattle.std.proofs.lemmas.Bool.Decides.{nat_tests}
 use Rattle.std.proofs.lemmas.List.{append-nil}
@@ -21,11 +22,12 @@ use Rattle.pac_board_course.proofs.Walks.{ended-for-good}
 use Rattle.pac_board_course.specs.Calls.{once_at, outputs_in}
 use Rattle.pac_board_course.specs.Sinks.{Giving, TookAll}
 use Rattle.pac_board_course.specs.State.{nothing_due, steps_counted}
-use Rattle.pac_debug_session.specs.Motions.{session_after_step, MakesStep, PassesOn, HasStepped, HasMetStop, IsSessionStepRefused}
+use Rattle.pac_debug_session.specs.Motions.{session_after_step, MakesStep, PassesOn, moved_to}
 use Rattle.pac_debug_session.specs.Running.{Setting, play_of, run, whole_run, now_at, next_from, next_at, limit, is_late, stop_in, stop_at}
-use Rattle.pac_debug_session.specs.Running.{goes_at, outputs_between}
+use Rattle.pac_debug_session.specs.Running.{goes_at, blanks_at, outputs_between}
 use Rattle.pac_debug_session.specs.Running.{outputs_from}
-use Rattle.pac_debug_session.specs.Session.{SessionValue, IsSession, session_due_outputs}
+use Rattle.pac_debug_session.specs.Session.{SessionValue, IsSession}
+use Rattle.pac_debug_session.specs.Strides.{AreAlike, MakesStride, MakesNoStep, MakesSteps, HasStrode, HasMetStop, IsStrideRefused, StepsOn}
 use Rattle.pac_debug_session.proofs.Indices.{IsOpen, IsOneMore, open-up-to, one-more, between}
 
 -- ---- outputs, piece by piece
@@ -84,9 +86,9 @@ module _ (setting : Setting) where
       (ap (drop (length (run setting from).outputs)) all
       ∙ drop-append_seam (run setting from).outputs (before.0 ++ after.0))
 
--- ---- one step
+-- ---- one step, and several
 
-module _ {S : Type 0} (to : Giving S) (old : SessionValue) (facts : IsSession old) where
+module _ (old : SessionValue) (facts : IsSession old) where
   so-far : IsOpen old.setting old.index
   so-far = open-up-to old.setting old.index (λ earlier less. let within = facts.within in facts.goes earlier (omega arith))
 
@@ -99,18 +101,6 @@ module _ {S : Type 0} (to : Giving S) (old : SessionValue) (facts : IsSession ol
   goes-here now outputs kind early is =
       ap (λ late. not late && is_none (stop_at old.setting old.index)) early ∙ ap (λ h. is_none (stop_in h)) is
 
-  -- a session one step on, with so much of the board's count
-  abbrev on : ℕ → SessionValue
-  on count = record old {
-    index = old.index + 1;
-    furthest = max old.furthest (old.index + 1);
-    due = nothing_due;
-    made = steps_counted old.made count;
-  }
-
-  on-is : on 1 ≡ on (old.index + 1 - old.index)
-  on-is = let one : 1 ≡ old.index + 1 - old.index = omega arith in ap on one
-
   given : (now : Moment BoardView) (outputs : List Output) (kind : StepKind) → is_late old.setting old.index ≡ false
       → next_at old.setting old.index ≡ Goes now outputs kind → outputs_between old.setting old.index (old.index + 1) ≡ outputs
   given now outputs kind early is =
@@ -118,116 +108,177 @@ module _ {S : Type 0} (to : Giving S) (old : SessionValue) (facts : IsSession ol
       ap (outputs_between old.setting old.index) same
       ∙ between old.setting old.index (suc old.index) outputs (forward now outputs kind early is).outputs_is
 
-  -- what it gives was given before, or is fresh
-  fresh-outputs : old.index ≡ old.furthest → outputs_between old.setting old.furthest (max old.furthest (old.index + 1))
-      ≡ outputs_between old.setting old.index (old.index + 1)
-  fresh-outputs same =
-      let far : max old.furthest (old.index + 1) ≡ old.index + 1 = omega arith in
-      ap (outputs_between old.setting old.furthest) far ∙ ap (λ n. outputs_between old.setting n (old.index + 1)) (sym same)
+  -- one step is a stride
+  alike-alone : goes_at old.setting old.index ≡ true → AreAlike old.setting old.index old.index
+  alike-alone goes = record {
+    after = omega arith;
+    goes = λ index after before.
+        let same : old.index ≡ index = omega arith in subst (λ i. goes_at old.setting i ≡ true) same goes;
+    silent = between-self old.setting old.index;
+    address = λ index after before.
+        let same : index ≡ old.index = omega arith in ap (λ i. (now_at old.setting i).regs.pc) same;
+    frame = λ index after before. let same : index ≡ old.index = omega arith in ap (blanks_at old.setting) same;
+  }
 
-  stale-outputs : old.index < old.furthest → outputs_between old.setting old.furthest (max old.furthest (old.index + 1)) ≡ []
-  stale-outputs less =
-      let far : max old.furthest (old.index + 1) ≡ old.furthest = omega arith in
-      ap (outputs_between old.setting old.furthest) far ∙ between-self old.setting old.furthest
+  stride-alone : (once : Once) (mid : SessionValue) (most : ℕ) (h : Next BoardView) → next_at old.setting old.index ≡ h → 1 ≤ most
+      → is_late old.setting old.index ≡ false → (ticks : ℕ) (kind : StepKind) → once ≡ Stepped ticks kind → MakesStep old once mid
+      → MakesStride old most mid
+  stride-alone once mid most (Goes now outputs k) is some early ticks kind went made =
+      let one : 1 ≡ old.index + 1 - old.index = omega arith in
+      record {
+        last = old.index;
+        alike = alike-alone (goes-here now outputs k early is);
+        few = omega arith;
+        session =
+            made.session ∙ ap (λ h. session_after_step h old mid.due) is
+            ∙ ap (λ n. record old {
+              index = old.index + 1;
+              furthest = max old.furthest (old.index + 1);
+              due = mid.due;
+              made = steps_counted old.made n;
+            }) one;
+        outputs = made.outputs ∙ ap outputs_in is ∙ sym (given now outputs k early is);
+      }
+  stride-alone once mid most (Ends stop) is some early ticks kind went made =
+      let ended : once ≡ Stopped stop
+      = made.once_is ∙ ap (λ h. once_at h (now_at old.setting old.index).time) is in
+      absurd (cc)
 
-  module _ (once : Once) (mid new : SessionValue) (sink later : S) (early : is_late old.setting old.index ≡ false) where
-    has-stepped : (A E : Type 0) (done : A) (fresh : Bool) → (old.index == old.furthest) ≡ fresh → (now : Moment BoardView)
-        → (outputs : List Output) (kind : StepKind) → next_at old.setting old.index ≡ Goes now outputs kind → MakesStep old once mid
-        → PassesOn {A = A} {E = E} to fresh mid sink (Ok done) new later → HasStepped to.took old sink new later
-    has-stepped A E done true fresh now outputs kind is made passed =
-        let same : old.index ≡ old.furthest = grind (arith, nat_tests) in
-        let mid_is : mid ≡ session_after_step (Goes now outputs kind) old mid.due = made.session
-        ∙ ap (λ h. session_after_step h old mid.due) is in
-        let session : new ≡ on (old.index + 1 - old.index)
-        = passed.0 ∙ ap (λ (s : SessionValue). record s { due = nothing_due }) mid_is ∙ on-is in
-        let far = ap (λ (s : SessionValue). s.furthest) session in
-        let outputs_is : session_due_outputs mid ≡ outputs_between old.setting old.furthest new.furthest
-        = made.outputs ∙ ap outputs_in is ∙ sym (given now outputs kind early is) ∙ sym (fresh-outputs same)
-        ∙ ap (outputs_between old.setting old.furthest) (sym far) in
-        record {
-          goes = goes-here now outputs kind early is;
-          session = session;
-          sink_is = subst (λ xs. TookAll to.took sink xs later) outputs_is passed.1;
-        }
-    has-stepped A E done false fresh now outputs kind is made passed =
-        let within = facts.within in
-        let less : old.index < old.furthest = grind (arith, nat_tests) in
-        let mid_is : mid ≡ session_after_step (Goes now outputs kind) old mid.due = made.session
-        ∙ ap (λ h. session_after_step h old mid.due) is in
-        let session : new ≡ on (old.index + 1 - old.index)
-        = passed.0 ∙ ap (λ (s : SessionValue). record s { due = nothing_due }) mid_is ∙ on-is in
-        let far = ap (λ (s : SessionValue). s.furthest) session in
-        record {
-          goes = goes-here now outputs kind early is;
-          session = session;
-          sink_is =
-              subst (λ xs. TookAll to.took sink xs later)
-              (sym (stale-outputs less) ∙ ap (outputs_between old.setting old.furthest) (sym far)) passed.1;
-        }
+  pub one-stride : (once : Once) (mid : SessionValue) (most ticks : ℕ) (kind : StepKind) → 1 ≤ most
+      → is_late old.setting old.index ≡ false → once ≡ Stepped ticks kind → MakesStep old once mid → MakesStride old most mid
+  one-stride once mid most ticks kind some early went made =
+      stride-alone once mid most (next_at old.setting old.index) refl some early ticks kind went made
 
-    pub steps-on : (A E : Type 0) (done : A) (fresh : Bool) → (old.index == old.furthest) ≡ fresh → (h : Next BoardView)
-        → next_at old.setting old.index ≡ h → (ticks : ℕ) (kind : StepKind) → once ≡ Stepped ticks kind → MakesStep old once mid
-        → PassesOn {A = A} {E = E} to fresh mid sink (Ok done) new later → HasStepped to.took old sink new later
-    steps-on A E done fresh same (Goes now outputs k) is ticks kind went made passed =
-        has-stepped A E done fresh same now outputs k is made passed
-    steps-on A E done fresh same (Ends stop) is ticks kind went made passed =
-        let ended : once ≡ Stopped stop
-        = made.once_is ∙ ap (λ h. once_at h (now_at old.setting old.index).time) is in
-        absurd (cc)
+  stop-alone : (once : Once) (mid : SessionValue) (h : Next BoardView) → next_at old.setting old.index ≡ h → (stop : Stop)
+      → once ≡ Stopped stop → MakesStep old once mid → MakesNoStep old stop mid
+  stop-alone once mid (Goes now outputs k) is stop met made =
+      let time = (now_at old.setting old.index).time in
+      let went : once ≡ Stepped (now.time - time) k = made.once_is ∙ ap (λ h. once_at h time) is in
+      absurd (cc)
+  stop-alone once mid (Ends other) is stop met made =
+      let ended : once ≡ Stopped other
+      = made.once_is ∙ ap (λ h. once_at h (now_at old.setting old.index).time) is in
+      let same : other ≡ stop = cc in
+      let mid_is : mid ≡ old = made.session ∙ ap (λ h. session_after_step h old mid.due) is in
+      record {
+        stop_is = ap stop_in is ∙ ap Some same;
+        session = mid_is ∙ ap (λ due. record old { due = due }) (sym (ap (λ (s : SessionValue). s.due) mid_is));
+        outputs = made.outputs ∙ ap outputs_in is;
+      }
 
-    stays : (A E : Type 0) (done : A) (fresh : Bool) → old.due ≡ nothing_due → (stop : Stop) → next_at old.setting old.index ≡ Ends stop
-        → MakesStep old once mid → PassesOn {A = A} {E = E} to fresh mid sink (Ok done) new later
-        → (new ≡ old) × (later ≡ sink)
-    stays A E done true nothing stop is made passed =
-        let mid_is : mid ≡ old = made.session ∙ ap (λ h. session_after_step h old mid.due) is in
-        let none : session_due_outputs mid ≡ [] = made.outputs ∙ ap outputs_in is in (
-          passed.0 ∙ ap (λ (s : SessionValue). record s { due = nothing_due }) mid_is ∙ ap (λ due. record old { due = due }) (sym nothing),
-          subst (λ xs. TookAll to.took sink xs later) none passed.1,
-        )
-    stays A E done false nothing stop is made passed =
-        let mid_is : mid ≡ old = made.session ∙ ap (λ h. session_after_step h old mid.due) is in (
-          passed.0 ∙ ap (λ (s : SessionValue). record s { due = nothing_due }) mid_is ∙ ap (λ due. record old { due = due }) (sym nothing),
-          passed.1,
-        )
+  pub one-stop : (once : Once) (mid : SessionValue) (stop : Stop) → once ≡ Stopped stop → MakesStep old once mid
+      → MakesNoStep old stop mid
+  one-stop once mid stop met made = stop-alone once mid (next_at old.setting old.index) refl stop met made
 
-    pub stops-there : (A E : Type 0) (done : A) (fresh : Bool) → old.due ≡ nothing_due → (h : Next BoardView)
-        → next_at old.setting old.index ≡ h → (stop : Stop) → once ≡ Stopped stop → MakesStep old once mid
-        → PassesOn {A = A} {E = E} to fresh mid sink (Ok done) new later → HasMetStop old sink stop new later
-    stops-there A E done fresh nothing (Goes now outputs k) is stop met made passed =
-        let time = (now_at old.setting old.index).time in
-        let went : once ≡ Stepped (now.time - time) k = made.once_is ∙ ap (λ h. once_at h time) is in
-        absurd (cc)
-    stops-there A E done fresh nothing (Ends other) is stop met made passed =
-        let ended : once ≡ Stopped other
-        = made.once_is ∙ ap (λ h. once_at h (now_at old.setting old.index).time) is in
-        let same : other ≡ stop = cc in
-        let stayed = stays A E done fresh nothing other is made passed in
-        record {
-          stop_is = ap stop_in is ∙ ap Some same;
-          session = stayed.0;
-          sink_is = stayed.1;
-        }
+-- ---- what the steps give was given before, or is fresh
 
-    pub step-refused : (A E : Type 0) (refusal : E) (fresh : Bool) → (old.index == old.furthest) ≡ fresh → (h : Next BoardView)
-        → next_at old.setting old.index ≡ h → MakesStep old once mid
-        → PassesOn {A = A} {E = E} to fresh mid sink (Err refusal) new later →
-        IsSessionStepRefused to old sink new later
-    step-refused A E refusal false same h is made passed = absurd passed
-    step-refused A E refusal true fresh (Goes now outputs kind) is made passed =
-        let same : old.index ≡ old.furthest = grind (arith, nat_tests) in
-        let mid_is : mid ≡ session_after_step (Goes now outputs kind) old mid.due = made.session
-        ∙ ap (λ h. session_after_step h old mid.due) is in
-        let session : new ≡ record (on (old.index + 1 - old.index)) { due = new.due }
-        = passed.session ∙ ap (λ (s : SessionValue). record s { due = new.due }) mid_is
-        ∙ ap (λ (s : SessionValue). record s { due = new.due }) on-is in
-        let far = ap (λ (s : SessionValue). s.furthest) session in
-        record {
-          goes = goes-here now outputs kind early is;
-          fresh = same;
-          session = session;
-          cut =
-              cut-along
-              (ap (outputs_between old.setting old.furthest) far ∙ fresh-outputs same ∙ given now outputs kind early is
-              ∙ ap outputs_in (sym is) ∙ sym made.outputs) refl passed.cut;
-        }
-    step-refused A E refusal true fresh (Ends stop) is made passed = cut-something passed.cut (made.outputs ∙ ap outputs_in is)
+fresh-outputs : (s : SessionValue) (last : ℕ) → s.index ≤ last → s.index ≡ s.furthest
+    → outputs_between s.setting s.furthest (max s.furthest (last + 1)) ≡ outputs_between s.setting s.index (last + 1)
+fresh-outputs s last after same =
+    let far : max s.furthest (last + 1) ≡ last + 1 = omega arith in
+    ap (outputs_between s.setting s.furthest) far ∙ ap (λ n. outputs_between s.setting n (last + 1)) (sym same)
+
+stale-outputs : (s : SessionValue) (last : ℕ) → last < s.furthest
+    → outputs_between s.setting s.furthest (max s.furthest (last + 1)) ≡ []
+stale-outputs s last less =
+    let far : max s.furthest (last + 1) ≡ s.furthest = omega arith in
+    ap (outputs_between s.setting s.furthest) far ∙ between-self s.setting s.furthest
+
+module _ {S : Type 0} (to : Giving S) (old mid new : SessionValue) (most : ℕ) (sink later : S) where
+  -- the steps that are asked for: those behind the furthest index lead to it at most
+  abbrev pub IsAsked : (fresh : Bool) → (asked : ℕ) → Type 0
+  IsAsked true asked = (old.index ≡ old.furthest) × (asked ≤ most)
+  IsAsked false asked = (old.index + asked ≤ old.furthest) × (asked ≤ most)
+
+  -- so they are, by how far the furthest index lies ahead
+  asked-if : (ahead : ℕ) (fresh : Bool) → (ahead == 0) ≡ fresh → ahead ≡ old.furthest - old.index → old.index ≤ old.furthest
+      → IsAsked fresh (if fresh then most else min most ahead)
+  asked-if ahead true e is within =
+      let none : ahead ≡ 0 = grind (arith, nat_tests) in (omega arith, omega arith)
+  asked-if ahead false e is within = (omega arith, omega arith)
+
+  pub asked-here : (ahead asked : ℕ) → ahead ≡ old.furthest - old.index → old.index ≤ old.furthest
+      → asked ≡ (if ahead == 0 then most else min most ahead) → IsAsked (ahead == 0) asked
+  asked-here ahead asked is within bound = subst (IsAsked (ahead == 0)) (sym bound) (asked-if ahead (ahead == 0) refl is within)
+
+  strode : (A E : Type 0) (done : A) (fresh : Bool) (asked : ℕ) → IsAsked fresh asked → MakesStride old asked mid
+      → PassesOn {A = A} {E = E} to fresh mid sink (Ok done) new later → HasStrode to.took old most sink new later
+  strode A E done true asked bound made passed =
+      let few = made.few in
+      let after = made.alike.after in
+      let last = made.last in
+      let bounds = bound.1 in
+      let session : new ≡ moved_to old (last + 1)
+      = passed.0 ∙ ap (λ (s : SessionValue). record s { due = nothing_due }) made.session in
+      let far = ap (λ (s : SessionValue). s.furthest) session in
+      record {
+        last = last;
+        alike = made.alike;
+        few = omega arith;
+        session = session;
+        sink_is =
+            subst (λ xs. TookAll to.took sink xs later)
+            (made.outputs ∙ sym (fresh-outputs old last after bound.0) ∙ ap (outputs_between old.setting old.furthest) (sym far)) passed.1;
+      }
+  strode A E done false asked bound made passed =
+      let few = made.few in
+      let last = made.last in
+      let bounds = bound.0 in
+      let more = bound.1 in
+      let session : new ≡ moved_to old (last + 1)
+      = passed.0 ∙ ap (λ (s : SessionValue). record s { due = nothing_due }) made.session in
+      let far = ap (λ (s : SessionValue). s.furthest) session in
+      record {
+        last = last;
+        alike = made.alike;
+        few = omega arith;
+        session = session;
+        sink_is =
+            subst (λ xs. TookAll to.took sink xs later)
+            (sym (stale-outputs old last (omega arith)) ∙ ap (outputs_between old.setting old.furthest) (sym far)) passed.1;
+      }
+
+  stays : (A E : Type 0) (done : A) (fresh : Bool) → old.due ≡ nothing_due → (stop : Stop) → MakesNoStep old stop mid
+      → PassesOn {A = A} {E = E} to fresh mid sink (Ok done) new later → HasMetStop old sink stop new later
+  stays A E done true nothing stop made passed = record {
+    stop_is = made.stop_is;
+    session = passed.0 ∙ ap (λ (s : SessionValue). record s { due = nothing_due }) made.session
+        ∙ ap (λ due. record old { due = due }) (sym nothing);
+    sink_is = subst (λ xs. TookAll to.took sink xs later) made.outputs passed.1;
+  }
+  stays A E done false nothing stop made passed = record {
+    stop_is = made.stop_is;
+    session = passed.0 ∙ ap (λ (s : SessionValue). record s { due = nothing_due }) made.session
+        ∙ ap (λ due. record old { due = due }) (sym nothing);
+    sink_is = passed.1;
+  }
+
+  pub steps-on : (A E : Type 0) (done : A) (fresh : Bool) (asked : ℕ) → IsAsked fresh asked → old.due ≡ nothing_due → (stop : Option Stop)
+      → MakesSteps old asked stop mid → PassesOn {A = A} {E = E} to fresh mid sink (Ok done) new later
+      → StepsOn {E = E} to old most sink (Ok stop) new later
+  steps-on A E done fresh asked bound nothing None made passed = strode A E done fresh asked bound made passed
+  steps-on A E done fresh asked bound nothing (Some stop) made passed = stays A E done fresh nothing stop made passed
+
+  pub steps-refused : (A E : Type 0) (refusal : E) (fresh : Bool) (asked : ℕ) → IsAsked fresh asked → (stop : Option Stop)
+      → MakesSteps old asked stop mid → PassesOn {A = A} {E = E} to fresh mid sink (Err refusal) new later
+      → IsStrideRefused to old most sink new later
+  steps-refused A E refusal false asked bound stop made passed = absurd passed
+  steps-refused A E refusal true asked bound None made passed =
+      let few = made.few in
+      let after = made.alike.after in
+      let last = made.last in
+      let bounds = bound.1 in
+      let session : new ≡ record (moved_to old (last + 1)) { due = new.due }
+      = passed.session ∙ ap (λ (s : SessionValue). record s { due = new.due }) made.session in
+      let far = ap (λ (s : SessionValue). s.furthest) session in
+      record {
+        last = last;
+        alike = made.alike;
+        few = omega arith;
+        fresh = bound.0;
+        session = session;
+        cut =
+            cut-along
+            (ap (outputs_between old.setting old.furthest) far ∙ fresh-outputs old last after bound.0 ∙ sym made.outputs) refl passed.cut;
+      }
+  steps-refused A E refusal true asked bound (Some stop) made passed = cut-something passed.cut made.outputs

@@ -163,7 +163,7 @@ module _ (board : BoardValue) (switches : ℕ) (script : List Stretch) (history 
         checkpoints = stands.checkpoints;
       }
 
-  left : IsStanding setting board.state.now history furthest ring → board.state.due ≡ nothing_due → board.state.asked ≡ 0
+  pub left : IsStanding setting board.state.now history furthest ring → board.state.due ≡ nothing_due → board.state.asked ≡ 0
       → IsLeft ring_after
   left stands nothing unasked = left-if (index == checkpoint_steps * ring.taken) refl stands nothing unasked
 

@@ -1,6 +1,8 @@
 -- A motion is steps forwards, one after another, up to the least index at which it rests.
-use Rattle.std.proofs.Common.{◌≡◌, ℕ, suc, ◌+◌, ◌-◌, ◌^◌, ◌<◌, ◌≤◌, Bool, true, false, not, ◌&&◌, ◌||◌, is_none, max, nat_lt}
-use Rattle.std.proofs.Common.{Option, None, Some, ◌++◌, refl, sym, ap, subst, ◌∙◌, arith}
+use Rattle.std.proofs.Common.{◌≡◌, ℕ, suc, ◌+◌, ◌-◌, ◌^◌, ◌==◌, ◌<◌, ◌≤◌, Bool, true, false, not, ◌&&◌, ◌||◌, is_none, max, nat_lt}
+use Rattle.std.proofs.Common.{nat_le, if◌then◌else◌, Option, None, Some, [], ◌++◌, refl, sym, ap, subst, ◌∙◌, arith}
+use Rattle.std.specs.List.{list_any}
+use Rattle.std.proofs.lemmas.List.{append-nil}
 use Rattle.std.proofs.lemmas.Bool.Decides.{nat_tests}
 use mathlib.Core.List.{IsPrefix, prefix-append}
 use Rattle.pac_board_course.specs.Stop.{Stop}
@@ -20,15 +22,13 @@ use Rattle.pac_debug_session.specs.declared.motion.MotionEnd.{MotionEnd}
 use Rattle.pac_debug_session.specs.declared.motion.MotionEnd.TheVariants.{AtStop, AtEnd, AtBreakpoint, AtFrame, AtStep}
 use Rattle.pac_debug_session.specs.declared.motion.Motion.{Motion}
 use Rattle.pac_debug_session.specs.declared.motion.Motion.TheVariants.{Steps, Continue, Frames, ToEnd}
-use Rattle.pac_debug_session.specs.Motions.{has_met, rests, motion_ending, stop_of, RestsBy, moved_to, session_one_step_on, HasStepped}
-use Rattle.pac_debug_session.specs.Motions.{HasMetStop}
-use Rattle.pac_debug_session.specs.Motions.{IsSessionStepRefused}
+use Rattle.pac_debug_session.specs.Motions.{is_done, has_met, rests, motion_ending, stop_of, RestsBy, moved_to}
 use Rattle.pac_debug_session.specs.Motions.{HasTravelled, IsTravelRefused}
 use Rattle.pac_debug_session.specs.Running.{Setting, play_of, run, whole_run, now_at, next_from, next_at, limit, is_late, stop_in, stop_at}
-use Rattle.pac_debug_session.specs.Running.{goes_at}
-use Rattle.pac_debug_session.specs.Running.{outputs_between}
+use Rattle.pac_debug_session.specs.Running.{goes_at, blanks_at, outputs_between}
 use Rattle.pac_debug_session.specs.Session.{SessionValue, IsSession, breaks_at}
-use Rattle.pac_debug_session.proofs.Indices.{IsOpen, open-up-to, next-index, timely, early-time, goes-on, one-more}
+use Rattle.pac_debug_session.specs.Strides.{AreAlike, steps_left, longest_stride, HasStrode, HasMetStop, IsStrideRefused}
+use Rattle.pac_debug_session.proofs.Indices.{IsOpen, open-up-to, next-index, timely, early-time, times-grow}
 use Rattle.pac_debug_session.proofs.Forwards.{between-joined, between-self}
 
 -- ---- counts
@@ -90,6 +90,34 @@ met-by s (Frames count) from index early met = choose (breaks_at s index) refl
     choose false e = record { early = early; met = met; word = ap (motion_ending (Frames count)) (sym e) }
 met-by s ToEnd from index early met = never-met s from index met
 
+-- ---- within a stride
+
+met-false : (later done : Bool) → done ≡ false → (later && done) ≡ false
+met-false true done undone = undone
+met-false false done undone = refl
+
+module _ (s : SessionValue) (from : ℕ) where
+  -- what breakpoints and frames are asked of stays within a stride, and counted steps are left
+  undone-within : (motion : Motion) (index last at : ℕ) → from < index → is_done s motion from index ≡ false
+      → AreAlike s.setting index last → last < index + steps_left motion (index - from) → index ≤ at → at ≤ last
+      → is_done s motion from at ≡ false
+  undone-within (Steps count) index last at gone undone alike few after before = grind (arith, nat_tests)
+  undone-within Continue index last at gone undone alike few after before =
+      ap (λ pc. list_any (λ address. address == pc) s.breakpoints) (alike.address at after before) ∙ undone
+  undone-within (Frames count) index last at gone undone alike few after before =
+      ap (λ pc. list_any (λ address. address == pc) s.breakpoints || nat_le (blanks_at s.setting from + count) (blanks_at s.setting at))
+      (alike.address at after before)
+      ∙ ap (λ blanks. breaks_at s index || nat_le (blanks_at s.setting from + count) blanks) (alike.frame at after before)
+      ∙ undone
+  undone-within ToEnd index last at gone undone alike few after before = refl
+
+  -- where it isn't done, a step is left
+  some-left : (motion : Motion) (index : ℕ) → from < index → is_done s motion from index ≡ false → 1 ≤ steps_left motion (index - from)
+  some-left (Steps count) index gone undone = grind (arith, nat_tests)
+  some-left Continue index gone undone = omega arith
+  some-left (Frames count) index gone undone = omega arith
+  some-left ToEnd index gone undone = omega arith
+
 -- ---- the motion
 
 module _ {S : Type 0} (to : Giving S) (old : SessionValue) (motion : Motion) (sink : S) where
@@ -120,54 +148,95 @@ module _ {S : Type 0} (to : Giving S) (old : SessionValue) (motion : Motion) (si
       → has_met old motion old.index i ≡ b
   met-there s i b session met = subst (λ (t : SessionValue). has_met t motion old.index i ≡ b) session met
 
-  -- one step more
-  moved-on : (s : SessionValue) → s ≡ moved_to old s.index → old.index ≤ s.index → session_one_step_on s ≡ moved_to old (s.index + 1)
-  moved-on s session after =
+  -- some steps more
+  moved-on : (s : SessionValue) (index : ℕ) → s ≡ moved_to old s.index → old.index ≤ s.index → s.index ≤ index
+      → moved_to s index ≡ moved_to old index
+  moved-on s index session after more =
       let i = s.index in
-      let far : max (max old.furthest i) (i + 1) ≡ max old.furthest (i + 1) = omega arith in
-      let made : steps_counted (steps_counted old.made (i - old.index)) (i + 1 - i) ≡ steps_counted old.made (i + 1 - old.index)
-      = counted-sum old.made old.index i (i + 1) after (omega arith) in
+      let far : max (max old.furthest i) index ≡ max old.furthest index = omega arith in
+      let made : steps_counted (steps_counted old.made (i - old.index)) (index - i) ≡ steps_counted old.made (index - old.index)
+      = counted-sum old.made old.index i index after more in
       ap (λ (t : SessionValue). record t {
-        index = i + 1;
-        furthest = max t.furthest (i + 1);
+        index = index;
+        furthest = max t.furthest index;
         due = nothing_due;
-        made = steps_counted t.made (i + 1 - i);
+        made = steps_counted t.made (index - i);
       }) session
       ∙ ap (λ n. record old {
-        index = i + 1;
+        index = index;
         furthest = n;
         due = nothing_due;
-        made = steps_counted (steps_counted old.made (i - old.index)) (i + 1 - i);
+        made = steps_counted (steps_counted old.made (i - old.index)) (index - i);
       }) far
-      ∙ ap (λ n. record old { index = i + 1; furthest = max old.furthest (i + 1); due = nothing_due; made = n }) made
+      ∙ ap (λ n. record old { index = index; furthest = max old.furthest index; due = nothing_due; made = n }) made
 
-  -- no index rests up to a step that goes on
-  restless-on : (s : SessionValue) (taker : S) → IsUnderway s taker → has_met s motion old.index s.index ≡ false
-      → goes_at s.setting s.index ≡ true → (earlier : ℕ) → old.index ≤ earlier → earlier ≤ s.index
-      → rests old motion old.index earlier ≡ false
-  restless-on s taker under unmet goes earlier from less = choose (nat_lt earlier s.index) refl
+  -- at no index within a stride has the motion done what it is for
+  unmet-within : (s : SessionValue) (last index : ℕ) → s.setting ≡ old.setting → has_met old motion old.index s.index ≡ false
+      → old.index ≤ s.index → AreAlike s.setting s.index last → last < s.index + longest_stride motion (s.index - old.index)
+      → s.index ≤ index → index ≤ last → has_met old motion old.index index ≡ false
+  unmet-within s last index setting unmet after alike few from less = choose (s.index - old.index == 0) refl
+    where
+      choose : (b : Bool) → (s.index - old.index == 0) ≡ b → has_met old motion old.index index ≡ false
+      choose true e =
+          let one : longest_stride motion (s.index - old.index) ≡ 1
+          = ap (λ (b : Bool). if b then 1 else steps_left motion (s.index - old.index)) e in
+          let same : s.index ≡ index = omega arith in
+          ap (has_met old motion old.index) (sym same) ∙ unmet
+      choose false e =
+          let more : old.index < s.index = grind (arith, nat_tests) in
+          let far : longest_stride motion (s.index - old.index) ≡ steps_left motion (s.index - old.index)
+          = ap (λ (b : Bool). if b then 1 else steps_left motion (s.index - old.index)) e in
+          let gone : nat_lt old.index s.index ≡ true = grind (arith, nat_tests) in
+          let undone : is_done old motion old.index s.index ≡ false
+          = sym (ap (λ b. b && is_done old motion old.index s.index) gone) ∙ unmet in
+          let seen = subst (λ (run : Setting). AreAlike run s.index last) setting alike in
+          let bound : last < s.index + steps_left motion (s.index - old.index) = omega arith in
+          met-false (nat_lt old.index index) (is_done old motion old.index index)
+          (undone-within old old.index motion s.index last index more undone seen bound from less)
+
+  -- so a stride can be made
+  pub may-stride : (s : SessionValue) → s ≡ moved_to old s.index → has_met s motion old.index s.index ≡ false → old.index ≤ s.index
+      → 1 ≤ longest_stride motion (s.index - old.index)
+  may-stride s session unmet after = choose (s.index - old.index == 0) refl
+    where
+      choose : (b : Bool) → (s.index - old.index == 0) ≡ b → 1 ≤ (if b then 1 else steps_left motion (s.index - old.index))
+      choose true e = omega arith
+      choose false e =
+          let more : old.index < s.index = grind (arith, nat_tests) in
+          let gone : nat_lt old.index s.index ≡ true = grind (arith, nat_tests) in
+          let undone : is_done old motion old.index s.index ≡ false
+          = sym (ap (λ b. b && is_done old motion old.index s.index) gone) ∙ met-there s s.index false session unmet in
+          some-left old old.index motion s.index more undone
+
+  -- no index rests up to steps that go on
+  restless-on : (s : SessionValue) (taker : S) (last : ℕ) → IsUnderway s taker → has_met s motion old.index s.index ≡ false
+      → AreAlike s.setting s.index last → last < s.index + longest_stride motion (s.index - old.index)
+      → (earlier : ℕ) → old.index ≤ earlier → earlier ≤ last → rests old motion old.index earlier ≡ false
+  restless-on s taker last under unmet alike few earlier from less = choose (nat_lt earlier s.index) refl
     where
       choose : (b : Bool) → nat_lt earlier s.index ≡ b → rests old motion old.index earlier ≡ false
       choose true e = under.restless earlier from (grind (arith, nat_tests))
       choose false e =
-          let same : s.index ≡ earlier = grind (arith, nat_tests) in
+          let after : s.index ≤ earlier = grind (arith, nat_tests) in
           let setting = ap (λ (t : SessionValue). t.setting) under.session in
-          let here : goes_at old.setting s.index ≡ true = ap (λ run. goes_at run s.index) (sym setting) ∙ goes in
-          subst (λ i. rests old motion old.index i ≡ false) same
-          (goes-past old motion old.index s.index (met-there s s.index false under.session unmet) here)
+          let goes : goes_at old.setting earlier ≡ true
+          = ap (λ run. goes_at run earlier) (sym setting) ∙ alike.goes earlier after less in
+          goes-past old motion old.index earlier
+          (unmet-within s last earlier setting (met-there s s.index false under.session unmet) under.after alike few after less) goes
 
   pub underway-more : (s new : SessionValue) (taker later : S) → IsUnderway s taker → has_met s motion old.index s.index ≡ false
-      → HasStepped to.took s taker new later → IsUnderway new later
+      → HasStrode to.took s (longest_stride motion (s.index - old.index)) taker new later → IsUnderway new later
   underway-more s new taker later under unmet one =
       let after = under.after in
+      let along = one.alike.after in
       let setting = ap (λ (t : SessionValue). t.setting) under.session in
-      let session = one.session ∙ moved-on s under.session after in
-      let index : new.index ≡ s.index + 1 = ap (λ (t : SessionValue). t.index) session in
+      let session = one.session ∙ moved-on s (one.last + 1) under.session after (omega arith) in
+      let index : new.index ≡ one.last + 1 = ap (λ (t : SessionValue). t.index) session in
       let first = ap (λ (t : SessionValue). t.furthest) under.session in
       let second = ap (λ (t : SessionValue). t.furthest) session in
       record {
         after = omega arith;
-        restless = λ earlier from less. restless-on s taker under unmet one.goes earlier from (omega arith);
+        restless = λ earlier from less. restless-on s taker one.last under unmet one.alike one.few earlier from (omega arith);
         session = session ∙ ap (moved_to old) (sym index);
         sink_is =
             subst (λ xs. TookAll to.took sink xs later)
@@ -221,33 +290,39 @@ module _ {S : Type 0} (to : Giving S) (old : SessionValue) (motion : Motion) (si
       (subst (λ taken. HasTravelled to.took old motion sink (AtStop stop) s taken) (sym stopped.sink_is) done)
 
   pub underway-refused : (s new : SessionValue) (taker later : S) → IsUnderway s taker → has_met s motion old.index s.index ≡ false
-      → IsSessionStepRefused to s taker new later → IsTravelRefused to old motion sink new later
+      → IsStrideRefused to s (longest_stride motion (s.index - old.index)) taker new later → IsTravelRefused to old motion sink new later
   underway-refused s new taker later under unmet step =
       let after = under.after in
+      let along = step.alike.after in
       let setting = ap (λ (t : SessionValue). t.setting) under.session in
-      let session : new ≡ record (moved_to old (s.index + 1)) { due = new.due }
-      = step.session ∙ ap (λ (t : SessionValue). record t { due = new.due }) (moved-on s under.session after) in
-      let index : new.index ≡ s.index + 1 = ap (λ (t : SessionValue). t.index) session in
+      let session : new ≡ record (moved_to old (step.last + 1)) { due = new.due }
+      = step.session
+      ∙ ap (λ (t : SessionValue). record t { due = new.due }) (moved-on s (step.last + 1) under.session after (omega arith)) in
+      let index : new.index ≡ step.last + 1 = ap (λ (t : SessionValue). t.index) session in
       let first : s.furthest ≡ max old.furthest s.index = ap (λ (t : SessionValue). t.furthest) under.session in
-      let second : new.furthest ≡ max old.furthest (s.index + 1) = ap (λ (t : SessionValue). t.furthest) session in
+      let second : new.furthest ≡ max old.furthest (step.last + 1) = ap (λ (t : SessionValue). t.furthest) session in
       let fresh = step.fresh in
       let before = outputs_between old.setting old.furthest s.furthest in
       let more = cut-along (ap (λ run. outputs_between run s.furthest new.furthest) (sym setting)) refl step.cut in
       let far : new.furthest ≡ new.index = omega arith in
+      let silent : outputs_between old.setting s.furthest step.last ≡ []
+      = ap (λ n. outputs_between old.setting n step.last) (sym fresh)
+      ∙ ap (λ run. outputs_between run s.index step.last) (sym setting) ∙ step.alike.silent in
+      let so_far : outputs_between old.setting old.furthest step.last ≡ before
+      = sym (between-joined old.setting old.furthest s.furthest step.last (omega arith) (omega arith))
+      ∙ ap (λ xs. before ++ xs) silent ∙ append-nil before in
       record {
-        last = s.index;
+        last = step.last;
         index = index;
         fresh = omega arith;
-        restless = restless-on s taker under unmet step.goes;
+        restless = restless-on s taker step.last under unmet step.alike step.few;
         session = session ∙ ap (λ n. record (moved_to old n) { due = new.due }) (sym index);
         cut =
             cut-along
             (ap (outputs_between old.setting old.furthest) (sym far)
             ∙ sym (between-joined old.setting old.furthest s.furthest new.furthest (omega arith) (omega arith))) refl
             (cut-after before sink taker later under.sink_is more);
-        of_last =
-            subst (λ n. IsPrefix (outputs_between old.setting old.furthest n) (before ++ step.cut.taken)) (sym fresh)
-            (prefix-append before step.cut.taken);
+        of_last = subst (λ xs. IsPrefix xs (before ++ step.cut.taken)) (sym so_far) (prefix-append before step.cut.taken);
       }
 
   -- up to where it is the run goes on
@@ -271,29 +346,30 @@ module _ {S : Type 0} (to : Giving S) (old : SessionValue) (motion : Motion) (si
           let from : old.index ≤ earlier = grind (arith, nat_tests) in
           unrested earlier (under.restless earlier from less)
 
-  -- each step takes of the time that is left
-  pub time-falls : (s new : SessionValue) (taker later : S) → IsSession old → IsUnderway s taker → is_late s.setting s.index ≡ false
-      → HasStepped to.took s taker new later
+  -- the steps take of the time that is left
+  pub time-falls : (s new : SessionValue) (taker later : S) (most : ℕ) → IsSession old → IsUnderway s taker
+      → is_late s.setting s.index ≡ false → HasStrode to.took s most taker new later
       → limit new.setting - (now_at new.setting new.index).time < limit s.setting - (now_at s.setting s.index).time
-  time-falls s new taker later facts under early one =
+  time-falls s new taker later most facts under early one =
       let setting : s.setting ≡ old.setting = ap (λ (t : SessionValue). t.setting) under.session in
       let same : new.setting ≡ s.setting = ap (λ (t : SessionValue). t.setting) one.session in
-      let index : new.index ≡ s.index + 1 = ap (λ (t : SessionValue). t.index) one.session in
-      let next : s.index + 1 ≡ suc s.index = omega arith in
-      let goes : goes_at old.setting s.index ≡ true = ap (λ run. goes_at run s.index) (sym setting) ∙ one.goes in
+      let index : new.index ≡ one.last + 1 = ap (λ (t : SessionValue). t.index) one.session in
+      let along = one.alike.after in
+      let next : s.index + suc (one.last - s.index) ≡ one.last + 1 = omega arith in
       let open_yet : is_late old.setting s.index ≡ false = ap (λ run. is_late run s.index) (sym setting) ∙ early in
       let before = early-time old.setting s.index open_yet in
-      let on = goes-on old.setting s.index goes in
-      let more = one-more old.setting s.index on.now on.outputs on.kind (open-so-far s taker facts under) open_yet on.is in
-      let longer = more.later in
-      let falls : limit old.setting - (now_at old.setting (suc s.index)).time < limit old.setting - (now_at old.setting s.index).time
+      let seen = subst (λ (run : Setting). AreAlike run s.index one.last) setting one.alike in
+      let longer = times-grow old.setting s.index (suc (one.last - s.index)) (open-so-far s taker facts under)
+      (λ earlier after less. seen.goes earlier after (omega arith)) in
+      let falls : limit old.setting - (now_at old.setting (s.index + suc (one.last - s.index))).time
+      < limit old.setting - (now_at old.setting s.index).time
       = omega arith in
       subst (λ (run : Setting). limit new.setting - (now_at new.setting new.index).time < limit run - (now_at run s.index).time)
       (sym setting)
       (subst (λ (run : Setting). limit run - (now_at run new.index).time < limit old.setting - (now_at old.setting s.index).time)
       (sym (same ∙ setting))
       (subst (λ n. limit old.setting - (now_at old.setting n).time < limit old.setting - (now_at old.setting s.index).time)
-      (sym (index ∙ next)) falls))
+      (next ∙ sym index) falls))
 
 -- ---- the end of a run
 

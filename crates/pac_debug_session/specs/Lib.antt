@@ -3,6 +3,7 @@ pub mod Past
 pub mod Told
 pub mod Session
 pub mod Motions
+pub mod Strides
 pub mod Keeping
 pub mod Inside
 pub mod Playing

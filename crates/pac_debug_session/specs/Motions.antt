@@ -119,33 +119,6 @@ PassesOn to true old sink result new later = SessionOffers to old sink result ne
 PassesOn to false old sink (Ok done) new later = (new ≡ record old { due = nothing_due }) × (later ≡ sink)
 PassesOn to false old sink (Err refusal) new later = ⊥
 
--- the session one step on
-abbrev pub session_one_step_on : SessionValue → SessionValue
-session_one_step_on s = moved_to s (s.index + 1)
-
-pub record HasStepped {S : Type 0} (took : S → Output → S → Type 0) (old : SessionValue) (sink : S) (new : SessionValue) (later : S)
-    : Type 0 where
-  pub goes : goes_at old.setting old.index ≡ true
-  pub session : new ≡ session_one_step_on old
-  pub sink_is : TookAll took sink (outputs_between old.setting old.furthest new.furthest) later
-
-pub record HasMetStop {S : Type 0} (old : SessionValue) (sink : S) (stop : Stop) (new : SessionValue) (later : S) : Type 0 where
-  pub stop_is : stop_at old.setting old.index ≡ Some stop
-  pub session : new ≡ old
-  pub sink_is : later ≡ sink
-
-pub record IsSessionStepRefused {S : Type 0} (to : Giving S) (old : SessionValue) (sink : S) (new : SessionValue) (later : S)
-    : Type 0 where
-  pub goes : goes_at old.setting old.index ≡ true
-  pub fresh : old.index ≡ old.furthest
-  pub session : new ≡ record (session_one_step_on old) { due = new.due }
-  pub cut : Cut to sink (outputs_between old.setting old.furthest new.furthest) (session_due_outputs new) later
-
-abbrev pub StepsOn : {S E : Type 0} → Giving S → SessionValue → S → Result (Option Stop) E → SessionValue → S → Type 0
-StepsOn to old sink (Ok None) new later = HasStepped to.took old sink new later
-StepsOn to old sink (Ok (Some stop)) new later = HasMetStop old sink stop new later
-StepsOn to old sink (Err refusal) new later = IsSessionStepRefused to old sink new later
-
 -- ---- to the end
 
 -- what a session's run comes to

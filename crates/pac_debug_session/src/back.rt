@@ -58,7 +58,7 @@ impl Session {
     {
         self.facts();
         'again: while self.index() < index {
-            self.make_step();
+            self.make_steps(index - self.index());
             self.let_go();
         }
     }

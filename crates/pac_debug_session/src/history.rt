@@ -1,8 +1,8 @@
 //! The steps that were done last.
 
-ghost use Rattle.std.specs.Prelude.{◌≡◌, ◌≤◌, [], ◌∷◌, ◌++◌, IfOk, length, slice_get};
+ghost use Rattle.std.specs.Prelude.{◌≡◌, ◌≤◌, ◌<◌, ◌+◌, ◌^◌, [], ◌∷◌, ◌++◌, IfOk, length, slice_get};
 ghost use Rattle.circular_buffer.specs.Buffer.{keep_last};
-ghost use Rattle.pac_debug_session.specs.Told.{told_after};
+ghost use Rattle.pac_debug_session.specs.Told.{told_after, halted_steps};
 ghost use Rattle.pac_debug_session.specs.Past.{told_step_count};
 
 use pac_board_course::{Once, StepKind};
@@ -87,6 +87,22 @@ impl History {
                 index,
                 pc,
                 kind: *kind,
+            });
+        }
+    }
+
+    /// Adds so many halted steps from an index on, at one address.
+    pub fn tell_halted(&mut self, index: u64, pc: u16, count: u64)
+        requires { index + count < 2 ^ 64 }
+        ensures { self.new ≡ keep_last told_step_count (self.old ++ halted_steps index pc count) }
+    {
+        // (no more than 256 are told, which is what is told before the first of them)
+        self.len();
+        'telling: for number in 0..count {
+            self.push(PastStep {
+                index: index + number,
+                pc,
+                kind: StepKind::Halted,
             });
         }
     }

@@ -9,6 +9,7 @@ mod kept;
 pub mod laws;
 mod motion;
 mod playing;
+mod rest;
 mod session;
 mod silent;
 mod travel;

@@ -2,7 +2,9 @@
 
 ghost use Rattle.std.specs.Prelude.{◌≡◌};
 ghost use Rattle.pac_debug_session.specs.Motions.{motion_ending, stop_of};
+ghost use Rattle.pac_debug_session.specs.Strides.{longest_stride};
 
+use crate::travel::CHECKPOINT_STEPS;
 use pac_board_course::Stop;
 
 /// A motion forwards.
@@ -19,6 +21,21 @@ pub enum Motion {
 }
 
 impl Motion {
+    /// How many steps a motion may do in one go, so many after its beginning, where it hasn't done what it is for: one at first, and of
+    /// counted steps those that are left. What the others rest at isn't met before the last of them.
+    #[inline]
+    pub(crate) fn longest_stride(self, gone: u64) -> u64
+        ensures { result ≡ longest_stride self gone }
+    {
+        if gone == 0 {
+            return 1;
+        }
+        match self {
+            Motion::Steps(count) => u64::from(count).saturating_sub(gone),
+            _ => CHECKPOINT_STEPS,
+        }
+    }
+
     /// Why a motion rests that has done what it is for; `breaks` says whether the processor stands on a breakpoint.
     pub(crate) fn word(self, breaks: bool) -> MotionEnd
         ensures { result ≡ motion_ending self breaks }

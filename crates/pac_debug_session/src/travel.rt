@@ -1,13 +1,14 @@
 //! The motions of a session.
 
-ghost use Rattle.std.specs.Prelude.{◌≡◌, ℕ, ◌+◌, ◌<◌, ◌≤◌, ◌^◌, false};
+ghost use Rattle.std.specs.Prelude.{◌≡◌, ℕ, ◌+◌, ◌==◌, ◌<◌, ◌≤◌, ◌^◌, false, min, if◌then◌else◌};
 ghost use Rattle.pac_board_course.specs.Sinks.{by};
 ghost use Rattle.pac_board_course.specs.State as state;
 ghost use Rattle.pac_debug_session.specs.declared.motion.Motion.TheVariants.{ToEnd};
 ghost use Rattle.pac_debug_session.specs.Running.{is_late, blanks_at};
 ghost use Rattle.pac_debug_session.specs.Keeping.{kept_of, ring_after_index};
 ghost use Rattle.pac_debug_session.specs.Session.{SessionOffers, session_at_command, breaks_at};
-ghost use Rattle.pac_debug_session.specs.Motions.{has_met, Travels, MakesStep, PassesOn, StepsOn, FinishesRun, RestsBy, IsOutcome};
+ghost use Rattle.pac_debug_session.specs.Motions.{has_met, Travels, MakesStep, PassesOn, FinishesRun, RestsBy, IsOutcome};
+ghost use Rattle.pac_debug_session.specs.Strides.{StepsOn};
 
 use crate::checkpoints::Checkpoints;
 use crate::history::History;
@@ -20,7 +21,7 @@ use pac_board_course::{Board, FRAME_TICKS, Once, Outcome, Refused, Sink, Stop, p
 pub const CHECKPOINT_STEPS: u64 = 4096;
 
 /// Takes a checkpoint where this index is that of the next one.
-fn take_at(checkpoints: &mut Checkpoints, index: u64, board: &Board, history: &History)
+pub(crate) fn take_at(checkpoints: &mut Checkpoints, index: u64, board: &Board, history: &History)
     requires { checkpoints.old.taken + 1 < 2 ^ 64 }
     ensures { checkpoints.new ≡ ring_after_index index checkpoints.old
         (kept_of board.now history.now) }
@@ -28,6 +29,16 @@ fn take_at(checkpoints: &mut Checkpoints, index: u64, board: &Board, history: &H
     if index % CHECKPOINT_STEPS == 0 && index / CHECKPOINT_STEPS == checkpoints.taken() {
         checkpoints.take(board, history);
     }
+}
+
+/// So many steps, and where the furthest index lies ahead no more than up to it, so that what they give is all fresh or all told before.
+fn bounded(most: u64, ahead: u64) -> u64
+    ensures { result ≡ (if ahead == 0 then most else min most ahead) }
+{
+    if ahead == 0 {
+        return most;
+    }
+    most.min(ahead)
 }
 
 impl Session {
@@ -128,20 +139,20 @@ impl Session {
         Ok(())
     }
 
-    /// Does one step, offers what it gives unless it was offered before, and answers the stop that the run met, if any.
-    fn step_on<S: Sink>(&mut self, sink: &mut S) -> Result<Option<Stop>, Refused>
+    /// Does one step, or some in one go, so many at most; offers what they give unless it was offered before, and answers the stop that
+    /// the run met, if any.
+    fn step_on<S: Sink>(&mut self, most: u64, sink: &mut S) -> Result<Option<Stop>, Refused>
         requires nothing { self.old.due ≡ state.nothing_due }
         requires early { is_late self.old.setting self.old.index ≡ false }
-        ensures { StepsOn (by S.took S.refused) self.old sink.old result self.new sink.new }
+        requires some { 1 ≤ most }
+        ensures { StepsOn (by S.took S.refused) self.old most sink.old result self.new sink.new }
     {
         self.facts();
-        let fresh = self.index() == self.furthest();
-        let once = self.make_step();
+        let ahead = self.furthest() - self.index();
+        let fresh = ahead == 0;
+        let stop = self.make_steps(bounded(most, ahead));
         self.pass_on(fresh, sink)?;
-        match once {
-            Once::Stepped { .. } => Ok(None),
-            Once::Stopped(stop) => Ok(Some(stop)),
-        }
+        Ok(stop)
     }
 
     /// Goes forwards to where a motion rests, and says why it rests there. What the steps past the furthest index give is offered;
@@ -160,7 +171,8 @@ impl Session {
             if self.has_met(motion, from, blanks) {
                 return Ok(motion.word(self.breaks()));
             }
-            if let Some(stop) = self.step_on(sink)? {
+            let most = motion.longest_stride(self.index() - from);
+            if let Some(stop) = self.step_on(most, sink)? {
                 return Ok(MotionEnd::AtStop(stop));
             }
         }

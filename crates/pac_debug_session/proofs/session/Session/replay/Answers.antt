@@ -1,7 +1,5 @@
 -- Steps that are done again lead where they led.
-use Rattle.std.proofs.Common.{◌≡◌, ◌<◌, ◌+◌, ap, sym, ◌∙◌, arith}
-use Rattle.pac_debug_session.specs.Motions.{replayed_to}
-use Rattle.pac_debug_session.specs.Session.{SessionValue}
+use Rattle.std.proofs.Common.{◌-◌, arith}
 use Rattle.pac_debug_session.proofs.Backwards.{replayed-on}
 use Rattle.pac_debug_session.proofs.session.Session.replay.Goals as goal
 
@@ -13,13 +11,14 @@ again-preserved c =
     let index = c.index.ensures in
     let less = c.again-test.true in
     let after = c.again.invariant.after in
-    let here : s.index < old.furthest = omega arith in
-    let new =
-    replayed-on old s c.make_step.new.self c.let_go.new.self c.make_step.result c.facts.ensures c.again.invariant.session
-    c.again.invariant.after here c.make_step.ensures c.let_go.ensures c.requires.nothing in
-    let next : c.let_go.new.self.index ≡ s.index + 1 = ap (λ (t : SessionValue). t.index) new in
+    let most = c.args.index - c.index-in-again.result in
+    let again = c.index-in-again.ensures in
+    let done = replayed-on old s c.make_steps.new.self c.let_go.new.self most c.facts.ensures c.again.invariant.session after
+    (omega arith) c.let_go.ensures c.requires.nothing c.make_steps.result (omega arith) c.make_steps.ensures in
+    let later = done.later in
+    let near = done.near in
     record {
-      session = new ∙ ap (replayed_to old) (sym next);
+      session = done.session;
       after = omega arith;
       before = omega arith;
     }
@@ -31,9 +30,11 @@ again-smaller c =
     let seen = c.requires.seen in
     let index = c.index.ensures in
     let less = c.again-test.true in
-    let here : s.index < old.furthest = omega arith in
-    let new =
-    replayed-on old s c.make_step.new.self c.let_go.new.self c.make_step.result c.facts.ensures c.again.invariant.session
-    c.again.invariant.after here c.make_step.ensures c.let_go.ensures c.requires.nothing in
-    let next : c.let_go.new.self.index ≡ s.index + 1 = ap (λ (t : SessionValue). t.index) new in
+    let after = c.again.invariant.after in
+    let most = c.args.index - c.index-in-again.result in
+    let again = c.index-in-again.ensures in
+    let done = replayed-on old s c.make_steps.new.self c.let_go.new.self most c.facts.ensures c.again.invariant.session after
+    (omega arith) c.let_go.ensures c.requires.nothing c.make_steps.result (omega arith) c.make_steps.ensures in
+    let later = done.later in
+    let near = done.near in
     omega arith

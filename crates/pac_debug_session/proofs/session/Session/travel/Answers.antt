@@ -1,15 +1,15 @@
 -- From step to step.
-use Rattle.std.proofs.Common.{◌≡◌, false, true, Option, Ok, ap, sym, subst, ◌∙◌}
+use Rattle.std.proofs.Common.{◌≡◌, ◌-◌, ℕ, false, true, Option, Ok, ap, sym, subst, ◌∙◌, arith}
 use Rattle.std.proofs.lemmas.Result.{err_from_is_err_and}
 use Rattle.pac_board_course.specs.Sinks.{by}
 use Rattle.pac_board_course.specs.Stop.{Stop}
 use Rattle.pac_board_course.specs.Refused.{Refused}
 use Rattle.pac_debug_session.specs.declared.motion.MotionEnd.{MotionEnd}
-use Rattle.pac_debug_session.specs.Motions.{has_met, HasTravelled, StepsOn, motion_ending}
+use Rattle.pac_debug_session.specs.Motions.{has_met, HasTravelled, motion_ending}
 use Rattle.pac_debug_session.specs.Running.{is_late}
+use Rattle.pac_debug_session.specs.Strides.{HasStrode, IsStrideRefused, StepsOn, longest_stride}
 use Rattle.pac_debug_session.proofs.Travelled.{underway-begins, underway-more, underway-late, underway-met, underway-stopped}
-use Rattle.pac_debug_session.proofs.Travelled.{underway-refused}
-use Rattle.pac_debug_session.proofs.Travelled.{time-falls}
+use Rattle.pac_debug_session.proofs.Travelled.{underway-refused, may-stride, time-falls}
 use Rattle.pac_debug_session.proofs.session.Session.travel.Goals as goal
 
 pub onwards-init : goal.onwards-init
@@ -22,19 +22,36 @@ onwards-init g c = record {
   bound = c.blanks-blanks.ensures.bound;
 }
 
+pub step_on-requires-clause-some : goal.step_on-requires-clause-some
+step_on-requires-clause-some g c =
+    let old = c.args.self.now in
+    let s = c.onwards.self in
+    let unmet : has_met s c.args.motion old.index s.index ≡ false
+    = ap (λ n. has_met s c.args.motion n s.index) (sym c.onwards.invariant.from_is) ∙ sym c.has_met.ensures ∙ c.if-has_met.false in
+    let gone : c.index.result - c.index-from.result ≡ s.index - old.index
+    = ap (λ n. n - c.index-from.result) c.index.ensures ∙ ap (λ n. s.index - n) c.onwards.invariant.from_is in
+    let most = c.longest_stride-most.ensures ∙ ap (longest_stride c.args.motion) gone in
+    let some = may-stride (by g.S.Sink.took g.S.Sink.refused) old c.args.motion c.args.sink.now s c.onwards.invariant.under.session unmet
+    c.onwards.invariant.under.after in
+    omega arith
+
 pub onwards-preserved : goal.onwards-preserved
 onwards-preserved g c =
     let old = c.args.self.now in
     let s = c.onwards.self in
     let unmet : has_met s c.args.motion old.index s.index ≡ false
     = ap (λ n. has_met s c.args.motion n s.index) (sym c.onwards.invariant.from_is) ∙ sym c.has_met.ensures ∙ c.if-has_met.false in
+    let gone : c.index.result - c.index-from.result ≡ s.index - old.index
+    = ap (λ n. n - c.index-from.result) c.index.ensures ∙ ap (λ n. s.index - n) c.onwards.invariant.from_is in
+    let most = c.longest_stride-most.ensures ∙ ap (longest_stride c.args.motion) gone in
+    let strode : HasStrode g.S.Sink.took s c.longest_stride-most.result c.onwards.sink c.step_on.new.self c.step_on.new.sink
+    = subst (λ (found : Option Stop). StepsOn {E = Refused} (by g.S.Sink.took g.S.Sink.refused) s c.longest_stride-most.result
+    c.onwards.sink (Ok found) c.step_on.new.self c.step_on.new.sink) c.in_default.is c.in_ok-stop.ensures in
     record {
       under =
           underway-more (by g.S.Sink.took g.S.Sink.refused) old c.args.motion c.args.sink.now s c.step_on.new.self c.onwards.sink
-          c.step_on.new.sink
-          c.onwards.invariant.under unmet
-          (subst (λ (found : Option Stop). StepsOn {E = Refused} (by g.S.Sink.took g.S.Sink.refused) s c.onwards.sink (Ok found)
-          c.step_on.new.self c.step_on.new.sink) c.in_default.is c.in_ok-stop.ensures);
+          c.step_on.new.sink c.onwards.invariant.under unmet
+          (subst (λ (n : ℕ). HasStrode g.S.Sink.took s n c.onwards.sink c.step_on.new.self c.step_on.new.sink) most strode);
       from_is = c.onwards.invariant.from_is;
       blanks_is = c.onwards.invariant.blanks_is;
       bound = c.onwards.invariant.bound;
@@ -45,10 +62,9 @@ onwards-smaller g c =
     let s = c.onwards.self in
     let early : is_late s.setting s.index ≡ false = sym c.is_late.ensures ∙ c.if-is_late.false in
     time-falls (by g.S.Sink.took g.S.Sink.refused) c.args.self.now c.args.motion c.args.sink.now s c.step_on.new.self c.onwards.sink
-    c.step_on.new.sink
-    c.facts.ensures c.onwards.invariant.under early
-    (subst (λ (found : Option Stop). StepsOn {E = Refused} (by g.S.Sink.took g.S.Sink.refused) s c.onwards.sink (Ok found)
-    c.step_on.new.self c.step_on.new.sink) c.in_default.is c.in_ok-stop.ensures)
+    c.step_on.new.sink c.longest_stride-most.result c.facts.ensures c.onwards.invariant.under early
+    (subst (λ (found : Option Stop). StepsOn {E = Refused} (by g.S.Sink.took g.S.Sink.refused) s c.longest_stride-most.result
+    c.onwards.sink (Ok found) c.step_on.new.self c.step_on.new.sink) c.in_default.is c.in_ok-stop.ensures)
 
 pub returns-then-is_late : goal.returns-then-is_late
 returns-then-is_late g c =
@@ -77,11 +93,9 @@ returns-in-Some g c =
     let unmet : has_met s c.args.motion old.index s.index ≡ false
     = ap (λ n. has_met s c.args.motion n s.index) (sym c.onwards.invariant.from_is) ∙ sym c.has_met.ensures ∙ c.if-has_met.false in
     underway-stopped (by g.S.Sink.took g.S.Sink.refused) old c.args.motion c.args.sink.now s c.step_on.new.self c.onwards.sink
-    c.step_on.new.sink
-    c.in-Some.stop
-    c.onwards.invariant.under early unmet
-    (subst (λ (found : Option Stop). StepsOn {E = Refused} (by g.S.Sink.took g.S.Sink.refused) s c.onwards.sink (Ok found)
-    c.step_on.new.self c.step_on.new.sink) c.in-Some.is c.in_ok-stop.ensures)
+    c.step_on.new.sink c.in-Some.stop c.onwards.invariant.under early unmet
+    (subst (λ (found : Option Stop). StepsOn {E = Refused} (by g.S.Sink.took g.S.Sink.refused) s c.longest_stride-most.result
+    c.onwards.sink (Ok found) c.step_on.new.self c.step_on.new.sink) c.in-Some.is c.in_ok-stop.ensures)
 
 pub returns-in_err-stop : goal.returns-in_err-stop
 returns-in_err-stop g c =
@@ -90,6 +104,11 @@ returns-in_err-stop g c =
     let told = err_from_is_err_and c.from_residual.result c.from_residual.ensures.1 in
     let unmet : has_met s c.args.motion old.index s.index ≡ false
     = ap (λ n. has_met s c.args.motion n s.index) (sym c.onwards.invariant.from_is) ∙ sym c.has_met.ensures ∙ c.if-has_met.false in
+    let gone : c.index.result - c.index-from.result ≡ s.index - old.index
+    = ap (λ n. n - c.index-from.result) c.index.ensures ∙ ap (λ n. s.index - n) c.onwards.invariant.from_is in
+    let most = c.longest_stride-most.ensures ∙ ap (longest_stride c.args.motion) gone in
     rw told.1
     (underway-refused (by g.S.Sink.took g.S.Sink.refused) old c.args.motion c.args.sink.now s c.step_on.new.self c.onwards.sink
-    c.step_on.new.sink c.onwards.invariant.under unmet c.in_err-stop.ensures)
+    c.step_on.new.sink c.onwards.invariant.under unmet
+    (subst (λ (n : ℕ). IsStrideRefused (by g.S.Sink.took g.S.Sink.refused) s n c.onwards.sink c.step_on.new.self c.step_on.new.sink)
+    most c.in_err-stop.ensures))

@@ -1,0 +1,81 @@
+-- For proofs: a stride: one step forwards, or several that leave nothing to look at between them.
+use Rattle.std.specs.Prelude.{◌≡◌, ◌<◌, ◌≤◌, ℕ, ◌+◌, ◌-◌, ◌==◌, Bool, true, if◌then◌else◌, [], Option, None, Some, Result, Ok, Err}
+use Rattle.pac_board_course.specs.Bursts.{is_waiting}
+use Rattle.pac_board_course.specs.Output.{Output}
+use Rattle.pac_board_course.specs.Sinks.{Giving, TookAll, Cut}
+use Rattle.pac_board_course.specs.Stop.{Stop}
+use Rattle.pac_debug_session.specs.declared.motion.Motion.{Motion}
+use Rattle.pac_debug_session.specs.declared.motion.Motion.TheVariants.{Steps}
+use Rattle.pac_debug_session.specs.Motions.{moved_to, checkpoint_steps}
+use Rattle.pac_debug_session.specs.Running.{Setting, now_at, stop_at, goes_at, blanks_at, outputs_between}
+use Rattle.pac_debug_session.specs.Session.{SessionValue, session_due_outputs}
+
+-- whether the processor is halted at an index, and no interrupt is accepted before the next events
+abbrev pub waits_at : Setting → ℕ → Bool
+waits_at setting index = is_waiting (record { set = setting.set; now = now_at setting index })
+
+-- The steps from an index to a last one: the run goes on at each of them, none but the last gives anything, and the processor stands before
+-- each of them where it stood, in the same frame.
+pub record AreAlike (setting : Setting) (from last : ℕ) : Type 0 where
+  pub after : from ≤ last
+  pub goes : (index : ℕ) → from ≤ index → index ≤ last → goes_at setting index ≡ true
+  pub silent : outputs_between setting from last ≡ []
+  pub address : (index : ℕ) → from ≤ index → index ≤ last → (now_at setting index).regs.pc ≡ (now_at setting from).regs.pc
+  pub frame : (index : ℕ) → from ≤ index → index ≤ last → blanks_at setting index ≡ blanks_at setting from
+
+-- such steps were done, so many at most, and what the last of them gives is due
+pub record MakesStride (old : SessionValue) (most : ℕ) (new : SessionValue) : Type 0 where
+  pub last : ℕ
+  pub alike : AreAlike old.setting old.index last
+  pub few : last < old.index + most
+  pub session : new ≡ record (moved_to old (last + 1)) { due = new.due }
+  pub outputs : session_due_outputs new ≡ outputs_between old.setting old.index (last + 1)
+
+-- a step was tried, and met a stop
+pub record MakesNoStep (old : SessionValue) (stop : Stop) (new : SessionValue) : Type 0 where
+  pub stop_is : stop_at old.setting old.index ≡ Some stop
+  pub session : new ≡ record old { due = new.due }
+  pub outputs : session_due_outputs new ≡ []
+
+abbrev pub MakesSteps : SessionValue → (most : ℕ) → Option Stop → SessionValue → Type 0
+MakesSteps old most None new = MakesStride old most new
+MakesSteps old most (Some stop) new = MakesNoStep old stop new
+
+-- How many steps a motion makes at most in one stride, so that it meets nothing within it: one where it begins, and of counted steps those
+-- that are left.
+abbrev pub steps_left : Motion → (gone : ℕ) → ℕ
+steps_left (Steps count) gone = count - gone
+steps_left motion gone = checkpoint_steps
+
+abbrev pub longest_stride : Motion → (gone : ℕ) → ℕ
+longest_stride motion gone = if gone == 0 then 1 else steps_left motion gone
+
+-- ---- what the sink made of it
+
+pub record HasStrode {S : Type 0} (took : S → Output → S → Type 0) (old : SessionValue) (most : ℕ) (sink : S) (new : SessionValue)
+    (later : S)
+    : Type 0 where
+  pub last : ℕ
+  pub alike : AreAlike old.setting old.index last
+  pub few : last < old.index + most
+  pub session : new ≡ moved_to old (last + 1)
+  pub sink_is : TookAll took sink (outputs_between old.setting old.furthest new.furthest) later
+
+pub record HasMetStop {S : Type 0} (old : SessionValue) (sink : S) (stop : Stop) (new : SessionValue) (later : S) : Type 0 where
+  pub stop_is : stop_at old.setting old.index ≡ Some stop
+  pub session : new ≡ old
+  pub sink_is : later ≡ sink
+
+pub record IsStrideRefused {S : Type 0} (to : Giving S) (old : SessionValue) (most : ℕ) (sink : S) (new : SessionValue) (later : S)
+    : Type 0 where
+  pub last : ℕ
+  pub alike : AreAlike old.setting old.index last
+  pub few : last < old.index + most
+  pub fresh : old.index ≡ old.furthest
+  pub session : new ≡ record (moved_to old (last + 1)) { due = new.due }
+  pub cut : Cut to sink (outputs_between old.setting old.furthest new.furthest) (session_due_outputs new) later
+
+abbrev pub StepsOn : {S E : Type 0} → Giving S → SessionValue → (most : ℕ) → S → Result (Option Stop) E → SessionValue → S → Type 0
+StepsOn to old most sink (Ok None) new later = HasStrode to.took old most sink new later
+StepsOn to old most sink (Ok (Some stop)) new later = HasMetStop old sink stop new later
+StepsOn to old most sink (Err refusal) new later = IsStrideRefused to old most sink new later
