@@ -1,15 +1,11 @@
 -- To be believed: a board by its fields, as a save file has them.
-use Rattle.std.specs.Prelude.{◌≡◌, ◌*◌, ◌≤◌, ◌<◌}
+use Rattle.std.specs.Prelude.{◌*◌, ◌≤◌, ◌<◌}
 use Rattle.pac_map.specs.Latched.{watchdog_limit}
 use Rattle.pac_map.specs.Fields.{view_of_fields}
-use Rattle.pac_map.specs.View.{View, HoldWhatTheyCan}
-use Rattle.pac_picture.specs.Layer.{AreStale}
-use Rattle.pac_picture.specs.State.{palette_of}
-use Rattle.pac_picture.specs.State as picture
-use Rattle.pac_map.specs.RomParts.{Parts}
+use Rattle.pac_map.specs.View.{HoldWhatTheyCan}
 use Rattle.pac_cpu.specs.Instructions.{least_ticks}
 use Rattle.pac_wave.specs.Wave.{Fit20Bits, accumulators_of_list}
-use Rattle.pac_board_model.specs.BoardView.{BoardView, video_roms}
+use Rattle.pac_board_model.specs.BoardView.{BoardView}
 use Rattle.pac_board_model.specs.Step.{Moment}
 use Rattle.pac_board.specs.declared.fields.Fields.{Fields}
 use Rattle.pac_board.specs.State.{BoardState, latest_end, most_asked}
@@ -40,11 +36,3 @@ pub record AreBoardFields (fields : Fields) : Type 0 where
   pub steps : least_ticks * fields.steps ≤ fields.time
   pub time : fields.time ≤ latest_end
   pub asked : fields.asked ≤ most_asked
-
--- a set's picture with the lines of these fields, of which no cell is drawn yet, and their memory
-pub record AreParts (set : Parts) (fields : Fields) (picture : picture.PictureState) (memory : View) : Type 0 where
-  pub roms : picture.roms ≡ video_roms set
-  pub palette : picture.palette ≡ palette_of set.colours
-  pub lines : picture.lines ≡ fields.lines.now
-  pub stale : AreStale picture.shadows
-  pub memory_is : memory ≡ view_of_fields fields.memory

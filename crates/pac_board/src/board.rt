@@ -6,22 +6,21 @@ ghost use Rattle.pac_map.specs.Contents.{read_of};
 ghost use Rattle.pac_map.specs.View.{held_with, held_without};
 ghost use Rattle.pac_picture.specs.State.{palette_of};
 ghost use Rattle.pac_board.specs.State as state;
-ghost use Rattle.pac_board.specs.Events.{IsFresh};
 
 use crate::due::Due;
 use crate::fault::InitRefused;
 use crate::machine::Machine;
 use pac_cpu::Regs;
-use pac_map::{Inputs, Memory, RomSet};
-use pac_picture::{Graphics, Picture};
-use std::alloc::{AllocError, Global};
+use pac_map::{Inputs, RomSet};
+use pac_picture::Picture;
+use std::alloc::Global;
 use std::marker::Model;
 
 /// The main board (Namco Pac-Man service schematics). Clauses see its ROM set, its state, and the count of the steps
 /// that it did since it was made.
 #[derive(Drop)]
 pub struct Board {
-    pub(crate) machine: Machine,
+    pub(crate) machine: Box<Machine>,
     pub(crate) asked: u64,
     pub(crate) due: Due,
     pub(crate) made: u64,
@@ -34,22 +33,12 @@ impl Model for Board {
     ghost Value = { BoardValue };
 
     ghost view = { λ board. record {
-      set = board.machine.set;
-      state = record { now = board.machine.now; asked = board.asked; due = board.due };
+      set = board.machine.value.set;
+      state = record { now = board.machine.value.now; asked = board.asked; due = board.due };
       made = board.made;
     } };
 
     ghost invariant = { λ board. board.asked ≤ most_asked };
-}
-
-/// A set's picture before anything is composed, and the memory at power-on.
-fn parts(alloc: Global, set: &RomSet, switches: u8) -> Result<(Picture, Memory), AllocError>
-    ensures { IfOk result (λ parts. IsFresh set.now switches parts.0 parts.1) }
-{
-    let graphics = Graphics::new(alloc, set.tiles(), set.sprites(), set.lookup())?;
-    let picture = Picture::new(alloc, graphics, set.colours())?;
-    let memory = Memory::new(switches);
-    Ok((picture, memory))
 }
 
 impl Board {
@@ -59,11 +48,11 @@ impl Board {
         ensures board { IfOk result (λ board. board ≡ state.power_on_board set switches) }
         ensures refused { IfErr result (λ refused. refused.set ≡ set) }
     {
-        let Ok((picture, memory)) = parts(alloc, &set, switches) else {
+        let Ok(machine) = Box::new(alloc, Machine::power_on(&set, switches)) else {
             return Err(InitRefused { set });
         };
         Ok(Board {
-            machine: Machine::new(set, memory, picture),
+            machine,
             asked: 0,
             due: Due::NOTHING,
             made: 0,

@@ -3,19 +3,20 @@
 ghost use Rattle.std.specs.Prelude.{◌≡◌, ◌≤◌, ◌<◌, ◌↔◌, IfOk, IfErr, true, length};
 ghost use Rattle.pac_wave.specs.Wave.{Fit20Bits, accumulators_of_list};
 ghost use Rattle.pac_board.specs.State.{most_asked, passed_lines, recomposed_view, with_view};
-ghost use Rattle.pac_board.specs.Fields.{moment_of, state_of, AreBoardFields, AreParts};
+ghost use Rattle.pac_board.specs.Fields.{moment_of, state_of, AreBoardFields};
+ghost use Rattle.pac_board.specs.Events.{IsUndrawn};
 
 use crate::board::Board;
 use crate::due::Due;
 use crate::exec::MOST_ASKED;
 use crate::fault::InitRefused;
-use crate::machine::Machine;
+use crate::machine::{Machine, picture_of};
 use crate::timing::{FRAME_TICKS, HIDDEN_LINES, LINE_TICKS};
 use pac_cpu::{Cpu, Regs};
 use pac_map::{Map, Memory, RomSet};
-use pac_picture::{Graphics, Lines, Picture};
+use pac_picture::{Lines, Picture};
 use pac_wave::Wave;
-use std::alloc::{AllocError, Global};
+use std::alloc::Global;
 
 /// The fields of a board's state, as a save file has them.
 #[derive(Clone, Copy)]
@@ -62,28 +63,30 @@ impl Fields<'_> {
     }
 }
 
-/// A set's picture with the lines of these fields, and their memory.
-fn parts(alloc: Global, set: &RomSet, fields: &Fields) -> Result<(Picture, Memory), AllocError>
-    requires { AreBoardFields fields.now }
-    ensures { IfOk result (λ parts. AreParts set.now fields.now parts.0 parts.1) }
+/// A set's picture with the lines of these fields.
+#[inline(always)]
+fn picture_with(set: &RomSet, lines: &Lines) -> Picture
+    ensures { IsUndrawn set.now lines.now result }
 {
-    let graphics = Graphics::new(alloc, set.tiles(), set.sprites(), set.lookup())?;
-    let mut picture = Picture::new(alloc, graphics, set.colours())?;
-    picture.copy_from(fields.lines);
-    let memory = Memory::of(&fields.memory);
-    Ok((picture, memory))
+    let mut picture = picture_of(set);
+    picture.copy_from(lines);
+    picture
 }
 
 impl Machine {
-    /// The machine of these fields, with their picture and their memory.
-    fn of(set: RomSet, picture: Picture, memory: Memory, fields: &Fields) -> Machine
-        requires range { AreBoardFields fields.now }
-        requires parts { AreParts set fields.now picture memory }
-        ensures { result ≡ record { set = set; now = moment_of fields.now } }
+    /// The machine of these fields, with a copy of this ROM set.
+    #[inline(always)]
+    fn of(set: &RomSet, fields: &Fields) -> Machine
+        requires { AreBoardFields fields.now }
+        ensures { result ≡ record { set = set.now; now = moment_of fields.now } }
     {
+        let picture = picture_with(set, fields.lines);
         Machine {
             cpu: Cpu::with_regs(fields.regs),
-            map: Map { set, memory },
+            map: Map {
+                set: set.copied(),
+                memory: Memory::of(&fields.memory),
+            },
             wave: Wave::of(fields.accumulators),
             picture,
             clock: fields.time,
@@ -145,11 +148,11 @@ impl Board {
             (λ board. board ≡ record { set = set; state = state_of fields.now; made = 0 }) }
         ensures refused { IfErr result (λ refused. refused.set ≡ set) }
     {
-        let Ok((picture, memory)) = parts(alloc, &set, fields) else {
+        let Ok(machine) = Box::new(alloc, Machine::of(&set, fields)) else {
             return Err(InitRefused { set });
         };
         Ok(Board {
-            machine: Machine::of(set, picture, memory, fields),
+            machine,
             asked: fields.asked,
             due: fields.due,
             made: 0,

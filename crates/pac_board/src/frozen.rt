@@ -1,6 +1,6 @@
 //! The moment that a machine stands at, kept beside it.
 
-ghost use Rattle.std.specs.Prelude.{◌≡◌, IfOk};
+ghost use Rattle.std.specs.Prelude.{◌≡◌};
 ghost use Rattle.pac_picture.specs.Layer.{AreStale};
 ghost use Rattle.pac_board_model.specs.Trace.{power_on_moment};
 ghost use Rattle.pac_board_model.specs.BoardView.{power_on_board_view};
@@ -10,7 +10,6 @@ use pac_cpu::Cpu;
 use pac_map::Memory;
 use pac_picture::{Lines, Picture};
 use pac_wave::Wave;
-use std::alloc::{AllocError, Global};
 use std::marker::Model;
 
 /// A moment that is kept: registers, memory, voices, lines of the picture, and time.
@@ -49,18 +48,19 @@ impl Model for Frozen {
 }
 
 impl Frozen {
-    /// The moment of power-on, all DIP switches 0. Refused for want of memory alone.
-    pub fn new(alloc: Global) -> Result<Frozen, AllocError>
-        ensures { IfOk result (λ frozen. frozen ≡ power_on_moment (power_on_board_view 0)) }
+    /// The moment of power-on, all DIP switches 0.
+    #[inline(always)]
+    pub fn new() -> Frozen
+        ensures { result ≡ power_on_moment (power_on_board_view 0) }
     {
-        Ok(Frozen {
+        Frozen {
             cpu: Cpu::power_on(),
             memory: Memory::new(0),
             wave: Wave::new(),
-            lines: Lines::new(alloc)?,
+            lines: Lines::new(),
             clock: 0,
             steps: 0,
-        })
+        }
     }
 }
 

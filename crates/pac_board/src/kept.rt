@@ -13,7 +13,7 @@ use std::marker::Model;
 /// A picture as it was taken: its lines, and red, green and blue of its colour numbers.
 #[derive(Drop)]
 pub struct Shown {
-    lines: Lines,
+    lines: Box<Lines>,
     palette: [[u8; 3]; 16],
 }
 
@@ -22,7 +22,7 @@ impl Model for Shown {
 
     ghost Value = { Image };
 
-    ghost view = { λ offered_image. record { lines = offered_image.lines; palette = offered_image.palette } };
+    ghost view = { λ offered_image. record { lines = offered_image.lines.value; palette = offered_image.palette } };
 }
 
 impl Shown {
@@ -30,7 +30,7 @@ impl Shown {
     fn of(alloc: Global, picture: &Picture) -> Result<Shown, AllocError>
         ensures { IfOk result (λ copy. copy ≡ offered_image picture.now) }
     {
-        let mut lines = Lines::new(alloc)?;
+        let mut lines = Box::new(alloc, Lines::new())?;
         lines.copy_from(picture.lines());
         let mut palette = [[0; 3]; 16];
         palette.copy_from_slice(picture.palette());

@@ -12,7 +12,7 @@ use std::marker::Model;
 /// A board's state: the moment that it stood at, the microseconds asked of it, and what was due. Clauses see the state.
 #[derive(Drop)]
 pub struct Snapshot {
-    frozen: Frozen,
+    frozen: Box<Frozen>,
     asked: u64,
     due: Due,
 }
@@ -23,7 +23,7 @@ impl Model for Snapshot {
 
     ghost Value = { BoardState };
 
-    ghost view = { λ snapshot. record { now = snapshot.frozen; asked = snapshot.asked; due = snapshot.due } };
+    ghost view = { λ snapshot. record { now = snapshot.frozen.value; asked = snapshot.asked; due = snapshot.due } };
 
     ghost invariant = { λ snapshot. snapshot.asked ≤ most_asked };
 }
@@ -33,7 +33,7 @@ impl Board {
     pub fn snapshot(&self, alloc: Global) -> Result<Snapshot, AllocError>
         ensures { IfOk result (λ snapshot. snapshot ≡ self.now.state) }
     {
-        let mut frozen = Frozen::new(alloc)?;
+        let mut frozen = Box::new(alloc, Frozen::new())?;
         self.machine.freeze(&mut frozen);
         Ok(Snapshot {
             frozen,

@@ -8,7 +8,7 @@ use Rattle.std.specs.Int.{w64, to_le_bytes, from_le_bytes}
 use mathlib.Core.Logic.{inl, inr}
 use Rattle.pac_num.specs.Tabulate.{tabulate}
 use Rattle.pac_num.proofs.Tabulated.{length-tabulate, get_or-tabulate}
-use Rattle.pac_media.specs.Drawn.{ArePlaces}
+use Rattle.pac_media.specs.Drawn.{ArePlacesOfPairs}
 
 -- each number in the sixteens and the one after it in the units
 abbrev shifted : List ℕ → List ℕ
@@ -49,7 +49,7 @@ number-below numbers each k =
 -- the places of the pairs
 pub places-found : (numbers : List ℕ) (word : ℕ) (bytes : List ℕ) → length numbers ≡ 8 →
     EachIndex numbers (λ x. slice_index numbers x < 16) → word < 2 ^ 64 → to_le_bytes w64 word ≡ numbers →
-    bytes ≡ to_le_bytes w64 (word * 2 ^ 4 % 2 ^ 64 + word / 2 ^ 8) → ArePlaces numbers bytes
+    bytes ≡ to_le_bytes w64 (word * 2 ^ 4 % 2 ^ 64 + word / 2 ^ 8) → ArePlacesOfPairs numbers bytes
 places-found numbers word bytes eight each fits read written k inside =
     let below = number-below numbers each in
     let at = shifted-at numbers in

@@ -17,8 +17,8 @@ abbrev pub ArePairs : List (List ℕ) → List (List ℕ) → Type 0
 ArePairs palette pairs = (number : ℕ) → number < 256 → take 6 (slice_index_or pairs number []) ≡ pair_in palette number
 
 -- the places in such a table of the four pairs of eight colour numbers, in every other byte
-abbrev pub ArePlaces : List ℕ → List ℕ → Type 0
-ArePlaces numbers places =
+abbrev pub ArePlacesOfPairs : List ℕ → List ℕ → Type 0
+ArePlacesOfPairs numbers places =
     (k : ℕ) → k < 4 → slice_index places (2 * k) ≡ 16 * slice_index numbers (2 * k) + slice_index numbers (2 * k + 1)
 
 -- a palette with its table of pairs

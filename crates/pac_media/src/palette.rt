@@ -5,7 +5,7 @@ ghost use Rattle.std.specs.Int.{w64, to_le_bytes};
 ghost use Rattle.std.specs.List.{flat_map};
 ghost use Rattle.pac_colour.specs.Colours.{numbers as colour_numbers};
 ghost use Rattle.pac_media.specs.Images.{palette_colour};
-ghost use Rattle.pac_media.specs.Drawn.{ArePairs, ArePlaces};
+ghost use Rattle.pac_media.specs.Drawn.{ArePairs, ArePlacesOfPairs};
 
 use std::alloc::{AllocError, Global};
 use std::marker::Model;
@@ -52,7 +52,7 @@ pub(crate) fn word(numbers: &[u8]) -> u64
 fn pair_places(numbers: &[u8]) -> [u8; 8]
     requires size { length numbers.now ≡ 8 }
     requires below { EachIndex numbers.now (λ x. slice_index numbers.now x < colour_numbers) }
-    ensures { ArePlaces numbers.now result }
+    ensures { ArePlacesOfPairs numbers.now result }
 {
     let word = word(numbers);
     ((word << 4) + (word >> 8)).to_le_bytes()

@@ -1,28 +1,33 @@
 -- Tiles and sprites by their pixel values, and the numbers that a colour gives these.
-use Rattle.std.proofs.Common.{◌≡◌, ℕ, ◌+◌, ◌*◌, ◌/◌, ◌%◌, ◌<◌, ◌∙◌, List, [], take, drop, length, get_or, set, ap, arith, w8}
+use Rattle.std.proofs.Common.{◌≡◌, ℕ, ◌+◌, ◌*◌, ◌/◌, ◌%◌, ◌<◌, ◌≤◌, nat_lt, if◌then◌else◌, List, [], take, drop, length, get_or, set}
+use Rattle.std.proofs.Common.{refl, ap, ◌∙◌, arith, w8}
 use Rattle.std.proofs.lemmas.List.{get_or-take, get_or-drop, length-set, length-take, length-drop}
 use Rattle.std.proofs.lemmas.Simd.{swz_l, SwzOk, SwzOk-from_below, Each1-from_get_or, get_or-swz_l_below}
+use Rattle.std.proofs.lemmas.Bool.Decides.{nat_tests}
 use Rattle.pac_num.specs.Tabulate.{tabulate}
+use Rattle.pac_num.specs.Pixels.{pixel_value}
 use Rattle.pac_num.proofs.Tabulated.{get_or-tabulate, tabulate-is}
 use Rattle.pac_num.proofs.Pixels.{pixel_value-below}
 use Rattle.pac_lemmas.proofs.Lists.{set-one-more}
 use Rattle.pac_tiles.specs.Tiles.{tile_pixel}
-use Rattle.pac_sprites.specs.Sprites.{sprite_pixel}
+use Rattle.pac_sprites.specs.Sprites.{sprite_pixel, pixel_byte_index}
 use Rattle.pac_picture.specs.Picture.{VideoRoms, tile_number, sprite_number}
-use Rattle.pac_picture.specs.Decoded.{tile_pair, sprite_values, AreValues, AreNumbersOf}
-use Rattle.pac_picture.proofs.Places.{read-tabulate}
+use Rattle.pac_picture.specs.Decoded.{tile_pair, sprite_values, ArePlaces, AreValues, AreNumbersOf}
 
--- values of two bits are places in a vector of sixteen
-pub swizzle-fits : (values : List ℕ) → length values ≡ 16 → AreValues values → SwzOk w8 16 16 0 values
-swizzle-fits values long small =
-    SwzOk-from_below w8 16 1 16 0 values (omega arith) (omega (arith, long))
-    (Each1-from_get_or (λ j. j < 16) values 0 (λ i inside. omega (arith, small i (omega (arith, inside, long)))))
+-- places in a vector of sixteen, and the lanes there
+pub swizzle-fits : (places : List ℕ) → length places ≡ 16 → ArePlaces places → SwzOk w8 16 16 0 places
+swizzle-fits places long below =
+    SwzOk-from_below w8 16 1 16 0 places (omega arith) (omega (arith, long))
+    (Each1-from_get_or (λ j. j < 16) places 0 (λ i inside. below i (omega (arith, inside, long))))
 
-pub swizzled-at : (numbers values : List ℕ) → length values ≡ 16 → AreValues values → (k : ℕ) → k < 16
-    → get_or (swz_l w8 16 numbers 0 values) k 0 ≡ get_or numbers (get_or values k 0) 0
-swizzled-at numbers values long small k below =
-    get_or-swz_l_below w8 16 numbers 0 values k (omega (arith, long, below)) (omega (arith, small k below))
-    ∙ ap (λ n. get_or numbers n 0) (omega (arith, below))
+pub swizzled-at : (bytes places : List ℕ) → length places ≡ 16 → ArePlaces places → (k : ℕ) → k < 16
+    → get_or (swz_l w8 16 bytes 0 places) k 0 ≡ get_or bytes (get_or places k 0) 0
+swizzled-at bytes places long are k below =
+    get_or-swz_l_below w8 16 bytes 0 places k (omega (arith, long, below)) (are k below)
+    ∙ ap (λ n. get_or bytes n 0) (omega (arith, below))
+
+pub values-are-places : (values : List ℕ) → AreValues values → ArePlaces values
+values-are-places values small k below = omega (arith, small k below)
 
 -- what is decoded are values of two bits
 pub pair-below : (rom : List ℕ) (tile pair : ℕ) → AreValues (tile_pair rom tile pair)
@@ -34,26 +39,38 @@ pub sprite-below : (rom : List ℕ) (code y : ℕ) → AreValues (sprite_values 
 unfolding sprite_values
 sprite-below rom code y k below = rw (get_or-tabulate 16 (λ x. sprite_pixel rom code x y) k 0 below) (pixel_value-below _ _)
 
--- the entry of a pair of a tile's lines, and of a line of a sprite
-pub pair-read : (rom : List ℕ) (pairs : List (List ℕ)) (code pair : ℕ) (entry : List ℕ)
-    → pairs ≡ tabulate 1024 (λ n. tile_pair rom (n / 4) (n % 4)) → code < 256 → pair < 4
-    → entry ≡ get_or pairs (4 * code + pair) entry → entry ≡ tile_pair rom code pair
-pair-read rom pairs code pair entry filled below inside read =
-    let place : 4 * code + pair < 1024 = omega (arith, below, inside) in
-    let quotient : (4 * code + pair) / 4 ≡ code = omega (arith, below, inside) in
-    let remainder : (4 * code + pair) % 4 ≡ pair = omega (arith, below, inside) in
-    rw (quotient, remainder) at
-    (read-tabulate pairs 1024 (λ n. tile_pair rom (n / 4) (n % 4)) (4 * code + pair) entry filled place read)
+-- the places of a pair of lines are places, and what stands there are the pixels of these lines
+pub are-places : (pair : ℕ) (places : List ℕ) → pair < 4
+    → ((k : ℕ) → k < 16 → get_or places k 0 ≡ 2 * pair + k / 8 + (if nat_lt (k % 8) 4 then 8 else 0)) → ArePlaces places
+are-places pair places some are k below = rw (are k below) (grind (arith, nat_tests))
 
-pub sprite-read : (rom : List ℕ) (lines : List (List ℕ)) (code y : ℕ) (entry : List ℕ)
-    → lines ≡ tabulate 1024 (λ n. sprite_values rom (n / 16) (n % 16)) → code < 64 → y < 16
-    → entry ≡ get_or lines (16 * code + y) entry → entry ≡ sprite_values rom code y
-sprite-read rom lines code y entry filled below inside read =
-    let place : 16 * code + y < 1024 = omega (arith, below, inside) in
-    let quotient : (16 * code + y) / 16 ≡ code = omega (arith, below, inside) in
-    let remainder : (16 * code + y) % 16 ≡ y = omega (arith, below, inside) in
-    rw (quotient, remainder) at
-    (read-tabulate lines 1024 (λ n. sprite_values rom (n / 16) (n % 16)) (16 * code + y) entry filled place read)
+pub sixteen-read : (rom bytes : List ℕ) (start : ℕ) → bytes ≡ take 16 (drop start rom) → start + 16 ≤ length rom
+    → (k : ℕ) → k < 16 → get_or bytes k 0 ≡ get_or rom (start + k) 0
+sixteen-read rom bytes start is room k below = rw is (get_or-take 16 (drop start rom) k 0 below ∙ get_or-drop start rom k 0)
+
+pub pair-is : (rom bytes places lanes pixels : List ℕ) (code pair : ℕ) → pair < 4 → length pixels ≡ 16
+    → ((k : ℕ) → k < 16 → get_or bytes k 0 ≡ get_or rom (16 * code + k) 0)
+    → ((k : ℕ) → k < 16 → get_or places k 0 ≡ 2 * pair + k / 8 + (if nat_lt (k % 8) 4 then 8 else 0))
+    → ((k : ℕ) → k < 16 → get_or lanes k 0 ≡ get_or bytes (get_or places k 0) 0)
+    → ((k : ℕ) → k < 16 → get_or pixels k 0 ≡ pixel_value (get_or lanes k 0) k) → pixels ≡ tile_pair rom code pair
+unfolding tile_pair
+pair-is rom bytes places lanes pixels code pair some long read are picked valued =
+    tabulate-is pixels 16 _ 0 long (λ k below.
+    let inside : get_or places k 0 < 16 = are-places pair places some are k below in
+    let same : 16 * code + get_or places k 0 ≡ 16 * code + (2 * pair + k / 8) + (if nat_lt (k % 8) 4 then 8 else 0) =
+    omega (arith, are k below) in
+    let byte : get_or lanes k 0 ≡ get_or rom (16 * code + (2 * pair + k / 8) + (if nat_lt (k % 8) 4 then 8 else 0)) 0 =
+    picked k below ∙ (read (get_or places k 0) inside ∙ ap (λ n. get_or rom n 0) same) in
+    let column : (k % 8) % 4 ≡ k % 4 = omega arith in
+    valued k below ∙ rw (byte, column) refl)
+
+-- and on a line of a sprite
+pub sprite-is : (rom : List ℕ) (code y : ℕ) (bytes pixels : List ℕ) → length pixels ≡ 16
+    → ((x : ℕ) → x < 16 → get_or bytes x 0 ≡ get_or rom (64 * code + pixel_byte_index x y) 0)
+    → ((k : ℕ) → k < 16 → get_or pixels k 0 ≡ pixel_value (get_or bytes k 0) k) → pixels ≡ sprite_values rom code y
+unfolding sprite_values
+sprite-is rom code y bytes pixels long read valued =
+    tabulate-is pixels 16 _ 0 long (λ k below. valued k below ∙ rw (read k below) refl)
 
 -- a dot of a tile in a colour, and of a sprite
 tile-dot : (roms : VideoRoms) (colour tile pair : ℕ) (numbers values both : List ℕ) (k : ℕ) → k < 16

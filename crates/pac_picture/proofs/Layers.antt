@@ -1,14 +1,15 @@
 -- The layer, row by row.
-use Rattle.std.proofs.Common.{◌≡◌, ◌≢◌, ℕ, suc, ◌+◌, ◌/◌, ◌%◌, ◌<◌, ◌≤◌, true, false, List, [], length, get_or, set, map, slice_index}
+use Rattle.std.proofs.Common.{◌≡◌, ◌≢◌, ℕ, suc, ◌+◌, ◌/◌, ◌%◌, ◌<◌, ◌≤◌, true, false, List, [], length, set, map, slice_index}
 use Rattle.std.proofs.Common.{refl, sym, ap, ◌∙◌, add-one, arith, get_or-set_other, get_or-set_same}
 use Rattle.std.specs.Prelude.{sum}
-use Rattle.std.proofs.lemmas.List.{same_lists, get_or_default, get_or_read, get_or-map, length-map}
+use Rattle.std.proofs.lemmas.List.{same_lists, get_or_default, get_or-map, length-map}
 use Rattle.std.proofs.lemmas.List.Sums.{sum_by_push}
 use Rattle.std.proofs.lemmas.Bool.{true≢false}
 use Rattle.pac_lemmas.proofs.Lists.{set-one-more}
 use Rattle.pac_num.specs.Tabulate.{tabulate}
 use Rattle.pac_tiles.specs.Tiles.{offset_of}
 use Rattle.pac_num.proofs.Tabulated.{length-tabulate, get_or-tabulate, tabulate-same, tabulate-is}
+use Rattle.pac_picture.specs.declared.layer.Strip.{Strip}
 use Rattle.pac_picture.specs.declared.shadow.Shadow.{Shadow}
 use Rattle.pac_picture.specs.Picture.{VideoRoms, VideoMemory, tile_number, tile_dot}
 use Rattle.pac_picture.specs.Layer.{shadow_from, shadow_at, drawn_from, cells_of, differing_in, tile_pattern}
@@ -49,27 +50,17 @@ pub length-stale : length stale_rows ≡ 28
 unfolding stale_rows
 length-stale = length-tabulate 28 (λ _. stale_row)
 
-pub new-layer : (roms : VideoRoms) (shadows : List Shadow) (cells : List (List (List (List ℕ)))) → shadows ≡ stale_rows →
-    length cells ≡ 28 →
-    IsLayer roms shadows cells
-new-layer roms shadows cells is high = record {
+pub new-layer : (roms : VideoRoms) (shadows : List Shadow) (strips : List (Strip (List (List (List ℕ))))) → shadows ≡ stale_rows →
+    length strips ≡ 28 →
+    IsLayer roms shadows strips
+new-layer roms shadows strips is high = record {
   shadows_high = rw is length-stale;
-  cells_high = high;
+  strips_high = high;
   drawn = λ row below fresh.
       let here : shadow_at shadows row ≡ stale_row = rw is (stale-at row below) in
       let never : true ≡ false = rw here at fresh in
       absurd (true≢false never);
 }
-
--- what is read of a row
-pub drawn-read : (roms : VideoRoms) (shadows : List Shadow) (cells : List (List (List (List ℕ)))) (row : ℕ) (shadow : Shadow)
-    (strip : List (List (List ℕ))) → IsLayer roms shadows cells → row < 28 →
-    shadow ≡ get_or shadows row shadow → strip ≡ get_or cells row strip → IsDrawn roms shadow strip
-drawn-read roms shadows cells row shadow strip layer below is_shadow is_strip =
-    let one : row < length shadows = omega (arith, below, layer.shadows_high) in
-    let two : row < length cells = omega (arith, below, layer.cells_high) in
-    rw (get_or_read shadows row shadow one is_shadow (shadow_from [] []), get_or_read cells row strip two is_strip [])
-    (layer.drawn row below)
 
 -- a line of the layer
 dot-kept : (roms : VideoRoms) (shadow : Shadow) (strip : List (List (List ℕ))) (x y : ℕ) → IsDrawn roms shadow strip →
@@ -131,13 +122,6 @@ drawn-all memory shadows high done = tabulate-is shadows 28 (drawn_from memory) 
 pub all-at : (memory : VideoMemory) (shadows : List Shadow) (row : ℕ) → shadows ≡ tabulate 28 (drawn_from memory) → row < 28 →
     shadow_at shadows row ≡ drawn_from memory row
 all-at memory shadows row is below = rw is (get_or-tabulate 28 (drawn_from memory) row (shadow_from [] []) below)
-
-pub drawn-at : (roms : VideoRoms) (shadows : List Shadow) (cells : List (List (List (List ℕ)))) (row : ℕ)
-    (strip : List (List (List ℕ))) → IsLayer roms shadows cells → row < 28 → strip ≡ get_or cells row strip → IsDrawn roms
-    (shadow_at shadows row) strip
-drawn-at roms shadows cells row strip layer below is_strip =
-    let two : row < length cells = omega (arith, below, layer.cells_high) in
-    rw (get_or_read cells row strip two is_strip []) (layer.drawn row below)
 
 pub shadow-set : (shadows : List Shadow) (row : ℕ) (next : Shadow) → length shadows ≡ 28 → row < 28 → shadow_at
     (set shadows row next) row ≡ next

@@ -1,5 +1,6 @@
 pub mod Places
 pub mod Decoded
+pub mod Pixels
 pub mod Painted
 pub mod Boxes
 pub mod Dots

@@ -13,6 +13,10 @@ tile_pair rom tile pair = tabulate 16 (λ k. tile_pixel rom tile (k % 8) (2 * pa
 unfoldable pub sprite_values : List ℕ → ℕ → ℕ → List ℕ
 sprite_values rom code y = tabulate 16 (λ x. sprite_pixel rom code x y)
 
+-- places in sixteen bytes
+abbrev pub ArePlaces : List ℕ → Type 0
+ArePlaces places = (k : ℕ) → k < 16 → slice_index places k < 16
+
 -- pixel values, of two bits each
 abbrev pub AreValues : List ℕ → Type 0
 AreValues values = (k : ℕ) → k < 16 → slice_index values k < 4

@@ -6,6 +6,7 @@ use Rattle.pac_num.specs.Tabulate.{tabulate}
 use Rattle.pac_tiles.specs.Tiles.{columns, rows, offset_of, tile_rom_size}
 use Rattle.pac_sprites.specs.Sprites.{sprite_rom_size}
 use Rattle.pac_colour.specs.Colours.{lookup_size}
+use Rattle.pac_picture.specs.declared.layer.Strip.{Strip}
 use Rattle.pac_picture.specs.declared.shadow.Shadow.{Shadow}
 use Rattle.pac_picture.specs.Picture.{VideoRoms, VideoMemory, tile_number}
 
@@ -78,11 +79,15 @@ pub record LayerState : Type 0 where
   pub roms : VideoRoms
   pub shadows : List Shadow
 
+-- the cells of the row of a number
+abbrev pub cells_at : List (Strip (List (List (List ℕ)))) → ℕ → List (List (List ℕ))
+cells_at strips row = (slice_index_or strips row (record { cells = [] })).cells
+
 -- the layer's rows are whole, and drawn
-pub record IsLayer (roms : VideoRoms) (shadows : List Shadow) (cells : List (List (List (List ℕ)))) : Type 0 where
+pub record IsLayer (roms : VideoRoms) (shadows : List Shadow) (strips : List (Strip (List (List (List ℕ))))) : Type 0 where
   pub shadows_high : length shadows ≡ rows
-  pub cells_high : length cells ≡ rows
-  pub drawn : (row : ℕ) → row < rows → IsDrawn roms (shadow_at shadows row) (slice_index_or cells row [])
+  pub strips_high : length strips ≡ rows
+  pub drawn : (row : ℕ) → row < rows → IsDrawn roms (shadow_at shadows row) (cells_at strips row)
 
 -- the number at (x, y) of the picture, from the bytes that its row of cells was drawn from
 unfoldable pub kept_dot : VideoRoms → Shadow → ℕ → ℕ → ℕ

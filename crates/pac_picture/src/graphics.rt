@@ -1,29 +1,51 @@
-//! The ROMs that pictures are drawn from, decoded once for a set: the pixel values of the lines of each tile and of each sprite.
-//! A colour's numbers are put in their places sixteen at a time.
+//! The ROMs that pictures are drawn from. The pixels of a tile and of a sprite are taken from their bytes, and a colour's numbers
+//! put in their places, sixteen at a time.
 
-ghost use Rattle.std.specs.Prelude.{◌≡◌, ◌<◌, ℕ, ◌+◌, ◌*◌, ◌/◌, ◌%◌, IfOk, length, slice_index, take, drop};
+ghost use Rattle.std.specs.Prelude.{◌≡◌, ◌<◌, ℕ, ◌+◌, ◌*◌, ◌/◌, ◌%◌, nat_lt, if◌then◌else◌, length, slice_index, take, drop};
 ghost use Rattle.pac_num.specs.Tabulate.{tabulate};
+ghost use Rattle.pac_num.specs.Pixels.{pixel_value};
 ghost use Rattle.pac_tiles.specs.Tiles as tile;
 ghost use Rattle.pac_sprites.specs.Sprites as sprite;
 ghost use Rattle.pac_colour.specs.Colours as colour_of;
 ghost use Rattle.pac_picture.specs.Picture.{sprite_number};
 ghost use Rattle.pac_picture.specs.Layer.{tile_pattern};
-ghost use Rattle.pac_picture.specs.Decoded.{tile_pair, sprite_values, AreValues, AreNumbersOf};
+ghost use Rattle.pac_picture.specs.Decoded.{tile_pair, sprite_values, ArePlaces, AreValues, AreNumbersOf};
 
 use pac_colour::index;
-use std::alloc::{AllocError, Global};
 use std::marker::Model;
 use std::simd::prelude::*;
 
-/// The colour numbers of sixteen pixel values, by the numbers of a colour.
+/// The bits of a byte that have the twos of its pixels, column by column: the four columns are there for each of four bytes.
+const TWOS: [u8; 16] = [
+    128, 64, 32, 16, 128, 64, 32, 16, 128, 64, 32, 16, 128, 64, 32, 16,
+];
+
+/// The bits that have their ones.
+const ONES: [u8; 16] = [8, 4, 2, 1, 8, 4, 2, 1, 8, 4, 2, 1, 8, 4, 2, 1];
+
+/// The bytes of a tile, of its sixteen, that have the pixels of its first two lines: the left half of a line stands in the last eight.
+const FIRST_LINES: [u8; 16] = [8, 8, 8, 8, 0, 0, 0, 0, 9, 9, 9, 9, 1, 1, 1, 1];
+
+/// The bytes at sixteen places of sixteen.
 #[inline]
-fn coloured(numbers: &[u8; 16], values: &[u8; 16]) -> [u8; 16]
-    requires { AreValues values.now }
-    ensures { (k : ℕ) → k < 16 → slice_index result k ≡ slice_index numbers.now (slice_index values.now k) }
+fn picked(bytes: &[u8; 16], places: &[u8; 16]) -> [u8; 16]
+    requires { ArePlaces places.now }
+    ensures { (k : ℕ) → k < 16 → slice_index result k ≡ slice_index bytes.now (slice_index places.now k) }
 {
-    u8x16::from_array(*numbers)
-        .swizzle_dyn(u8x16::from_array(*values))
+    u8x16::from_array(*bytes)
+        .swizzle_dyn(u8x16::from_array(*places))
         .to_array()
+}
+
+/// The pixels of sixteen bytes, of each that of its place's column.
+#[inline]
+fn values(bytes: &[u8; 16]) -> [u8; 16]
+    ensures { (k : ℕ) → k < 16 → slice_index result k ≡ pixel_value (slice_index bytes.now k) k }
+{
+    let bytes = u8x16::from_array(*bytes);
+    let twos = (bytes & u8x16::from_array(TWOS)).simd_min(u8x16::splat(2));
+    let ones = (bytes & u8x16::from_array(ONES)).simd_min(u8x16::splat(1));
+    (twos + ones).to_array()
 }
 
 /// The first eight and the last eight of sixteen bytes.
@@ -39,61 +61,55 @@ fn halves(both: &[u8; 16]) -> ([u8; 8], [u8; 8])
     (first, last)
 }
 
-/// The pixel values on two lines of a tile, one after the other: those of the pair of a number, 0 to 3.
-fn tile_pair(rom: &[u8], code: u8, pair: u8) -> [u8; 16]
-    requires rom { length rom.now ≡ tile.tile_rom_size }
-    requires pair { pair < 4 }
-    ensures { result ≡ tile_pair rom.now code pair }
+/// The places of a tile's bytes that have the pixels of a pair of its lines, 0 to 3.
+#[inline]
+fn tile_places(pair: u8) -> [u8; 16]
+    requires { pair < 4 }
+    ensures { (k : ℕ) → k < 16 → slice_index result k ≡ 2 * pair + k / 8 + (if nat_lt (k % 8) 4 then 8 else 0) }
 {
-    let mut values = [0; 16];
-    for k in 0..16u8 {
-        values[k as usize] = pac_tiles::pixel(rom, code, k % 8, 2 * pair + k / 8);
-    }
-    values
+    (u8x16::from_array(FIRST_LINES) + u8x16::splat(2 * pair)).to_array()
 }
 
-/// The pixel values of all tiles, by pairs of lines.
-fn tile_pairs(alloc: Global, rom: &[u8]) -> Result<Vec<[u8; 16]>, AllocError>
-    requires { length rom.now ≡ tile.tile_rom_size }
-    ensures { IfOk result (λ pairs. pairs.items ≡ tabulate 1024 (λ n. tile_pair rom.now (n / 4) (n % 4))) }
+/// The pixel values on a pair of a tile's lines, one after the other.
+#[inline]
+fn tile_values(rom: &[u8; 4096], code: u8, pair: u8) -> [u8; 16]
+    requires { pair < 4 }
+    ensures { result ≡ tile_pair rom.now code pair }
 {
-    let mut pairs = Vec::with_capacity(alloc, 1024)?;
-    for n in 0..1024u16 {
-        pairs.push(tile_pair(rom, (n / 4) as u8, (n % 4) as u8))?;
+    let start = 16 * code as usize;
+    let mut bytes = [0; 16];
+    bytes.copy_from_slice(&rom[start..start + 16]);
+    values(&picked(&bytes, &tile_places(pair)))
+}
+
+/// The bytes that have the pixels on line y of a sprite, from left to right.
+#[inline]
+fn sprite_bytes(rom: &[u8; 4096], code: u8, y: u8) -> [u8; 16]
+    requires code { code < sprite.sprite_codes }
+    requires y { y < 16 }
+    ensures { (x : ℕ) → x < 16 → slice_index result x ≡ slice_index rom.now (64 * code + sprite.pixel_byte_index x y) }
+{
+    let start = 64 * code as usize + (y % 8) as usize + 32 * (y / 8) as usize;
+    let mut bytes = [0; 16];
+    for x in 0..16usize {
+        bytes[x] = rom[start + 8 * ((x / 4 + 1) % 4)];
     }
-    Ok(pairs)
+    bytes
 }
 
 /// The pixel values on line y of a sprite.
-fn sprite_values(rom: &[u8], code: u8, y: u8) -> [u8; 16]
-    requires rom { length rom.now ≡ sprite.sprite_rom_size }
+#[inline]
+fn sprite_values(rom: &[u8; 4096], code: u8, y: u8) -> [u8; 16]
     requires code { code < sprite.sprite_codes }
     requires y { y < 16 }
     ensures { result ≡ sprite_values rom.now code y }
 {
-    let mut values = [0; 16];
-    for x in 0..16u8 {
-        values[x as usize] = pac_sprites::pixel(rom, code, x, y);
-    }
-    values
-}
-
-/// The pixel values of all sprites, line by line.
-fn sprite_lines(alloc: Global, rom: &[u8]) -> Result<Vec<[u8; 16]>, AllocError>
-    requires { length rom.now ≡ sprite.sprite_rom_size }
-    ensures { IfOk result (λ lines. lines.items ≡ tabulate 1024 (λ n. sprite_values rom.now (n / 16) (n % 16))) }
-{
-    let mut lines = Vec::with_capacity(alloc, 1024)?;
-    for n in 0..1024u16 {
-        lines.push(sprite_values(rom, (n / 16) as u8, (n % 16) as u8))?;
-    }
-    Ok(lines)
+    values(&sprite_bytes(rom, code, y))
 }
 
 /// A colour's number of each pixel value: the first four of sixteen.
 #[inline]
-fn numbers(lookup: &[u8], colour: u8) -> [u8; 16]
-    requires { length lookup.now ≡ colour_of.lookup_size }
+fn numbers(lookup: &[u8; 256], colour: u8) -> [u8; 16]
     ensures { AreNumbersOf lookup.now colour result }
 {
     let mut numbers = [0; 16];
@@ -103,81 +119,49 @@ fn numbers(lookup: &[u8], colour: u8) -> [u8; 16]
     numbers
 }
 
+/// N bytes of a ROM, copied.
+#[inline]
+fn copied<const N: usize>(bytes: &[u8; N]) -> [u8; N]
+    ensures bytes { result ≡ bytes.now }
+    ensures size { length bytes.now ≡ N }
+{
+    *bytes
+}
+
 /// The ROMs that pictures are drawn from. Clauses see their bytes.
 #[derive(Drop)]
 pub struct Graphics {
-    tiles: Vec<u8>,
-    sprites: Vec<u8>,
-    lookup: Vec<u8>,
-    tile_pairs: Vec<[u8; 16]>,
-    sprite_lines: Vec<[u8; 16]>,
+    tiles: [u8; 4096],
+    sprites: [u8; 4096],
+    lookup: [u8; 256],
 }
 
 impl Model for Graphics {
-    ghost use Rattle.std.specs.Prelude.{◌≡◌, ◌/◌, ◌%◌};
-    ghost use Rattle.pac_num.specs.Tabulate.{tabulate};
     ghost use Rattle.pac_picture.specs.Picture.{VideoRoms};
     ghost use Rattle.pac_picture.specs.Layer.{AreSized};
-    ghost use Rattle.pac_picture.specs.Decoded.{tile_pair, sprite_values};
 
     ghost Value = { VideoRoms };
 
-    ghost view = { λ graphics. record {
-      tiles = graphics.tiles.items;
-      sprites = graphics.sprites.items;
-      lookup = graphics.lookup.items;
-    } };
+    ghost view = { λ graphics. record { tiles = graphics.tiles; sprites = graphics.sprites; lookup = graphics.lookup } };
 
-    ghost invariant = { λ graphics. record {
-      sized : AreSized (record {
-        tiles = graphics.tiles.items;
-        sprites = graphics.sprites.items;
-        lookup = graphics.lookup.items;
-      });
-      pairs : graphics.tile_pairs.items ≡ tabulate 1024 (λ n. tile_pair graphics.tiles.items (n / 4) (n % 4));
-      lines : graphics.sprite_lines.items ≡ tabulate 1024 (λ n. sprite_values graphics.sprites.items (n / 16) (n % 16));
-    } };
+    ghost invariant = { λ graphics. AreSized (record {
+      tiles = graphics.tiles;
+      sprites = graphics.sprites;
+      lookup = graphics.lookup;
+    }) };
 }
 
 impl Graphics {
-    /// The graphics of a tile ROM of 4,096 bytes, a sprite ROM of 4,096 and a lookup PROM of 256. Refused for want
-    /// of memory alone.
-    pub fn new(
-        alloc: Global,
-        tiles: &[u8],
-        sprites: &[u8],
-        lookup: &[u8],
-    ) -> Result<Graphics, AllocError>
-        requires tiles { length tiles.now ≡ tile.tile_rom_size }
-        requires sprites { length sprites.now ≡ sprite.sprite_rom_size }
-        requires lookup { length lookup.now ≡ colour_of.lookup_size }
-        ensures { IfOk result (λ graphics. graphics ≡ record { tiles = tiles.now; sprites = sprites.now; lookup = lookup.now }) }
+    /// The graphics of a tile ROM, a sprite ROM and a lookup PROM.
+    #[inline(always)]
+    pub fn new(tiles: &[u8; 4096], sprites: &[u8; 4096], lookup: &[u8; 256]) -> Graphics
+        ensures { result ≡ record { tiles = tiles.now; sprites = sprites.now; lookup = lookup.now } }
     {
-        Ok(Graphics {
-            tiles: Vec::from_slice(alloc, tiles)?,
-            sprites: Vec::from_slice(alloc, sprites)?,
-            lookup: Vec::from_slice(alloc, lookup)?,
-            tile_pairs: tile_pairs(alloc, tiles)?,
-            sprite_lines: sprite_lines(alloc, sprites)?,
-        })
-    }
-
-    /// A colour's number of each pixel value.
-    #[inline]
-    fn numbers(&self, colour: u8) -> [u8; 16]
-        ensures { AreNumbersOf self.now.lookup colour result }
-    {
-        numbers(&self.lookup, colour)
-    }
-
-    /// The pixel values of a pair of a tile's lines.
-    #[inline]
-    fn tile_values(&self, code: u8, pair: u8) -> &[u8; 16]
-        requires { pair < 4 }
-        ensures values { result.now ≡ tile_pair self.now.tiles code pair }
-        ensures below { AreValues result.now }
-    {
-        &self.tile_pairs[4 * code as usize + pair as usize]
+        Graphics {
+            tiles: copied(tiles),
+            sprites: copied(sprites),
+            lookup: copied(lookup),
+        }
     }
 
     /// The colour numbers of a tile in a colour, line by line.
@@ -185,25 +169,14 @@ impl Graphics {
     pub(crate) fn pattern(&self, colour: u8, code: u8) -> [[u8; 8]; 8]
         ensures { result ≡ tile_pattern self.now colour code }
     {
-        let numbers = self.numbers(colour);
+        let numbers = numbers(&self.lookup, colour);
         let mut lines = [[0; 8]; 8];
         for pair in 0..4u8 {
-            let (upper, lower) = halves(&coloured(&numbers, self.tile_values(code, pair)));
+            let (upper, lower) = halves(&picked(&numbers, &tile_values(&self.tiles, code, pair)));
             lines[2 * pair as usize] = upper;
             lines[2 * pair as usize + 1] = lower;
         }
         lines
-    }
-
-    /// The pixel values on line y of a sprite, 0 to 63.
-    #[inline]
-    fn sprite_values(&self, code: u8, y: u8) -> &[u8; 16]
-        requires code { code < sprite.sprite_codes }
-        requires y { y < 16 }
-        ensures values { result.now ≡ sprite_values self.now.sprites code y }
-        ensures below { AreValues result.now }
-    {
-        &self.sprite_lines[16 * code as usize + y as usize]
     }
 
     /// The colour numbers on line y of a sprite, 0 to 63, in a colour.
@@ -213,6 +186,9 @@ impl Graphics {
         requires y { y < 16 }
         ensures { result ≡ tabulate 16 (λ x. sprite_number self.now colour code x y) }
     {
-        coloured(&self.numbers(colour), self.sprite_values(code, y))
+        picked(
+            &numbers(&self.lookup, colour),
+            &sprite_values(&self.sprites, code, y),
+        )
     }
 }

@@ -1,10 +1,11 @@
 //! The layer of tiles: each row of cells as it was last drawn, beside the bytes that it was drawn from.
 
-ghost use Rattle.std.specs.Prelude.{◌≡◌, ◌<◌, ◌≤◌, ◌/◌, ◌%◌, ◌||◌, ℕ, IfOk, true};
+ghost use Rattle.std.specs.Prelude.{◌≡◌, ◌<◌, ◌≤◌, ◌/◌, ◌%◌, ◌||◌, ℕ, true};
 ghost use Rattle.std.specs.Prelude.{false, if◌then◌else◌, [], length, map, count_by, slice_index, slice_index_or, slice_set};
 ghost use Rattle.pac_num.specs.Tabulate.{tabulate};
 ghost use Rattle.pac_tiles.specs.Tiles as tile;
-ghost use Rattle.pac_picture.specs.Layer.{cells_of, cell_differs, differing_cells, differing_in, drawn_from, shadow_at, shadow_from, tile_pattern};
+ghost use Rattle.pac_picture.specs.Layer.{cells_of, cell_differs, differing_cells, differing_in, drawn_from, shadow_at};
+ghost use Rattle.pac_picture.specs.Layer.{shadow_from, tile_pattern};
 ghost use Rattle.pac_picture.specs.Layer.{IsDrawn, all_differing, kept_dot, made_stale, stale_rows};
 
 use crate::graphics::Graphics;
@@ -12,8 +13,7 @@ use crate::laws::{changed, is_same};
 use crate::painting::{Cells, lay_cells};
 use crate::screen::Screen;
 use crate::shadow::Shadow;
-use crate::size::{COLUMNS, ROWS, RowBytes, WIDTH};
-use std::alloc::{AllocError, Global};
+use crate::size::{COLUMNS, ROWS, RowBytes, WIDTH, repeated};
 use std::marker::Model;
 
 /// For each cell of a row whether all count, or one of two lists has the place.
@@ -156,34 +156,30 @@ fn make_stale(shadows: &mut [Shadow])
     }
 }
 
-/// The cells of rows that were never drawn.
-fn undrawn(alloc: Global) -> Result<Vec<Cells>, AllocError>
-    ensures { IfOk result (λ rows. length rows.items ≡ tile.rows) }
-{
-    let mut rows = Vec::with_capacity(alloc, ROWS as usize)?;
-    for _ in 0..ROWS {
-        rows.push([[[0; 8]; 8]; COLUMNS])?;
-    }
-    Ok(rows)
+/// A row of the layer. The type of its cells is a parameter, since no rule of the borrow checker covers a literal of a struct with an array
+/// of arrays.
+#[derive(Clone, Copy)]
+pub(crate) struct Strip<R> {
+    /// Its cells as they were last drawn.
+    pub(crate) cells: R,
 }
 
-/// The shadows of rows that were never drawn.
-fn stale_shadows(alloc: Global) -> Result<Vec<Shadow>, AllocError>
-    ensures { IfOk result (λ shadows. shadows.items ≡ stale_rows) }
-{
-    let mut shadows = Vec::with_capacity(alloc, ROWS as usize)?;
-    for _ in 0..ROWS {
-        shadows.push(Shadow::new())?;
+impl<R> Strip<R> {
+    /// The row of these cells.
+    #[inline(always)]
+    fn of(cells: R) -> Strip<R>
+        ensures { result ≡ record { cells = cells } }
+    {
+        Strip { cells }
     }
-    Ok(shadows)
 }
 
 /// The layer of tiles. Clauses see the ROMs that it is drawn from, and the shadows of its rows.
 #[derive(Drop)]
 pub(crate) struct Layer {
     graphics: Graphics,
-    rows: Vec<Cells>,
-    shadows: Vec<Shadow>,
+    rows: [Strip<Cells>; ROWS as usize],
+    shadows: [Shadow; ROWS as usize],
 }
 
 impl Model for Layer {
@@ -191,26 +187,25 @@ impl Model for Layer {
 
     ghost Value = { LayerState };
 
-    ghost view = { λ layer. record { roms = layer.graphics; shadows = layer.shadows.items } };
+    ghost view = { λ layer. record { roms = layer.graphics; shadows = layer.shadows } };
 
-    ghost invariant = { λ layer. IsLayer layer.graphics layer.shadows.items layer.rows.items };
+    ghost invariant = { λ layer. IsLayer layer.graphics layer.shadows layer.rows };
 }
 
 impl Layer {
-    /// A layer of which nothing is drawn. Refused for want of memory alone.
-    pub(crate) fn new(alloc: Global, graphics: Graphics) -> Result<Layer, AllocError>
-        ensures { IfOk result (λ layer. layer ≡ record { roms = graphics; shadows = stale_rows }) }
+    /// A layer of which nothing is drawn.
+    #[inline(always)]
+    pub(crate) fn new(graphics: Graphics) -> Layer
+        ensures { result ≡ record { roms = graphics; shadows = stale_rows } }
     {
-        let rows = undrawn(alloc)?;
-        let shadows = stale_shadows(alloc)?;
-        Ok(Layer {
+        Layer {
             graphics,
-            rows,
-            shadows,
-        })
+            rows: repeated(Strip::of([[[0; 8]; 8]; COLUMNS])),
+            shadows: repeated(Shadow::new()),
+        }
     }
 
-    /// The ROMs, decoded.
+    /// The ROMs.
     #[inline]
     pub(crate) fn graphics(&self) -> &Graphics
         ensures { result.now ≡ self.now.roms }
@@ -239,7 +234,7 @@ impl Layer {
         let colours = screen.colours(row);
         let place = row as usize;
         refresh(
-            &mut self.rows[place],
+            &mut self.rows[place].cells,
             &mut self.shadows[place],
             &self.graphics,
             &tiles,
@@ -266,6 +261,6 @@ impl Layer {
         requires drawn { (shadow_at self.now.shadows (y / 8)).stale ≡ false }
         ensures { out.new ≡ tabulate tile.width (λ x. kept_dot self.now.roms (shadow_at self.now.shadows (y / 8)) x y) }
     {
-        lay_cells(&self.rows[(y / 8) as usize], y % 8, out);
+        lay_cells(&self.rows[(y / 8) as usize].cells, y % 8, out);
     }
 }

@@ -1,6 +1,6 @@
 //! The lines of a picture, as colour numbers.
 
-ghost use Rattle.std.specs.Prelude.{◌≡◌, ◌<◌, ◌/◌, ◌-◌, ℕ, [], true, IfOk};
+ghost use Rattle.std.specs.Prelude.{◌≡◌, ◌<◌, ◌/◌, ◌-◌, ℕ, [], true};
 ghost use Rattle.std.specs.Prelude.{length, reverse, if◌then◌else◌, slice_index, slice_index_or, slice_set, EachIndex};
 ghost use Rattle.pac_num.specs.Tabulate.{tabulate};
 ghost use Rattle.pac_tiles.specs.Tiles as tile;
@@ -14,8 +14,7 @@ use crate::bare::Bare;
 use crate::layer::Layer;
 use crate::painting::paint_sprites;
 use crate::screen::Screen;
-use crate::size::{HEIGHT, WIDTH};
-use std::alloc::{AllocError, Global};
+use crate::size::{HEIGHT, WIDTH, repeated};
 use std::marker::Model;
 
 /// Flips a line, or leaves it.
@@ -63,7 +62,7 @@ fn compose_unless(
 /// The 224 lines of a picture, of 288 colour numbers each, from 0 to 15.
 #[derive(Drop)]
 pub struct Lines {
-    lines: Vec<[u8; WIDTH]>,
+    lines: [[u8; WIDTH]; HEIGHT as usize],
 }
 
 impl Model for Lines {
@@ -72,21 +71,20 @@ impl Model for Lines {
 
     ghost Value = { List (List ℕ) };
 
-    ghost view = { λ picture. picture.lines.items };
+    ghost view = { λ picture. picture.lines };
 
-    ghost invariant = { λ picture. IsPicture picture.lines.items };
+    ghost invariant = { λ picture. IsPicture picture.lines };
 }
 
 impl Lines {
-    /// Lines of colour number 0 alone. Refused for want of memory alone.
-    pub fn new(alloc: Global) -> Result<Lines, AllocError>
-        ensures { IfOk result (λ lines. lines ≡ black) }
+    /// Lines of colour number 0 alone.
+    #[inline(always)]
+    pub fn new() -> Lines
+        ensures { result ≡ black }
     {
-        let mut lines = Vec::with_capacity(alloc, HEIGHT as usize)?;
-        for _ in 0..HEIGHT {
-            lines.push([0; WIDTH])?;
+        Lines {
+            lines: repeated([0; WIDTH]),
         }
-        Ok(Lines { lines })
     }
 
     /// Line y, 0 to 223.

@@ -1,6 +1,6 @@
 //! The picture as a board keeps it.
 
-ghost use Rattle.std.specs.Prelude.{◌≡◌, ◌<◌, ◌/◌, ℕ, [], false, IfOk, length, map, slice_index, slice_index_or, slice_set, EachIndex};
+ghost use Rattle.std.specs.Prelude.{◌≡◌, ◌<◌, ◌/◌, ℕ, [], false, length, map, slice_index, slice_index_or, slice_set, EachIndex};
 ghost use Rattle.pac_tiles.specs.Tiles as tile;
 ghost use Rattle.pac_colour.specs.Colours as colour;
 ghost use Rattle.pac_picture.specs.Layer.{AreStale, made_stale, stale_rows, cell_differs, shadow_at, cells_of};
@@ -12,7 +12,6 @@ use crate::layer::Layer;
 use crate::lines::Lines;
 use crate::screen::Screen;
 use pac_colour::rgb;
-use std::alloc::{AllocError, Global};
 use std::marker::Model;
 
 /// The picture, with the layer through which it is composed. Clauses see its ROMs, its palette, its lines, the
@@ -20,7 +19,7 @@ use std::marker::Model;
 #[derive(Drop)]
 pub struct Picture {
     layer: Layer,
-    palette: Vec<[u8; 3]>,
+    palette: [[u8; 3]; 16],
     lines: Lines,
     bare: Bare,
     drawn: u32,
@@ -36,54 +35,49 @@ impl Model for Picture {
 
     ghost view = { λ picture. record {
       roms = picture.layer.roms;
-      palette = picture.palette.items;
+      palette = picture.palette;
       lines = picture.lines;
       shadows = picture.layer.shadows;
       drawn = picture.drawn;
     } };
 
     ghost invariant = { λ picture. record {
-      colours : length picture.palette.items ≡ numbers;
+      colours : length picture.palette ≡ numbers;
       bare : AreBare picture.bare.lines picture.bare.flip picture.layer.roms picture.layer.shadows picture.lines;
     } };
 }
 
 /// The colours of the 16 colour numbers.
-fn palette(alloc: Global, colours: &[u8]) -> Result<Vec<[u8; 3]>, AllocError>
-    requires { length colours.now ≡ 32 }
-    ensures { IfOk result (λ palette. palette.items ≡ palette_of colours.now) }
+fn palette(colours: &[u8; 32]) -> [[u8; 3]; 16]
+    ensures { result ≡ palette_of colours.now }
 {
-    let mut palette = Vec::with_capacity(alloc, 16)?;
+    let mut palette = [[0; 3]; 16];
     for number in 0..16usize {
-        palette.push(rgb(colours[number]))?;
+        palette[number] = rgb(colours[number]);
     }
-    Ok(palette)
+    palette
 }
 
 impl Picture {
-    /// A picture of colour number 0 alone, drawn from these ROMs in the colours of a colour PROM's 32 bytes, with no
-    /// cell drawn. Refused for want of memory alone.
-    pub fn new(alloc: Global, graphics: Graphics, colours: &[u8]) -> Result<Picture, AllocError>
-        requires { length colours.now ≡ 32 }
-        ensures picture { IfOk result (λ picture. picture ≡ record {
+    /// A picture of colour number 0 alone, drawn from these ROMs in the colours of a colour PROM, with no cell drawn.
+    #[inline(always)]
+    pub fn new(graphics: Graphics, colours: &[u8; 32]) -> Picture
+        ensures picture { result ≡ record {
           roms = graphics;
           palette = palette_of colours.now;
           lines = black;
           shadows = stale_rows;
           drawn = 0;
-        }) }
-        ensures stale { IfOk result (λ picture. AreStale picture.shadows) }
+        } }
+        ensures stale { AreStale result.shadows }
     {
-        let layer = Layer::new(alloc, graphics)?;
-        let palette = palette(alloc, colours)?;
-        let lines = Lines::new(alloc)?;
-        Ok(Picture {
-            layer,
-            palette,
-            lines,
+        Picture {
+            layer: Layer::new(graphics),
+            palette: palette(colours),
+            lines: Lines::new(),
             bare: Bare::none(false),
             drawn: 0,
-        })
+        }
     }
 
     /// The lines as they were last composed or taken.

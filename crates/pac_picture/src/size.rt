@@ -1,5 +1,8 @@
 //! The size of the picture, in pixels and in cells.
 
+ghost use Rattle.std.specs.Prelude.{◌≡◌};
+ghost use Rattle.pac_num.specs.Tabulate.{tabulate};
+
 /// The width of the picture, in pixels.
 pub const WIDTH: usize = 288;
 
@@ -14,3 +17,11 @@ pub const ROWS: u8 = 28;
 
 /// A byte for each cell of a row, from left to right.
 pub type RowBytes = [u8; COLUMNS];
+
+/// N times a value.
+#[inline(always)]
+pub(crate) fn repeated<T: Copy, const N: usize>(value: T) -> [T; N]
+    ensures { result ≡ tabulate N (λ _. value) }
+{
+    [value; N]
+}

@@ -1,9 +1,8 @@
 //! A ROM set: the program and the five parts that picture and sound are made from.
 
-ghost use Rattle.std.specs.Prelude.{◌≡◌, IfOk, length};
+ghost use Rattle.std.specs.Prelude.{◌≡◌, length};
 ghost use Rattle.pac_roms.specs.Parts as spec;
 
-use std::alloc::{AllocError, Global};
 use std::marker::Model;
 
 /// The bytes of a ROM set's parts, the program aside.
@@ -21,9 +20,10 @@ pub struct Raw<'a> {
     pub wave: &'a [u8],
 }
 
-/// The bytes of all parts, one part after another: 25,120.
+/// The ROMs and PROMs of a board (Namco Pac-Man service schematics): a value of 25,120 bytes, which needs no memory beside
+/// itself. Clauses see the bytes of each part; the parts have their sizes, and no call changes them.
 #[derive(Drop)]
-struct SetBytes {
+pub struct RomSet {
     program: [u8; 16384],
     tiles: [u8; 4096],
     sprites: [u8; 4096],
@@ -32,74 +32,82 @@ struct SetBytes {
     wave: [u8; 256],
 }
 
-/// The ROMs and PROMs of a board (Namco Pac-Man service schematics). Clauses see the bytes of each part; the parts
-/// have their sizes, and no call changes them.
-#[derive(Drop)]
-pub struct RomSet {
-    bytes: Box<SetBytes>,
-}
-
 impl Model for RomSet {
     ghost use Rattle.pac_roms.specs.Parts.{Parts, IsWhole};
 
     ghost Value = { Parts };
 
     ghost view = { λ set. record {
-      program = set.bytes.value.program;
-      tiles = set.bytes.value.tiles;
-      sprites = set.bytes.value.sprites;
-      colours = set.bytes.value.colours;
-      lookup = set.bytes.value.lookup;
-      wave = set.bytes.value.wave;
+      program = set.program;
+      tiles = set.tiles;
+      sprites = set.sprites;
+      colours = set.colours;
+      lookup = set.lookup;
+      wave = set.wave;
     } };
 
     ghost invariant = { λ set. IsWhole (record {
-      program = set.bytes.value.program;
-      tiles = set.bytes.value.tiles;
-      sprites = set.bytes.value.sprites;
-      colours = set.bytes.value.colours;
-      lookup = set.bytes.value.lookup;
-      wave = set.bytes.value.wave;
+      program = set.program;
+      tiles = set.tiles;
+      sprites = set.sprites;
+      colours = set.colours;
+      lookup = set.lookup;
+      wave = set.wave;
     }) };
+}
+
+/// A part of the set: these bytes, which are N.
+#[inline(always)]
+fn part<const N: usize>(bytes: &[u8]) -> [u8; N]
+    requires { length bytes.now ≡ N }
+    ensures { result ≡ bytes.now }
+{
+    *bytes.first_chunk().unwrap()
 }
 
 impl RomSet {
     /// The set of these bytes: a program of 16,384, tiles and sprites of 4,096 each, 32 of the colour PROM, and 256 each of
-    /// the lookup PROM and of the wave PROM. Refused for want of memory alone.
-    pub fn of(alloc: Global, program: &[u8], raw: &Raw) -> Result<RomSet, AllocError>
+    /// the lookup PROM and of the wave PROM.
+    #[inline(always)]
+    pub fn of(program: &[u8], raw: &Raw) -> RomSet
         requires program { length program.now ≡ spec.program_size }
         requires tiles { length raw.now.tiles.now ≡ spec.tiles_size }
         requires sprites { length raw.now.sprites.now ≡ spec.sprites_size }
         requires colours { length raw.now.colours.now ≡ spec.colour_prom_size }
         requires lookup { length raw.now.lookup.now ≡ spec.lookup_prom_size }
         requires wave { length raw.now.wave.now ≡ spec.wave_prom_size }
-        ensures { IfOk result (λ set. set ≡ record {
+        ensures { result ≡ record {
           program = program.now;
           tiles = raw.now.tiles.now;
           sprites = raw.now.sprites.now;
           colours = raw.now.colours.now;
           lookup = raw.now.lookup.now;
           wave = raw.now.wave.now;
-        }) }
+        } }
     {
-        let mut bytes = Box::new(
-            alloc,
-            SetBytes {
-                program: [0; 16384],
-                tiles: [0; 4096],
-                sprites: [0; 4096],
-                colours: [0; 32],
-                lookup: [0; 256],
-                wave: [0; 256],
-            },
-        )?;
-        bytes.program.copy_from_slice(program);
-        bytes.tiles.copy_from_slice(raw.tiles);
-        bytes.sprites.copy_from_slice(raw.sprites);
-        bytes.colours.copy_from_slice(raw.colours);
-        bytes.lookup.copy_from_slice(raw.lookup);
-        bytes.wave.copy_from_slice(raw.wave);
-        Ok(RomSet { bytes })
+        RomSet {
+            program: part(program),
+            tiles: part(raw.tiles),
+            sprites: part(raw.sprites),
+            colours: part(raw.colours),
+            lookup: part(raw.lookup),
+            wave: part(raw.wave),
+        }
+    }
+
+    /// The same set once more.
+    #[inline(always)]
+    pub fn copied(&self) -> RomSet
+        ensures { result ≡ self.now }
+    {
+        let raw = Raw {
+            tiles: self.tiles(),
+            sprites: self.sprites(),
+            colours: self.colours(),
+            lookup: self.lookup(),
+            wave: self.wave(),
+        };
+        RomSet::of(self.program(), &raw)
     }
 
     /// The program ROM, 16,384 bytes.
@@ -108,7 +116,7 @@ impl RomSet {
         ensures bytes { result.now ≡ self.now.program }
         ensures size { length self.now.program ≡ spec.program_size }
     {
-        &self.bytes.program
+        &self.program
     }
 
     /// The tile ROM, 4,096 bytes.
@@ -117,7 +125,7 @@ impl RomSet {
         ensures bytes { result.now ≡ self.now.tiles }
         ensures size { length self.now.tiles ≡ spec.tiles_size }
     {
-        &self.bytes.tiles
+        &self.tiles
     }
 
     /// The sprite ROM, 4,096 bytes.
@@ -126,7 +134,7 @@ impl RomSet {
         ensures bytes { result.now ≡ self.now.sprites }
         ensures size { length self.now.sprites ≡ spec.sprites_size }
     {
-        &self.bytes.sprites
+        &self.sprites
     }
 
     /// The colour PROM, 32 bytes.
@@ -135,7 +143,7 @@ impl RomSet {
         ensures bytes { result.now ≡ self.now.colours }
         ensures size { length self.now.colours ≡ spec.colour_prom_size }
     {
-        &self.bytes.colours
+        &self.colours
     }
 
     /// The lookup PROM, 256 bytes.
@@ -144,7 +152,7 @@ impl RomSet {
         ensures bytes { result.now ≡ self.now.lookup }
         ensures size { length self.now.lookup ≡ spec.lookup_prom_size }
     {
-        &self.bytes.lookup
+        &self.lookup
     }
 
     /// The wave PROM, 256 bytes.
@@ -153,6 +161,6 @@ impl RomSet {
         ensures bytes { result.now ≡ self.now.wave }
         ensures size { length self.now.wave ≡ spec.wave_prom_size }
     {
-        &self.bytes.wave
+        &self.wave
     }
 }

@@ -40,7 +40,7 @@ pub fn load_set(
         lookup: bytes(manifest, files, PartName::Lookup),
         wave: bytes(manifest, files, PartName::Wave),
     };
-    Ok(RomSet::of(alloc, &program, &raw)?)
+    Ok(RomSet::of(&program, &raw))
 }
 
 /// The SHA-1 digest of a set: that of program, tiles, sprites, colours, lookup and wave, one after another.

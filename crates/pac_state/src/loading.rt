@@ -33,12 +33,7 @@ fn read(alloc: Global, bytes: &[u8], set: RomSet) -> Result<Board, LoadRefused>
     requires { length bytes.now ≡ saved.file_size }
     ensures { saved.ReadsState set bytes.now result }
 {
-    let Ok(mut lines) = Lines::new(alloc) else {
-        return Err(LoadRefused {
-            fault: LoadFault::NoMemory,
-            set,
-        });
-    };
+    let mut lines = Lines::new();
     let is_picture = take_lines(&mut lines, part(bytes, 3224));
     if !is_picture {
         return Err(LoadRefused {

@@ -15,7 +15,7 @@ use std::test::Fail;
 fn course(alloc: Global, bytes: &[u8], script: &[u8]) -> Result<Course, AllocError>
     ensures { IfOk result (λ course. course.board.state.due ≡ nothing_due) }
 {
-    let Ok(board) = Board::init(alloc, rom_set(alloc, &[(0, bytes)])?, SWITCHES) else {
+    let Ok(board) = Board::init(alloc, rom_set(&[(0, bytes)]), SWITCHES) else {
         return Err(AllocError);
     };
     let Ok(script) = read_script(alloc, script) else {

@@ -44,7 +44,7 @@ impl Rig {
 
     /// A board at power-on whose program has these bytes at these addresses.
     pub fn of(alloc: Global, pieces: &[(usize, &[u8])], switches: u8) -> Result<Rig, AllocError> {
-        match Board::init(alloc, rom_set(alloc, pieces)?, switches) {
+        match Board::init(alloc, rom_set(pieces), switches) {
             Ok(board) => Ok(Rig::over(alloc, board)),
             Err(_) => Err(AllocError),
         }
@@ -60,7 +60,7 @@ impl Rig {
         if !fields.are_in_range() {
             return Err(AllocError);
         }
-        match Board::of(alloc, rom_set(alloc, pieces)?, fields) {
+        match Board::of(alloc, rom_set(pieces), fields) {
             Ok(board) => Ok(Rig::over(alloc, board)),
             Err(_) => Err(AllocError),
         }

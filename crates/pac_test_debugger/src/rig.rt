@@ -55,7 +55,7 @@ pub fn board(alloc: Global, bytes: &[u8]) -> Result<Board, AllocError>
         lookup: &[0; 256],
         wave: &[0; 256],
     };
-    match Board::init(alloc, RomSet::of(alloc, &program, &raw)?, 0xC9) {
+    match Board::init(alloc, RomSet::of(&program, &raw), 0xC9) {
         Ok(board) => Ok(board),
         Err(_) => Err(AllocError),
     }

@@ -2,7 +2,6 @@
 
 use crate::set::picture;
 use pac_picture::{Lines, Picture, Screen};
-use std::alloc::{AllocError, Global};
 use std::marker::Model;
 use std::ops::Range;
 use std::process::Abort;
@@ -79,8 +78,8 @@ impl Rig {
     }
 
     /// A black picture of the tests' set, and memory that is all 0.
-    pub fn new(alloc: Global) -> Result<Rig, AllocError> {
-        Ok(Rig::over(picture(alloc)?))
+    pub fn new() -> Rig {
+        Rig::over(picture())
     }
 
     /// Writes a byte of the tile RAM.
@@ -155,12 +154,12 @@ impl Rig {
     }
 
     /// Black lines, but for one that is this picture's line 0.
-    pub fn first_line_at(&self, alloc: Global, y: u8) -> Result<Lines, AllocError> {
-        let mut lines = Lines::new(alloc)?;
+    pub fn first_line_at(&self, y: u8) -> Lines {
+        let mut lines = Lines::new();
         if y < 224 {
             lines.set_row(y, self.picture.lines().row(0));
         }
-        Ok(lines)
+        lines
     }
 
     /// The picture.

@@ -136,12 +136,7 @@ fn program(pieces: &[(usize, &[u8])]) -> [u8; 16384] {
 }
 
 /// A set whose program has these bytes at these addresses, with these tile and sprite ROMs.
-pub fn rom_set_with(
-    alloc: Global,
-    pieces: &[(usize, &[u8])],
-    tiles: &[u8; 4096],
-    sprites: &[u8; 4096],
-) -> Result<RomSet, AllocError> {
+pub fn rom_set_with(pieces: &[(usize, &[u8])], tiles: &[u8; 4096], sprites: &[u8; 4096]) -> RomSet {
     let raw = Raw {
         tiles,
         sprites,
@@ -149,12 +144,12 @@ pub fn rom_set_with(
         lookup: &lookup(),
         wave: &wave(),
     };
-    RomSet::of(alloc, &program(pieces), &raw)
+    RomSet::of(&program(pieces), &raw)
 }
 
 /// The set whose program has these bytes at these addresses.
-pub fn rom_set(alloc: Global, pieces: &[(usize, &[u8])]) -> Result<RomSet, AllocError> {
-    rom_set_with(alloc, pieces, &tiles(), &sprites())
+pub fn rom_set(pieces: &[(usize, &[u8])]) -> RomSet {
+    rom_set_with(pieces, &tiles(), &sprites())
 }
 
 impl Files {

@@ -38,7 +38,7 @@ fn set(alloc: Global) -> Result<RomSet, AllocError> {
         wave: &rom::<256>(5),
     };
     let program = mixed_program(alloc)?;
-    RomSet::of(alloc, program.rom(), &raw)
+    Ok(RomSet::of(program.rom(), &raw))
 }
 
 /// A board at power-on with the mixed program.

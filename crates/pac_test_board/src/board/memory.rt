@@ -30,7 +30,7 @@ fn set_left(rt: &impl Abort, alloc: Global, set: RomSet) -> Option<RomSet> {
 // With no memory, and then with a little more each time, the set comes back, or there is a board at power-on.
 #[test]
 fn boards_in_scarce_memory(rt: HostRuntime) -> Result<(), Fail> {
-    let mut left = Some(rom_set(rt.alloc(), &[(0, &[0x76])])?);
+    let mut left = Some(rom_set(&[(0, &[0x76])]));
     let mut hoard = Hoard::take(rt.alloc(), 2000)?;
     let mut refused = 0;
     for turn in 0..TURNS {

@@ -53,8 +53,8 @@ fn fault_of(alloc: Global, place: &mut Option<RomSet>, file: &[u8]) -> Option<Lo
         return Some(LoadFault::NoMemory);
     };
     match load(alloc, file, given) {
-        Ok(_) => {
-            *place = rom_set(alloc, &[(0, &CELL)]).ok();
+        Ok(_board) => {
+            *place = Some(rom_set(&[(0, &CELL)]));
             None
         }
         Err(LoadRefused { fault, set }) => {
@@ -116,7 +116,7 @@ fn is_judged_with_each(
 // A file that is cut anywhere has another length, and so has one with a byte more.
 #[test]
 fn each_length(rt: HostRuntime) -> Result<(), Fail> {
-    let set = rom_set(rt.alloc(), &[(0, &CELL)])?;
+    let set = rom_set(&[(0, &CELL)]);
     let mut file = filled(rt.alloc(), &set)?;
     let mut place = Some(set);
     for count in 0..SIZE {
@@ -132,7 +132,7 @@ fn each_length(rt: HostRuntime) -> Result<(), Fail> {
 // Each byte before the picture, in its first and last lines, and of the digest.
 #[test]
 fn each_byte(rt: HostRuntime) -> Result<(), Fail> {
-    let set = rom_set(rt.alloc(), &[(0, &CELL)])?;
+    let set = rom_set(&[(0, &CELL)]);
     let mut file = filled(rt.alloc(), &set)?;
     let mut place = Some(set);
     for at in 0..SIZE {
@@ -147,7 +147,7 @@ fn each_byte(rt: HostRuntime) -> Result<(), Fail> {
 // Each byte of the picture, with one of the three: the next one in the next column and in the next line.
 #[test]
 fn each_dot(rt: HostRuntime) -> Result<(), Fail> {
-    let set = rom_set(rt.alloc(), &[(0, &CELL)])?;
+    let set = rom_set(&[(0, &CELL)]);
     let mut file = filled(rt.alloc(), &set)?;
     let mut place = Some(set);
     for at in PICTURE..DIGEST {

@@ -59,15 +59,15 @@ pub fn file_of(alloc: Global, set: &RomSet, pieces: &[Piece]) -> Result<Vec<u8>,
 
 /// Like `file_of`, for a board whose program begins with these bytes.
 pub fn file(alloc: Global, program: &[u8], pieces: &[Piece]) -> Result<Vec<u8>, AllocError> {
-    let set = rom_set(alloc, &[(0, program)])?;
+    let set = rom_set(&[(0, program)]);
     file_of(alloc, &set, pieces)
 }
 
 /// Why as many of a file's first bytes aren't loaded.
 fn fault_of(alloc: Global, file: &[u8], count: usize) -> Result<LoadFault, AllocError> {
     let bytes = &file[..count.min(file.len())];
-    match load(alloc, bytes, rom_set(alloc, &[(0, &CELL)])?) {
-        Ok(_) => Err(AllocError),
+    match load(alloc, bytes, rom_set(&[(0, &CELL)])) {
+        Ok(_board) => Err(AllocError),
         Err(refused) => Ok(refused.fault),
     }
 }

@@ -10,7 +10,7 @@ use std::alloc::{AllocError, Global};
 impl Rig {
     /// The board of a file, whose program begins with these bytes.
     pub fn loaded(alloc: Global, file: &[u8], program: &[u8]) -> Result<Rig, AllocError> {
-        match load(alloc, file, rom_set(alloc, &[(0, program)])?) {
+        match load(alloc, file, rom_set(&[(0, program)])) {
             Ok(board) => Ok(Rig::over(alloc, board)),
             Err(_) => Err(AllocError),
         }

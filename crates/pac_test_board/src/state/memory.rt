@@ -28,7 +28,7 @@ fn set_left(rt: &impl Abort, alloc: Global, file: &[u8], set: RomSet) -> Option<
 // With no memory, and then with a little more each time, the set comes back, or there is a board.
 #[test]
 fn a_file_in_scarce_memory(rt: HostRuntime) -> Result<(), Fail> {
-    let set = rom_set(rt.alloc(), &[(0, &CELL)])?;
+    let set = rom_set(&[(0, &CELL)]);
     let file = file_of(rt.alloc(), &set, &[])?;
     let mut hoard = Hoard::take(rt.alloc(), 2000)?;
     let mut left = Some(set);

@@ -49,7 +49,7 @@ fn other_files_versions_and_fields(rt: HostRuntime) {
 /// Whether a file isn't loaded with a set, as it is of another one, and the set comes back, of which tiles and sprites begin with 0.
 fn is_of_another(alloc: Global, bytes: &[u8], set: RomSet) -> bool {
     match load(alloc, bytes, set) {
-        Ok(_) => false,
+        Ok(_board) => false,
         Err(refused) => {
             refused.fault == LoadFault::OtherSet
                 && refused.set.tiles().first() == Some(&0)
@@ -64,9 +64,9 @@ fn is_told_apart(
     tiles: &[u8; 4096],
     sprites: &[u8; 4096],
 ) -> Result<bool, AllocError> {
-    let other = rom_set_with(alloc, &[(0, &CELL)], tiles, sprites)?;
+    let other = rom_set_with(&[(0, &CELL)], tiles, sprites);
     let file = file_of(alloc, &other, &[])?;
-    Ok(is_of_another(alloc, &file, rom_set(alloc, &[(0, &CELL)])?))
+    Ok(is_of_another(alloc, &file, rom_set(&[(0, &CELL)])))
 }
 
 // The file of a board with another tile or sprite ROM; the set that was handed in comes back.

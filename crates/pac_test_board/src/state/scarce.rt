@@ -46,10 +46,7 @@ fn gives_its_picture(alloc: Global, board: &mut Board) -> bool {
 
 /// Whether the board of a file is loaded in the end, and gives that picture.
 fn is_loaded_in_the_end(alloc: Global, file: &[u8]) -> bool {
-    let Ok(set) = rom_set(alloc, &[(0, &FLIP)]) else {
-        return false;
-    };
-    match loaded_in_the_end(alloc, file, set) {
+    match loaded_in_the_end(alloc, file, rom_set(&[(0, &FLIP)])) {
         Some(mut board) => gives_its_picture(alloc, &mut board),
         None => false,
     }

@@ -4,7 +4,6 @@ use super::rig::Rig;
 use pac_inputs::Inputs;
 use pac_map::{Memory, MemoryFields};
 use std::process::Abort;
-use std::test::Fail;
 
 /// What the wave generator's registers keep of EFH: the low nibble, and of those that are ignored nothing.
 static KEPT: [u8; 32] = [
@@ -18,19 +17,18 @@ fn has(ram: &[u8], place: usize, byte: u8) -> bool {
 }
 
 #[test]
-fn registers_keep_low_nibbles_and_coordinates_bytes(rt: HostRuntime) -> Result<(), Fail> {
-    let mut rig = Rig::new(rt.alloc())?;
+fn registers_keep_low_nibbles_and_coordinates_bytes(rt: HostRuntime) {
+    let mut rig = Rig::new();
     for address in 0x5040..0x5070u16 {
         rig.write(address, 0xEF);
     }
     assert!(rt; rig.memory().registers() == &KEPT);
     assert!(rt; rig.memory().coordinates() == &[0xEF; 16]);
-    Ok(())
 }
 
 #[test]
-fn attributes_stand_at_the_end_of_the_work_ram(rt: HostRuntime) -> Result<(), Fail> {
-    let mut rig = Rig::new(rt.alloc())?;
+fn attributes_stand_at_the_end_of_the_work_ram(rt: HostRuntime) {
+    let mut rig = Rig::new();
     rig.write(0x4FF0, 0x12);
     rig.write(0x4FEF, 0x34);
     rig.write(0x4442, 0x56);
@@ -39,7 +37,6 @@ fn attributes_stand_at_the_end_of_the_work_ram(rt: HostRuntime) -> Result<(), Fa
     assert!(rt; has(rig.memory().work_ram(), 0x3EF, 0x34));
     assert!(rt; has(rig.memory().colour_ram(), 0x42, 0x56));
     assert!(rt; has(rig.memory().tile_ram(), 0x42, 0));
-    Ok(())
 }
 
 /// Whether the latch is as a reset leaves it, with this vector.
@@ -49,8 +46,8 @@ fn is_reset(memory: &Memory, vector: u8) -> bool {
 }
 
 #[test]
-fn requests(rt: HostRuntime) -> Result<(), Fail> {
-    let mut rig = Rig::new(rt.alloc())?;
+fn requests(rt: HostRuntime) {
+    let mut rig = Rig::new();
     rig.output(1, 0x12);
     rig.output(0, 0xFA);
     rig.write(0x5000, 1);
@@ -68,12 +65,11 @@ fn requests(rt: HostRuntime) -> Result<(), Fail> {
     rig.reset();
     rig.requests(&rt, None);
     assert!(rt; is_reset(rig.memory(), 0xFA));
-    Ok(())
 }
 
 #[test]
-fn sixteen_blanks_with_a_kick_after_the_eighth(rt: HostRuntime) -> Result<(), Fail> {
-    let mut rig = Rig::new(rt.alloc())?;
+fn sixteen_blanks_with_a_kick_after_the_eighth(rt: HostRuntime) {
+    let mut rig = Rig::new();
     for blank in 1..=16u8 {
         assert!(rt; !rig.blank(), "blank {blank}");
         if blank == 8 {
@@ -83,7 +79,6 @@ fn sixteen_blanks_with_a_kick_after_the_eighth(rt: HostRuntime) -> Result<(), Fa
     for blank in 9..=16u8 {
         assert!(rt; rig.blank() == (blank == 16), "blank {blank}");
     }
-    Ok(())
 }
 
 /// Bytes of three RAMs.
@@ -141,7 +136,7 @@ fn is_of_fields(rt: &impl Abort, memory: &Memory) {
 }
 
 #[test]
-fn fields_and_copies(rt: HostRuntime) -> Result<(), Fail> {
+fn fields_and_copies(rt: HostRuntime) {
     let fields = fields([0; 32], 15);
     assert!(rt; fields.are_in_range());
     let made = Memory::of(&fields);
@@ -150,7 +145,6 @@ fn fields_and_copies(rt: HostRuntime) -> Result<(), Fail> {
     is_of_fields(&rt, &made);
     is_of_fields(&rt, &copy);
     assert!(rt; copy.blank());
-    Ok(())
 }
 
 /// A register, its byte, and whether it can hold that.

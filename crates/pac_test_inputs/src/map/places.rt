@@ -4,7 +4,6 @@ use super::rig::Rig;
 use pac_inputs::Inputs;
 use pac_map::{BusPlace, read_place, write_place};
 use std::process::Abort;
-use std::test::Fail;
 
 /// Addresses, with the places that a read and a write select.
 static PLACES: [(u16, BusPlace, BusPlace); 26] = [
@@ -65,15 +64,14 @@ static WRITTEN: [(u16, u8, u16, u8); 11] = [
 ];
 
 #[test]
-fn reads_after_writes(rt: HostRuntime) -> Result<(), Fail> {
-    let mut rig = Rig::new(rt.alloc())?;
+fn reads_after_writes(rt: HostRuntime) {
+    let mut rig = Rig::new();
     for (address, byte, at, read) in &WRITTEN {
         rig.write(*address, *byte);
         rig.reads(&rt, *at, *read);
     }
     rig.output(0, 0x88);
     rig.has_no_port(&rt);
-    Ok(())
 }
 
 /// These inputs are held.
@@ -82,8 +80,8 @@ fn holds(rt: &impl Abort, rig: &Rig, inputs: Inputs) {
 }
 
 #[test]
-fn held_inputs_read_0(rt: HostRuntime) -> Result<(), Fail> {
-    let mut rig = Rig::new(rt.alloc())?;
+fn held_inputs_read_0(rt: HostRuntime) {
+    let mut rig = Rig::new();
     rig.hold(Inputs::P1_UP);
     rig.reads(&rt, 0x5000, 0xFE);
     rig.reads(&rt, 0x5040, 0xFF);
@@ -97,5 +95,4 @@ fn held_inputs_read_0(rt: HostRuntime) -> Result<(), Fail> {
     rig.hold(Inputs::CREDIT | Inputs::P2_UP);
     rig.reads(&rt, 0x5000, 0x7F);
     rig.reads(&rt, 0x5040, 0xFE);
-    Ok(())
 }

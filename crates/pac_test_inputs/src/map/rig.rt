@@ -5,7 +5,6 @@ use pac_bus::Bus;
 use pac_inputs::Inputs;
 use pac_map::{Map, Memory};
 use pac_roms::RomSet;
-use std::alloc::{AllocError, Global};
 use std::marker::Model;
 use std::process::Abort;
 
@@ -33,12 +32,12 @@ impl Drop for Rig {
 
 impl Rig {
     /// The bus as at power-on.
-    pub fn new(alloc: Global) -> Result<Rig, AllocError> {
-        let set = RomSet::of(alloc, &HALTS, &PARTS)?;
+    pub fn new() -> Rig {
+        let set = RomSet::of(&HALTS, &PARTS);
         let memory = Memory::new(0xC9);
-        Ok(Rig {
+        Rig {
             map: Map { set, memory },
-        })
+        }
     }
 
     /// The processor writes a byte.

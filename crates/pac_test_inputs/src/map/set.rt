@@ -3,7 +3,6 @@
 use super::PARTS;
 use pac_roms::RomSet;
 use std::process::Abort;
-use std::test::Fail;
 
 /// A program of C9H all over.
 static RETURNS: [u8; 16384] = [0xC9; 16384];
@@ -26,8 +25,7 @@ fn are_lent(rt: &impl Abort, set: &RomSet) {
 }
 
 #[test]
-fn each_part_is_lent_as_it_was_put_in(rt: HostRuntime) -> Result<(), Fail> {
-    let set = RomSet::of(rt.alloc(), &RETURNS, &PARTS)?;
+fn each_part_is_lent_as_it_was_put_in(rt: HostRuntime) {
+    let set = RomSet::of(&RETURNS, &PARTS);
     are_lent(&rt, &set);
-    Ok(())
 }

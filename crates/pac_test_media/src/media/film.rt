@@ -99,8 +99,8 @@ fn has_both(rt: &impl Abort, alloc: Global, black: &Rig, colourful: &Rig, most: 
 
 #[test]
 fn an_image_has_a_header_and_the_colours_of_its_pixels(rt: HostRuntime) -> Result<(), Fail> {
-    let black = Rig::new(rt.alloc())?;
-    let colourful = colourful(rt.alloc())?;
+    let black = Rig::new();
+    let colourful = colourful();
     has_both(&rt, rt.alloc(), &black, &colourful, 7);
     has_both(&rt, rt.alloc(), &black, &colourful, 1_000);
     has_both(&rt, rt.alloc(), &black, &colourful, 1_000_000);
@@ -154,7 +154,7 @@ static FULL: Stop = Stop {
 
 #[test]
 fn a_full_writer_stops_the_film_for_good(rt: HostRuntime) -> Result<(), Fail> {
-    let rig = Rig::new(rt.alloc())?;
+    let rig = Rig::new();
     stops(&rt, rt.alloc(), rig.picture(), &FULL);
     Ok(())
 }
@@ -204,7 +204,7 @@ static REFUSALS: [Stop; 5] = [
 
 #[test]
 fn each_refused_write_is_told_with_all_bytes_of_the_film(rt: HostRuntime) -> Result<(), Fail> {
-    let rig = Rig::new(rt.alloc())?;
+    let rig = Rig::new();
     for stop in &REFUSALS {
         stops(&rt, rt.alloc(), rig.picture(), stop);
     }

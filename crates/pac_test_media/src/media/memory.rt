@@ -43,7 +43,7 @@ fn sound_size(alloc: Global, writer: Faulty) -> usize {
 // The image's room is asked for where it is made. Where it is there, nothing more is.
 #[test]
 fn an_image_in_scarce_memory(rt: HostRuntime) -> Result<(), Fail> {
-    let rig = colourful(rt.alloc())?;
+    let rig = colourful();
     let writer = Faulty::new(rt.alloc(), 1_000_000, 1_000_000, 0)?;
     let room = Image::new(rt.alloc())?;
     assert!(rt; film_size(rt.alloc(), rig.picture(), writer, room) == 193_551);

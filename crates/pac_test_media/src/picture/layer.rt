@@ -2,12 +2,11 @@
 
 use crate::rig::Rig;
 use pac_picture::Lines;
-use std::alloc::{AllocError, Global};
 use std::test::Fail;
 
 #[test]
 fn only_cells_that_differ_are_drawn(rt: HostRuntime) -> Result<(), Fail> {
-    let mut rig = Rig::new(rt.alloc())?;
+    let mut rig = Rig::new();
     rig.compose();
     rig.has_drawn(&rt, 1008);
     rig.compose();
@@ -41,7 +40,7 @@ static LINES: [(u8, bool, u32); 9] = [
 // Lines 0 to 7 show one row of cells, and flipped the last one.
 #[test]
 fn a_line_draws_the_cells_of_its_row(rt: HostRuntime) -> Result<(), Fail> {
-    let mut rig = Rig::new(rt.alloc())?;
+    let mut rig = Rig::new();
     for (y, flip, drawn) in &LINES {
         rig.flip(*flip);
         rig.compose_line(*y);
@@ -60,11 +59,11 @@ fn a_line_draws_the_cells_of_its_row(rt: HostRuntime) -> Result<(), Fail> {
 }
 
 /// A picture that shows tile 42H in its first row.
-fn shown(alloc: Global) -> Result<Rig, AllocError> {
-    let mut rig = Rig::new(alloc)?;
+fn shown() -> Rig {
+    let mut rig = Rig::new();
     rig.tile(0x040, 0x42);
     rig.compose();
-    Ok(rig)
+    rig
 }
 
 /// Whether lines have green at line 100, and nothing above it.
@@ -73,18 +72,18 @@ fn has_line_100(lines: &Lines) -> bool {
 }
 
 /// A picture of no tiles that has taken its line 100 from the first of another.
-fn taken(alloc: Global, shown: &Rig) -> Result<Rig, AllocError> {
-    let mut rig = Rig::new(alloc)?;
+fn taken(shown: &Rig) -> Rig {
+    let mut rig = Rig::new();
     rig.compose();
-    rig.copy_from(&shown.first_line_at(alloc, 100)?);
-    Ok(rig)
+    rig.copy_from(&shown.first_line_at(100));
+    rig
 }
 
 #[test]
 fn lines_are_taken_from_others(rt: HostRuntime) -> Result<(), Fail> {
-    let shown = shown(rt.alloc())?;
-    assert!(rt; has_line_100(&shown.first_line_at(rt.alloc(), 100)?));
-    let mut rig = taken(rt.alloc(), &shown)?;
+    let shown = shown();
+    assert!(rt; has_line_100(&shown.first_line_at(100)));
+    let mut rig = taken(&shown);
     assert!(rt; rig.has_line(100, &shown, 0));
     assert!(rt; rig.number(16, 0) == Some(0));
     rig.compose_line(100);

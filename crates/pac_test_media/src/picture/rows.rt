@@ -3,7 +3,7 @@
 use crate::rig::Rig;
 use pac_picture::{Graphics, Picture};
 use pac_test_set::{colours, lookup, tiles};
-use std::alloc::{AllocError, Global};
+use std::alloc::Global;
 use std::process::Abort;
 use std::test::Fail;
 
@@ -21,7 +21,7 @@ static PALETTE: [(u8, [u8; 3]); 8] = [
 
 #[test]
 fn a_new_picture_is_black(rt: HostRuntime) -> Result<(), Fail> {
-    let rig = Rig::new(rt.alloc())?;
+    let rig = Rig::new();
     assert!(rt; rig.shows(0..0, 0..0, 0));
     rig.has_drawn(&rt, 0);
     for (number, colour) in &PALETTE {
@@ -33,7 +33,7 @@ fn a_new_picture_is_black(rt: HostRuntime) -> Result<(), Fail> {
 // Tile 42H in the cell of 4040H is green at columns 16 to 23 of lines 0 to 7; flipped, it stands at the other corner.
 #[test]
 fn a_tile_shows_in_its_cell(rt: HostRuntime) -> Result<(), Fail> {
-    let mut rig = Rig::new(rt.alloc())?;
+    let mut rig = Rig::new();
     rig.tile(0x040, 0x42);
     rig.compose();
     assert!(rt; rig.shows(16..24, 0..8, 2));
@@ -47,7 +47,7 @@ fn a_tile_shows_in_its_cell(rt: HostRuntime) -> Result<(), Fail> {
 // would be green, and is hidden.
 #[test]
 fn sprites_are_transparent_by_their_looked_up_number(rt: HostRuntime) -> Result<(), Fail> {
-    let mut rig = Rig::new(rt.alloc())?;
+    let mut rig = Rig::new();
     rig.sprite(0, [4, 5], [0x1F, 0x0B]);
     rig.sprite(1, [0, 1], [0x1F, 0x0B]);
     rig.sprite(2, [8, 0], [0x1F, 0x0B]);
@@ -63,11 +63,11 @@ fn sprites_are_transparent_by_their_looked_up_number(rt: HostRuntime) -> Result<
 }
 
 /// A picture of a sprite ROM of which only pixel (15, 15) of sprite 0 has a value.
-fn cornered(alloc: Global) -> Result<Rig, AllocError> {
+fn cornered() -> Rig {
     let mut corner = [0u8; 4096];
     corner[39] = 0x11;
-    let graphics = Graphics::new(alloc, &tiles(), &corner, &lookup())?;
-    Ok(Rig::over(Picture::new(alloc, graphics, &colours())?))
+    let graphics = Graphics::new(&tiles(), &corner, &lookup());
+    Rig::over(Picture::new(graphics, &colours()))
 }
 
 /// First attribute bytes, and where that pixel stands.
@@ -86,7 +86,7 @@ fn is_dot(rig: &Rig, x: u16, y: u8) -> bool {
 // Attribute byte 03H flips it both ways.
 #[test]
 fn a_sprite_turned_both_ways_shows_its_last_pixel_first(rt: HostRuntime) -> Result<(), Fail> {
-    let mut rig = cornered(rt.alloc())?;
+    let mut rig = cornered();
     for (attribute, x, y) in &CORNERS {
         rig.sprite(0, [*attribute, 0], [0x1F, 0xAC]);
         rig.compose();
@@ -145,8 +145,8 @@ fn are_alike(rt: &impl Abort, whole: &mut Rig, lines: &mut Rig) {
 // Sprites over a full picture, in both positions, while a sprite, a tile or a palette changes or nothing does.
 #[test]
 fn lines_make_the_picture(rt: HostRuntime) -> Result<(), Fail> {
-    let mut whole = Rig::new(rt.alloc())?;
-    let mut lines = Rig::new(rt.alloc())?;
+    let mut whole = Rig::new();
+    let mut lines = Rig::new();
     fill(&mut whole);
     fill(&mut lines);
     set_sprites(&mut whole);

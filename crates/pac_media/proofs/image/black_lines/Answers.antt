@@ -1,8 +1,13 @@
-use Rattle.std.proofs.Common.{◌≡◌, rules, refl, arith}
+use Rattle.std.proofs.Common.{◌≡◌, ℕ, ◌+◌, List, [], ◌∷◌, ◌++◌, add-one, rules, refl, arith}
 use Rattle.pac_num.specs.Tabulate.{tabulate}
 use Rattle.pac_picture.specs.State.{black}
-use Rattle.pac_picture.proofs.Places.{push-step}
 use Rattle.pac_media.proofs.image.black_lines.Goals as goal
+
+-- a list that grows by the next value
+push-step : {A : Type 0} (xs ys : List A) (count : ℕ) (value : ℕ → A) (next : A) → ys ≡ xs ++ next ∷ [] → next ≡ value count →
+    xs ≡ tabulate count value → ys ≡ tabulate (count + 1) value
+unfolding tabulate
+push-step xs ys count value next grown is so_far = rw (add-one, grown, so_far, is) refl
 
 pub loop-init : goal.loop-init
 unfolding tabulate

@@ -1,16 +1,19 @@
-use Rattle.std.proofs.Common.{◌≡◌, rules, arith}
-use Rattle.pac_num.specs.Tabulate.{tabulate}
+use Rattle.std.proofs.Common.{◌≡◌, ◌<◌, [], length, rules, arith}
+use Rattle.pac_num.proofs.Tabulated.{tabulate-is}
+use Rattle.pac_lemmas.proofs.Lists.{set-one-more}
 use Rattle.pac_picture.specs.State.{palette_of}
-use Rattle.pac_picture.proofs.Places.{push-step}
 use Rattle.pac_picture.proofs.picture.palette.Goals as goal
 
-pub loop-number-init : goal.loop-number-init
-unfolding tabulate
-loop-number-init c = search rules
-
 pub loop-number-preserved : goal.loop-number-preserved
-loop-number-preserved c = push-step _ _ c.loop-number.number _ _ (search rules) c.rgb.ensures c.loop-number.invariant
+loop-number-preserved c =
+    let inside : c.loop-number.number < length c.loop-number.palette = omega (arith, c.loop-number.invariant.long) in
+    record {
+      long = search rules;
+      filled = set-one-more c.loop-number.palette _ _ _ [] inside c.rgb.ensures c.loop-number.invariant.filled;
+    }
 
 pub returns : goal.returns
 unfolding palette_of
-returns c = let all : c.loop-number.number ≡ 16 = omega arith in rw all at c.loop-number.invariant
+returns c =
+    let all : c.loop-number.number ≡ 16 = omega arith in
+    tabulate-is c.loop-number.palette 16 _ [] c.loop-number.invariant.long (rw all at c.loop-number.invariant.filled)

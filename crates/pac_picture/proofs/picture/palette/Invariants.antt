@@ -1,7 +1,9 @@
-use Rattle.std.proofs.Common.{◌≡◌, slice_index}
-use Rattle.pac_num.specs.Tabulate.{tabulate}
+use Rattle.std.proofs.Common.{◌≡◌, ◌<◌, ℕ, [], length, get_or, slice_index}
 use Rattle.pac_colour.specs.Colours.{rgb_of}
 use Rattle.pac_picture.proofs.picture.palette.Given as goal
 
 abbrev pub invariant-loop-number : goal.invariant-loop-number
-invariant-loop-number l = l.palette.items ≡ tabulate l.number (λ n. rgb_of (slice_index l.colours n))
+invariant-loop-number l = record {
+  long : length l.palette ≡ 16;
+  filled : (n : ℕ) → n < l.number → get_or l.palette n [] ≡ rgb_of (slice_index l.colours n);
+}

@@ -43,8 +43,8 @@ returns-then-not-is_taken c = record {
 pub of-requires : goal.of-requires
 of-requires c = (c.is_taken-is_taken.ensures.0 c.if-not-is_taken.false).0
 
-pub returns-in-Ok-of : goal.returns-in-Ok-of
-returns-in-Ok-of c =
+pub returns-in-Ok : goal.returns-in-Ok
+returns-in-Ok c =
     let taken = c.is_taken-is_taken.ensures.0 c.if-not-is_taken.false in
     let picture : IsPicture (lines_of (picture_in c.args.bytes.now)) =
     subst (λ (bytes : List ℕ). IsPicture (lines_of bytes)) c.part.ensures
@@ -54,5 +54,5 @@ returns-in-Ok-of c =
         in_range = in-range c.fields-fields.result (state_in c.args.bytes.now) c.fields-fields.ensures taken.0 picture;
         written = subst (λ (state : BoardState). AreWritten state c.args.bytes.now) c.fields-fields.ensures taken.1;
       };
-      board = c.in-Ok-of.ensures.board ∙ ap (λ state. record { set = c.args.set; state = state; made = 0 }) c.fields-fields.ensures;
+      board = c.in-Ok.ensures.board ∙ ap (λ state. record { set = c.args.set; state = state; made = 0 }) c.fields-fields.ensures;
     }

@@ -1,6 +1,19 @@
+use Rattle.std.proofs.Common.{◌≡◌, ◌∙◌, List, ap}
+use Rattle.pac_num.specs.Tabulate.{tabulate}
+use Rattle.pac_picture.specs.declared.shadow.Shadow.{Shadow}
+use Rattle.pac_picture.specs.Layer.{stale_rows}
+use Rattle.pac_picture.proofs.Places.{length-is}
 use Rattle.pac_picture.proofs.Layers.{new-layer}
 use Rattle.pac_picture.proofs.layer.Layer.new.Goals as goal
 
 pub invariant_of-result : goal.invariant_of-result
-invariant_of-result c = new-layer c.args.graphics c.in_ok-shadows.shadows.items c.in_ok-rows.rows.items c.in_ok-shadows.ensures
-    c.in_ok-rows.ensures
+unfolding stale_rows
+invariant_of-result c =
+    let stale : c.repeated-2.result ≡ stale_rows =
+    c.repeated-2.ensures ∙ ap (λ (shadow : Shadow). tabulate 28 (λ _. shadow)) c.new.ensures in
+    new-layer c.args.graphics c.repeated-2.result c.repeated.result stale (length-is c.repeated.result 28 _ c.repeated.ensures)
+
+pub returns : goal.returns
+unfolding stale_rows
+returns c = ap (λ (shadows : List Shadow). record { roms = c.args.graphics; shadows = shadows })
+    (c.repeated-2.ensures ∙ ap (λ (shadow : Shadow). tabulate 28 (λ _. shadow)) c.new.ensures)

@@ -11,21 +11,21 @@ compose_line-requires c = record {
 
 pub loop-y-preserved : goal.loop-y-preserved
 loop-y-preserved c =
-    let inside : c.loop-y.y < length c.loop-y.self-inside.lines.items = omega (arith, c.loop-y.invariant.high, c.loop-y-test.true) in
+    let inside : c.loop-y.y < length c.loop-y.self-inside.lines = omega (arith, c.loop-y.invariant.high, c.loop-y-test.true) in
     record {
-      high = length-set c.loop-y.self-inside.lines.items _ _ ∙ c.loop-y.invariant.high;
-      done = lines-step c.args.layer.now.roms c.args.screen.now c.loop-y.self-inside.lines.items c.loop-y.y c.compose_line.new.out inside
+      high = length-set c.loop-y.self-inside.lines _ _ ∙ c.loop-y.invariant.high;
+      done = lines-step c.args.layer.now.roms c.args.screen.now c.loop-y.self-inside.lines c.loop-y.y c.compose_line.new.out inside
           c.compose_line.ensures c.loop-y.invariant.done;
     }
 
 pub returns : goal.returns
 returns c =
     let all : c.loop-y.y ≡ 224 = omega arith in
-    all-composed c.args.layer.now.roms c.args.screen.now c.loop-y.self-inside.lines.items c.loop-y.invariant.high
+    all-composed c.args.layer.now.roms c.args.screen.now c.loop-y.self-inside.lines c.loop-y.invariant.high
     (rw all at c.loop-y.invariant.done)
 
 pub invariant_of-self : goal.invariant_of-self
 invariant_of-self c =
     let all : c.loop-y.y ≡ 224 = omega arith in
-    composed-picture c.args.layer.now.roms c.args.screen.now c.loop-y.self-inside.lines.items c.loop-y.invariant.high
+    composed-picture c.args.layer.now.roms c.args.screen.now c.loop-y.self-inside.lines c.loop-y.invariant.high
     (rw all at c.loop-y.invariant.done)

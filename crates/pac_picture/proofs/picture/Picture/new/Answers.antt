@@ -9,10 +9,9 @@ use Rattle.pac_picture.proofs.picture.Picture.new.Goals as goal
 pub invariant_of-result : goal.invariant_of-result
 unfolding palette_of
 invariant_of-result c = record {
-  colours = length-is c.in_ok-palette.palette.items 16 _ c.in_ok-palette.ensures;
-  bare = none-bare c.none.result.lines c.none.result.flip c.in_ok-layer.layer.roms c.in_ok-layer.layer.shadows c.in_ok-lines.lines
-      c.none.ensures.lines;
+  colours = length-is c.palette.result 16 _ c.palette.ensures;
+  bare = none-bare c.none.result.lines c.none.result.flip c.new.result.roms c.new.result.shadows c.new-2.result c.none.ensures.lines;
 }
 
 pub returns-clause-stale : goal.returns-clause-stale
-returns-clause-stale c = new-stale c.in_ok-layer.layer.shadows (ap (λ (layer : LayerState). layer.shadows) c.in_ok-layer.ensures)
+returns-clause-stale c = new-stale c.new.result.shadows (ap (λ (layer : LayerState). layer.shadows) c.new.ensures)

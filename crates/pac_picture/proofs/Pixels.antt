@@ -1,0 +1,115 @@
+-- The pixels of bytes, lane by lane.
+use Rattle.std.proofs.Common.{◌≡◌, ℕ, zero, suc, ◌+◌, ◌-◌, ◌*◌, ◌/◌, ◌%◌, ◌^◌, ◌<◌, ◌≤◌, nat_lt, Bool, false, cond}
+use Rattle.std.proofs.Common.{List, length, get_or, map, replicate}
+use Rattle.std.proofs.Common.{sym, ap, ◌∙◌, if◌then◌else◌, bit_and, arith}
+use Rattle.std.specs.Int.{bit_at}
+use Rattle.std.proofs.lemmas.Simd.{tops_compared, get_or-sel_l, length-sel_l, get_or-zip2, length-zip2}
+use Rattle.std.proofs.lemmas.List.{length-replicate, get_or-replicate}
+use Rattle.std.proofs.lemmas.Nat.Bits.{and_pow, bit_at-lt}
+use Rattle.std.proofs.lemmas.Bool.Decides.{nat_tests}
+use lib.Lanes.{zip2, sel_l, top}
+use lib.Dec.{ltb}
+use mir.Syntax.{w8}
+use Rattle.pac_num.specs.Tabulate.{tabulate}
+use Rattle.pac_num.specs.Pixels.{pixel_value}
+use Rattle.pac_num.proofs.Tabulated.{length-tabulate, get_or-tabulate}
+
+-- ---- lanes that are at most those of another vector
+
+abbrev capped : List ℕ → List ℕ → List ℕ
+capped xs most = sel_l (map (top 7) (zip2 (λ a b. cond (ltb a b) 255 0) xs most)) xs most
+
+module _ (xs most : List ℕ) (long : length xs ≡ 16) (long_most : length most ≡ 16) where
+  tests-long : length (zip2 ltb xs most) ≡ 16
+  tests-long = length-zip2 ltb xs most (long ∙ sym long_most) ∙ long
+
+  capped-is : capped xs most ≡ sel_l (zip2 ltb xs most) xs most
+  capped-is = ap (λ (tests : List Bool). sel_l tests xs most) (tops_compared w8 ltb xs most)
+
+  capped-at : (k : ℕ) → k < 16 →
+      get_or (capped xs most) k 0 ≡ cond (ltb (get_or xs k 0) (get_or most k 0)) (get_or xs k 0) (get_or most k 0)
+  capped-at k below =
+      let one : k < length xs = omega (arith, long, below) in
+      let two : k < length most = omega (arith, long_most, below) in
+      let three : k < length (zip2 ltb xs most) = omega (arith, tests-long, below) in
+      ap (λ (lanes : List ℕ). get_or lanes k 0) capped-is
+      ∙ (get_or-sel_l (zip2 ltb xs most) xs most k 0 three one two
+      ∙ ap (λ (test : Bool). cond test (get_or xs k 0) (get_or most k 0)) (get_or-zip2 ltb xs most k 0 0 false one two))
+
+  capped-long : length (capped xs most) ≡ 16
+  capped-long =
+      ap length capped-is
+      ∙ (length-sel_l (zip2 ltb xs most) xs most (tests-long ∙ sym long) (tests-long ∙ sym long_most) ∙ tests-long)
+
+by-bit : (bit power most : ℕ) → bit < 2 → 0 < most → most ≤ power →
+    cond (ltb (bit * power) most) (bit * power) most ≡ most * bit
+by-bit zero power most below some enough = grind (arith, nat_tests)
+by-bit (suc zero) power most below some enough = grind (arith, nat_tests)
+by-bit (suc (suc bit)) power most below some enough = absurd (omega (arith, below))
+
+-- a bit, by the weight that it is given
+weighed : (byte place most : ℕ) → 0 < most → most ≤ 2 ^ place →
+    cond (ltb (bit_and byte (2 ^ place)) most) (bit_and byte (2 ^ place)) most ≡ most * (byte / 2 ^ place % 2)
+weighed byte place most some enough =
+    rw and_pow (by-bit (bit_at byte place) (2 ^ place) most (bit_at-lt byte place) some enough)
+
+-- a bit of each byte, by its weight
+abbrev bits_of : List ℕ → (ℕ → ℕ) → ℕ → List ℕ
+bits_of bytes place most = capped (zip2 bit_and bytes (tabulate 16 (λ k. 2 ^ place k))) (replicate 16 most)
+
+bit-at : (bytes : List ℕ) (place : ℕ → ℕ) (most k : ℕ) → length bytes ≡ 16 → 0 < most → most ≤ 2 ^ place k → k < 16 →
+    get_or (bits_of bytes place most) k 0 ≡ most * (get_or bytes k 0 / 2 ^ place k % 2)
+bit-at bytes place most k long some enough below =
+    let powers : List ℕ = tabulate 16 (λ k. 2 ^ place k) in
+    let long_powers : length powers ≡ 16 = length-tabulate 16 (λ k. 2 ^ place k) in
+    let masked : List ℕ = zip2 bit_and bytes powers in
+    let long_masked : length masked ≡ 16 = length-zip2 bit_and bytes powers (long ∙ sym long_powers) ∙ long in
+    let long_most : length (replicate {A = ℕ} 16 most) ≡ 16 = length-replicate {A = ℕ} 16 most in
+    let inside : k < length bytes = omega (arith, long, below) in
+    let in_powers : k < length powers = omega (arith, long_powers, below) in
+    let here : get_or masked k 0 ≡ bit_and (get_or bytes k 0) (2 ^ place k) =
+    get_or-zip2 bit_and bytes powers k 0 0 0 inside in_powers
+    ∙ ap (bit_and (get_or bytes k 0)) (get_or-tabulate 16 (λ k. 2 ^ place k) k 0 below) in
+    let weight : get_or (replicate {A = ℕ} 16 most) k 0 ≡ most = get_or-replicate {A = ℕ} 16 k most 0 below in
+    capped-at masked (replicate {A = ℕ} 16 most) long_masked long_most k below
+    ∙ rw (here, weight) (weighed (get_or bytes k 0) (place k) most some enough)
+
+bits-long : (bytes : List ℕ) (place : ℕ → ℕ) (most : ℕ) → length bytes ≡ 16 → length (bits_of bytes place most) ≡ 16
+bits-long bytes place most long =
+    let powers : List ℕ = tabulate 16 (λ k. 2 ^ place k) in
+    let long_powers : length powers ≡ 16 = length-tabulate 16 (λ k. 2 ^ place k) in
+    let masked : List ℕ = zip2 bit_and bytes powers in
+    let long_masked : length masked ≡ 16 = length-zip2 bit_and bytes powers (long ∙ sym long_powers) ∙ long in
+    capped-long masked (replicate {A = ℕ} 16 most) long_masked (length-replicate {A = ℕ} 16 most)
+
+one-fits : (place : ℕ) → 1 ≤ 2 ^ place
+one-fits zero = omega arith
+one-fits (suc place) = let before = one-fits place in omega (arith, before)
+
+two-fits : (place : ℕ) → 0 < place → 2 ≤ 2 ^ place
+two-fits zero some = absurd (omega (arith, some))
+two-fits (suc place) some = let before = one-fits place in omega (arith, before)
+
+-- ---- the pixels of bytes
+
+pub value-at : (bytes : List ℕ) (k : ℕ) → length bytes ≡ 16 → k < 16 →
+    get_or (zip2 (λ a b. (a + b) % 256) (bits_of bytes (λ k. 7 - k % 4) 2) (bits_of bytes (λ k. 3 - k % 4) 1)) k 0
+    ≡ pixel_value (get_or bytes k 0) k
+value-at bytes k long below =
+    let twos : List ℕ = bits_of bytes (λ k. 7 - k % 4) 2 in
+    let ones : List ℕ = bits_of bytes (λ k. 3 - k % 4) 1 in
+    let in_twos : k < length twos = omega (arith, bits-long bytes (λ k. 7 - k % 4) 2 long, below) in
+    let in_ones : k < length ones = omega (arith, bits-long bytes (λ k. 3 - k % 4) 1 long, below) in
+    let two = bit-at bytes (λ k. 7 - k % 4) 2 k long (omega arith) (two-fits (7 - k % 4) (omega arith)) below in
+    let one = bit-at bytes (λ k. 3 - k % 4) 1 k long (omega arith) (one-fits (3 - k % 4)) below in
+    let small : get_or bytes k 0 / 2 ^ (7 - k % 4) % 2 < 2 = omega arith in
+    let too_small : get_or bytes k 0 / 2 ^ (3 - k % 4) % 2 < 2 = omega arith in
+    get_or-zip2 (λ a b. (a + b) % 256) twos ones k 0 0 0 in_twos in_ones ∙ rw (two, one) (omega (arith, small, too_small))
+
+-- ---- the places of a pair of a tile's lines
+
+pub place-at : (pair k : ℕ) → pair < 4 → k < 16 →
+    get_or (tabulate 16 (λ k. (k / 8 + (if nat_lt (k % 8) 4 then 8 else 0) + 2 * pair) % 256)) k 0
+    ≡ 2 * pair + k / 8 + (if nat_lt (k % 8) 4 then 8 else 0)
+place-at pair k some below =
+    get_or-tabulate 16 (λ k. (k / 8 + (if nat_lt (k % 8) 4 then 8 else 0) + 2 * pair) % 256) k 0 below ∙ grind (arith, nat_tests)

@@ -1,6 +1,0 @@
-use Rattle.std.proofs.Common.{◌≡◌, replicate}
-use Rattle.pac_num.specs.Tabulate.{tabulate}
-use Rattle.pac_picture.proofs.lines.Lines.new.Given as goal
-
-abbrev pub invariant-loop : goal.invariant-loop
-invariant-loop l = l.lines.items ≡ tabulate l.counter (λ _. replicate 288 0)

@@ -1,0 +1,13 @@
+use Rattle.std.proofs.Common.{subst, sym}
+use Rattle.std.specs.Prelude.{option_copied}
+use Rattle.pac_run.specs.Start.{IsFirstBoard}
+use Rattle.pac_run.specs.Started.{IsStarted}
+use Rattle.pac_run.proofs.Begins.{from-power-on}
+use Rattle.pac_run.proofs.start.first_board.Goals as goal
+
+pub returns-in-Ok : goal.returns-in-Ok
+returns-in-Ok c =
+    let set = c.args.set in
+    let script = c.args.script.now in
+    subst (λ from. IsStarted (IsFirstBoard set c.args.switches script (option_copied from)) set script c.in-Ok.board) (sym c.in-None.is)
+    (from-power-on set c.args.switches script c.in-Ok.board c.in-Ok.ensures.board (rw c.frames.ensures.count at c.frames.ensures.within))
