@@ -1,18 +1,21 @@
 -- The pixels of bytes, lane by lane.
 use Rattle.std.proofs.Common.{◌≡◌, ℕ, zero, suc, ◌+◌, ◌-◌, ◌*◌, ◌/◌, ◌%◌, ◌^◌, ◌<◌, ◌≤◌, nat_lt, Bool, false, cond}
-use Rattle.std.proofs.Common.{List, length, get_or, map, replicate}
+use Rattle.std.proofs.Common.{List, length, get_or, map, replicate, drop}
 use Rattle.std.proofs.Common.{sym, ap, ◌∙◌, if◌then◌else◌, bit_and, arith}
 use Rattle.std.specs.Int.{bit_at}
-use Rattle.std.proofs.lemmas.Simd.{tops_compared, get_or-sel_l, length-sel_l, get_or-zip2, length-zip2}
-use Rattle.std.proofs.lemmas.List.{length-replicate, get_or-replicate}
+use Rattle.std.proofs.lemmas.Simd.{tops_compared, get_or-sel_l, length-sel_l, get_or-zip2, length-zip2, get_or-chunk, length-chunk}
+use Rattle.std.proofs.lemmas.List.{length-replicate, get_or-replicate, length-take-le, length-drop, get_or-take, get_or-drop}
+use Rattle.std.proofs.lemmas.Nat.{and_mask}
 use Rattle.std.proofs.lemmas.Nat.Bits.{and_pow, bit_at-lt}
 use Rattle.std.proofs.lemmas.Bool.Decides.{nat_tests}
-use lib.Lanes.{zip2, sel_l, top}
+use lib.Lanes.{chunk, zip2, sel_l, top}
+use borrow.Rule.Slice.PartMut.{mid_of}
 use lib.Dec.{ltb}
 use mir.Syntax.{w8}
 use Rattle.pac_num.specs.Tabulate.{tabulate}
 use Rattle.pac_num.specs.Pixels.{pixel_value}
 use Rattle.pac_num.proofs.Tabulated.{length-tabulate, get_or-tabulate}
+use Rattle.pac_picture.specs.Decoded.{AreNumbersOf}
 
 -- ---- lanes that are at most those of another vector
 
@@ -113,3 +116,24 @@ pub place-at : (pair k : ℕ) → pair < 4 → k < 16 →
     ≡ 2 * pair + k / 8 + (if nat_lt (k % 8) 4 then 8 else 0)
 place-at pair k some below =
     get_or-tabulate 16 (λ k. (k / 8 + (if nat_lt (k % 8) 4 then 8 else 0) + 2 * pair) % 256) k 0 below ∙ grind (arith, nat_tests)
+
+-- ---- the numbers of a colour
+
+pub numbers-at : (lookup : List ℕ) (colour : ℕ) → length lookup ≡ 256 →
+    AreNumbersOf lookup colour
+    (zip2 bit_and (chunk 0 16 (mid_of (4 * (colour % 32)) (256 - 4 * (colour % 32)) lookup)) (replicate 16 15))
+numbers-at lookup colour long value below =
+    let start : ℕ = 4 * (colour % 32) in
+    let rest : List ℕ = mid_of start (256 - start) lookup in
+    let piece : List ℕ = chunk 0 16 rest in
+    let long_rest : length rest ≡ 256 - start =
+    length-take-le (256 - start) (drop start lookup) (rw (length-drop start lookup) (omega (arith, long))) in
+    let long_piece : length piece ≡ 16 = length-chunk 0 16 rest (omega (arith, long_rest)) in
+    let inside : value < length piece = omega (arith, long_piece, below) in
+    let masked : value < length (replicate {A = ℕ} 16 15) = omega (arith, below, length-replicate {A = ℕ} 16 15) in
+    let place : 0 + value ≡ value = omega arith in
+    let here : get_or piece value 0 ≡ get_or lookup (start + value) 0 =
+    (rw place at (get_or-chunk 0 16 rest value 0 (omega (arith, below))))
+    ∙ (get_or-take (256 - start) (drop start lookup) value 0 (omega (arith, below)) ∙ get_or-drop start lookup value 0) in
+    get_or-zip2 bit_and piece (replicate 16 15) value 0 0 0 inside masked
+    ∙ (rw (here, get_or-replicate {A = ℕ} 16 value 15 0 (omega (arith, below))) (and_mask (get_or lookup (start + value) 0) 4))

@@ -11,7 +11,6 @@ ghost use Rattle.pac_picture.specs.Picture.{sprite_number};
 ghost use Rattle.pac_picture.specs.Layer.{tile_pattern};
 ghost use Rattle.pac_picture.specs.Decoded.{tile_pair, sprite_values, ArePlaces, AreValues, AreNumbersOf};
 
-use pac_colour::index;
 use std::marker::Model;
 use std::simd::prelude::*;
 
@@ -112,11 +111,8 @@ fn sprite_values(rom: &[u8; 4096], code: u8, y: u8) -> [u8; 16]
 fn numbers(lookup: &[u8; 256], colour: u8) -> [u8; 16]
     ensures { AreNumbersOf lookup.now colour result }
 {
-    let mut numbers = [0; 16];
-    for value in 0..4u8 {
-        numbers[value as usize] = index(lookup, colour, value);
-    }
-    numbers
+    let start = 4 * (colour % 32) as usize;
+    (u8x16::from_slice(&lookup[start..]) & u8x16::splat(15)).to_array()
 }
 
 /// N bytes of a ROM, copied.
