@@ -7,6 +7,8 @@ pub mod Walked
 pub mod Turns
 pub mod Bursts
 pub mod Waits
+pub mod Trails
+pub mod Noted
 pub mod Rests
 pub mod Singles
 pub mod Stretches

@@ -1,10 +1,12 @@
 pub mod Sinks
 pub mod State
+pub mod Boxed
 pub mod Events
 pub mod Calls
 pub mod Turns
 pub mod Bursts
 pub mod Rests
+pub mod Trails
 pub mod Laws
 pub mod Fields
 pub mod Kept

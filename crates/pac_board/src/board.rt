@@ -20,7 +20,7 @@ use std::marker::Model;
 /// that it did since it was made.
 #[derive(Drop)]
 pub struct Board {
-    pub(crate) machine: Box<Machine>,
+    pub(crate) machine: Machine,
     pub(crate) asked: u64,
     pub(crate) due: Due,
     pub(crate) made: u64,
@@ -33,8 +33,8 @@ impl Model for Board {
     ghost Value = { BoardValue };
 
     ghost view = { λ board. record {
-      set = board.machine.value.set;
-      state = record { now = board.machine.value.now; asked = board.asked; due = board.due };
+      set = board.machine.set;
+      state = record { now = board.machine.now; asked = board.asked; due = board.due };
       made = board.made;
     } };
 
@@ -42,21 +42,28 @@ impl Model for Board {
 }
 
 impl Board {
-    /// The board at power-on, with this ROM set and the byte of the DIP switches. Refused for want of memory alone; the
-    /// set then comes back.
-    pub fn init(alloc: Global, set: RomSet, switches: u8) -> Result<Board, InitRefused>
-        ensures board { IfOk result (λ board. board ≡ state.power_on_board set switches) }
-        ensures refused { IfErr result (λ refused. refused.set ≡ set) }
+    /// The board at power-on, with a copy of this ROM set and the byte of the DIP switches. Takes no memory.
+    #[inline(always)]
+    pub fn power_on(set: &RomSet, switches: u8) -> Board
+        ensures { result ≡ state.power_on_board set.now switches }
     {
-        let Ok(machine) = Box::new(alloc, Machine::power_on(&set, switches)) else {
-            return Err(InitRefused { set });
-        };
-        Ok(Board {
-            machine,
+        Board {
+            machine: Machine::power_on(set, switches),
             asked: 0,
             due: Due::NOTHING,
             made: 0,
-        })
+        }
+    }
+
+    /// The same in a block of memory. Refused for want of memory alone; the set then comes back.
+    pub fn init(alloc: Global, set: RomSet, switches: u8) -> Result<Box<Board>, InitRefused>
+        ensures board { IfOk result (λ board. board.value ≡ state.power_on_board set switches) }
+        ensures refused { IfErr result (λ refused. refused.set ≡ set) }
+    {
+        match Box::new(alloc, Board::power_on(&set, switches)) {
+            Ok(board) => Ok(board),
+            Err(_) => Err(InitRefused { set }),
+        }
     }
 
     /// Resets the board as the watchdog does: latch, request, count and processor. Time, steps, what is due and the

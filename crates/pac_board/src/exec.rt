@@ -7,11 +7,13 @@ ghost use Rattle.pac_board.specs.Sinks.{by};
 ghost use Rattle.pac_board.specs.Turns.{Turns, GoesTo};
 ghost use Rattle.pac_board.specs.Bursts.{IsStretched, Stretches};
 ghost use Rattle.pac_board.specs.Rests.{waits, HasRested};
+ghost use Rattle.pac_board.specs.Trails.{IsTold};
 
 use crate::board::Board;
 use crate::due::Due;
 use crate::fault::{Fault, Idle};
 use crate::sink::{Refused, Sink};
+use crate::trail::Trail;
 use pac_cpu::{Once, Stop};
 
 /// The time, in T-states, from which on no step is begun (this profile).
@@ -138,8 +140,20 @@ impl Board {
         requires nothing { due_outputs self.old ≡ [] }
         ensures { IsStretched self.old limit result self.new }
     {
+        self.go_on_told(limit, &mut None)
+    }
+
+    /// Does the same, and tells each step, where there is a trail.
+    #[inline(always)]
+    fn go_on_told(&mut self, limit: u64, told: &mut Option<Trail>) -> Option<Stop>
+        requires early { self.old.state.now.time < limit }
+        requires limit { limit ≤ latest }
+        requires nothing { due_outputs self.old ≡ [] }
+        ensures made { IsStretched self.old limit result self.new }
+        ensures told { IsTold self.old limit self.new told.old told.new }
+    {
         let before = self.machine.steps();
-        let (stop, due) = self.machine.stretch(limit);
+        let (stop, due) = self.machine.stretch(limit, told);
         note(&mut self.due, due);
         count(&mut self.made, self.machine.steps() - before);
         stop
@@ -147,13 +161,19 @@ impl Board {
 
     /// Does the same, and offers what the last step gives.
     #[inline(always)]
-    fn stretch<S: Sink>(&mut self, limit: u64, sink: &mut S) -> Result<Option<Stop>, Refused>
+    fn stretch<S: Sink>(
+        &mut self,
+        limit: u64,
+        told: &mut Option<Trail>,
+        sink: &mut S,
+    ) -> Result<Option<Stop>, Refused>
         requires early { self.old.state.now.time < limit }
         requires limit { limit ≤ latest }
         requires nothing { due_outputs self.old ≡ [] }
-        ensures { Stretches (by S.took S.refused) self.old limit sink.old result self.new sink.new }
+        ensures made { Stretches (by S.took S.refused) self.old limit sink.old result self.new sink.new }
+        ensures told { IsTold self.old limit self.new told.old told.new }
     {
-        let stop = self.go_on(limit);
+        let stop = self.go_on_told(limit, told);
         self.give(sink)?;
         Ok(stop)
     }
@@ -180,14 +200,31 @@ impl Board {
     }
 
     /// Does steps while the time is before a limit, up to a stop, and offers what each gives.
+    #[inline]
     fn run<S: Sink>(&mut self, limit: u64, sink: &mut S) -> Result<Option<Stop>, Refused>
         requires limit { limit ≤ latest }
         requires nothing { due_outputs self.old ≡ [] }
         requires made { self.old.made < 2 ^ 64 }
         ensures { GoesTo (by S.took S.refused) self.old limit sink.old result self.new sink.new }
     {
+        self.run_told(limit, &mut None, sink)
+    }
+
+    /// Does the same, and tells each step, where there is a trail.
+    fn run_told<S: Sink>(
+        &mut self,
+        limit: u64,
+        told: &mut Option<Trail>,
+        sink: &mut S,
+    ) -> Result<Option<Stop>, Refused>
+        requires limit { limit ≤ latest }
+        requires nothing { due_outputs self.old ≡ [] }
+        requires made { self.old.made < 2 ^ 64 }
+        ensures made { GoesTo (by S.took S.refused) self.old limit sink.old result self.new sink.new }
+        ensures told { IsTold self.old limit self.new told.old told.new }
+    {
         while self.time() < limit {
-            if let Some(stop) = self.stretch(limit, sink)? {
+            if let Some(stop) = self.stretch(limit, told, sink)? {
                 return Ok(Some(stop));
             }
         }
@@ -203,6 +240,22 @@ impl Board {
         // (its bound, that of a u64, is what `run` asks of the count)
         self.made();
         self.run(limit, sink)
+    }
+
+    /// Does the same, and tells each step, where there is a trail.
+    pub fn go_to_told<S: Sink>(
+        &mut self,
+        limit: u64,
+        told: &mut Option<Trail>,
+        sink: &mut S,
+    ) -> Result<Option<Stop>, Refused>
+        requires limit { limit ≤ latest }
+        requires nothing { due_outputs self.old ≡ [] }
+        ensures made { GoesTo (by S.took S.refused) self.old limit sink.old result self.new sink.new }
+        ensures told { IsTold self.old limit self.new told.old told.new }
+    {
+        self.made();
+        self.run_told(limit, told, sink)
     }
 
     /// Lets so many microseconds go by: offers what is due, then does steps, and offers what each gives, while the time is before

@@ -140,23 +140,31 @@ impl Machine {
 }
 
 impl Board {
-    /// The board of a ROM set that has these fields, each in its range. Refused for want of memory alone; the set then
-    /// comes back.
-    pub fn of(alloc: Global, set: RomSet, fields: &Fields) -> Result<Board, InitRefused>
+    /// The board that has these fields, each in its range, with a copy of this ROM set. Takes no memory.
+    #[inline(always)]
+    pub fn with_fields(set: &RomSet, fields: &Fields) -> Board
         requires { AreBoardFields fields.now }
-        ensures board { IfOk result
-            (λ board. board ≡ record { set = set; state = state_of fields.now; made = 0 }) }
-        ensures refused { IfErr result (λ refused. refused.set ≡ set) }
+        ensures { result ≡ record { set = set.now; state = state_of fields.now; made = 0 } }
     {
-        let Ok(machine) = Box::new(alloc, Machine::of(&set, fields)) else {
-            return Err(InitRefused { set });
-        };
-        Ok(Board {
-            machine,
+        Board {
+            machine: Machine::of(set, fields),
             asked: fields.asked,
             due: fields.due,
             made: 0,
-        })
+        }
+    }
+
+    /// The same in a block of memory. Refused for want of memory alone; the set then comes back.
+    pub fn of(alloc: Global, set: RomSet, fields: &Fields) -> Result<Box<Board>, InitRefused>
+        requires { AreBoardFields fields.now }
+        ensures board { IfOk result
+            (λ board. board.value ≡ record { set = set; state = state_of fields.now; made = 0 }) }
+        ensures refused { IfErr result (λ refused. refused.set ≡ set) }
+    {
+        match Box::new(alloc, Board::with_fields(&set, fields)) {
+            Ok(board) => Ok(board),
+            Err(_) => Err(InitRefused { set }),
+        }
     }
 
     /// The fields of the board's state.

@@ -14,6 +14,7 @@ mod machine;
 mod sink;
 mod snapshot;
 mod timing;
+mod trail;
 
 pub use board::Board;
 pub use due::Due;
@@ -26,3 +27,4 @@ pub use pac_picture::{HEIGHT, Lines, Picture, WIDTH};
 pub use sink::{Refused, Sink};
 pub use snapshot::Snapshot;
 pub use timing::{FRAME_SAMPLES, FRAME_TICKS, SAMPLE_TICKS};
+pub use trail::{PastStep, Trail};

@@ -21,7 +21,7 @@ use Rattle.pac_board_course.proofs.Framed.{frame_walk, frame_closed, frames_ende
 use Rattle.pac_board_course.proofs.Framed.{closed-outputs, closed-stop}
 use Rattle.pac_board_course.proofs.Whole.{frame-within, held-after, not-held-yet}
 use Rattle.pac_board_course.specs.Course.{CourseValue, end_of, next_in, held_in, way_walked, course_after, course_with_due}
-use Rattle.pac_board_course.specs.Frames.{IsFrameDone, PlaysFrameOn, frame_end}
+use Rattle.pac_board_course.specs.Frames.{IsUnderway, IsFrameDone, PlaysFrameOn, frame_end}
 use Rattle.pac_board_course.specs.Plays.{IsCourseHeldUp}
 
 -- the inputs that are held after the frame under way
@@ -58,7 +58,7 @@ module _ (old : CourseValue) (tries : ℕ) (due : Due) where
       closed.1 ∙ walked ∙ ap board_at (not-held-yet old tries early ∙ sym (frame-now old tries))
 
 -- held inputs are no output
-due-kept : (old : CourseValue) (board new : BoardValue) → IsClosed old board new
+pub due-kept : (old : CourseValue) (board new : BoardValue) → IsClosed old board new
     → (due_outputs new ≡ due_outputs board) × (new.state.due ≡ board.state.due)
     × (new.state.now.time ≡ board.state.now.time) × (new.state.now.steps ≡ board.state.now.steps)
 due-kept old board new (inl closed) = (
@@ -79,7 +79,7 @@ module _ {S : Type 0} (to : Giving S) (old : CourseValue) (board new : BoardValu
   abbrev course : CourseValue
   course = record { board = new; script = script; gone = gone }
 
-  placed : (tries : ℕ) (due : Due) → board ≡ with_due (board_after_walk old.board (frame_walk old tries)) due → IsClosed old board new
+  pub placed : (tries : ℕ) (due : Due) → board ≡ with_due (board_after_walk old.board (frame_walk old tries)) due → IsClosed old board new
       → script ≡ old.script → gone ≡ old.gone → course ≡ course_with_due (course_after old (frame_closed old tries)) due
   placed tries due walked closed scripts gones =
       ap (λ (script : List Stretch). record { board = new; script = script; gone = gone }) scripts
@@ -87,17 +87,33 @@ module _ {S : Type 0} (to : Giving S) (old : CourseValue) (board new : BoardValu
       ∙ ap (λ (board : BoardValue). record { board = board; script = old.script; gone = old.gone })
       (board-placed old tries due board new walked closed)
 
+  -- steps of the frame without a stop
+  pub underway : old.board.state.now.time < end_of old → (tries : ℕ) → (frame_walk old tries).stop ≡ None
+      → board ≡ board_after_walk old.board (frame_walk old tries) → TookAll to.took sink (frame_walk old tries).outputs later
+      → IsClosed old board new → script ≡ old.script → gone ≡ old.gone → IsUnderway to.took old sink course later
+  underway early tries open_yet walked taken closed scripts gones =
+      let at = placed tries nothing_due walked closed scripts gones in
+      let way = on-the-way-on old tries (frame-within old early) in
+      let exact =
+      counted (next_in old) (end_of old) (play-timely (by_view old.board.set) (held_in old)) old.board.state.now way.0
+      (ap (λ (w : Walk BoardView). w.stop) (sym way.1) ∙ closed-stop old tries ∙ open_yet) in
+      let same = exact.1 ∙ sym way.1 in
+      record {
+        steps = exact.0;
+        course = at ∙ ap (course_after old) (sym same);
+        all_steps =
+            ap (λ (c : CourseValue). c.board.state.now.steps) at ∙ ap (λ (w : Walk BoardView). w.now.steps) (sym same) ∙ exact.2;
+        open_yet = ap (λ (w : Walk BoardView). w.stop) same ∙ closed-stop old tries ∙ open_yet;
+        sink_is =
+            subst (λ xs. TookAll to.took sink xs later)
+            (sym (ap (λ (w : Walk BoardView). w.outputs) same ∙ closed-outputs old tries)) taken;
+      }
+
   -- the frame came to its end
   played : old.board.state.now.time < end_of old → (stop : Option Stop) → HasGone to.took old.board (frame_end old) sink stop board later
       → IsClosed old board new → script ≡ old.script → gone ≡ old.gone → IsFrameDone to.took old sink stop course later
   played early None gone_to closed scripts gones =
       let tries = frame_end old in
-      let at = placed tries nothing_due gone_to.board closed scripts gones in
-      let way = on-the-way-on old tries (frame-within old early) in
-      let exact =
-      counted (next_in old) (end_of old) (play-timely (by_view old.board.set) (held_in old)) old.board.state.now way.0
-      (ap (λ (w : Walk BoardView). w.stop) (sym way.1) ∙ closed-stop old tries ∙ sym gone_to.stop_is) in
-      let same = exact.1 ∙ sym way.1 in
       let ended =
       open-is-late (frame_end old) (frame_walk old tries)
       (walk-to-ends (step (by_view old.board.set)) (frame_end old) (step-timely (by_view old.board.set)) old.board.state.now)
@@ -105,16 +121,7 @@ module _ {S : Type 0} (to : Giving S) (old : CourseValue) (board new : BoardValu
       let time = ap (λ (b : BoardValue). b.state.now.time) gone_to.board in
       let kept = due-kept old board new closed in
       record {
-        played = record {
-          steps = exact.0;
-          course = at ∙ ap (course_after old) (sym same);
-          all_steps =
-              ap (λ (c : CourseValue). c.board.state.now.steps) at ∙ ap (λ (w : Walk BoardView). w.now.steps) (sym same) ∙ exact.2;
-          open_yet = ap (λ (w : Walk BoardView). w.stop) same ∙ closed-stop old tries ∙ sym gone_to.stop_is;
-          sink_is =
-              subst (λ xs. TookAll to.took sink xs later)
-              (sym (ap (λ (w : Walk BoardView). w.outputs) same ∙ closed-outputs old tries)) gone_to.sink_is;
-        };
+        played = underway early tries (sym gone_to.stop_is) gone_to.board gone_to.sink_is closed scripts gones;
         later_is = omega (arith, kept.2, time, ended);
       }
   played early (Some stop) gone_to closed scripts gones =

@@ -5,8 +5,10 @@ pub mod Answered
 pub mod Begun
 pub mod Taken
 pub mod Rested
+pub mod Strode
 pub use Rattle.pac_board.proofs.Agreed
 pub use Rattle.pac_board.proofs.HostCarried
+pub use Rattle.pac_board.proofs.Noted
 pub use Rattle.pac_board.proofs.Outputs
 pub use Rattle.pac_board.proofs.Resumed
 pub use Rattle.pac_board.proofs.ResumedTimes

@@ -2,6 +2,7 @@ pub mod Course
 pub mod Plays
 pub mod Frames
 pub mod Rests
+pub mod Told
 pub mod Laws
 pub use Rattle.pac_inputs.specs.Codes as ScriptCodes
 pub use Rattle.pac_inputs.specs.Script
@@ -9,6 +10,7 @@ pub use Rattle.pac_inputs.specs.Stretches
 pub use Rattle.pac_inputs.specs.declared.fault.ScriptFault
 pub use Rattle.pac_inputs.specs.declared.line.Stretch
 pub use Rattle.pac_board.specs.BoardView
+pub use Rattle.pac_board.specs.Boxed
 pub use Rattle.pac_board.specs.Bursts
 pub use Rattle.pac_board.specs.Calls
 pub use Rattle.pac_board.specs.Carried
@@ -33,8 +35,10 @@ pub use Rattle.pac_board.specs.StepKind
 pub use Rattle.pac_board.specs.StepKindVariants
 pub use Rattle.pac_board.specs.Stop
 pub use Rattle.pac_board.specs.Trace
+pub use Rattle.pac_board.specs.Trails
 pub use Rattle.pac_board.specs.Walk
 pub use Rattle.pac_board.specs.declared.due.Due
 pub use Rattle.pac_board.specs.declared.fault.Idle
 pub use Rattle.pac_board.specs.declared.fault.Idle.TheVariants as IdleVariants
 pub use Rattle.pac_board.specs.declared.sink.Refused
+pub use Rattle.pac_board.specs.declared.trail.PastStep

@@ -18,7 +18,7 @@ use std::marker::Model;
 /// script, and how many frames had gone by before.
 #[derive(Drop)]
 pub struct Course {
-    board: Board,
+    board: Box<Board>,
     script: Script,
     gone: u64,
 }
@@ -29,9 +29,9 @@ impl Model for Course {
 
     ghost Value = { CourseValue };
 
-    ghost view = { λ course. record { board = course.board; script = course.script; gone = course.gone } };
+    ghost view = { λ course. record { board = course.board.value; script = course.script; gone = course.gone } };
 
-    ghost invariant = { λ course. IsCourse (record { board = course.board; script = course.script; gone = course.gone }) };
+    ghost invariant = { λ course. IsCourse (record { board = course.board.value; script = course.script; gone = course.gone }) };
 }
 
 /// The microseconds of a frame: 16,500 of them are its 50,688 T-states.
@@ -69,10 +69,10 @@ pub fn play_step(board: &mut Board, script: &Script, gone: u64) -> Result<Once, 
 
 impl Course {
     /// The script is played from the board's frame on: the inputs of its first frame are held.
-    pub fn new(mut board: Board, script: Script) -> Course
-        requires time { FitsTime board script }
-        requires asked { FitsAsked board script }
-        ensures { result ≡ begun board script }
+    pub fn new(mut board: Box<Board>, script: Script) -> Course
+        requires time { FitsTime board.value script }
+        requires asked { FitsAsked board.value script }
+        ensures { result ≡ begun board.value script }
     {
         let gone = board.time() / FRAME_TICKS;
         hold(&mut board, script.held(1));
@@ -81,11 +81,11 @@ impl Course {
 
     /// A script that is taken up in the midst of its run: the inputs of the frame under way are held, and so many frames had gone by before
     /// the script's first one.
-    pub fn taken_up(board: Board, script: Script, gone: u64) -> Course
+    pub fn taken_up(board: Box<Board>, script: Script, gone: u64) -> Course
         requires time { frame_ticks * (gone + total_frames script) ≤ state.latest }
         requires short { total_frames script ≤ most_frames }
-        requires asked { FitsAsked board script }
-        ensures { result ≡ record { board = board; script = script; gone = gone } }
+        requires asked { FitsAsked board.value script }
+        ensures { result ≡ record { board = board.value; script = script; gone = gone } }
     {
         Course {
             board,
@@ -146,8 +146,8 @@ impl Course {
 
     /// The board, where the course left it. The microseconds of each frame that has begun were asked of it then, as where `exec` is
     /// called for each.
-    pub fn into_board(self) -> Board
-        ensures { result ≡ board_asked self }
+    pub fn into_board(self) -> Box<Board>
+        ensures { result.value ≡ board_asked self }
     {
         let asked = FRAME_MICROSECONDS * self.frames_begun();
         let Course {

@@ -16,7 +16,7 @@ use Rattle.pac_debug_text.specs.declared.place.Place.{Place}
 use Rattle.pac_debug_text.specs.declared.registers.Latches.{Latches}
 use Rattle.pac_debug_text.specs.Peeks.{bytes_from, memory_text, instructions_text}
 use Rattle.pac_debug_text.specs.Texts.{ok_text, refusal_text, place_text, history_text, registers_text}
-use Rattle.pac_debug_session.specs.declared.history.PastStep as told
+use Rattle.pac_debug_session.specs.PastStep as told
 use Rattle.pac_debug_session.specs.declared.motion.MotionEnd as rest
 use Rattle.pac_debug_session.specs.declared.motion.MotionEnd.TheVariants as rests
 use Rattle.pac_debug_session.specs.Past.{told_at}

@@ -6,7 +6,7 @@ use Rattle.pac_board_course.specs.Stretch.{Stretch}
 use Rattle.pac_board_course.specs.RomParts.{Parts}
 use Rattle.pac_board_course.proofs.Walks.{not-both}
 use Rattle.pac_board_course.specs.State.{BoardValue, BoardState, nothing_due, power_on_board, board_with_inputs}
-use Rattle.pac_debug_session.specs.declared.history.PastStep.{PastStep}
+use Rattle.pac_board_course.specs.PastStep.{PastStep}
 use Rattle.pac_debug_session.specs.declared.kept.SessionSnapshot.{SessionSnapshot}
 use Rattle.pac_debug_session.specs.declared.kept.SlotContents.{SlotContents}
 use Rattle.pac_debug_session.specs.Inside.{IsStanding, AreSlotsRight}

@@ -2,6 +2,7 @@
 use Rattle.std.proofs.Common.{◌≡◌, ℕ, suc, ◌+◌, ◌-◌, ◌*◌, ◌==◌, nat_le, ◌<◌, ◌≤◌, Bool, true, false, not, ◌&&◌, is_none, min, max}
 use Rattle.std.proofs.Common.{Option, None, Some, Ok, Err, if◌then◌else◌}
 use Rattle.std.proofs.Common.{List, [], ◌++◌, length, drop, refl, sym, ap, subst, ◌∙◌, append_assoc, arith}
+use Rattle.std.specs.List.{list_any}
 use Rattle.std.proofs.lemmas.Bool.Decides.{nat_tests}
 use Rattle.std.proofs.lemmas.List.{append-nil}
 use Rattle.std.proofs.Math.Seq.{drop-length, drop-append_seam}
@@ -27,7 +28,8 @@ use Rattle.pac_debug_session.specs.Running.{Setting, play_of, run, whole_run, no
 use Rattle.pac_debug_session.specs.Running.{goes_at, blanks_at, outputs_between}
 use Rattle.pac_debug_session.specs.Running.{outputs_from}
 use Rattle.pac_debug_session.specs.Session.{SessionValue, IsSession}
-use Rattle.pac_debug_session.specs.Strides.{AreAlike, MakesStride, MakesNoStep, MakesSteps, HasStrode, HasMetStop, IsStrideRefused, StepsOn}
+use Rattle.pac_debug_session.specs.Strides.{AreAlike, MeetNothing, MakesStride, MakesNoStep, MakesSteps, HasStrode, HasMetStop}
+use Rattle.pac_debug_session.specs.Strides.{IsStrideRefused, StepsOn}
 use Rattle.pac_debug_session.proofs.Indices.{IsOpen, IsOneMore, open-up-to, one-more, between}
 
 -- ---- outputs, piece by piece
@@ -184,6 +186,16 @@ stale-outputs s last less =
     let far : max s.furthest (last + 1) ≡ s.furthest = omega arith in
     ap (outputs_between s.setting s.furthest) far ∙ between-self s.setting s.furthest
 
+-- at steps that are alike nothing is met
+pub alike-meets : (setting : Setting) (breakpoints : List ℕ) (from last : ℕ) → AreAlike setting from last
+    → MeetNothing setting breakpoints from last
+alike-meets setting breakpoints from last alike = record {
+  after = alike.after;
+  goes = alike.goes;
+  breaks = λ index after before. ap (λ pc. list_any (λ address. address == pc) breakpoints) (alike.address index after before);
+  frame = alike.frame;
+}
+
 module _ {S : Type 0} (to : Giving S) (old mid new : SessionValue) (most : ℕ) (sink later : S) where
   -- the steps that are asked for: those behind the furthest index lead to it at most
   abbrev pub IsAsked : (fresh : Bool) → (asked : ℕ) → Type 0
@@ -213,7 +225,7 @@ module _ {S : Type 0} (to : Giving S) (old mid new : SessionValue) (most : ℕ) 
       let far = ap (λ (s : SessionValue). s.furthest) session in
       record {
         last = last;
-        alike = made.alike;
+        unmet = alike-meets old.setting old.breakpoints old.index last made.alike;
         few = omega arith;
         session = session;
         sink_is =
@@ -230,7 +242,7 @@ module _ {S : Type 0} (to : Giving S) (old mid new : SessionValue) (most : ℕ) 
       let far = ap (λ (s : SessionValue). s.furthest) session in
       record {
         last = last;
-        alike = made.alike;
+        unmet = alike-meets old.setting old.breakpoints old.index last made.alike;
         few = omega arith;
         session = session;
         sink_is =
@@ -273,12 +285,15 @@ module _ {S : Type 0} (to : Giving S) (old mid new : SessionValue) (most : ℕ) 
       let far = ap (λ (s : SessionValue). s.furthest) session in
       record {
         last = last;
-        alike = made.alike;
+        unmet = alike-meets old.setting old.breakpoints old.index last made.alike;
         few = omega arith;
         fresh = bound.0;
         session = session;
         cut =
             cut-along
             (ap (outputs_between old.setting old.furthest) far ∙ fresh-outputs old last after bound.0 ∙ sym made.outputs) refl passed.cut;
+        of_last =
+            subst (λ xs. IsPrefix xs passed.cut.taken)
+            (sym (ap (λ n. outputs_between old.setting n last) (sym bound.0) ∙ made.alike.silent)) (passed.cut.taken, refl);
       }
   steps-refused A E refusal true asked bound (Some stop) made passed = cut-something passed.cut made.outputs

@@ -11,3 +11,4 @@ pub mod Finished
 pub mod Ends
 pub mod PlayedOn
 pub mod Rings
+pub mod Leapt

@@ -19,7 +19,7 @@ use Rattle.pac_board_course.specs.Stretches.{held}
 use Rattle.pac_board_course.proofs.Begun.{play-same}
 use Rattle.pac_board_course.specs.Course.{CourseValue, held_in, next_on}
 use Rattle.pac_board_course.specs.Plays.{IsCourseAdvanced}
-use Rattle.pac_debug_session.specs.declared.history.PastStep.{PastStep}
+use Rattle.pac_board_course.specs.PastStep.{PastStep}
 use Rattle.pac_debug_session.specs.declared.kept.SessionSnapshot.{SessionSnapshot}
 use Rattle.pac_debug_session.specs.declared.kept.SlotContents.{SlotContents}
 use Rattle.pac_debug_session.specs.Inside.{IsStanding, AreSlotsRight}

@@ -18,7 +18,7 @@ use Rattle.pac_board_course.specs.Stretch.{Stretch}
 use Rattle.pac_board_course.specs.Stretches.{held, total_frames}
 use Rattle.pac_board_course.specs.Trace.{by_view}
 use Rattle.pac_board_course.proofs.Begun.{play-same}
-use Rattle.pac_debug_session.specs.declared.history.PastStep.{PastStep}
+use Rattle.pac_board_course.specs.PastStep.{PastStep}
 use Rattle.pac_debug_session.specs.Inside.{IsStanding}
 use Rattle.pac_debug_session.specs.Keeping.{Ring, kept_of, ring_after_index}
 use Rattle.pac_debug_session.specs.Motions.{checkpoint_steps, moved_to}
@@ -49,7 +49,7 @@ module _ (board : BoardValue) (switches : ℕ) (script : List Stretch) (history 
   course_on b = record { board = b; script = script; gone = 0 }
 
   -- what the course's steps come to is what they come to in the run
-  next-same : (now : Moment BoardView) → next_in (course_on board) now ≡ next_from setting now
+  pub next-same : (now : Moment BoardView) → next_in (course_on board) now ≡ next_from setting now
   next-same now =
       let masks : (frame : ℕ) → held_in (course_on board) frame ≡ held script frame = λ frame. ap (held script) (omega arith) in
       play-same (by_view board.set) (held_in (course_on board)) (held script) masks now

@@ -4,7 +4,7 @@ use Rattle.std.proofs.Common.{nat_le, if◌then◌else◌, Option, None, Some, [
 use Rattle.std.specs.List.{list_any}
 use Rattle.std.proofs.lemmas.List.{append-nil}
 use Rattle.std.proofs.lemmas.Bool.Decides.{nat_tests}
-use mathlib.Core.List.{IsPrefix, prefix-append}
+use mathlib.Core.List.{IsPrefix}
 use Rattle.pac_board_course.specs.Stop.{Stop}
 use Rattle.pac_board_course.specs.Stretches.{held}
 use Rattle.pac_board_course.specs.Entry.{Hold}
@@ -15,7 +15,7 @@ use Rattle.pac_board_course.specs.Trace.{by_view, power_on_moment}
 use Rattle.pac_board_course.specs.Walk.{Walk, walk_after_step, has_ended}
 use Rattle.pac_board_course.proofs.Runs.{runs-end, walk-near}
 use Rattle.pac_board_course.proofs.Walks.{not-both, late-has-ended, stopped-has-ended}
-use Rattle.pac_board_course.proofs.Sinks.{took-both, cut-along, cut-after}
+use Rattle.pac_board_course.proofs.Sinks.{took-both, cut-along, cut-after, prefix-after}
 use Rattle.pac_board_course.specs.Sinks.{Giving, TookAll}
 use Rattle.pac_board_course.specs.State.{nothing_due, steps_counted}
 use Rattle.pac_debug_session.specs.declared.motion.MotionEnd.{MotionEnd}
@@ -27,7 +27,7 @@ use Rattle.pac_debug_session.specs.Motions.{HasTravelled, IsTravelRefused}
 use Rattle.pac_debug_session.specs.Running.{Setting, play_of, run, whole_run, now_at, next_from, next_at, limit, is_late, stop_in, stop_at}
 use Rattle.pac_debug_session.specs.Running.{goes_at, blanks_at, outputs_between}
 use Rattle.pac_debug_session.specs.Session.{SessionValue, IsSession, breaks_at}
-use Rattle.pac_debug_session.specs.Strides.{AreAlike, steps_left, longest_stride, HasStrode, HasMetStop, IsStrideRefused}
+use Rattle.pac_debug_session.specs.Strides.{MeetNothing, steps_left, longest_stride, HasStrode, HasMetStop, IsStrideRefused}
 use Rattle.pac_debug_session.proofs.Indices.{IsOpen, open-up-to, next-index, timely, early-time, times-grow}
 use Rattle.pac_debug_session.proofs.Forwards.{between-joined, between-self}
 
@@ -99,14 +99,13 @@ met-false false done undone = refl
 module _ (s : SessionValue) (from : ℕ) where
   -- what breakpoints and frames are asked of stays within a stride, and counted steps are left
   undone-within : (motion : Motion) (index last at : ℕ) → from < index → is_done s motion from index ≡ false
-      → AreAlike s.setting index last → last < index + steps_left motion (index - from) → index ≤ at → at ≤ last
+      → MeetNothing s.setting s.breakpoints index last → last < index + steps_left motion (index - from) → index ≤ at → at ≤ last
       → is_done s motion from at ≡ false
   undone-within (Steps count) index last at gone undone alike few after before = grind (arith, nat_tests)
   undone-within Continue index last at gone undone alike few after before =
-      ap (λ pc. list_any (λ address. address == pc) s.breakpoints) (alike.address at after before) ∙ undone
+      alike.breaks at after before ∙ undone
   undone-within (Frames count) index last at gone undone alike few after before =
-      ap (λ pc. list_any (λ address. address == pc) s.breakpoints || nat_le (blanks_at s.setting from + count) (blanks_at s.setting at))
-      (alike.address at after before)
+      ap (λ breaks. breaks || nat_le (blanks_at s.setting from + count) (blanks_at s.setting at)) (alike.breaks at after before)
       ∙ ap (λ blanks. breaks_at s index || nat_le (blanks_at s.setting from + count) blanks) (alike.frame at after before)
       ∙ undone
   undone-within ToEnd index last at gone undone alike few after before = refl
@@ -171,10 +170,11 @@ module _ {S : Type 0} (to : Giving S) (old : SessionValue) (motion : Motion) (si
       ∙ ap (λ n. record old { index = index; furthest = max old.furthest index; due = nothing_due; made = n }) made
 
   -- at no index within a stride has the motion done what it is for
-  unmet-within : (s : SessionValue) (last index : ℕ) → s.setting ≡ old.setting → has_met old motion old.index s.index ≡ false
-      → old.index ≤ s.index → AreAlike s.setting s.index last → last < s.index + longest_stride motion (s.index - old.index)
+  unmet-within : (s : SessionValue) (last index : ℕ) → s ≡ moved_to old s.index → has_met old motion old.index s.index ≡ false
+      → old.index ≤ s.index → MeetNothing s.setting s.breakpoints s.index last → last < s.index + longest_stride motion (s.index -
+      old.index)
       → s.index ≤ index → index ≤ last → has_met old motion old.index index ≡ false
-  unmet-within s last index setting unmet after alike few from less = choose (s.index - old.index == 0) refl
+  unmet-within s last index session unmet after alike few from less = choose (s.index - old.index == 0) refl
     where
       choose : (b : Bool) → (s.index - old.index == 0) ≡ b → has_met old motion old.index index ≡ false
       choose true e =
@@ -189,7 +189,7 @@ module _ {S : Type 0} (to : Giving S) (old : SessionValue) (motion : Motion) (si
           let gone : nat_lt old.index s.index ≡ true = grind (arith, nat_tests) in
           let undone : is_done old motion old.index s.index ≡ false
           = sym (ap (λ b. b && is_done old motion old.index s.index) gone) ∙ unmet in
-          let seen = subst (λ (run : Setting). AreAlike run s.index last) setting alike in
+          let seen = subst (λ (t : SessionValue). MeetNothing t.setting t.breakpoints s.index last) session alike in
           let bound : last < s.index + steps_left motion (s.index - old.index) = omega arith in
           met-false (nat_lt old.index index) (is_done old motion old.index index)
           (undone-within old old.index motion s.index last index more undone seen bound from less)
@@ -210,7 +210,7 @@ module _ {S : Type 0} (to : Giving S) (old : SessionValue) (motion : Motion) (si
 
   -- no index rests up to steps that go on
   restless-on : (s : SessionValue) (taker : S) (last : ℕ) → IsUnderway s taker → has_met s motion old.index s.index ≡ false
-      → AreAlike s.setting s.index last → last < s.index + longest_stride motion (s.index - old.index)
+      → MeetNothing s.setting s.breakpoints s.index last → last < s.index + longest_stride motion (s.index - old.index)
       → (earlier : ℕ) → old.index ≤ earlier → earlier ≤ last → rests old motion old.index earlier ≡ false
   restless-on s taker last under unmet alike few earlier from less = choose (nat_lt earlier s.index) refl
     where
@@ -222,13 +222,13 @@ module _ {S : Type 0} (to : Giving S) (old : SessionValue) (motion : Motion) (si
           let goes : goes_at old.setting earlier ≡ true
           = ap (λ run. goes_at run earlier) (sym setting) ∙ alike.goes earlier after less in
           goes-past old motion old.index earlier
-          (unmet-within s last earlier setting (met-there s s.index false under.session unmet) under.after alike few after less) goes
+          (unmet-within s last earlier under.session (met-there s s.index false under.session unmet) under.after alike few after less) goes
 
   pub underway-more : (s new : SessionValue) (taker later : S) → IsUnderway s taker → has_met s motion old.index s.index ≡ false
       → HasStrode to.took s (longest_stride motion (s.index - old.index)) taker new later → IsUnderway new later
   underway-more s new taker later under unmet one =
       let after = under.after in
-      let along = one.alike.after in
+      let along = one.unmet.after in
       let setting = ap (λ (t : SessionValue). t.setting) under.session in
       let session = one.session ∙ moved-on s (one.last + 1) under.session after (omega arith) in
       let index : new.index ≡ one.last + 1 = ap (λ (t : SessionValue). t.index) session in
@@ -236,7 +236,7 @@ module _ {S : Type 0} (to : Giving S) (old : SessionValue) (motion : Motion) (si
       let second = ap (λ (t : SessionValue). t.furthest) session in
       record {
         after = omega arith;
-        restless = λ earlier from less. restless-on s taker one.last under unmet one.alike one.few earlier from (omega arith);
+        restless = λ earlier from less. restless-on s taker one.last under unmet one.unmet one.few earlier from (omega arith);
         session = session ∙ ap (moved_to old) (sym index);
         sink_is =
             subst (λ xs. TookAll to.took sink xs later)
@@ -293,7 +293,7 @@ module _ {S : Type 0} (to : Giving S) (old : SessionValue) (motion : Motion) (si
       → IsStrideRefused to s (longest_stride motion (s.index - old.index)) taker new later → IsTravelRefused to old motion sink new later
   underway-refused s new taker later under unmet step =
       let after = under.after in
-      let along = step.alike.after in
+      let along = step.unmet.after in
       let setting = ap (λ (t : SessionValue). t.setting) under.session in
       let session : new ≡ record (moved_to old (step.last + 1)) { due = new.due }
       = step.session
@@ -305,24 +305,23 @@ module _ {S : Type 0} (to : Giving S) (old : SessionValue) (motion : Motion) (si
       let before = outputs_between old.setting old.furthest s.furthest in
       let more = cut-along (ap (λ run. outputs_between run s.furthest new.furthest) (sym setting)) refl step.cut in
       let far : new.furthest ≡ new.index = omega arith in
-      let silent : outputs_between old.setting s.furthest step.last ≡ []
-      = ap (λ n. outputs_between old.setting n step.last) (sym fresh)
-      ∙ ap (λ run. outputs_between run s.index step.last) (sym setting) ∙ step.alike.silent in
-      let so_far : outputs_between old.setting old.furthest step.last ≡ before
-      = sym (between-joined old.setting old.furthest s.furthest step.last (omega arith) (omega arith))
-      ∙ ap (λ xs. before ++ xs) silent ∙ append-nil before in
+      let from_there : IsPrefix (outputs_between old.setting s.furthest step.last) step.cut.taken
+      = subst (λ run. IsPrefix (outputs_between run s.furthest step.last) step.cut.taken) setting step.of_last in
       record {
         last = step.last;
         index = index;
         fresh = omega arith;
-        restless = restless-on s taker step.last under unmet step.alike step.few;
+        restless = restless-on s taker step.last under unmet step.unmet step.few;
         session = session ∙ ap (λ n. record (moved_to old n) { due = new.due }) (sym index);
         cut =
             cut-along
             (ap (outputs_between old.setting old.furthest) (sym far)
             ∙ sym (between-joined old.setting old.furthest s.furthest new.furthest (omega arith) (omega arith))) refl
             (cut-after before sink taker later under.sink_is more);
-        of_last = subst (λ xs. IsPrefix xs (before ++ step.cut.taken)) (sym so_far) (prefix-append before step.cut.taken);
+        of_last =
+            subst (λ xs. IsPrefix xs (before ++ step.cut.taken))
+            (between-joined old.setting old.furthest s.furthest step.last (omega arith) (omega arith))
+            (prefix-after before (outputs_between old.setting s.furthest step.last) step.cut.taken from_there);
       }
 
   -- up to where it is the run goes on
@@ -354,11 +353,11 @@ module _ {S : Type 0} (to : Giving S) (old : SessionValue) (motion : Motion) (si
       let setting : s.setting ≡ old.setting = ap (λ (t : SessionValue). t.setting) under.session in
       let same : new.setting ≡ s.setting = ap (λ (t : SessionValue). t.setting) one.session in
       let index : new.index ≡ one.last + 1 = ap (λ (t : SessionValue). t.index) one.session in
-      let along = one.alike.after in
+      let along = one.unmet.after in
       let next : s.index + suc (one.last - s.index) ≡ one.last + 1 = omega arith in
       let open_yet : is_late old.setting s.index ≡ false = ap (λ run. is_late run s.index) (sym setting) ∙ early in
       let before = early-time old.setting s.index open_yet in
-      let seen = subst (λ (run : Setting). AreAlike run s.index one.last) setting one.alike in
+      let seen = subst (λ (run : Setting). MeetNothing run s.breakpoints s.index one.last) setting one.unmet in
       let longer = times-grow old.setting s.index (suc (one.last - s.index)) (open-so-far s taker facts under)
       (λ earlier after less. seen.goes earlier after (omega arith)) in
       let falls : limit old.setting - (now_at old.setting (s.index + suc (one.last - s.index))).time

@@ -3,7 +3,7 @@ use Rattle.std.specs.Prelude.{◌≡◌, ◌<◌, ◌≤◌, ℕ, ◌+◌, ◌*�
 use Rattle.pac_board_course.specs.Stretches.{total_frames, most_frames}
 use Rattle.pac_board_course.specs.BoardView.{BoardView}
 use Rattle.pac_board_course.specs.Step.{Moment}
-use Rattle.pac_debug_session.specs.declared.history.PastStep.{PastStep}
+use Rattle.pac_board_course.specs.PastStep.{PastStep}
 use Rattle.pac_debug_session.specs.declared.kept.SlotContents.{SlotContents}
 use Rattle.pac_debug_session.specs.declared.session.Session.TheInside.{Inside}
 use Rattle.pac_debug_session.specs.Keeping.{Ring, AreCheckpoints, AreSlots, mark_of}
@@ -13,17 +13,17 @@ use Rattle.pac_debug_session.specs.Running.{Setting, now_at, limit, goes_at}
 use Rattle.pac_debug_session.specs.Session.{SessionValue, AreSeen, slot_count, most_breakpoints}
 
 abbrev pub session_setting : Inside → Setting
-session_setting inside = record { set = inside.board.set; switches = inside.switches; script = inside.script }
+session_setting inside = record { set = inside.board.value.set; switches = inside.switches; script = inside.script }
 
 abbrev pub session_view : Inside → SessionValue
 session_view inside = record {
   setting = session_setting inside;
-  index = inside.board.state.now.steps;
+  index = inside.board.value.state.now.steps;
   furthest = inside.furthest;
   breakpoints = inside.breakpoints.items;
   slots = map mark_of inside.slots.items;
-  due = inside.board.state.due;
-  made = inside.board.made;
+  due = inside.board.value.state.due;
+  made = inside.board.value.made;
   replayed = inside.replayed;
 }
 
@@ -51,7 +51,7 @@ pub record IsInsideRight (inside : Inside) : Type 0 where
   pub limit : inside.limit ≡ limit (session_setting inside)
   pub short : total_frames inside.script ≤ most_frames
   -- a session goes by steps, and asks its board for no microseconds
-  pub unasked : inside.board.state.asked ≡ 0
-  pub standing : IsStanding (session_setting inside) inside.board.state.now inside.history inside.furthest inside.checkpoints
+  pub unasked : inside.board.value.state.asked ≡ 0
+  pub standing : IsStanding (session_setting inside) inside.board.value.state.now inside.history inside.furthest inside.checkpoints
   pub slots : AreSlotsRight (session_setting inside) inside.furthest inside.slots.items
   pub breakpoints : length inside.breakpoints.items ≤ most_breakpoints

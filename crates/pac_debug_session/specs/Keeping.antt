@@ -2,7 +2,7 @@
 use Rattle.std.specs.Prelude.{◌≡◌, ◌≤◌, ℕ, ◌+◌, ◌-◌, ◌*◌, ◌==◌, Bool, true, false, List, [], ◌∷◌, ◌++◌, Option, None, Some}
 use Rattle.std.specs.Prelude.{if◌then◌else◌, drop}
 use Rattle.pac_board_course.specs.State.{BoardValue, nothing_due}
-use Rattle.pac_debug_session.specs.declared.history.PastStep.{PastStep}
+use Rattle.pac_board_course.specs.PastStep.{PastStep}
 use Rattle.pac_debug_session.specs.declared.kept.SessionSnapshot.{SessionSnapshot}
 use Rattle.pac_debug_session.specs.declared.kept.SlotContents.{SlotContents}
 use Rattle.pac_debug_session.specs.Motions.{checkpoint_steps, checkpoint_count}

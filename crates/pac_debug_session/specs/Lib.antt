@@ -11,3 +11,4 @@ pub mod Silent
 pub mod Laws
 pub use Rattle.pac_board_course.specs.declared.outcome.Outcome
 pub use Rattle.pac_board_course.specs.Stretches
+pub use Rattle.pac_board_course.specs.PastStep

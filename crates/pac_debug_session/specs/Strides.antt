@@ -1,5 +1,8 @@
 -- For proofs: a stride: one step forwards, or several that leave nothing to look at between them.
-use Rattle.std.specs.Prelude.{◌≡◌, ◌<◌, ◌≤◌, ℕ, ◌+◌, ◌-◌, ◌==◌, Bool, true, if◌then◌else◌, [], Option, None, Some, Result, Ok, Err}
+use Rattle.std.specs.Prelude.{◌≡◌, ◌<◌, ◌≤◌, ℕ, suc, ◌+◌, ◌-◌, ◌==◌, Bool}
+use Rattle.std.specs.Prelude.{true, if◌then◌else◌, List, [], Option, None, Some, Result, Ok, Err}
+use Rattle.std.specs.List.{list_any}
+use mathlib.Core.List.{IsPrefix}
 use Rattle.pac_board_course.specs.Bursts.{is_waiting}
 use Rattle.pac_board_course.specs.Output.{Output}
 use Rattle.pac_board_course.specs.Sinks.{Giving, TookAll, Cut}
@@ -21,6 +24,16 @@ pub record AreAlike (setting : Setting) (from last : ℕ) : Type 0 where
   pub goes : (index : ℕ) → from ≤ index → index ≤ last → goes_at setting index ≡ true
   pub silent : outputs_between setting from last ≡ []
   pub address : (index : ℕ) → from ≤ index → index ≤ last → (now_at setting index).regs.pc ≡ (now_at setting from).regs.pc
+  pub frame : (index : ℕ) → from ≤ index → index ≤ last → blanks_at setting index ≡ blanks_at setting from
+
+-- Steps at none of which anything that a motion looks for is met anew: the run goes on at each of them, the processor stands on a
+-- breakpoint before each of them or before none, and no frame ends before the last of them has begun.
+pub record MeetNothing (setting : Setting) (breakpoints : List ℕ) (from last : ℕ) : Type 0 where
+  pub after : from ≤ last
+  pub goes : (index : ℕ) → from ≤ index → index ≤ last → goes_at setting index ≡ true
+  pub breaks : (index : ℕ) → from ≤ index → index ≤ last
+      → list_any (λ address. address == (now_at setting index).regs.pc) breakpoints
+      ≡ list_any (λ address. address == (now_at setting from).regs.pc) breakpoints
   pub frame : (index : ℕ) → from ≤ index → index ≤ last → blanks_at setting index ≡ blanks_at setting from
 
 -- such steps were done, so many at most, and what the last of them gives is due
@@ -56,7 +69,7 @@ pub record HasStrode {S : Type 0} (took : S → Output → S → Type 0) (old : 
     (later : S)
     : Type 0 where
   pub last : ℕ
-  pub alike : AreAlike old.setting old.index last
+  pub unmet : MeetNothing old.setting old.breakpoints old.index last
   pub few : last < old.index + most
   pub session : new ≡ moved_to old (last + 1)
   pub sink_is : TookAll took sink (outputs_between old.setting old.furthest new.furthest) later
@@ -69,13 +82,50 @@ pub record HasMetStop {S : Type 0} (old : SessionValue) (sink : S) (stop : Stop)
 pub record IsStrideRefused {S : Type 0} (to : Giving S) (old : SessionValue) (most : ℕ) (sink : S) (new : SessionValue) (later : S)
     : Type 0 where
   pub last : ℕ
-  pub alike : AreAlike old.setting old.index last
+  pub unmet : MeetNothing old.setting old.breakpoints old.index last
   pub few : last < old.index + most
   pub fresh : old.index ≡ old.furthest
   pub session : new ≡ record (moved_to old (last + 1)) { due = new.due }
   pub cut : Cut to sink (outputs_between old.setting old.furthest new.furthest) (session_due_outputs new) later
+  pub of_last : IsPrefix (outputs_between old.setting old.furthest last) cut.taken
 
 abbrev pub StepsOn : {S E : Type 0} → Giving S → SessionValue → (most : ℕ) → S → Result (Option Stop) E → SessionValue → S → Type 0
 StepsOn to old most sink (Ok None) new later = HasStrode to.took old most sink new later
 StepsOn to old most sink (Ok (Some stop)) new later = HasMetStop old sink stop new later
 StepsOn to old most sink (Err refusal) new later = IsStrideRefused to old most sink new later
+
+-- ---- steps of any kind in one go, where no breakpoint is set; what they give goes to a sink
+
+-- why they ended: a step was done at least, or the next one meets a stop
+abbrev pub LeapEnds : SessionValue → (count : ℕ) → Option Stop → Type 0
+LeapEnds old count None = 1 ≤ count
+LeapEnds old count (Some stop) = stop_at old.setting (old.index + count) ≡ Some stop
+
+-- so many steps, as many at most
+pub record IsLeap (old : SessionValue) (most count : ℕ) : Type 0 where
+  pub few : count ≤ most
+  pub unmet : (last : ℕ) → count ≡ suc last → MeetNothing old.setting old.breakpoints old.index (old.index + last)
+
+pub record IsLeapt (old : SessionValue) (most : ℕ) (stop : Option Stop) (new : SessionValue) : Type 0 where
+  pub count : ℕ
+  pub leap : IsLeap old most count
+  pub ending : LeapEnds old count stop
+  pub session : new ≡ moved_to old (old.index + count)
+
+pub record HasLeapt {S : Type 0} (took : S → Output → S → Type 0) (old : SessionValue) (most : ℕ) (sink : S) (stop : Option Stop)
+    (new : SessionValue) (later : S)
+    : Type 0 where
+  pub leapt : IsLeapt old most stop new
+  pub sink_is : TookAll took sink (outputs_between old.setting old.index (old.index + leapt.count)) later
+
+pub record IsLeapRefused {S : Type 0} (to : Giving S) (old : SessionValue) (most : ℕ) (sink : S) (new : SessionValue) (later : S)
+    : Type 0 where
+  pub last : ℕ
+  pub leap : IsLeap old most (suc last)
+  pub session : new ≡ record (moved_to old (old.index + suc last)) { due = new.due }
+  pub cut : Cut to sink (outputs_between old.setting old.index (old.index + suc last)) (session_due_outputs new) later
+  pub of_last : IsPrefix (outputs_between old.setting old.index (old.index + last)) cut.taken
+
+abbrev pub Leaps : {S E : Type 0} → Giving S → SessionValue → (most : ℕ) → S → Result (Option Stop) E → SessionValue → S → Type 0
+Leaps to old most sink (Ok stop) new later = HasLeapt to.took old most sink stop new later
+Leaps to old most sink (Err refusal) new later = IsLeapRefused to old most sink new later

@@ -1,18 +1,16 @@
--- For proofs: the ring of the steps that are told, and what is told after one more.
-use Rattle.std.specs.Prelude.{ℕ, zero, suc, ◌+◌, List, [], ◌∷◌, ◌++◌, drop, take}
+-- For proofs: the steps that are told, and what is told after one more.
+use Rattle.std.specs.Prelude.{ℕ, zero, suc, ◌+◌, List, [], ◌∷◌, ◌++◌, Option, None, Some}
 use Rattle.circular_buffer.specs.Buffer.{keep_last}
 use Rattle.pac_board_course.specs.Once.{Once}
 use Rattle.pac_board_course.specs.OnceVariants.{Stepped, Stopped}
 use Rattle.pac_board_course.specs.StepKindVariants.{Halted}
-use Rattle.pac_debug_session.specs.declared.history.PastStep.{PastStep}
+use Rattle.pac_board_course.specs.PastStep.{PastStep}
 use Rattle.pac_debug_session.specs.Past.{told_step_count}
 
--- A ring, from the place at which the next one is written, where the oldest one stands; and so many of the last ones in it.
-abbrev pub turned : {A : Type 0} → List A → (next : ℕ) → List A
-turned ring next = drop next ring ++ take next ring
-
-abbrev pub told_in : {A : Type 0} → List A → (next count : ℕ) → List A
-told_in ring next count = keep_last count (turned ring next)
+-- the steps that are told, where there is a trail
+abbrev pub told_of : {A : Type 0} → Option (List A) → List A
+told_of None = []
+told_of (Some told) = told
 
 -- a step after those that are told, unless it was a stop
 abbrev pub told_after : List PastStep → (index pc : ℕ) → Once → List PastStep

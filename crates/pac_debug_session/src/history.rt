@@ -1,58 +1,41 @@
 //! The steps that were done last.
 
-ghost use Rattle.std.specs.Prelude.{◌≡◌, ◌≤◌, ◌<◌, ◌+◌, ◌^◌, [], ◌∷◌, ◌++◌, IfOk, length, slice_get};
+ghost use Rattle.std.specs.Prelude.{◌≡◌, ◌≤◌, ◌<◌, ◌+◌, ◌*◌, ◌^◌, [], ◌∷◌, ◌++◌, IfOk, length, slice_get, Some, min};
 ghost use Rattle.circular_buffer.specs.Buffer.{keep_last};
+ghost use Rattle.pac_board_course.specs.Course.{next_in};
+ghost use Rattle.pac_board_course.specs.Frames.{frame_end};
+ghost use Rattle.pac_board_course.specs.Sinks.{by};
+ghost use Rattle.pac_board_course.specs.State as state;
+ghost use Rattle.pac_board_course.specs.Step.{frame_ticks};
+ghost use Rattle.pac_board_course.specs.Stretches.{most_frames, total_frames};
+ghost use Rattle.pac_board_course.specs.Told.{PlaysTold};
+ghost use Rattle.pac_board_course.specs.Trails.{IsNoted};
 ghost use Rattle.pac_debug_session.specs.Told.{told_after, halted_steps};
 ghost use Rattle.pac_debug_session.specs.Past.{told_step_count};
 
-use pac_board_course::{Once, StepKind};
+use pac_board_course::{
+    Board, Once, PastStep, Refused, Script, Sink, StepKind, Stop, Trail, play_told,
+};
 use std::alloc::{AllocError, Global};
 use std::marker::Model;
 
-/// The steps that are told (this profile).
-const TOLD_STEPS: usize = 256;
-
-/// A step that was done.
-#[derive(Clone, Copy)]
-pub struct PastStep {
-    /// Its index in the run, the first being 0.
-    pub index: u64,
-    /// Where the processor stood before it.
-    pub pc: u16,
-    /// What it was: an instruction, a halted step, or an acceptance of an interrupt.
-    pub kind: StepKind,
-}
-
-/// What stands where no step was written yet. It is never told.
-const NO_STEP: PastStep = PastStep {
-    index: 0,
-    pc: 0,
-    kind: StepKind::Halted,
-};
-
-/// The last 256 steps, the oldest first: a ring, in which each step is written over the oldest one.
+/// The last 256 steps, the oldest first.
 #[derive(Drop)]
 pub struct History {
-    ring: Vec<PastStep>,
-    /// Where the next step is written.
-    next: usize,
-    count: usize,
+    /// Their trail. There is one in any case: what a board's run takes may be none.
+    told: Option<Trail>,
 }
 
 impl Model for History {
-    ghost use Rattle.std.specs.Prelude.{◌≡◌, ◌≤◌, ◌<◌, List, length};
-    ghost use Rattle.pac_debug_session.specs.declared.history.PastStep.{PastStep};
-    ghost use Rattle.pac_debug_session.specs.Told.{told_in};
+    ghost use Rattle.std.specs.Prelude.{◌≡◌, true, is_some, List};
+    ghost use Rattle.pac_board_course.specs.PastStep.{PastStep};
+    ghost use Rattle.pac_debug_session.specs.Told.{told_of};
 
     ghost Value = { List PastStep };
 
-    ghost view = { λ history. told_in history.ring.items history.next history.count };
+    ghost view = { λ history. told_of history.told };
 
-    ghost invariant = { λ history. record {
-      room : length history.ring.items ≡ 256;
-      next : history.next < 256;
-      count : history.count ≤ 256;
-    } };
+    ghost invariant = { λ history. is_some history.told ≡ true };
 }
 
 impl History {
@@ -61,10 +44,18 @@ impl History {
         ensures { IfOk result (λ history. history ≡ []) }
     {
         Ok(History {
-            ring: vec![in alloc; NO_STEP; TOLD_STEPS]?,
-            next: 0,
-            count: 0,
+            told: Some(Trail::new(alloc)?),
         })
+    }
+
+    /// The trail.
+    fn trail(&self) -> &Trail
+        ensures { result.now ≡ self.now }
+    {
+        let Some(trail) = &self.told else {
+            unreachable!();
+        };
+        trail
     }
 
     /// Adds a step after the others, and keeps the last 256.
@@ -72,9 +63,9 @@ impl History {
     pub fn push(&mut self, step: PastStep)
         ensures { self.new ≡ keep_last told_step_count (self.old ++ step ∷ []) }
     {
-        self.ring[self.next] = step;
-        self.next = (self.next + 1) % TOLD_STEPS;
-        self.count = (self.count + 1).min(TOLD_STEPS);
+        if let Some(trail) = &mut self.told {
+            trail.push(step);
+        }
     }
 
     /// Adds what a step from an index and an address was, unless it was a stop.
@@ -107,13 +98,37 @@ impl History {
         }
     }
 
+    /// Does the steps of a script's run on a board that begin before a limit, and before the blank of the frame under way, and adds each
+    /// of them.
+    pub fn play_told<S: Sink>(
+        &mut self,
+        board: &mut Board,
+        script: &Script,
+        limit: u64,
+        sink: &mut S,
+    ) -> Result<Option<Stop>, Refused>
+        requires time { frame_ticks * total_frames script.now ≤ state.latest }
+        requires short { total_frames script.now ≤ most_frames }
+        requires early { board.old.state.now.time < frame_ticks * total_frames script.now }
+        requires begun { board.old.state.now.time < limit }
+        requires nothing { board.old.state.due ≡ state.nothing_due }
+        ensures made { PlaysTold (by S.took S.refused)
+            (record { board = board.old; script = script.now; gone = 0 }) sink.old result
+            (record { board = board.new; script = script.now; gone = 0 }) sink.new }
+        ensures told { IsNoted (next_in (record { board = board.old; script = script.now; gone = 0 }))
+            (min limit (frame_end (record { board = board.old; script = script.now; gone = 0 })))
+            board.old.state.now board.new.state.now (Some self.old) (Some self.new) }
+    {
+        play_told(board, script, 0, limit, &mut self.told, sink)
+    }
+
     /// Writes another history's steps over its own. Takes no memory.
     pub fn copy_from(&mut self, other: &History)
         ensures { self.new ≡ other.now }
     {
-        self.ring.copy_from_slice(&other.ring);
-        self.next = other.next;
-        self.count = other.count;
+        if let Some(trail) = &mut self.told {
+            trail.copy_from(other.trail());
+        }
     }
 
     /// How many steps are told, 0 to 256.
@@ -121,17 +136,13 @@ impl History {
         ensures count { result ≡ length self.now }
         ensures within { result ≤ told_step_count }
     {
-        self.count
+        self.trail().len()
     }
 
     /// The step at a place, the oldest being 0.
     pub fn get(&self, place: usize) -> Option<PastStep>
         ensures { result ≡ slice_get self.now place }
     {
-        if place >= self.count {
-            return None;
-        }
-        let oldest = self.next + TOLD_STEPS - self.count;
-        self.ring.get((oldest + place) % TOLD_STEPS).copied()
+        self.trail().get(place)
     }
 }

@@ -7,6 +7,7 @@ mod checkpoints;
 mod history;
 mod kept;
 pub mod laws;
+mod leap;
 mod motion;
 mod playing;
 mod rest;
@@ -14,7 +15,6 @@ mod session;
 mod silent;
 mod travel;
 
-pub use history::PastStep;
 pub use motion::{Motion, MotionEnd};
-pub use pac_board_course::Outcome;
+pub use pac_board_course::{Outcome, PastStep};
 pub use session::{Empty, Full, Session, SessionRefused};

@@ -11,10 +11,10 @@ ghost use Rattle.pac_debug_session.specs.Session.{IsSession, IsNew, session_at_s
 ghost use Rattle.pac_debug_session.specs.Motions.{checkpoint_count, ReturnsTo, session_with_slot};
 
 use crate::checkpoints::Checkpoints;
-use crate::history::{History, PastStep};
+use crate::history::History;
 use crate::kept::SlotContents;
 use arrayvec::ArrayVec;
-use pac_board_course::{Board, FRAME_TICKS, Script, hold};
+use pac_board_course::{Board, FRAME_TICKS, PastStep, Script, hold};
 use std::alloc::{AllocError, Global};
 use std::marker::Model;
 
@@ -28,7 +28,7 @@ const SLOTS: usize = 4;
 /// is due, and the counts of steps that were done.
 #[derive(Drop)]
 pub struct Session {
-    pub(crate) board: Board,
+    pub(crate) board: Box<Board>,
     pub(crate) script: Script,
     pub(crate) switches: u8,
     pub(crate) limit: u64,
@@ -56,7 +56,7 @@ impl Model for Session {
 #[derive(Drop)]
 pub struct SessionRefused {
     /// The board that was handed in.
-    pub board: Board,
+    pub board: Box<Board>,
     /// The script that was handed in.
     pub script: Script,
 }
@@ -90,14 +90,18 @@ fn room(
 impl Session {
     /// A session at the beginning of the run of a script on a board as `init` makes it, whichever inputs are held. It makes all the
     /// room that it needs: later calls take no memory. Refused for want of memory alone; board and script then come back.
-    pub fn new(alloc: Global, mut board: Board, script: Script) -> Result<Session, SessionRefused>
-        requires { IsNew board }
+    pub fn new(
+        alloc: Global,
+        mut board: Box<Board>,
+        script: Script,
+    ) -> Result<Session, SessionRefused>
+        requires { IsNew board.value }
         ensures session { IfOk result (λ session.
             session ≡ session_at_start (record {
-              set = board.set;
-              switches = board.state.now.board.memory.switches;
+              set = board.value.set;
+              switches = board.value.state.now.board.memory.switches;
               script = script;
-            }) board.made) }
+            }) board.value.made) }
         ensures refused { IfErr result
             (λ refused. (refused.board ≡ board) × (refused.script ≡ script)) }
     {

@@ -139,9 +139,9 @@ impl Session {
         Ok(())
     }
 
-    /// Does one step, or some in one go, so many at most; offers what they give unless it was offered before, and answers the stop that
-    /// the run met, if any.
-    fn step_on<S: Sink>(&mut self, most: u64, sink: &mut S) -> Result<Option<Stop>, Refused>
+    /// Does one step, or halted ones in one go, so many at most; offers what they give unless it was offered before, and answers the stop
+    /// that the run met, if any.
+    fn step_by_step<S: Sink>(&mut self, most: u64, sink: &mut S) -> Result<Option<Stop>, Refused>
         requires nothing { self.old.due ≡ state.nothing_due }
         requires early { is_late self.old.setting self.old.index ≡ false }
         requires some { 1 ≤ most }
@@ -153,6 +153,19 @@ impl Session {
         let stop = self.make_steps(bounded(most, ahead));
         self.pass_on(fresh, sink)?;
         Ok(stop)
+    }
+
+    /// The same, and where no breakpoint is set steps of any kind in one go.
+    fn step_on<S: Sink>(&mut self, most: u64, sink: &mut S) -> Result<Option<Stop>, Refused>
+        requires nothing { self.old.due ≡ state.nothing_due }
+        requires early { is_late self.old.setting self.old.index ≡ false }
+        requires some { 1 ≤ most }
+        ensures { StepsOn (by S.took S.refused) self.old most sink.old result self.new sink.new }
+    {
+        if self.breakpoints.is_empty() {
+            return self.stride(most, sink);
+        }
+        self.step_by_step(most, sink)
     }
 
     /// Goes forwards to where a motion rests, and says why it rests there. What the steps past the furthest index give is offered;

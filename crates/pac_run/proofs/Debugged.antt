@@ -28,15 +28,15 @@ use Rattle.pac_run.proofs.Traced.{session-outputs, session-outcome, seen-through
 -- a session that was made of what was prepared
 pub ready-session : (inputs : RunInputs) (prepared : Prepared) (session : SessionValue) (frames : ℕ) → IsPrepared inputs None prepared
     → session ≡ session_at_start (record {
-      set = prepared.board.set;
-      switches = prepared.board.state.now.board.memory.switches;
+      set = prepared.board.value.set;
+      switches = prepared.board.value.state.now.board.memory.switches;
       script = prepared.script;
-    }) prepared.board.made
+    }) prepared.board.value.made
     → frames ≡ total_frames prepared.script → IsReady inputs prepared.program session frames
 ready-session inputs prepared session frames ready is count =
-    let same : session ≡ session_at_start (record { set = prepared.board.set; switches = inputs.dip; script = prepared.script }) 0 =
+    let same : session ≡ session_at_start (record { set = prepared.board.value.set; switches = inputs.dip; script = prepared.script }) 0 =
     is ∙ ap (λ (board : BoardValue). session_at_start (record {
-      set = prepared.board.set;
+      set = prepared.board.value.set;
       switches = board.state.now.board.memory.switches;
       script = prepared.script;
     }) board.made) ready.board.first in

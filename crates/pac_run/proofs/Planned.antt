@@ -4,6 +4,7 @@ use Rattle.std.proofs.lemmas.Bool.{false≢true}
 use Rattle.std.specs.Prelude.{is_ok}
 use Rattle.std.proofs.lemmas.Result.{IfOk-at_ok}
 use Rattle.std.proofs.lemmas.List.Elements.{All-nil}
+use Rattle.std.specs.Global.{Box}
 use Rattle.pac_asm.specs.PlacedItems.{AllLie, Lies}
 use Rattle.pac_roms_manifest.specs.Manifests.{manifest_of}
 use Rattle.pac_roms_manifest.specs.Sets.{set_of, unless_fault, fault_of_set, parts_of_set}
@@ -101,15 +102,15 @@ module _ (inputs : RunInputs) (program : Option Assembled) (set : Parts) (script
     (one : program_in (source_in inputs) ≡ Ok program) (other : set_in inputs.manifest.now inputs.parts.now program ≡ Ok set)
     (third : script_told (script_of inputs.script.now) ≡ Ok script)
   where
-    pub prepared : (from : Option (List ℕ)) (board : BoardValue) (image : List ℕ) → IsWhole set → LieIn program
-        → IsStarted (IsFirstBoard set inputs.dip script from) set script board
+    pub prepared : (from : Option (List ℕ)) (board : Box BoardValue) (image : List ℕ) → IsWhole set → LieIn program
+        → IsStarted (IsFirstBoard set inputs.dip script from) set script board.value
         → IsPrepared inputs from (record { program = program; board = board; script = script; image = image })
     prepared from board image whole lie started =
         let same = sym started.set_is in
         record {
           plan_is = plan-is inputs program set script one other third
               ∙ ap (λ set. Ok (plan_with inputs program set script)) same;
-          board = subst (λ set. IsStarted (IsFirstBoard set inputs.dip script from) set script board) same started;
+          board = subst (λ set. IsStarted (IsFirstBoard set inputs.dip script from) set script board.value) same started;
           whole = subst IsWhole same whole;
           lie = subst (λ set. PlaysProgram set program) same
               (items-lie inputs.manifest.now inputs.parts.now program set other lie);

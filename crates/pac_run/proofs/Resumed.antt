@@ -19,34 +19,35 @@ use Rattle.pac_run.proofs.Answered.{ran, unsaved, saved, save-refused}
 use Rattle.pac_run.proofs.Traced.{same-contents, same-state}
 
 module _ (inputs : RunInputs) (from : Option (List ℕ)) (prepared : Prepared) (ready : IsPrepared inputs from prepared)
-    (course : CourseValue) (begins : course ≡ begun prepared.board prepared.script)
+    (course : CourseValue) (begins : course ≡ begun prepared.board.value prepared.script)
   where
     abbrev plan : Plan
-    plan = plan_with inputs prepared.program prepared.board.set prepared.script
+    plan = plan_with inputs prepared.program prepared.board.value.set prepared.script
 
-    contents-are : course_contents inputs prepared.program course ≡ contents_from plan inputs.dip from prepared.board
+    contents-are : course_contents inputs prepared.program course ≡ contents_from plan inputs.dip from prepared.board.value
     contents-are =
         ap (course_contents inputs prepared.program) begins
-        ∙ same-contents inputs prepared.program prepared.board prepared.script ready.whole ready.lie ready.board.holds from
+        ∙ same-contents inputs prepared.program prepared.board.value prepared.script ready.whole ready.lie ready.board.holds from
         ready.board.first
 
     module _ (new : CourseValue) (played : new ≡ course_after course (way_on course)) (board : BoardValue) (asked : board ≡ board_asked new)
       where
-        end-of : board ≡ board_asked (course_after (begun prepared.board prepared.script) (way_on (begun prepared.board prepared.script)))
+        end-of : board ≡ board_asked (course_after (begun prepared.board.value prepared.script) (way_on (begun prepared.board.value
+            prepared.script)))
         end-of = asked ∙ ap board_asked played ∙ ap (λ course. board_asked (course_after course (way_on course))) begins
 
-        set-is : board.set ≡ prepared.board.set
+        set-is : board.set ≡ prepared.board.value.set
         set-is = ap (λ (board : BoardValue). board.set) end-of
 
-        state-is : save_text written_version board.set board.state ≡ state_text plan inputs.dip from prepared.board
+        state-is : save_text written_version board.set board.state ≡ state_text plan inputs.dip from prepared.board.value
         state-is =
             (λ i. save_text written_version (set-is i) (end-of i).state)
-            ∙ ap (save_text written_version prepared.board.set)
-            (same-state inputs prepared.program prepared.board prepared.script ready.whole ready.lie ready.board.holds from
+            ∙ ap (save_text written_version prepared.board.value.set)
+            (same-state inputs prepared.program prepared.board.value prepared.script ready.whole ready.lie ready.board.holds from
             ready.board.first)
 
         -- what was saved is a state file
-        file-is : IsState board.state → IsFile prepared.board.set (save_text written_version board.set board.state)
+        file-is : IsState board.state → IsFile prepared.board.value.set (save_text written_version board.set board.state)
         file-is holds =
             subst (λ set. IsFile set (save_text written_version board.set board.state)) set-is
             (record { version = written_version; known = refl; state = board.state; is_state = holds; text = refl })
@@ -56,7 +57,7 @@ module _ (inputs : RunInputs) (from : Option (List ℕ)) (prepared : Prepared) (
         pub held-back-early : (why : RunFault) → WritesRun (course_contents inputs prepared.program course) to (Err why)
             → IsUnwritten state → Resumes inputs from to state (Err why)
         held-back-early why written none =
-            unsaved to state inputs from plan ready.plan_is prepared.board ready.board.first why
+            unsaved to state inputs from plan ready.plan_is prepared.board.value ready.board.first why
             (subst (λ run. WritesRun run to (Err why)) contents-are written) none
 
         module _ (outcome : Outcome) (files : WritesRun (course_contents inputs prepared.program course) to (Ok outcome))
@@ -66,26 +67,26 @@ module _ (inputs : RunInputs) (from : Option (List ℕ)) (prepared : Prepared) (
             abbrev bytes : List ℕ
             bytes = save_text written_version board.set board.state
 
-            whole-files : IsRunWhole (contents_from plan inputs.dip from prepared.board) to outcome
+            whole-files : IsRunWhole (contents_from plan inputs.dip from prepared.board.value) to outcome
             whole-files = subst (λ run. WritesRun run to (Ok outcome)) contents-are files
 
             pub saved-whole : TakesText state bytes → Resumes inputs from to state (Ok outcome)
             saved-whole =
-                saved to state inputs from plan ready.plan_is prepared.board ready.board.first outcome whole-files bytes
+                saved to state inputs from plan ready.plan_is prepared.board.value ready.board.first outcome whole-files bytes
                 (state-is new played board asked) (file-is new played board asked holds)
 
             pub saved-in-part : (count : ℕ) → StopsInText state bytes count
                 → Resumes inputs from to state (Err (fault.Write which.State count))
             saved-in-part =
-                save-refused to state inputs from plan ready.plan_is prepared.board ready.board.first outcome whole-files bytes
+                save-refused to state inputs from plan ready.plan_is prepared.board.value ready.board.first outcome whole-files bytes
                 (state-is new played board asked) (file-is new played board asked holds)
 
 -- from power-on
 module _ (inputs : RunInputs) (prepared : Prepared) (ready : IsPrepared inputs None prepared) (course : CourseValue)
-    (begins : course ≡ begun prepared.board prepared.script)
+    (begins : course ≡ begun prepared.board.value prepared.script)
   where
     pub run-written : {F W L R : Type 0} (to : Writers F W L R) (answer : Result Outcome RunFault)
         → WritesRun (course_contents inputs prepared.program course) to answer → Runs inputs to answer
     run-written to answer written =
-        ran to inputs (plan_with inputs prepared.program prepared.board.set prepared.script) ready.plan_is answer
+        ran to inputs (plan_with inputs prepared.program prepared.board.value.set prepared.script) ready.plan_is answer
         (subst (λ run. WritesRun run to answer) (contents-are inputs None prepared ready course begins) written)

@@ -45,10 +45,11 @@ StartsBoard set dip script from (Err refusal) = ⊥
 
 -- the plan, with the board that its run begins with
 pub record IsPrepared (inputs : RunInputs) (from : Option (List ℕ)) (prepared : Prepared) : Type 0 where
-  pub plan_is : plan_of inputs ≡ Ok (plan_with inputs prepared.program prepared.board.set prepared.script)
-  pub board : IsStarted (IsFirstBoard prepared.board.set inputs.dip prepared.script from) prepared.board.set prepared.script prepared.board
-  pub whole : IsWhole prepared.board.set
-  pub lie : PlaysProgram prepared.board.set prepared.program
+  pub plan_is : plan_of inputs ≡ Ok (plan_with inputs prepared.program prepared.board.value.set prepared.script)
+  pub board : IsStarted (IsFirstBoard prepared.board.value.set inputs.dip prepared.script from) prepared.board.value.set
+      prepared.script prepared.board.value
+  pub whole : IsWhole prepared.board.value.set
+  pub lie : PlaysProgram prepared.board.value.set prepared.program
 
 abbrev pub Prepares : RunInputs → (from : Option (List ℕ)) → Result Prepared RunFault → Type 0
 Prepares inputs from (Ok prepared) = IsPrepared inputs from prepared

@@ -54,13 +54,13 @@ fn write_watched<F: Out, W: Out, L: Out, R: Out, T: Out>(
 }
 
 /// A session over what is played, at the beginning of its run. Refused for want of memory alone.
-fn session(alloc: Global, board: Board, script: Script) -> Result<Session, RunFault>
-    requires { IsNew board }
+fn session(alloc: Global, board: Box<Board>, script: Script) -> Result<Session, RunFault>
+    requires { IsNew board.value }
     ensures begun { IfOk result (λ session. session ≡ session_at_start (record {
-      set = board.set;
-      switches = board.state.now.board.memory.switches;
+      set = board.value.set;
+      switches = board.value.state.now.board.memory.switches;
       script = script;
-    }) board.made) }
+    }) board.value.made) }
     ensures refused { IfErr result (λ fault. fault ≡ NoMemory) }
 {
     match Session::new(alloc, board, script) {

@@ -22,7 +22,7 @@ pub struct Prepared {
     /// The program of the source, if there is one.
     pub program: Option<Program>,
     /// The board that the run begins with.
-    pub board: Board,
+    pub board: Box<Board>,
     /// The script.
     pub script: Script,
     /// Room for an image.

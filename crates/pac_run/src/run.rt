@@ -78,10 +78,10 @@ fn outcome_since(time: u64, steps: u64, board: &Board, stop: Option<Stop>) -> Ou
 }
 
 /// A script on a board, at its beginning.
-pub(crate) fn begin(board: Board, script: Script) -> Course
-    requires time { FitsTime board script }
-    requires asked { FitsAsked board script }
-    ensures { result ≡ begun board script }
+pub(crate) fn begin(board: Box<Board>, script: Script) -> Course
+    requires time { FitsTime board.value script }
+    requires asked { FitsAsked board.value script }
+    ensures { result ≡ begun board.value script }
 {
     Course::new(board, script)
 }

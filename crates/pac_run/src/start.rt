@@ -1,6 +1,7 @@
 //! The board that a run begins with: at power-on, or from a state file.
 
 ghost use Rattle.std.specs.Prelude.{◌≡◌, ◌≤◌, option_copied};
+ghost use Rattle.pac_board_course.specs.Boxed.{unboxed};
 ghost use Rattle.pac_board_course.specs.Stretches.{most_frames};
 ghost use Rattle.pac_run.specs.Start as start;
 ghost use Rattle.pac_run.specs.Started.{StartsBoard, StartsWith, refusal_told};
@@ -42,8 +43,13 @@ fn refusal(fault: LoadFault) -> RunFault
 }
 
 /// The board of a state file, where a run of this script can begin with it.
-fn taken_up(alloc: Global, set: RomSet, bytes: &[u8], script: &Script) -> Result<Board, RunFault>
-    ensures { StartsWith set script.now bytes.now result }
+fn taken_up(
+    alloc: Global,
+    set: RomSet,
+    bytes: &[u8],
+    script: &Script,
+) -> Result<Box<Board>, RunFault>
+    ensures { StartsWith set script.now bytes.now (unboxed result) }
 {
     let board = match load(alloc, bytes, set) {
         Ok(board) => board,
@@ -64,8 +70,8 @@ pub fn first_board(
     switches: u8,
     from: Option<&[u8]>,
     script: &Script,
-) -> Result<Board, RunFault>
-    ensures { StartsBoard set switches script.now (option_copied from.entry) result }
+) -> Result<Box<Board>, RunFault>
+    ensures { StartsBoard set switches script.now (option_copied from.entry) (unboxed result) }
 {
     // (says that a script is short, so that its run fits the board's time)
     script.frames();

@@ -15,9 +15,11 @@ use Rattle.pac_board.specs.RomParts.{Parts}
 use Rattle.pac_roms_manifest.specs.Sets.{digest_of}
 use Rattle.pac_board.specs.declared.due.Due.{Due}
 use Rattle.pac_board.specs.State.{BoardState}
+use Rattle.pac_out.specs.Pieces.{joined_pieces}
 use Rattle.pac_state.specs.Text.{saved_word, number_of_mode, processor_bytes, control_bytes, due_bytes, sealed_file, body, save_text}
 use Rattle.pac_state.specs.Text as text
-use Rattle.pac_state.specs.Reading.{saved_word_at, is_bit_set, mode_of, regs_of, due_sample, due_of, lines_of, controls_in, memory_of}
+use Rattle.pac_state.specs.Reading.{bytes_at_place, saved_word_at, is_bit_set, mode_of, regs_of}
+use Rattle.pac_state.specs.Reading.{due_sample, due_of, lines_of, controls_in, memory_of}
 use Rattle.pac_state.specs.Reading.{state_in}
 use Rattle.pac_state.specs.Files.{AreWords, FitsSample, IsState}
 use Rattle.pac_state.proofs.Read.{same-state}
@@ -134,15 +136,14 @@ due-again due_bytes fits =
 
 -- ---- the whole
 
-pub state-again : (version : ℕ) (set : Parts) (state : BoardState) → IsState state → state_in (save_text version set state) ≡ state
-state-again version set state is =
-    let pieces = has-pieces version (digest_of set) state (length-sha1 _) is.memory in
-    let picture = has-picture version (digest_of set) state (length-sha1 _) is.memory is.range.picture in
+pub same-again : (version : ℕ) (of_set bytes : List ℕ) (state : BoardState) → IsState state → HasPieces version of_set state bytes
+    → bytes_at_place 3224 64512 bytes ≡ joined_pieces state.now.board.lines → state_in bytes ≡ state
+same-again version of_set bytes state is pieces picture =
     let time = is.range.time in
     let steps = is.range.steps in
     let asked = is.range.asked in
     same-state (ap regs_of pieces.processor ∙ regs-again state.now.regs is.words)
-    (memory-again version (digest_of set) (save_text version set state) state pieces is.held)
+    (memory-again version of_set bytes state pieces is.held)
     (ap (from_le_bytes w32) pieces.first
     ∙ from_le_bytes-to_le_bytes_4 state.now.board.accumulators.first (let below = is.range.accumulators.first in omega (arith, below)))
     (ap (from_le_bytes w32) pieces.second
@@ -154,3 +155,9 @@ state-again version set state is =
     (ap (from_le_bytes w64) pieces.steps ∙ from_le_bytes-to_le_bytes_8 state.now.steps (omega (arith, time, steps)))
     (ap (from_le_bytes w64) pieces.asked ∙ from_le_bytes-to_le_bytes_8 state.asked (omega (arith, asked)))
     (ap due_of pieces.due ∙ due-again state.due is.sample)
+
+pub state-again : (version : ℕ) (set : Parts) (state : BoardState) → IsState state → state_in (save_text version set state) ≡ state
+state-again version set state is =
+    same-again version (digest_of set) (save_text version set state) state is
+    (has-pieces version (digest_of set) state (length-sha1 _) is.memory)
+    (has-picture version (digest_of set) state (length-sha1 _) is.memory is.range.picture)

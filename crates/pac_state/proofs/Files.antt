@@ -1,5 +1,5 @@
 -- The text of a state is taken, and what is taken is the text of a state.
-use Rattle.std.proofs.Common.{◌≡◌, ℕ, ◌<◌, ◌^◌, ⊎_elim, min, Bool, true, false, not, ◌&&◌, nat_le, if◌then◌else◌}
+use Rattle.std.proofs.Common.{◌≡◌, ◌≢◌, ◌==◌, ℕ, ◌<◌, ◌^◌, ⊎_elim, min, Bool, true, false, not, ◌&&◌, nat_le, if◌then◌else◌}
 use Rattle.std.proofs.Common.{List, ◌++◌, length, get_or, take, drop, Option, Some, None, Result, Ok, Err, bytes_eq}
 use Rattle.std.proofs.Common.{refl, sym, ap, subst, ◌∙◌, arith}
 use Rattle.std.proofs.Math.Facts.{sfits_to_z}
@@ -15,13 +15,12 @@ use Rattle.pac_roms_manifest.specs.Sets.{digest_of}
 use Rattle.pac_board.specs.State.{BoardState, BoardValue}
 use Rattle.pac_state.specs.declared.fault.LoadFault.{LoadFault}
 use Rattle.pac_state.specs.declared.fault.LoadFault.TheVariants.{NoState, OtherVersion, Size, OutOfRange, Damaged, OtherSet, NoMemory}
-use Rattle.pac_state.specs.declared.fault.LoadRefused.{LoadRefused}
 use Rattle.pac_state.specs.Text.{magic, body, save_text}
 use Rattle.pac_state.specs.Reading.{bytes_at_place, saved_word_at, due_sample, processor_in, state_in}
 use Rattle.pac_state.specs.Saved.{file_size, begins_with_magic, version_in, is_known, is_of_another_version, is_sealed, is_of_set}
 use Rattle.pac_state.specs.Saved.{load_fault}
-use Rattle.pac_state.specs.Saved.{IsStateInRange, AreWritten, IsText, upgraded_board, Misses, LoadsBoard}
-use Rattle.pac_state.specs.Files.{FitsSample, IsState, IsFile, board_of_file, Accepts}
+use Rattle.pac_state.specs.Saved.{IsStateInRange, AreWritten, IsText, upgraded_board, Misses, ReadsFile}
+use Rattle.pac_state.specs.Files.{FitsSample, IsState, IsFile, board_of_file, AcceptsFile}
 use Rattle.pac_state.proofs.Taken.{below, size-of}
 use Rattle.pac_state.proofs.Whole.{AreBytes, length-part, part-bytes, text-of}
 use Rattle.pac_state.proofs.Written.{has-pieces, length-body, length-sha1}
@@ -117,7 +116,7 @@ fits-sample : (is_due : Bool) (word : ℕ) → word < 2 ^ 16 → FitsSample (due
 fits-sample true word below = sfits_to_z {w = w16} {n = word} (record { fits = below })
 fits-sample false word below = tt
 
-sizes : (bytes : List ℕ) → length bytes ≡ file_size → IsStateInRange (state_in bytes) → IsWellFormed (state_in bytes).now.board.memory
+pub sizes : (bytes : List ℕ) → length bytes ≡ file_size → IsStateInRange (state_in bytes) → IsWellFormed (state_in bytes).now.board.memory
 sizes bytes size range = record {
   tile = length-part 82 1024 bytes (omega (arith, size));
   colour = length-part 1106 1024 bytes (omega (arith, size));
@@ -177,8 +176,24 @@ no-memory set bytes Size text misses = absurd misses
 no-memory set bytes Damaged text misses = absurd misses
 no-memory set bytes OtherSet text misses = absurd misses
 
-pub accepts : (set : Parts) (bytes : List ℕ) → ((i : ℕ) → get_or bytes i 0 < 256) → (result : Result BoardValue LoadRefused)
-    → LoadsBoard set bytes result → Accepts set bytes result
+never-memory : (magic version size seal set : Bool) → (if magic then Some NoState else if version then Some OtherVersion
+    else if size then Some Size else if seal then Some Damaged else if set then Some OtherSet else None) ≢ Some NoMemory
+never-memory true version size seal set = λ (told : _ ≡ _). cc
+never-memory false true size seal set = λ (told : _ ≡ _). cc
+never-memory false false true seal set = λ (told : _ ≡ _). cc
+never-memory false false false true set = λ (told : _ ≡ _). cc
+never-memory false false false false true = λ (told : _ ≡ _). cc
+never-memory false false false false false = λ (told : _ ≡ _). cc
+
+-- what is wrong with a file is no want of memory
+pub fault-of-file : (digest bytes : List ℕ) (fault : LoadFault) → load_fault digest bytes ≡ Some fault → fault ≢ NoMemory
+unfolding load_fault
+fault-of-file digest bytes fault told = λ (memory : fault ≡ NoMemory).
+    never-memory (not (begins_with_magic bytes)) (is_of_another_version bytes) (not (length bytes == file_size)) (not (is_sealed bytes))
+    (not (is_of_set digest bytes)) (told ∙ ap (λ (f : LoadFault). Some f) memory)
+
+pub accepts : (set : Parts) (bytes : List ℕ) → ((i : ℕ) → get_or bytes i 0 < 256) → (result : Result BoardValue LoadFault)
+    → ReadsFile set bytes result → AcceptsFile set bytes result
 unfolding AreBytes
 accepts set bytes fits (Ok board) answers =
     let size = size-of (digest_of set) bytes answers.sound in
@@ -192,8 +207,10 @@ accepts set bytes fits (Ok board) answers =
       };
       board = λ file. answers.board ∙ text-board set bytes file;
     }
-accepts set bytes fits (Err refused) answers = λ (file : IsFile set bytes).
+accepts set bytes fits (Err fault) answers = λ (file : IsFile set bytes).
     let sound : load_fault (digest_of set) bytes ≡ None =
     ap (load_fault (digest_of set)) file.text ∙ text-sound file.version set file.state file.known file.is_state in
     let text : IsText bytes = subst IsText (sym file.text) (text-is-text file.version set file.state file.is_state) in
-    ⊎_elim (λ told. let no : ⊥ = cc in absurd no) (λ (rest : _ × _). no-memory set bytes refused.fault text rest.1) answers.fault
+    let memory : fault ≡ NoMemory =
+    ⊎_elim (λ told. let no : ⊥ = cc in absurd no) (λ (rest : _ × _). no-memory set bytes fault text rest.1) answers.refuses in
+    answers.of_file memory

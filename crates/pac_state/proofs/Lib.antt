@@ -1,5 +1,6 @@
 pub mod Again
 pub mod Files
+pub mod Framing
 pub mod Read
 pub mod Sealing
 pub mod Taken

@@ -23,7 +23,7 @@ use Rattle.pac_state.proofs.Taken.{below, tested, size-of}
 
 -- ---- parts of a list
 
-part-add : (at one other : ℕ) (bytes : List ℕ) →
+pub part-add : (at one other : ℕ) (bytes : List ℕ) →
     bytes_at_place at one bytes ++ bytes_at_place (at + one) other bytes ≡ bytes_at_place at (one + other) bytes
 part-add at one other bytes =
     ap (λ (rest : List ℕ). bytes_at_place at one bytes ++ take other rest) (sym (drop-drop one at bytes))
@@ -97,11 +97,11 @@ same-seven : {a b c d e f g a' b' c' d' e' f' g' : List ℕ} → a ≡ a' → b 
     → joined_pieces (a ∷ b ∷ c ∷ d ∷ e ∷ f ∷ g ∷ []) ≡ joined_pieces (a' ∷ b' ∷ c' ∷ d' ∷ e' ∷ f' ∷ g' ∷ [])
 same-seven a b c d e f g = rw (a, b, c, d, e, f, g) refl
 
-head-is : (set : Parts) (bytes : List ℕ) → AreBytes bytes → length bytes ≡ file_size → magic ≡ bytes_at_place 0 8 bytes
-    → digest_of set ≡ bytes_at_place 10 20 bytes → AreWritten (state_in bytes) bytes
-    → joined_pieces (head (version_in bytes) (digest_of set) (state_in bytes)) ≡ bytes_at_place 0 82 bytes
+head-is : (of_set bytes : List ℕ) → AreBytes bytes → length bytes ≡ file_size → magic ≡ bytes_at_place 0 8 bytes
+    → of_set ≡ bytes_at_place 10 20 bytes → AreWritten (state_in bytes) bytes
+    → joined_pieces (head (version_in bytes) of_set (state_in bytes)) ≡ bytes_at_place 0 82 bytes
 unfolding head cut total
-head-is set bytes fits size start digest written =
+head-is of_set bytes fits size start digest written =
     same-seven start (word-again 8 bytes fits (omega (arith, size))) digest written.processor
     (long-again 58 bytes fits (omega (arith, size))) (long-again 66 bytes fits (omega (arith, size)))
     (long-again 74 bytes fits (omega (arith, size)))
@@ -142,13 +142,13 @@ lines-are bytes size =
 
 -- ---- the whole
 
-body-is : (set : Parts) (bytes : List ℕ) → AreBytes bytes → length bytes ≡ file_size → magic ≡ bytes_at_place 0 8 bytes
-    → digest_of set ≡ bytes_at_place 10 20 bytes → AreWritten (state_in bytes) bytes
-    → body (version_in bytes) (digest_of set) (state_in bytes) ≡ bytes_at_place 0 67736 bytes
-body-is set bytes fits size start digest written =
-    let first = head-is set bytes fits size start digest written in
+pub body-is : (of_set bytes : List ℕ) → AreBytes bytes → length bytes ≡ file_size → magic ≡ bytes_at_place 0 8 bytes
+    → of_set ≡ bytes_at_place 10 20 bytes → AreWritten (state_in bytes) bytes
+    → body (version_in bytes) of_set (state_in bytes) ≡ bytes_at_place 0 67736 bytes
+body-is of_set bytes fits size start digest written =
+    let first = head-is of_set bytes fits size start digest written in
     let third = devices-is bytes fits size written in
-    let before : file_front (version_in bytes) (digest_of set) (state_in bytes) ≡ bytes_at_place 0 3224 bytes =
+    let before : file_front (version_in bytes) of_set (state_in bytes) ≡ bytes_at_place 0 3224 bytes =
     ap (λ (text : List ℕ). (text ++ joined_pieces (ram (state_in bytes))) ++ joined_pieces (devices (state_in bytes))) first
     ∙ (ap (λ (text : List ℕ). (bytes_at_place 0 82 bytes ++ text) ++ joined_pieces (devices (state_in bytes))) (ram-is bytes)
     ∙ (ap (λ (text : List ℕ). (bytes_at_place 0 82 bytes ++ bytes_at_place 82 3072 bytes) ++ text) third
@@ -173,6 +173,6 @@ text-of set bytes fits none written =
     let seal : sha1 (take body_size bytes) ≡ drop body_size bytes =
     (bytes_eq-Decides (sha1 (take body_size bytes)) (drop body_size bytes)).0 closed in
     let before : body (version_in bytes) (digest_of set) (state_in bytes) ≡ take body_size bytes =
-    body-is set bytes fits size (sym start) digest written in
+    body-is (digest_of set) bytes fits size (sym start) digest written in
     ap (λ (text : List ℕ). text ++ sha1 text) before
     ∙ (ap (λ (last : List ℕ). take body_size bytes ++ last) seal ∙ take-append-drop body_size bytes)

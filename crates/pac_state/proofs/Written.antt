@@ -12,7 +12,7 @@ use Rattle.pac_board.specs.PictureState.{IsPicture}
 use Rattle.pac_board.specs.State.{BoardState}
 use Rattle.pac_out.specs.Pieces.{joined_pieces}
 use Rattle.pac_state.specs.Text.{magic, saved_word, saved_double_word, saved_long_word, head, ram}
-use Rattle.pac_state.specs.Text.{devices, processor_bytes, control_bytes, due_bytes, file_front, body, sealed_file}
+use Rattle.pac_state.specs.Text.{devices, processor_bytes, control_bytes, due_bytes, file_front, body, sealed_file, written_version}
 use Rattle.pac_state.specs.Reading.{bytes_at_place, lines_of}
 use Rattle.pac_state.proofs.Whole.{cut, total}
 
@@ -106,7 +106,7 @@ front-cut version digest state after long sizes =
 nth : (n : ℕ) {one other : List (List ℕ)} → one ≡ other → get_or one n [] ≡ get_or other n []
 nth n same = ap (λ (pieces : List (List ℕ)). get_or pieces n []) same
 
-front-pieces : (version : ℕ) (digest : List ℕ) (state : BoardState) (after : List ℕ) → length digest ≡ 20 →
+pub front-pieces : (version : ℕ) (digest : List ℕ) (state : BoardState) (after : List ℕ) → length digest ≡ 20 →
     IsWellFormed state.now.board.memory
     → HasPieces version digest state (file_front version digest state ++ after)
 unfolding cut head ram devices
@@ -138,6 +138,20 @@ unfolding total
 length-front version digest state long sizes =
     ap length (sym (joined-pieces version digest state)) ∙ (length-joined (pieces version digest state)
     ∙ ap total (widths-are version digest state long sizes))
+
+-- these pieces, one after another, are all that comes before the picture
+pub front-is : (digest : List ℕ) (state : BoardState) {version cpu time steps asked first second third controls due : List ℕ}
+    → version ≡ saved_word written_version → cpu ≡ processor_bytes state.now.regs → time ≡ saved_long_word state.now.time
+    → steps ≡ saved_long_word state.now.steps → asked ≡ saved_long_word state.asked
+    → first ≡ saved_double_word state.now.board.accumulators.first → second ≡ saved_double_word state.now.board.accumulators.second
+    → third ≡ saved_double_word state.now.board.accumulators.third → controls ≡ control_bytes state.now.board.memory
+    → due ≡ due_bytes state.due →
+    joined_pieces (magic ∷ version ∷ digest ∷ cpu ∷ time ∷ steps ∷ asked ∷ state.now.board.memory.tile ∷ state.now.board.memory.colour
+    ∷ state.now.board.memory.work ∷ state.now.board.memory.coordinates ∷ state.now.board.memory.registers ∷ first ∷ second ∷ third
+    ∷ controls ∷ due ∷ []) ≡ file_front written_version digest state
+unfolding head ram devices
+front-is digest state version cpu time steps asked first second third controls due =
+    rw (version, cpu, time, steps, asked, first, second, third, controls, due) (joined-pieces written_version digest state)
 
 -- ---- the lines of the picture
 

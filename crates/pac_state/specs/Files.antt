@@ -6,6 +6,7 @@ use Rattle.pac_board.specs.Regs.{Regs}
 use Rattle.pac_board.specs.MemoryView.{IsWellFormed}
 use Rattle.pac_board.specs.RomParts.{Parts}
 use Rattle.pac_board.specs.State.{BoardState, BoardValue}
+use Rattle.pac_state.specs.declared.fault.LoadFault.{LoadFault}
 use Rattle.pac_state.specs.declared.fault.LoadFault.TheVariants.{NoMemory}
 use Rattle.pac_state.specs.declared.fault.LoadRefused.{LoadRefused}
 use Rattle.pac_state.specs.Text.{save_text}
@@ -55,6 +56,14 @@ Accepts set bytes (Ok board) = record {
   board : (file : IsFile set bytes) → board ≡ board_of_file set file;
 }
 Accepts set bytes (Err refused) = IsFile set bytes → refused.fault ≡ NoMemory
+
+-- The same where no memory is wanted: exactly the files of a set are taken.
+abbrev pub AcceptsFile : Parts → List ℕ → Result BoardValue LoadFault → Type 0
+AcceptsFile set bytes (Ok board) = record {
+  file : IsFile set bytes;
+  board : (file : IsFile set bytes) → board ≡ board_of_file set file;
+}
+AcceptsFile set bytes (Err fault) = IsFile set bytes → ⊥
 
 -- ---- laws
 

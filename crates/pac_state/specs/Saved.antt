@@ -1,5 +1,5 @@
 -- To be believed: which files are taken, for which board, and what is wrong with the others.
-use Rattle.std.specs.Prelude.{◌≡◌, ℕ, ◌*◌, ◌<◌, ◌≤◌, ◌==◌, min, nat_le, Bool, not, ◌&&◌, ◌||◌, if◌then◌else◌, ⊤, ◌⊎◌}
+use Rattle.std.specs.Prelude.{◌≡◌, ◌≢◌, ℕ, ◌*◌, ◌<◌, ◌≤◌, ◌==◌, min, nat_le, Bool, not, ◌&&◌, ◌||◌, if◌then◌else◌, ⊤, ◌⊎◌}
 use Rattle.std.specs.Prelude.{List, length, take, drop, slice_index, EachIndex, bytes_eq, Option, Some, None, Result, Ok, Err}
 use Rattle.sha1.specs.Sha1.{sha1}
 use Rattle.pac_board.specs.Latched.{watchdog_limit}
@@ -128,13 +128,25 @@ LoadsBoard set bytes (Err refused) = record {
   fault : RefusesFile set bytes refused.fault;
 }
 
+-- the same without a block of memory for it: the board of a file, or what is wrong with the file
+abbrev pub ReadsFile : Parts → List ℕ → Result BoardValue LoadFault → Type 0
+ReadsFile set bytes (Ok board) = record {
+  sound : load_fault (digest_of set) bytes ≡ None;
+  text : IsText bytes;
+  board : board ≡ loaded_board set bytes;
+}
+ReadsFile set bytes (Err fault) = record {
+  refuses : RefusesFile set bytes fault;
+  of_file : fault ≢ NoMemory;
+}
+
 -- a board read from the fields of a file, before lines are brought up, where nothing was found wrong before those fields
-abbrev pub ReadsState : Parts → List ℕ → Result BoardValue LoadRefused → Type 0
+abbrev pub ReadsState : Parts → List ℕ → Result BoardValue LoadFault → Type 0
 ReadsState set bytes (Ok board) = record {
   text : IsText bytes;
   board : board ≡ record { set = set; state = state_in bytes; made = 0 };
 }
-ReadsState set bytes (Err refused) = record {
-  same_set : refused.set ≡ set;
-  fault : Misses bytes refused.fault;
+ReadsState set bytes (Err fault) = record {
+  misses : Misses bytes fault;
+  of_file : fault ≢ NoMemory;
 }

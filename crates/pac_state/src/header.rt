@@ -11,6 +11,9 @@ use sha1::Sha1;
 /// The first 8 bytes of each state file.
 pub(crate) const MAGIC: &[u8; 8] = b"PACSTATE";
 
+/// The version that is written.
+pub(crate) const VERSION: u16 = 2;
+
 /// The N bytes from a place on.
 #[inline]
 pub(crate) fn part<const N: usize>(bytes: &[u8], at: usize) -> &[u8; N]

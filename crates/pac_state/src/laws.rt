@@ -1,7 +1,9 @@
 //! What holds of files and boards together.
 
 ghost use Rattle.std.specs.Prelude.{◌≡◌, IfOk};
+ghost use Rattle.pac_board.specs.Boxed.{unboxed};
 ghost use Rattle.pac_roms_manifest.specs.Sets.{digest_of};
+ghost use Rattle.pac_state.specs.Block.{BlocksAreReadBack, StatesHaveBlocks};
 ghost use Rattle.pac_state.specs.Files.{IsState, LoadsAgain, StatesAreReadBack, TextsTellStates};
 ghost use Rattle.pac_state.specs.Saved as saved;
 ghost use Rattle.pac_state.specs.Saves.{Saves};
@@ -39,6 +41,16 @@ pub fn texts_tell_states()
     ensures { TextsTellStates }
 {}
 
+/// Reading a state back out of its block gives the state.
+pub fn blocks_are_read_back()
+    ensures { BlocksAreReadBack }
+{}
+
+/// What is written of a state is a block, so it is taken again.
+pub fn states_have_blocks()
+    ensures { StatesHaveBlocks }
+{}
+
 /// A board's state is in its ranges.
 pub fn boards_have_states(board: &Board)
     ensures { IsState board.now.state }
@@ -53,10 +65,10 @@ pub fn loaded_again(
     board: &Board,
     bytes: &[u8],
     set: RomSet,
-) -> Result<Board, LoadRefused>
+) -> Result<Box<Board>, LoadRefused>
     requires saved { bytes.now ≡ text.save_text text.written_version board.now.set board.now.state }
     requires set { digest_of set ≡ digest_of board.now.set }
-    ensures { LoadsAgain set board.now result }
+    ensures { LoadsAgain set board.now (unboxed result) }
 {
     boards_have_states(board);
     load(alloc, bytes, set)

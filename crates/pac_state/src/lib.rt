@@ -1,8 +1,10 @@
-//! A board's whole state as a file: written, and read again.
+//! A board's whole state as a file: written, and read again; and as the block in which a host keeps it.
 #![tactic(auto)]
 
+mod block;
 mod blocks;
 mod fault;
+mod front;
 mod header;
 pub mod laws;
 mod loading;
@@ -11,6 +13,7 @@ mod reading;
 mod saving;
 mod sizes;
 
+pub use block::{read_block, write_block};
 pub use fault::{LoadFault, LoadRefused};
-pub use loading::load;
+pub use loading::{load, read_file};
 pub use saving::save;

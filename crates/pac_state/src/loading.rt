@@ -1,13 +1,14 @@
 //! A board made from a state file.
 
 ghost use Rattle.std.specs.Prelude.{◌≡◌, length};
-ghost use Rattle.pac_state.specs.Files.{Accepts};
+ghost use Rattle.pac_board.specs.Boxed.{unboxed};
+ghost use Rattle.pac_state.specs.Files.{Accepts, AcceptsFile};
 ghost use Rattle.pac_state.specs.Saved as saved;
 ghost use Rattle.pac_roms_manifest.specs.Sets.{digest_of};
 
 use crate::fault::{LoadFault, LoadRefused};
-use crate::header::{fault_of, part, word};
-use crate::reading::{fields, is_taken, take_lines};
+use crate::header::{fault_of, word};
+use crate::reading::fields_in;
 use pac_board::{Board, Lines, RomSet};
 use pac_roms_manifest::digest;
 use std::alloc::Global;
@@ -29,47 +30,48 @@ fn bring_up(board: &mut Board, version: u16)
 }
 
 /// The board whose fields stand in a file of the right size, as they stand there.
-fn read(alloc: Global, bytes: &[u8], set: RomSet) -> Result<Board, LoadRefused>
+#[inline(always)]
+fn read(bytes: &[u8], set: &RomSet) -> Result<Board, LoadFault>
     requires { length bytes.now ≡ saved.file_size }
-    ensures { saved.ReadsState set bytes.now result }
+    ensures { saved.ReadsState set.now bytes.now result }
 {
     let mut lines = Lines::new();
-    let is_picture = take_lines(&mut lines, part(bytes, 3224));
-    if !is_picture {
-        return Err(LoadRefused {
-            fault: LoadFault::OutOfRange,
-            set,
-        });
-    }
-    let fields = fields(bytes, &lines);
-    let is_taken = is_taken(&fields, bytes);
-    if !is_taken {
-        return Err(LoadRefused {
-            fault: LoadFault::OutOfRange,
-            set,
-        });
-    }
-    match Board::of(alloc, set, &fields) {
-        Ok(board) => Ok(board),
-        Err(refused) => Err(LoadRefused {
-            fault: LoadFault::NoMemory,
-            set: refused.set,
-        }),
-    }
+    let Some(fields) = fields_in(bytes, &mut lines) else {
+        return Err(LoadFault::OutOfRange);
+    };
+    Ok(Board::with_fields(set, &fields))
 }
 
-/// The board of a state file, with the ROM set that is handed in. Files of version 1 and 2 are taken; for version 1 the
-/// lines of the picture that have passed since the last blank are composed. Refused with the first of V1, V2, V3, V5, V6
-/// and V4 that is wrong with the file, or for want of memory; the set then comes back. So exactly the texts of states in
-/// their ranges are taken.
-pub fn load(alloc: Global, bytes: &[u8], set: RomSet) -> Result<Board, LoadRefused>
-    ensures answer { saved.LoadsBoard set bytes.now result }
-    ensures files { Accepts set bytes.now result }
+/// The board of a state file, with a copy of this ROM set. Files of version 1 and 2 are taken; for version 1 the lines of the
+/// picture that have passed since the last blank are composed. Refused with the first of V1, V2, V3, V5, V6 and V4 that is wrong
+/// with the file. So exactly the texts of states in their ranges are taken. Takes no memory.
+#[inline(always)]
+pub fn read_file(bytes: &[u8], set: &RomSet) -> Result<Board, LoadFault>
+    ensures answer { saved.ReadsFile set.now bytes.now result }
+    ensures files { AcceptsFile set.now bytes.now result }
 {
-    if let Some(fault) = checked(bytes, &set) {
-        return Err(LoadRefused { fault, set });
+    if let Some(fault) = checked(bytes, set) {
+        return Err(fault);
     }
-    let mut board = read(alloc, bytes, set)?;
+    let mut board = read(bytes, set)?;
     bring_up(&mut board, word(bytes, 8));
     Ok(board)
+}
+
+/// The same in a block of memory. Refused for want of memory, too; the set then comes back.
+pub fn load(alloc: Global, bytes: &[u8], set: RomSet) -> Result<Box<Board>, LoadRefused>
+    ensures answer { saved.LoadsBoard set bytes.now (unboxed result) }
+    ensures files { Accepts set bytes.now (unboxed result) }
+{
+    let board = match read_file(bytes, &set) {
+        Ok(board) => board,
+        Err(fault) => return Err(LoadRefused { fault, set }),
+    };
+    match Box::new(alloc, board) {
+        Ok(board) => Ok(board),
+        Err(_) => Err(LoadRefused {
+            fault: LoadFault::NoMemory,
+            set,
+        }),
+    }
 }

@@ -5,6 +5,7 @@ ghost use Rattle.pac_board.specs.Fields.{state_of, AreBoardFields};
 ghost use Rattle.pac_board.specs.Inputs as inputs;
 ghost use Rattle.pac_board.specs.MemoryFields.{view_of_fields};
 ghost use Rattle.pac_board.specs.PictureState.{IsPicture};
+ghost use Rattle.pac_state.specs.Framed.{ReadsFields};
 ghost use Rattle.pac_state.specs.Reading as read;
 ghost use Rattle.pac_state.specs.Saved as saved;
 ghost use Rattle.pac_state.specs.Text as text;
@@ -123,7 +124,7 @@ fn memory(bytes: &[u8]) -> pac_board::MemoryFields<'_>
 }
 
 /// The fields in a file, with the lines of its picture.
-pub(crate) fn fields<'a>(bytes: &'a [u8], lines: &'a Lines) -> Fields<'a>
+fn fields<'a>(bytes: &'a [u8], lines: &'a Lines) -> Fields<'a>
     requires size { length bytes.now ≡ saved.file_size }
     requires picture { lines.now ≡ read.lines_of (read.picture_in bytes.now) }
     ensures { state_of result ≡ read.state_in bytes.now }
@@ -155,7 +156,7 @@ fn are_written(fields: &Fields, bytes: &[u8]) -> bool
 }
 
 /// Whether fields that were read from a file are a state's, and stand there as they are written.
-pub(crate) fn is_taken(fields: &Fields, bytes: &[u8]) -> bool
+fn is_taken(fields: &Fields, bytes: &[u8]) -> bool
     requires { length bytes.now ≡ saved.file_size }
     ensures { (result ≡ true)
         ↔ (AreBoardFields fields.now × saved.AreWritten (state_of fields.now) bytes.now) }
@@ -167,16 +168,16 @@ pub(crate) fn is_taken(fields: &Fields, bytes: &[u8]) -> bool
 fn are_numbers(line: &[u8; WIDTH]) -> bool
     ensures { (result ≡ true) ↔ saved.AreNumbers line.now }
 {
+    // all are looked at, so that many are at once
+    let mut are_all = true;
     for number in line {
-        if *number > 15 {
-            return false;
-        }
+        are_all &= *number < 16;
     }
-    true
+    are_all
 }
 
 /// Takes the lines of a picture from its bytes, and tells whether all of them are colour numbers; else lines are missing.
-pub(crate) fn take_lines(lines: &mut Lines, bytes: &PictureBlock) -> bool
+fn take_lines(lines: &mut Lines, bytes: &PictureBlock) -> bool
     ensures picture { (result ≡ true) ↔ IsPicture (read.lines_of bytes.now) }
     ensures taken { result ≡ true → lines.new ≡ read.lines_of bytes.now }
 {
@@ -191,4 +192,21 @@ pub(crate) fn take_lines(lines: &mut Lines, bytes: &PictureBlock) -> bool
     // the contract of reading any row tells that all of them are there
     let _after = lines.row(0);
     true
+}
+
+/// The fields that stand in bytes of a file's size, with the lines of its picture, if they are a state's and stand there as
+/// they are written.
+pub(crate) fn fields_in<'a>(bytes: &'a [u8], lines: &'a mut Lines) -> Option<Fields<'a>>
+    requires { length bytes.now ≡ saved.file_size }
+    ensures { ReadsFields bytes.now result }
+{
+    if !take_lines(lines, part(bytes, 3224)) {
+        return None;
+    }
+    let fields = fields(bytes, lines);
+    if is_taken(&fields, bytes) {
+        Some(fields)
+    } else {
+        None
+    }
 }

@@ -1,25 +1,20 @@
 //! A board's state written as a file.
 
 ghost use Rattle.std.specs.Prelude.{◌≡◌, ◌++◌, ℕ, List, OnOk};
-ghost use Rattle.std.specs.List.{flat_map};
 ghost use Rattle.sha1.specs.Sha1.{Holds};
-ghost use Rattle.pac_board.specs.Fields.{state_of};
+ghost use Rattle.pac_board.specs.Fields.{state_of, AreBoardFields};
 ghost use Rattle.pac_roms_manifest.specs.Sets.{digest_of};
 ghost use Rattle.pac_out.specs.Counted.{Puts};
 ghost use Rattle.pac_out.specs.Pieces.{joined_pieces};
 ghost use Rattle.pac_state.specs.Saves.{Saves};
 ghost use Rattle.pac_state.specs.Text as text;
 
-use crate::blocks::{controls, due, processor};
-use crate::header::MAGIC;
+use crate::front::front;
 use pac_board::{Board, Fields, HEIGHT, Lines};
 use pac_out::counted::Counted;
 use pac_out::{Out, WriteFault};
 use pac_roms_manifest::digest;
 use sha1::Sha1;
-
-/// The version that is written.
-const VERSION: u16 = 2;
 
 /// Writes bytes, and takes them into a digest.
 fn put<W: Out>(file: &mut Counted<W>, hasher: &mut Sha1, bytes: &[u8]) -> Result<(), WriteFault>
@@ -28,115 +23,6 @@ fn put<W: Out>(file: &mut Counted<W>, hasher: &mut Sha1, bytes: &[u8]) -> Result
 {
     hasher.update(bytes);
     file.put(bytes)
-}
-
-/// Writes pieces one after another, and takes them into a digest. No bytes are put at the end, so that a file that has failed tells
-/// its fault also where there are no pieces.
-fn put_pieces<W: Out>(
-    file: &mut Counted<W>,
-    hasher: &mut Sha1,
-    pieces: &[&[u8]],
-) -> Result<(), WriteFault>
-    ensures put { Puts W.took W.refused file.old
-        (flat_map (λ piece. piece.now) pieces.now) result file.new }
-    ensures hashed { OnOk result ((m : List ℕ) → Holds hasher.old m
-        → Holds hasher.new (m ++ flat_map (λ piece. piece.now) pieces.now)) }
-{
-    for piece in pieces {
-        put(file, hasher, piece)?;
-    }
-    file.put(&[])
-}
-
-/// Writes what stands before the memory: what a file begins with, version and digest, processor and counters.
-fn put_head<W: Out>(
-    file: &mut Counted<W>,
-    hasher: &mut Sha1,
-    digest: &[u8; 20],
-    fields: &Fields,
-) -> Result<(), WriteFault>
-    ensures put { Puts W.took W.refused file.old
-        (joined_pieces (text.head text.written_version digest.now (state_of fields.now)))
-        result file.new }
-    ensures hashed { OnOk result ((m : List ℕ) → Holds hasher.old m
-        → Holds hasher.new
-        (m ++ joined_pieces
-        (text.head text.written_version digest.now (state_of fields.now)))) }
-{
-    let digest = *digest;
-    let pieces: [&[u8]; 7] = [
-        MAGIC,
-        &VERSION.to_le_bytes(),
-        &digest,
-        &processor(&fields.regs),
-        &fields.time.to_le_bytes(),
-        &fields.steps.to_le_bytes(),
-        &fields.asked.to_le_bytes(),
-    ];
-    put_pieces(file, hasher, &pieces)
-}
-
-/// Writes the three RAMs.
-#[tactic(auto, unfolding(crate::specs::Text::ram))]
-fn put_ram<W: Out>(
-    file: &mut Counted<W>,
-    hasher: &mut Sha1,
-    fields: &Fields,
-) -> Result<(), WriteFault>
-    ensures put { Puts W.took W.refused file.old
-        (joined_pieces (text.ram (state_of fields.now))) result file.new }
-    ensures hashed { OnOk result ((m : List ℕ) → Holds hasher.old m →
-        Holds hasher.new (m ++ joined_pieces (text.ram (state_of fields.now)))) }
-{
-    let tile = fields.memory.tile;
-    let colour = fields.memory.colour;
-    let work = fields.memory.work;
-    put_pieces(file, hasher, &[&tile[..], &colour[..], &work[..]])
-}
-
-/// Writes what stands between RAM and picture.
-fn put_devices<W: Out>(
-    file: &mut Counted<W>,
-    hasher: &mut Sha1,
-    fields: &Fields,
-) -> Result<(), WriteFault>
-    ensures put { Puts W.took W.refused file.old
-        (joined_pieces (text.devices (state_of fields.now))) result file.new }
-    ensures hashed { OnOk result ((m : List ℕ) → Holds hasher.old m →
-        Holds hasher.new (m ++ joined_pieces (text.devices (state_of fields.now)))) }
-{
-    let memory = fields.memory;
-    let coordinates = memory.coordinates;
-    let registers = memory.registers;
-    let [first, second, third] = fields.accumulators;
-    let pieces: [&[u8]; 7] = [
-        &coordinates,
-        &registers,
-        &first.to_le_bytes(),
-        &second.to_le_bytes(),
-        &third.to_le_bytes(),
-        &controls(&memory),
-        &due(fields.due),
-    ];
-    put_pieces(file, hasher, &pieces)
-}
-
-/// Writes all that comes before the picture.
-fn put_front<W: Out>(
-    file: &mut Counted<W>,
-    hasher: &mut Sha1,
-    digest: &[u8; 20],
-    fields: &Fields,
-) -> Result<(), WriteFault>
-    ensures put { Puts W.took W.refused file.old
-        (text.file_front text.written_version digest.now (state_of fields.now)) result file.new }
-    ensures hashed { OnOk result ((m : List ℕ) → Holds hasher.old m
-        → Holds hasher.new
-        (m ++ text.file_front text.written_version digest.now (state_of fields.now))) }
-{
-    put_head(file, hasher, digest, fields)?;
-    put_ram(file, hasher, fields)?;
-    put_devices(file, hasher, fields)
 }
 
 /// Writes the colour numbers of a picture, line by line.
@@ -161,12 +47,13 @@ fn put_state<W: Out>(
     digest: &[u8; 20],
     fields: &Fields,
 ) -> Result<(), WriteFault>
+    requires { AreBoardFields fields.now }
     ensures { Puts W.took W.refused file.old
         (text.sealed_file (text.body text.written_version digest.now (state_of fields.now))) result
         file.new }
 {
     let mut hasher = Sha1::new();
-    put_front(file, &mut hasher, digest, fields)?;
+    put(file, &mut hasher, &front(digest, fields))?;
     put_lines(file, &mut hasher, fields.lines)?;
     file.put(&hasher.finalize())
 }

@@ -8,6 +8,9 @@ pub(crate) const FILE_SIZE: usize = 67_756;
 /// All that comes before the digest at its end.
 pub(crate) const BODY_SIZE: usize = 67_736;
 
+/// All that comes before the picture.
+pub(crate) const FRONT_SIZE: usize = 3224;
+
 /// The picture: a colour number for each pixel.
 const PICTURE_SIZE: usize = WIDTH * HEIGHT as usize;
 

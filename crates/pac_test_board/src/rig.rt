@@ -18,7 +18,7 @@ pub const FLIP: [u8; 9] = [0x3E, 1, 0x32, 0x03, 0x50, 0x32, 0x40, 0x40, 0x76];
 /// A board and the sink that keeps what it gives. Clauses see nothing of either, and it is dropped by a function of its own: so a
 /// test that owns one has a single value without parts for its proof to carry from step to step, and one call at its end.
 pub struct Rig {
-    board: Board,
+    board: Box<Board>,
     kept: Kept,
 }
 
@@ -37,7 +37,7 @@ impl Drop for Rig {
 
 impl Rig {
     /// A board, with a sink that refuses nothing.
-    pub fn over(alloc: Global, board: Board) -> Rig {
+    pub fn over(alloc: Global, board: Box<Board>) -> Rig {
         let kept = Kept::new(alloc, 0);
         Rig { board, kept }
     }

@@ -41,8 +41,8 @@ pub fn is_total(ended: Option<(Outcome, usize)>, wanted: Outcome, outputs: usize
 }
 
 /// A board at power-on whose program begins with these bytes.
-pub fn board(alloc: Global, bytes: &[u8]) -> Result<Board, AllocError>
-    ensures { IfOk result (λ board. IsNew board) }
+pub fn board(alloc: Global, bytes: &[u8]) -> Result<Box<Board>, AllocError>
+    ensures { IfOk result (λ board. IsNew board.value) }
 {
     let mut program = [0u8; 16384];
     for (place, byte) in program.iter_mut().zip(bytes.iter()) {

@@ -42,8 +42,8 @@ fn set(alloc: Global) -> Result<RomSet, AllocError> {
 }
 
 /// A board at power-on with the mixed program.
-pub fn board(alloc: Global) -> Result<Board, AllocError>
-    ensures { IfOk result (λ board. IsNew board) }
+pub fn board(alloc: Global) -> Result<Box<Board>, AllocError>
+    ensures { IfOk result (λ board. IsNew board.value) }
 {
     let set = set(alloc)?;
     match Board::init(alloc, set, 0xC9) {

@@ -86,8 +86,8 @@ fn script(alloc: Global) -> Result<Script, AllocError> {
 }
 
 /// A session at the beginning of the run of a script on a board.
-fn begin(alloc: Global, board: Board, script: Script) -> Result<Session, AllocError>
-    requires { IsNew board }
+fn begin(alloc: Global, board: Box<Board>, script: Script) -> Result<Session, AllocError>
+    requires { IsNew board.value }
 {
     match Session::new(alloc, board, script) {
         Ok(session) => Ok(session),

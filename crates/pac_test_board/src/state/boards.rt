@@ -141,7 +141,7 @@ fn latches_of_a_file(rt: HostRuntime) -> Result<(), Fail> {
 }
 
 /// A file with coordinates, registers of the wave generator, accumulators, and a sample that is due.
-static SOUNDING: [Piece<'static>; 5] = [
+pub static SOUNDING: [Piece<'static>; 5] = [
     (3154, &[0x77, 0x88]),
     (3175, &[7]),
     (3201, &[9]),
@@ -150,7 +150,7 @@ static SOUNDING: [Piece<'static>; 5] = [
 ];
 
 /// Whether the fields are those of that file.
-fn are_sounding(fields: &Fields) -> bool {
+pub fn are_sounding(fields: &Fields) -> bool {
     fields.memory.coordinates[..2] == [0x77, 0x88]
         && fields.memory.registers[5] == 7
         && fields.memory.registers[31] == 9

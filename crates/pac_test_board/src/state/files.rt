@@ -14,12 +14,12 @@ pub const SIZE: usize = 67_756;
 pub type Piece<'a> = (usize, &'a [u8]);
 
 /// So many bytes of 0.
-fn zeros(alloc: Global, count: usize) -> Result<Vec<u8>, AllocError> {
+pub fn zeros(alloc: Global, count: usize) -> Result<Vec<u8>, AllocError> {
     vec![in alloc; 0; count]
 }
 
 /// Writes bytes over those at a place.
-fn put(file: &mut [u8], at: usize, bytes: &[u8]) {
+pub fn put(file: &mut [u8], at: usize, bytes: &[u8]) {
     for (place, byte) in file.iter_mut().skip(at).zip(bytes.iter()) {
         *place = *byte;
     }

@@ -24,7 +24,7 @@ fn set_back(refused: LoadRefused) -> Option<RomSet> {
 
 /// The board of a file, which is loaded with no memory at all first, and with one small block more after each refusal; the set
 /// that comes back is handed in again.
-fn loaded_in_the_end(alloc: Global, file: &[u8], set: RomSet) -> Option<Board> {
+fn loaded_in_the_end(alloc: Global, file: &[u8], set: RomSet) -> Option<Box<Board>> {
     let mut hoard = Hoard::take(alloc, TURNS as usize).ok()?;
     let mut left = Some(set);
     for turn in 0..TURNS {

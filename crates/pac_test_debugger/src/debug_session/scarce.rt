@@ -13,7 +13,7 @@ const TURNS: u32 = 4000;
 
 /// A new board and a script.
 struct Waiting {
-    board: Board,
+    board: Box<Board>,
     script: Script,
 }
 
@@ -24,7 +24,7 @@ impl Model for Waiting {
 
     ghost view = { λ _. tt };
 
-    ghost invariant = { λ waiting. IsNew waiting.board };
+    ghost invariant = { λ waiting. IsNew waiting.board.value };
 }
 
 impl Drop for Waiting {

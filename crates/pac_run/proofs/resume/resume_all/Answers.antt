@@ -1,5 +1,9 @@
-use Rattle.std.proofs.Common.{option_copied, refl}
+use Rattle.std.proofs.Common.{option_copied, Ok, Err, refl, subst}
 use Rattle.std.proofs.lemmas.Result.{err_from_is_err_and}
+use Rattle.pac_board_course.specs.State.{BoardValue}
+use Rattle.pac_state.specs.Files.{IsState}
+use Rattle.pac_state.specs.Text.{save_text, written_version}
+use Rattle.pac_run.specs.Recorded.{WritesWholeText}
 use Rattle.pac_run.proofs.Answered.{unresumed}
 use Rattle.pac_run.proofs.Lent.{writing}
 use Rattle.pac_run.proofs.Resumed.{held-back-early, saved-whole, saved-in-part}
@@ -35,6 +39,12 @@ returns-in-Err g c =
 
 pub returns-in-Ok-put_state : goal.returns-in-Ok-put_state
 returns-in-Ok-put_state g c =
+    let holds : IsState c.into_board-board.result.value.state =
+    subst (λ (board : BoardValue). IsState board.state) c.deref.ensures c.boards_have_states.ensures in
+    let put =
+    subst (λ (board : BoardValue). WritesWholeText {A = Unit {0}} (writing g.S.Out.took g.S.Out.refused c.args.state.now
+    c.put_state.new.state)
+    (save_text written_version board.set board.state) (Ok (tt {0}))) c.deref-2.ensures c.in-Ok-put_state.ensures in
     saved-whole c.args.inputs.now (option_copied c.args.from) c.in_ok-program.field-0 c.in_ok-program.ensures c.begin-course.result
     c.begin-course.ensures
     (record {
@@ -44,11 +54,17 @@ returns-in-Ok-put_state g c =
       report = writing g.R.Out.took g.R.Out.refused c.args.report.now c.write_all.new.report;
     })
     (writing g.S.Out.took g.S.Out.refused c.args.state.now c.put_state.new.state)
-    c.in-Ok.outcome c.in-Ok.ensures.written c.write_all.new.course c.in-Ok.ensures.played c.into_board-board.result
-    c.into_board-board.ensures c.boards_have_states.ensures c.in-Ok-put_state.ensures
+    c.in-Ok.outcome c.in-Ok.ensures.written c.write_all.new.course c.in-Ok.ensures.played c.into_board-board.result.value
+    c.into_board-board.ensures holds put
 
 pub returns : goal.returns
 returns g c =
+    let holds : IsState c.into_board-board.result.value.state =
+    subst (λ (board : BoardValue). IsState board.state) c.deref.ensures c.boards_have_states.ensures in
+    let put =
+    subst (λ (board : BoardValue). WritesWholeText {A = Unit {0}} (writing g.S.Out.took g.S.Out.refused c.args.state.now
+    c.put_state.new.state)
+    (save_text written_version board.set board.state) (Err c.in-Err-put_state.fault)) c.deref-2.ensures c.in-Err-put_state.ensures in
     saved-in-part c.args.inputs.now (option_copied c.args.from) c.in_ok-program.field-0 c.in_ok-program.ensures c.begin-course.result
     c.begin-course.ensures
     (record {
@@ -58,5 +74,5 @@ returns g c =
       report = writing g.R.Out.took g.R.Out.refused c.args.report.now c.write_all.new.report;
     })
     (writing g.S.Out.took g.S.Out.refused c.args.state.now c.put_state.new.state)
-    c.in-Ok.outcome c.in-Ok.ensures.written c.write_all.new.course c.in-Ok.ensures.played c.into_board-board.result
-    c.into_board-board.ensures c.boards_have_states.ensures c.in-Err-put_state.fault.count c.in-Err-put_state.ensures
+    c.in-Ok.outcome c.in-Ok.ensures.written c.write_all.new.course c.in-Ok.ensures.played c.into_board-board.result.value
+    c.into_board-board.ensures holds c.in-Err-put_state.fault.count put

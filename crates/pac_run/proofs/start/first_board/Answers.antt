@@ -9,5 +9,7 @@ pub returns-in-Ok : goal.returns-in-Ok
 returns-in-Ok c =
     let set = c.args.set in
     let script = c.args.script.now in
-    subst (λ from. IsStarted (IsFirstBoard set c.args.switches script (option_copied from)) set script c.in-Ok.board) (sym c.in-None.is)
-    (from-power-on set c.args.switches script c.in-Ok.board c.in-Ok.ensures.board (rw c.frames.ensures.count at c.frames.ensures.within))
+    subst (λ from. IsStarted (IsFirstBoard set c.args.switches script (option_copied from)) set script c.in-Ok.board.value) (sym
+    c.in-None.is)
+    (from-power-on set c.args.switches script c.in-Ok.board.value c.in-Ok.ensures.board (rw c.frames.ensures.count at
+    c.frames.ensures.within))

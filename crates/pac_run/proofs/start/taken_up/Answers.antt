@@ -1,4 +1,6 @@
-use Rattle.std.proofs.Common.{ap, sym, ◌∙◌}
+use Rattle.std.proofs.Common.{◌≡◌, ap, sym, subst, ◌∙◌}
+use Rattle.pac_board_course.specs.State.{BoardValue}
+use Rattle.pac_state.specs.Files.{IsState}
 use Rattle.pac_run.specs.Start.{start_fault}
 use Rattle.pac_run.proofs.Begins.{no-start, taken-up, unloaded}
 use Rattle.pac_run.proofs.start.taken_up.Goals as goal
@@ -10,16 +12,20 @@ returns-in-Err c =
 
 pub returns-in-None : goal.returns-in-None
 returns-in-None c =
-    taken-up c.args.set c.args.script.now c.args.bytes.now c.in-Ok.board
+    let fault_is : c.start_fault.result ≡ start_fault c.in-Ok.board.value.state c.frames.result =
+    c.start_fault.ensures ∙ ap (λ (board : BoardValue). start_fault board.state c.frames.result) c.deref-2.ensures in
+    taken-up c.args.set c.args.script.now c.args.bytes.now c.in-Ok.board.value
     (record {
       file = c.in-Ok.ensures.files.file;
       board_is = c.in-Ok.ensures.files.board;
-      begins = ap (start_fault c.in-Ok.board.state) (sym c.frames.ensures.count) ∙ sym c.start_fault.ensures ∙ c.in-None.is;
+      begins = ap (start_fault c.in-Ok.board.value.state) (sym c.frames.ensures.count) ∙ sym fault_is ∙ c.in-None.is;
     })
-    c.boards_have_states.ensures
+    (subst (λ (board : BoardValue). IsState board.state) c.deref.ensures c.boards_have_states.ensures)
 
 pub returns-in-Some : goal.returns-in-Some
 returns-in-Some c =
-    no-start c.args.set c.args.script.now c.args.bytes.now c.in-Ok.board c.in-Some.fault c.in-Ok.ensures.files.file
+    let fault_is : c.start_fault.result ≡ start_fault c.in-Ok.board.value.state c.frames.result =
+    c.start_fault.ensures ∙ ap (λ (board : BoardValue). start_fault board.state c.frames.result) c.deref-2.ensures in
+    no-start c.args.set c.args.script.now c.args.bytes.now c.in-Ok.board.value c.in-Some.fault c.in-Ok.ensures.files.file
     c.in-Ok.ensures.files.board
-    (ap (start_fault c.in-Ok.board.state) (sym c.frames.ensures.count) ∙ sym c.start_fault.ensures ∙ c.in-Some.is)
+    (ap (start_fault c.in-Ok.board.value.state) (sym c.frames.ensures.count) ∙ sym fault_is ∙ c.in-Some.is)

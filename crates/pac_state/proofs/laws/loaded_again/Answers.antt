@@ -1,5 +1,6 @@
 use Rattle.std.proofs.Common.{◌≡◌, List, ℕ, refl, sym, ap, ◌∙◌, Result, Ok, Err}
 use Rattle.pac_board.specs.RomParts.{Parts}
+use Rattle.pac_board.specs.Boxed.{unboxed}
 use Rattle.pac_board.specs.State.{BoardValue}
 use Rattle.pac_state.specs.declared.fault.LoadRefused.{LoadRefused}
 use Rattle.pac_state.specs.Text.{sealed_file, body, written_version}
@@ -24,4 +25,4 @@ returns c =
       text = c.requires.saved
           ∙ ap (λ (digest : List ℕ). sealed_file (body written_version digest board.state)) (sym c.requires.set);
     } in
-    loads c.args.set c.args.bytes.now board file refl refl c.load.result c.load.ensures.answer c.load.ensures.files
+    loads c.args.set c.args.bytes.now board file refl refl (unboxed c.load.result) c.load.ensures.answer c.load.ensures.files

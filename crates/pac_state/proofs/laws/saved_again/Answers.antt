@@ -12,8 +12,8 @@ returns g c =
     let fits : (i : ℕ) → get_or c.args.bytes.now i 0 < 256 = λ i. (c.type_inv.bytes i).fits in
     let version : version_in c.args.bytes.now ≡ 2 = c.requires in
     let board : BoardValue = record { set = c.args.set; state = state_in c.args.bytes.now; made = 0 } in
-    let same : c.in_ok-board.board ≡ board =
-    c.in_ok-board.ensures.answer.board ∙ ap (λ (version : ℕ). upgraded_board version board) version in
+    let same : c.deref.result.now ≡ board =
+    c.deref.ensures ∙ c.in_ok-board.ensures.answer.board ∙ ap (λ (version : ℕ). upgraded_board version board) version in
     subst (λ (text : List ℕ). Saves g.W.Out.took g.W.Out.refused c.args.out.now text c.save.result c.save.new.out)
     (ap (λ (board : BoardValue). save_text 2 board.set board.state) same
     ∙ (ap (λ (version : ℕ). save_text version c.args.set (state_in c.args.bytes.now)) (sym version)

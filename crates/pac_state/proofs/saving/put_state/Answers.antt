@@ -1,4 +1,4 @@
-use Rattle.std.proofs.Common.{◌≡◌, List, ℕ, [], ◌++◌, subst, sym, append_assoc}
+use Rattle.std.proofs.Common.{◌≡◌, List, ℕ, [], ◌++◌, subst, sym, ap, ◌∙◌, append_assoc}
 use Rattle.std.proofs.lemmas.Result.{err_from_is_err_and}
 use Rattle.sha1.specs.Sha1.{Holds, sha1}
 use Rattle.pac_out.specs.Counted.{Refuses, Puts}
@@ -8,31 +8,37 @@ use Rattle.pac_out.specs.Pieces.{joined_pieces}
 use Rattle.pac_state.specs.Text.{file_front, body, written_version}
 use Rattle.pac_state.proofs.saving.put_state.Goals as goal
 
-pub returns-in_err-put_front : goal.returns-in_err-put_front
-returns-in_err-put_front g c =
+pub returns-in_err-put : goal.returns-in_err-put
+returns-in_err-put g c =
     let first = file_front written_version c.args.digest.now (state_of c.args.fields.now) in
     let second = joined_pieces c.args.fields.now.lines.now in
     let digest = sha1 (first ++ second) in
     let p = err_from_is_err_and c.from_residual.result c.from_residual.ensures.1 in
     rw (p.1, p.2)
-    (subst (λ (text : List ℕ). Refuses g.W.Out.took g.W.Out.refused c.args.file.now text c.in_err-put_front.field-0.0 c.put_front.new.file)
-    (sym (append_assoc first second digest))
-    (refuses-within c.in_err-put_front.ensures.put (second ++ digest)))
+    (subst (λ (text : List ℕ). Refuses g.W.Out.took g.W.Out.refused c.args.file.now text c.in_err-put.field-0.0 c.put.new.file)
+    (ap (λ (text : List ℕ). text ++ (second ++ digest)) c.front.ensures ∙ sym (append_assoc first second digest))
+    (refuses-within c.in_err-put.ensures.put (second ++ digest)))
 
 pub returns-in_err-put_lines : goal.returns-in_err-put_lines
 returns-in_err-put_lines g c =
+    let second = joined_pieces c.args.fields.now.lines.now in
+    let digest = sha1 (body written_version c.args.digest.now (state_of c.args.fields.now)) in
     let p = err_from_is_err_and c.from_residual-in_err-put_lines.result c.from_residual-in_err-put_lines.ensures.1 in
     rw (p.1, p.2)
-    (refuses-within (refuses-after c.in_ok-put_front.ensures.put.takes c.in_err-put_lines.ensures.put)
-    (sha1 (body written_version c.args.digest.now (state_of c.args.fields.now))))
+    (subst (λ (text : List ℕ). Refuses g.W.Out.took g.W.Out.refused c.args.file.now text c.in_err-put_lines.field-0.0 c.put_lines.new.file)
+    (ap (λ (text : List ℕ). (text ++ second) ++ digest) c.front.ensures)
+    (refuses-within (refuses-after c.in_ok-put.ensures.put.takes c.in_err-put_lines.ensures.put) digest))
 
 pub returns : goal.returns
 returns g c =
+    let second = joined_pieces c.args.fields.now.lines.now in
     let text = body written_version c.args.digest.now (state_of c.args.fields.now) in
+    let same : c.front.result ++ second ≡ text = ap (λ (front : List ℕ). front ++ second) c.front.ensures in
     let held : Holds c.put_lines.new.hasher text =
-    c.in_ok-put_lines.ensures.hashed _ (c.in_ok-put_front.ensures.hashed [] c.new-hasher.ensures) in
+    subst (λ (text : List ℕ). Holds c.put_lines.new.hasher text) same
+    (c.in_ok-put_lines.ensures.hashed _ (c.put.ensures.hashed [] c.new-hasher.ensures)) in
     let digest : c.finalize.result ≡ sha1 text = c.finalize.ensures text held in
-    subst (λ (digest : List ℕ). Puts g.W.Out.took g.W.Out.refused c.args.file.now (text ++ digest) c.put.result c.put.new.self) digest
-    (puts-after g.W.Out.refused (takes-joined c.in_ok-put_front.ensures.put.takes c.in_ok-put_lines.ensures.put.takes) c.finalize.result
-    c.put.result c.put.new.self
-    c.put.ensures.put)
+    subst (λ (text : List ℕ). Puts g.W.Out.took g.W.Out.refused c.args.file.now text c.put-2.result c.put-2.new.self)
+    (ap (λ (text : List ℕ). text ++ c.finalize.result) same ∙ ap (λ (digest : List ℕ). text ++ digest) digest)
+    (puts-after g.W.Out.refused (takes-joined c.in_ok-put.ensures.put.takes c.in_ok-put_lines.ensures.put.takes) c.finalize.result
+    c.put-2.result c.put-2.new.self c.put-2.ensures.put)

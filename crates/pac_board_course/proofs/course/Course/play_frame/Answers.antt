@@ -9,24 +9,24 @@ use Rattle.pac_board_course.proofs.course.Course.play_frame.Goals as goal
 pub returns-then-time-frame : goal.returns-then-time-frame
 returns-then-time-frame g c =
     let old = c.args.self.now in
-    let begins : c.self.inside.board ≡ old.board = search rules in
+    let begins : c.deref_mut.result.now ≡ old.board = search rules in
     let ends : 50688 * (c.time.result / 50688 + 1) ≡ frame_end old = search rules in
     let ended : frame_end old ≤ c.go_to-played.new.self.state.now.time = search rules in
     let held : c.hold.new.board ≡ board_with_inputs c.go_to-played.new.self (next_mask old) = search rules in
     let script : c.self.inside.script ≡ old.script = search rules in
     let gone : c.self.inside.gone ≡ old.gone = search rules in
     frame-answered (by g.S.Sink.took g.S.Sink.refused) old c.go_to-played.new.self c.hold.new.board c.self.inside.script c.self.inside.gone
-    c.args.sink.now c.go_to-played.new.sink c.go_to-played.result c.self.inside.board (50688 * (c.time.result / 50688 + 1)) begins ends
+    c.args.sink.now c.go_to-played.new.sink c.go_to-played.result c.deref_mut.result.now (50688 * (c.time.result / 50688 + 1)) begins ends
     c.requires.early c.go_to-played.ensures (inl (ended, held)) script gone
 
 pub returns-else-time-frame : goal.returns-else-time-frame
 returns-else-time-frame g c =
     let old = c.args.self.now in
-    let begins : c.self.inside.board ≡ old.board = search rules in
+    let begins : c.deref_mut.result.now ≡ old.board = search rules in
     let ends : 50688 * (c.time.result / 50688 + 1) ≡ frame_end old = search rules in
     let early : c.go_to-played.new.self.state.now.time < frame_end old = search rules in
     let script : c.self.inside.script ≡ old.script = search rules in
     let gone : c.self.inside.gone ≡ old.gone = search rules in
     frame-answered (by g.S.Sink.took g.S.Sink.refused) old c.go_to-played.new.self c.go_to-played.new.self c.self.inside.script
-    c.self.inside.gone c.args.sink.now c.go_to-played.new.sink c.go_to-played.result c.self.inside.board
+    c.self.inside.gone c.args.sink.now c.go_to-played.new.sink c.go_to-played.result c.deref_mut.result.now
     (50688 * (c.time.result / 50688 + 1)) begins ends c.requires.early c.go_to-played.ensures (inr (early, refl)) script gone

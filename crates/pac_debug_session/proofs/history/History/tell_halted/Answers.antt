@@ -2,7 +2,7 @@
 use Rattle.std.proofs.Common.{◌≡◌, ◌+◌, suc, List, [], ◌∷◌, ◌++◌, sym, ap, ◌∙◌, append_assoc, arith}
 use Rattle.circular_buffer.specs.Buffer.{keep_last}
 use Rattle.pac_board_course.specs.StepKindVariants.{Halted}
-use Rattle.pac_debug_session.specs.declared.history.PastStep.{PastStep}
+use Rattle.pac_board_course.specs.PastStep.{PastStep}
 use Rattle.pac_debug_session.specs.Past.{told_step_count}
 use Rattle.pac_debug_session.specs.Told.{halted_steps}
 use Rattle.pac_debug_session.proofs.Histories.{kept-joined, kept-whole}

@@ -1,6 +1,6 @@
 -- The session stands at what the slot keeps.
 use Rattle.std.proofs.Common.{◌≡◌, ℕ, ◌<◌, true, None, Some, Option, Ok, length, map, get_or, refl, ap, subst, sym, ◌∙◌, arith}
-use Rattle.pac_board_course.specs.State.{BoardValue, nothing_due}
+use Rattle.pac_board_course.specs.State.{BoardValue, nothing_due, restored_board}
 use Rattle.pac_debug_session.specs.declared.session.Empty.{Empty}
 use Rattle.pac_debug_session.specs.Inside.{session_setting}
 use Rattle.pac_debug_session.specs.Keeping.{mark_of}
@@ -14,6 +14,8 @@ pub invariant_of-self : goal.invariant_of-self
 invariant_of-self c =
     let inside = c.self.inside in
     let slot = c.index-slot.result.now in
+    let back : c.put_back.new.board ≡ restored_board inside.board.value slot.kept.snapshot
+    = c.put_back.ensures.board ∙ ap (λ (b : BoardValue). restored_board b slot.kept.snapshot) c.deref_mut.ensures.value in
     let count = c.self.invariant.slots.count in
     let within = c.requires.slot in
     let less : c.args.slot < length inside.slots.items = omega arith in
@@ -22,18 +24,19 @@ invariant_of-self c =
     let full = filled-at (session_setting inside) inside.furthest inside.slots.items c.args.slot slot less at c.self.invariant.slots
     filled in
     let there =
-    stands-at (session_setting inside) inside.furthest inside.board.state.now inside.history inside.checkpoints
+    stands-at (session_setting inside) inside.furthest inside.board.value.state.now inside.history inside.checkpoints
     slot.kept.snapshot.now.steps slot.kept c.self.invariant.standing full.kept full.seen in
     record {
       limit = c.self.invariant.limit;
       short = c.self.invariant.short;
-      unasked = ap (λ (b : BoardValue). b.state.asked) c.put_back.ensures.board ∙ full.kept.unasked;
+      unasked = ap (λ (b : BoardValue). b.state.asked) back ∙ full.kept.unasked;
       standing =
-          standing-there inside.switches inside.script inside.board c.put_back.new.board c.put_back.new.history slot.kept inside.furthest
-          c.put_back.ensures.board c.put_back.ensures.history inside.checkpoints there.0;
+          standing-there inside.switches inside.script inside.board.value c.put_back.new.board c.put_back.new.history slot.kept
+          inside.furthest
+          back c.put_back.ensures.history inside.checkpoints there.0;
       slots =
-          right-there inside.switches inside.script inside.board c.put_back.new.board c.put_back.new.history slot.kept inside.furthest
-          c.put_back.ensures.board c.put_back.ensures.history inside.slots.items c.self.invariant.slots;
+          right-there inside.switches inside.script inside.board.value c.put_back.new.board c.put_back.new.history slot.kept inside.furthest
+          back c.put_back.ensures.history inside.slots.items c.self.invariant.slots;
       breakpoints = c.self.invariant.breakpoints;
     }
 
@@ -41,6 +44,8 @@ pub returns : goal.returns
 returns c =
     let inside = c.self.inside in
     let slot = c.index-slot.result.now in
+    let back : c.put_back.new.board ≡ restored_board inside.board.value slot.kept.snapshot
+    = c.put_back.ensures.board ∙ ap (λ (b : BoardValue). restored_board b slot.kept.snapshot) c.deref_mut.ensures.value in
     let count = c.self.invariant.slots.count in
     let within = c.requires.slot in
     let less : c.args.slot < length inside.slots.items = omega arith in
@@ -56,8 +61,8 @@ returns c =
     ∙ mark-at (session_setting inside) inside.furthest inside.slots.items c.args.slot slot less at ∙ full.mark in
     let value : with_board inside.switches inside.script c.put_back.new.board inside.furthest inside.breakpoints.items marks inside.replayed
     ≡ record old { index = index }
-    = value-there inside.switches inside.script inside.board c.put_back.new.board c.put_back.new.history slot.kept inside.furthest
-    c.put_back.ensures.board c.put_back.ensures.history inside.breakpoints.items marks inside.replayed index refl full.kept.nothing
+    = value-there inside.switches inside.script inside.board.value c.put_back.new.board c.put_back.new.history slot.kept inside.furthest
+    back c.put_back.ensures.history inside.breakpoints.items marks inside.replayed index refl full.kept.nothing
     ∙ ap (λ (s : SessionValue). record s { index = index; due = nothing_due }) c.self.view_is
     ∙ ap (λ due. record old { index = index; due = due }) (sym c.requires.nothing) in
     subst (λ (mark : Option ℕ). ReturnsTo {E = Empty} old mark (Ok tt)

@@ -1,7 +1,7 @@
 -- The slot keeps what stands.
 use Rattle.std.proofs.Common.{◌≡◌, ℕ, true, List, Option, set, map, ap, subst, sym, ◌∙◌}
 use Rattle.std.proofs.lemmas.List.{map-set}
-use Rattle.pac_board_course.specs.State.{nothing_due}
+use Rattle.pac_board_course.specs.State.{BoardValue, nothing_due}
 use Rattle.pac_debug_session.specs.declared.kept.SessionSnapshot.{SessionSnapshot}
 use Rattle.pac_debug_session.specs.Inside.{AreSlotsRight, session_setting}
 use Rattle.pac_debug_session.specs.Keeping.{kept_of, mark_of}
@@ -14,10 +14,11 @@ use Rattle.pac_debug_session.proofs.session.Session.keep.Goals as goal
 pub invariant_of-self : goal.invariant_of-self
 invariant_of-self c =
     let inside = c.self.inside in
-    let board = inside.board in
+    let board = inside.board.value in
     let stands = c.self.invariant.standing in
     let nothing : board.state.due ≡ nothing_due = ap (λ (s : SessionValue). s.due) c.self.view_is ∙ c.requires.nothing in
-    let kept : kept_of board inside.history ≡ c.write.new.self = sym c.write.ensures in
+    let kept : c.write.new.self ≡ kept_of board inside.history
+    = c.write.ensures ∙ ap (λ (b : BoardValue). kept_of b inside.history) c.deref.ensures in
     record {
       limit = c.self.invariant.limit;
       short = c.self.invariant.short;
@@ -25,7 +26,7 @@ invariant_of-self c =
       standing = stands;
       slots =
           subst (λ (k : SessionSnapshot). AreSlotsRight (session_setting inside) inside.furthest
-          (set inside.slots.items c.args.slot (record { kept = k; filled = true }))) kept
+          (set inside.slots.items c.args.slot (record { kept = k; filled = true }))) (sym kept)
           (right-set (session_setting inside) inside.furthest inside.slots.items c.args.slot
           (record { kept = kept_of board inside.history; filled = true }) c.self.invariant.slots
           (λ filled. record {
@@ -40,8 +41,9 @@ invariant_of-self c =
 pub returns : goal.returns
 returns c =
     let inside = c.self.inside in
-    let board = inside.board in
-    let kept : c.write.new.self ≡ kept_of board inside.history = c.write.ensures in
+    let board = inside.board.value in
+    let kept : c.write.new.self ≡ kept_of board inside.history
+    = c.write.ensures ∙ ap (λ (b : BoardValue). kept_of b inside.history) c.deref.ensures in
     ap (λ (k : SessionSnapshot). with_board inside.switches inside.script board inside.furthest inside.breakpoints.items
     (map mark_of (set inside.slots.items c.args.slot (record { kept = k; filled = true }))) inside.replayed) kept
     ∙ ap (λ (marks : List (Option ℕ)). with_board inside.switches inside.script board inside.furthest inside.breakpoints.items marks

@@ -1,16 +1,16 @@
 -- One step of the run: what stood before it stands after it.
-use Rattle.std.proofs.Common.{◌≡◌, ℕ, ◌<◌, max, List, [], map, refl, ap, sym, subst, ◌∙◌, arith}
+use Rattle.std.proofs.Common.{◌≡◌, ℕ, ◌<◌, max, List, [], Ok, map, refl, ap, sym, subst, ◌∙◌, arith, rules}
 use Rattle.pac_board_course.specs.Once.{Once}
 use Rattle.pac_board_course.specs.Regs.{Regs}
 use Rattle.pac_board_course.specs.RomParts.{Parts}
 use Rattle.pac_board_course.specs.BoardView.{BoardView}
 use Rattle.pac_board_course.specs.Step.{Moment}
-use Rattle.pac_board_course.specs.State.{due_outputs, due_outputs_in, nothing_due}
+use Rattle.pac_board_course.specs.State.{BoardValue, due_outputs, due_outputs_in, nothing_due}
 use Rattle.pac_board_course.specs.Idle.{Idle}
 use Rattle.pac_board_course.specs.IdleVariants.{OutputsDue, TimeIsOver}
 use Rattle.pac_board_course.specs.Course.{CourseValue, end_of}
-use Rattle.pac_board_course.specs.Plays.{CourseWasIdle}
-use Rattle.pac_debug_session.specs.declared.history.PastStep.{PastStep}
+use Rattle.pac_board_course.specs.Plays.{CourseAdvances, CourseWasIdle}
+use Rattle.pac_board_course.specs.PastStep.{PastStep}
 use Rattle.pac_debug_session.specs.Inside.{IsStanding, AreSlotsRight, session_setting}
 use Rattle.pac_debug_session.specs.Keeping.{Ring, kept_of, ring_after_index, mark_of}
 use Rattle.pac_debug_session.specs.Told.{told_after}
@@ -37,30 +37,41 @@ never-idle course TimeIsOver nothing early idle = omega arith
 pub unreachable-requires : goal.unreachable-requires
 unreachable-requires c =
     let inside = c.self.inside in
-    let nothing : inside.board.state.due ≡ nothing_due = ap (λ (s : SessionValue). s.due) c.self.view_is ∙ c.requires.nothing in
-    let early = early-time (session_setting inside) inside.board.state.now.steps
+    let nothing : inside.board.value.state.due ≡ nothing_due = ap (λ (s : SessionValue). s.due) c.self.view_is ∙ c.requires.nothing in
+    let early = early-time (session_setting inside) inside.board.value.state.now.steps
     (ap (λ (s : SessionValue). is_late s.setting s.index) c.self.view_is ∙ c.requires.early) in
     let time = ap (λ (m : Moment BoardView). m.time) c.self.invariant.standing.now_is in
-    never-idle (record { board = inside.board; script = inside.script; gone = 0 }) c.in_default.field-0
-    (ap (λ due. due_outputs_in inside.board.set inside.board.state.now.board due) nothing) (omega arith) c.in_default.ensures.1
+    let idle =
+    subst (λ (b : BoardValue). CourseWasIdle (record { board = b; script = inside.script; gone = 0 }) c.in_default.field-0)
+    c.deref_mut.ensures.value c.in_default.ensures.1 in
+    never-idle (record { board = inside.board.value; script = inside.script; gone = 0 }) c.in_default.field-0
+    (ap (λ due. due_outputs_in inside.board.value.set inside.board.value.state.now.board due) nothing) (omega arith) idle
 
 pub invariant_of-self : goal.invariant_of-self
 invariant_of-self c =
     let inside = c.self.inside in
-    let board = inside.board in
+    let board = inside.board.value in
     let new = c.play_step.new.board in
     let nothing : board.state.due ≡ nothing_due = ap (λ (s : SessionValue). s.due) c.self.view_is ∙ c.requires.nothing in
     let early = ap (λ (s : SessionValue). is_late s.setting s.index) c.self.view_is ∙ c.requires.early in
+    let index_is : c.steps-index.result ≡ board.state.now.steps = search rules in
+    let regs_are : c.regs-pc.result ≡ board.state.now.regs = search rules in
+    let done =
+    subst (λ (b : BoardValue). CourseAdvances (record { board = b; script = inside.script; gone = 0 }) (Ok c.in-Ok.once)
+    (record { board = c.play_step.new.board; script = inside.script; gone = 0 })) c.deref_mut.ensures.value c.in-Ok.ensures in
     let told =
     told-is inside.history c.tell.new.self c.steps-index.result board.state.now.steps c.regs-pc.result.pc c.regs-pc.result
-    board.state.now.regs c.in-Ok.once c.tell.ensures c.steps-index.ensures c.regs-pc.ensures refl in
+    board.state.now.regs c.in-Ok.once c.tell.ensures index_is regs_are refl in
     let made =
     made-step board inside.switches inside.script inside.history inside.furthest inside.checkpoints c.in-Ok.once new
-    c.tell.new.self c.self.invariant.standing nothing c.self.invariant.unasked early c.in-Ok.ensures told in
+    c.tell.new.self c.self.invariant.standing nothing c.self.invariant.unasked early done told in
+    let last_is : c.steps.result ≡ new.state.now.steps = search rules in
     let far : max inside.furthest new.state.now.steps ≡ c.max-self-inside.result
-    = sym (c.max-self-inside.ensures ∙ ap (λ n. max inside.furthest n) c.steps.ensures) in
+    = sym (c.max-self-inside.ensures ∙ ap (λ n. max inside.furthest n) last_is) in
+    let taken : c.take_at.new.checkpoints ≡ ring_after_index c.steps-index.result inside.checkpoints (kept_of board inside.history)
+    = search rules in
     let ring : ring_after_index board.state.now.steps inside.checkpoints (kept_of board inside.history) ≡ c.take_at.new.checkpoints
-    = ap (λ n. ring_after_index n inside.checkpoints (kept_of board inside.history)) (sym c.steps-index.ensures) ∙ sym c.take_at.ensures in
+    = ap (λ n. ring_after_index n inside.checkpoints (kept_of board inside.history)) (sym index_is) ∙ sym taken in
     record {
       limit = c.self.invariant.limit;
       short = c.self.invariant.short;
@@ -81,20 +92,26 @@ invariant_of-self c =
 pub returns : goal.returns
 returns c =
     let inside = c.self.inside in
-    let board = inside.board in
+    let board = inside.board.value in
     let new = c.play_step.new.board in
     let once = c.in-Ok.once in
     let marks = map mark_of inside.slots.items in
     let nothing : board.state.due ≡ nothing_due = ap (λ (s : SessionValue). s.due) c.self.view_is ∙ c.requires.nothing in
     let early = ap (λ (s : SessionValue). is_late s.setting s.index) c.self.view_is ∙ c.requires.early in
+    let index_is : c.steps-index.result ≡ board.state.now.steps = search rules in
+    let regs_are : c.regs-pc.result ≡ board.state.now.regs = search rules in
+    let done =
+    subst (λ (b : BoardValue). CourseAdvances (record { board = b; script = inside.script; gone = 0 }) (Ok c.in-Ok.once)
+    (record { board = c.play_step.new.board; script = inside.script; gone = 0 })) c.deref_mut.ensures.value c.in-Ok.ensures in
     let told =
     told-is inside.history c.tell.new.self c.steps-index.result board.state.now.steps c.regs-pc.result.pc c.regs-pc.result
-    board.state.now.regs c.in-Ok.once c.tell.ensures c.steps-index.ensures c.regs-pc.ensures refl in
+    board.state.now.regs c.in-Ok.once c.tell.ensures index_is regs_are refl in
     let made =
     made-step board inside.switches inside.script inside.history inside.furthest inside.checkpoints c.in-Ok.once new
-    c.tell.new.self c.self.invariant.standing nothing c.self.invariant.unasked early c.in-Ok.ensures told in
+    c.tell.new.self c.self.invariant.standing nothing c.self.invariant.unasked early done told in
+    let last_is : c.steps.result ≡ new.state.now.steps = search rules in
     let far : max inside.furthest new.state.now.steps ≡ c.max-self-inside.result
-    = sym (c.max-self-inside.ensures ∙ ap (λ n. max inside.furthest n) c.steps.ensures) in
+    = sym (c.max-self-inside.ensures ∙ ap (λ n. max inside.furthest n) last_is) in
     subst (λ (s : SessionValue). MakesStep s once
     (with_board inside.switches inside.script new c.max-self-inside.result inside.breakpoints.items marks inside.replayed)) c.self.view_is
     (record {
@@ -104,8 +121,8 @@ returns c =
       outputs =
           ap (λ (now : Moment BoardView). due_outputs_in new.set now.board new.state.due) (sym made.standing.now_is)
           ∙ made-outputs board inside.switches inside.script inside.history inside.furthest inside.checkpoints once new
-          c.self.invariant.standing c.in-Ok.ensures;
+          c.self.invariant.standing done;
       once_is =
           made-once board inside.switches inside.script inside.history inside.furthest inside.checkpoints once new
-          c.self.invariant.standing c.in-Ok.ensures;
+          c.self.invariant.standing done;
     })

@@ -1,5 +1,5 @@
 -- The session stands at the beginning of its run.
-use Rattle.std.proofs.Common.{◌≡◌, ◌*◌, [], length, map, ap, ◌∙◌, arith}
+use Rattle.std.proofs.Common.{◌≡◌, ◌*◌, [], length, map, ap, ◌∙◌, arith, rules}
 use Rattle.pac_board_course.specs.Stretches.{held}
 use Rattle.pac_board_course.specs.State.{board_with_inputs}
 use Rattle.pac_debug_session.specs.Keeping.{mark_of}
@@ -9,10 +9,9 @@ use Rattle.pac_debug_session.proofs.session.Session.new.Goals as goal
 
 pub invariant_of-result : goal.invariant_of-result
 invariant_of-result c =
-    let board = c.args.board in
-    let switches : c.peek-switches.result ≡ board.state.now.board.memory.switches = c.peek-switches.ensures in
-    let hold : c.hold.new.board ≡ board_with_inputs board (held c.args.script 1) = c.hold.ensures
-    ∙ ap (board_with_inputs board) c.held.ensures in
+    let board = c.args.board.value in
+    let switches : c.peek-switches.result ≡ board.state.now.board.memory.switches = search rules in
+    let hold : c.hold.new.board ≡ board_with_inputs board (held c.args.script 1) = search rules in
     let count = c.frames.ensures.count in
     let within = c.frames.ensures.within in
     let frames = c.from-limit.ensures in
@@ -32,10 +31,9 @@ invariant_of-result c =
 
 pub returns-clause-session : goal.returns-clause-session
 returns-clause-session c =
-    let board = c.args.board in
-    let switches : c.peek-switches.result ≡ board.state.now.board.memory.switches = c.peek-switches.ensures in
-    let hold : c.hold.new.board ≡ board_with_inputs board (held c.args.script 1) = c.hold.ensures
-    ∙ ap (board_with_inputs board) c.held.ensures in
+    let board = c.args.board.value in
+    let switches : c.peek-switches.result ≡ board.state.now.board.memory.switches = search rules in
+    let hold : c.hold.new.board ≡ board_with_inputs board (held c.args.script 1) = search rules in
     let none : c.new.result.items ≡ [] = c.new.ensures in
     ap (λ breakpoints. with_board c.peek-switches.result c.args.script c.hold.new.board 0 breakpoints (map mark_of c.in-Ok.slots.items) 0)
     none

@@ -2,6 +2,7 @@
 use Rattle.std.proofs.Common.{ap, sym, ◌∙◌, arith}
 use Rattle.pac_board_course.specs.BoardView.{BoardView}
 use Rattle.pac_board_course.specs.Step.{Moment}
+use Rattle.pac_board_course.specs.State.{BoardValue}
 use Rattle.pac_board_course.specs.Course.{outcome_at}
 use Rattle.pac_debug_session.specs.Running.{now_at}
 use Rattle.pac_debug_session.specs.Session.{SessionValue}
@@ -25,7 +26,8 @@ returns c =
     let opened = open-up-to s.setting s.index (λ earlier less. c.facts.ensures.goes earlier (omega arith)) in
     let steps = c.index.ensures ∙ sym opened.steps in
     let ticks =
-    c.time.ensures.time ∙ ap (λ (m : Moment BoardView). m.time) c.self.invariant.standing.now_is
+    c.time.ensures.time ∙ ap (λ (b : BoardValue). b.state.now.time) c.deref.ensures
+    ∙ ap (λ (m : Moment BoardView). m.time) c.self.invariant.standing.now_is
     ∙ ap (λ (t : SessionValue). (now_at t.setting t.index).time) c.self.view_is in
     (λ i. record { frames = c.blanks.ensures.count i; steps = steps i; ticks = ticks i; stop = c.stop.ensures i })
     ∙ (λ i. outcome_at (sym whole.now i) (sym whole.stop_is i))

@@ -1,12 +1,13 @@
 -- Several halted steps of the run: what stood before them stands after them.
-use Rattle.std.proofs.Common.{◌≡◌, ℕ, ◌+◌, ◌-◌, ◌*◌, ◌%◌, min, max, List, ◌++◌, map, refl, ap, sym, subst, ◌∙◌, arith}
+use Rattle.std.proofs.Common.{◌≡◌, ℕ, ◌+◌, ◌-◌, ◌*◌, ◌%◌, min, max, List, ◌++◌, map, refl, ap, sym, subst, ◌∙◌, arith, rules}
 use Rattle.circular_buffer.specs.Buffer.{keep_last}
 use Rattle.pac_board_course.specs.Regs.{Regs}
 use Rattle.pac_board_course.specs.RomParts.{Parts}
 use Rattle.pac_board_course.specs.BoardView.{BoardView}
 use Rattle.pac_board_course.specs.Step.{Moment}
-use Rattle.pac_board_course.specs.State.{due_outputs_in, nothing_due}
-use Rattle.pac_debug_session.specs.declared.history.PastStep.{PastStep}
+use Rattle.pac_board_course.specs.State.{BoardValue, due_outputs_in, nothing_due}
+use Rattle.pac_board_course.specs.Rests.{CourseRests}
+use Rattle.pac_board_course.specs.PastStep.{PastStep}
 use Rattle.pac_debug_session.specs.Inside.{IsStanding, AreSlotsRight}
 use Rattle.pac_debug_session.specs.Keeping.{Ring, kept_of, ring_after_index, mark_of}
 use Rattle.pac_debug_session.specs.Motions.{checkpoint_steps}
@@ -31,33 +32,45 @@ pub overflow_sub-steps : goal.overflow_sub-steps
 overflow_sub-steps c =
     let inside = c.self.inside in
     let early = ap (λ (s : SessionValue). is_late s.setting s.index) c.self.view_is ∙ c.requires.early in
-    let end = rested-steps inside.board inside.switches inside.script inside.history inside.furthest inside.checkpoints
-    c.self.invariant.standing early (c.time.result + 4 * c.min-most.result) c.play_rest.new.board c.play_rest.ensures in
-    let before = c.steps-index.ensures in
-    let after = c.steps.ensures in
+    let rested =
+    subst (λ (b : BoardValue). CourseRests (record { board = b; script = inside.script; gone = 0 }) (c.time.result + 4 * c.min-most.result)
+    (record { board = c.play_rest.new.board; script = inside.script; gone = 0 })) c.deref_mut.ensures.value c.play_rest.ensures in
+    let end = rested-steps inside.board.value inside.switches inside.script inside.history inside.furthest inside.checkpoints
+    c.self.invariant.standing early (c.time.result + 4 * c.min-most.result) c.play_rest.new.board rested in
+    let before : c.steps-index.result ≡ inside.board.value.state.now.steps = search rules in
+    let after : c.steps.result ≡ c.play_rest.new.board.state.now.steps = search rules in
     omega arith
 
 pub invariant_of-self : goal.invariant_of-self
 invariant_of-self c =
     let inside = c.self.inside in
-    let board = inside.board in
+    let board = inside.board.value in
     let new = c.play_rest.new.board in
     let nothing : board.state.due ≡ nothing_due = ap (λ (s : SessionValue). s.due) c.self.view_is ∙ c.requires.nothing in
     let early = ap (λ (s : SessionValue). is_late s.setting s.index) c.self.view_is ∙ c.requires.early in
+    let index_is : c.steps-index.result ≡ board.state.now.steps = search rules in
+    let regs_are : c.regs-pc.result ≡ board.state.now.regs = search rules in
+    let end_is : c.steps.result ≡ new.state.now.steps = search rules in
+    let time_is : c.time.result ≡ board.state.now.time = search rules in
+    let rested =
+    subst (λ (b : BoardValue). CourseRests (record { board = b; script = inside.script; gone = 0 }) (c.time.result + 4 * c.min-most.result)
+    (record { board = c.play_rest.new.board; script = inside.script; gone = 0 })) c.deref_mut.ensures.value c.play_rest.ensures in
     let told = told-is inside.history c.tell_halted.new.self c.steps-index.result board.state.now.steps c.regs-pc.result.pc
-    new.state.now.steps c.steps.result c.regs-pc.result board.state.now.regs c.tell_halted.ensures c.steps-index.ensures c.regs-pc.ensures
-    refl c.steps.ensures in
+    new.state.now.steps c.steps.result c.regs-pc.result board.state.now.regs c.tell_halted.ensures index_is regs_are refl end_is in
     let limit_is : c.time.result + 4 * c.min-most.result ≡ board.state.now.time + 4 * c.min-most.result
-    = ap (λ n. n + 4 * c.min-most.result) c.time.ensures.time in
+    = ap (λ n. n + 4 * c.min-most.result) time_is in
     let fits_is : c.min-most.result ≡ min c.args.most (checkpoint_steps - board.state.now.steps % checkpoint_steps)
-    = c.min-most.ensures ∙ ap (λ n. min c.args.most (checkpoint_steps - n % checkpoint_steps)) c.steps-index.ensures in
+    = c.min-most.ensures ∙ ap (λ n. min c.args.most (checkpoint_steps - n % checkpoint_steps)) index_is in
     let made = rested-on board inside.switches inside.script inside.history inside.furthest inside.checkpoints
-    c.self.invariant.standing early (c.time.result + 4 * c.min-most.result) new c.play_rest.ensures c.tell_halted.new.self c.args.most
+    c.self.invariant.standing early (c.time.result + 4 * c.min-most.result) new rested c.tell_halted.new.self c.args.most
     c.min-most.result nothing c.self.invariant.unasked limit_is fits_is told in
+    let last_is : c.steps-2.result ≡ new.state.now.steps = search rules in
     let far : max inside.furthest new.state.now.steps ≡ c.max-self-inside.result
-    = sym (c.max-self-inside.ensures ∙ ap (λ n. max inside.furthest n) c.steps-2.ensures) in
+    = sym (c.max-self-inside.ensures ∙ ap (λ n. max inside.furthest n) last_is) in
+    let taken : c.take_at.new.checkpoints ≡ ring_after_index c.steps-index.result inside.checkpoints (kept_of board inside.history)
+    = search rules in
     let ring : ring_after_index board.state.now.steps inside.checkpoints (kept_of board inside.history) ≡ c.take_at.new.checkpoints
-    = ap (λ n. ring_after_index n inside.checkpoints (kept_of board inside.history)) (sym c.steps-index.ensures) ∙ sym c.take_at.ensures in
+    = ap (λ n. ring_after_index n inside.checkpoints (kept_of board inside.history)) (sym index_is) ∙ sym taken in
     record {
       limit = c.self.invariant.limit;
       short = c.self.invariant.short;
@@ -78,23 +91,30 @@ invariant_of-self c =
 pub returns : goal.returns
 returns c =
     let inside = c.self.inside in
-    let board = inside.board in
+    let board = inside.board.value in
     let new = c.play_rest.new.board in
     let marks = map mark_of inside.slots.items in
     let nothing : board.state.due ≡ nothing_due = ap (λ (s : SessionValue). s.due) c.self.view_is ∙ c.requires.nothing in
     let early = ap (λ (s : SessionValue). is_late s.setting s.index) c.self.view_is ∙ c.requires.early in
+    let index_is : c.steps-index.result ≡ board.state.now.steps = search rules in
+    let regs_are : c.regs-pc.result ≡ board.state.now.regs = search rules in
+    let end_is : c.steps.result ≡ new.state.now.steps = search rules in
+    let time_is : c.time.result ≡ board.state.now.time = search rules in
+    let rested =
+    subst (λ (b : BoardValue). CourseRests (record { board = b; script = inside.script; gone = 0 }) (c.time.result + 4 * c.min-most.result)
+    (record { board = c.play_rest.new.board; script = inside.script; gone = 0 })) c.deref_mut.ensures.value c.play_rest.ensures in
     let told = told-is inside.history c.tell_halted.new.self c.steps-index.result board.state.now.steps c.regs-pc.result.pc
-    new.state.now.steps c.steps.result c.regs-pc.result board.state.now.regs c.tell_halted.ensures c.steps-index.ensures c.regs-pc.ensures
-    refl c.steps.ensures in
+    new.state.now.steps c.steps.result c.regs-pc.result board.state.now.regs c.tell_halted.ensures index_is regs_are refl end_is in
     let limit_is : c.time.result + 4 * c.min-most.result ≡ board.state.now.time + 4 * c.min-most.result
-    = ap (λ n. n + 4 * c.min-most.result) c.time.ensures.time in
+    = ap (λ n. n + 4 * c.min-most.result) time_is in
     let fits_is : c.min-most.result ≡ min c.args.most (checkpoint_steps - board.state.now.steps % checkpoint_steps)
-    = c.min-most.ensures ∙ ap (λ n. min c.args.most (checkpoint_steps - n % checkpoint_steps)) c.steps-index.ensures in
+    = c.min-most.ensures ∙ ap (λ n. min c.args.most (checkpoint_steps - n % checkpoint_steps)) index_is in
     let made = rested-on board inside.switches inside.script inside.history inside.furthest inside.checkpoints
-    c.self.invariant.standing early (c.time.result + 4 * c.min-most.result) new c.play_rest.ensures c.tell_halted.new.self c.args.most
+    c.self.invariant.standing early (c.time.result + 4 * c.min-most.result) new rested c.tell_halted.new.self c.args.most
     c.min-most.result nothing c.self.invariant.unasked limit_is fits_is told in
+    let last_is : c.steps-2.result ≡ new.state.now.steps = search rules in
     let far : max inside.furthest new.state.now.steps ≡ c.max-self-inside.result
-    = sym (c.max-self-inside.ensures ∙ ap (λ n. max inside.furthest n) c.steps-2.ensures) in
+    = sym (c.max-self-inside.ensures ∙ ap (λ n. max inside.furthest n) last_is) in
     subst (λ (s : SessionValue). MakesStride s c.args.most
     (with_board inside.switches inside.script new c.max-self-inside.result inside.breakpoints.items marks inside.replayed)) c.self.view_is
     (record {

@@ -1,6 +1,6 @@
 -- The session stands at the checkpoint.
 use Rattle.std.proofs.Common.{◌≡◌, ◌+◌, ◌-◌, ◌*◌, map, ap, subst, ◌∙◌, arith}
-use Rattle.pac_board_course.specs.State.{BoardValue, nothing_due}
+use Rattle.pac_board_course.specs.State.{BoardValue, nothing_due, restored_board}
 use Rattle.pac_debug_session.specs.Inside.{session_setting}
 use Rattle.pac_debug_session.specs.Keeping.{mark_of, IsKeptAt}
 use Rattle.pac_debug_session.specs.Motions.{checkpoint_steps, checkpoint_count}
@@ -13,6 +13,8 @@ pub invariant_of-self : goal.invariant_of-self
 invariant_of-self c =
     let inside = c.self.inside in
     let kept = c.get-kept.result.now in
+    let back : c.put_back.new.board ≡ restored_board inside.board.value kept.snapshot
+    = c.put_back.ensures.board ∙ ap (λ (b : BoardValue). restored_board b kept.snapshot) c.deref_mut.ensures.value in
     let ring = inside.checkpoints in
     let furthest : inside.furthest ≡ c.args.self.now.furthest = ap (λ (s : SessionValue). s.furthest) c.self.view_is in
     let left = c.requires.left in
@@ -25,18 +27,18 @@ invariant_of-self c =
     (checkpoint-there (session_setting inside) ring.taken ring.kept place kept c.self.invariant.standing.checkpoints c.get-kept.ensures
     (omega arith)) in
     let there =
-    stands-at (session_setting inside) inside.furthest inside.board.state.now inside.history ring
+    stands-at (session_setting inside) inside.furthest inside.board.value.state.now inside.history ring
     (checkpoint_steps * c.args.number) kept c.self.invariant.standing at (omega arith) in
     record {
       limit = c.self.invariant.limit;
       short = c.self.invariant.short;
-      unasked = ap (λ (b : BoardValue). b.state.asked) c.put_back.ensures.board ∙ at.unasked;
+      unasked = ap (λ (b : BoardValue). b.state.asked) back ∙ at.unasked;
       standing =
-          standing-there inside.switches inside.script inside.board c.put_back.new.board c.put_back.new.history kept inside.furthest
-          c.put_back.ensures.board c.put_back.ensures.history ring there.0;
+          standing-there inside.switches inside.script inside.board.value c.put_back.new.board c.put_back.new.history kept inside.furthest
+          back c.put_back.ensures.history ring there.0;
       slots =
-          right-there inside.switches inside.script inside.board c.put_back.new.board c.put_back.new.history kept inside.furthest
-          c.put_back.ensures.board c.put_back.ensures.history inside.slots.items c.self.invariant.slots;
+          right-there inside.switches inside.script inside.board.value c.put_back.new.board c.put_back.new.history kept inside.furthest
+          back c.put_back.ensures.history inside.slots.items c.self.invariant.slots;
       breakpoints = c.self.invariant.breakpoints;
     }
 
@@ -44,6 +46,8 @@ pub returns : goal.returns
 returns c =
     let inside = c.self.inside in
     let kept = c.get-kept.result.now in
+    let back : c.put_back.new.board ≡ restored_board inside.board.value kept.snapshot
+    = c.put_back.ensures.board ∙ ap (λ (b : BoardValue). restored_board b kept.snapshot) c.deref_mut.ensures.value in
     let ring = inside.checkpoints in
     let furthest : inside.furthest ≡ c.args.self.now.furthest = ap (λ (s : SessionValue). s.furthest) c.self.view_is in
     let left = c.requires.left in
@@ -56,9 +60,9 @@ returns c =
     (checkpoint-there (session_setting inside) ring.taken ring.kept place kept c.self.invariant.standing.checkpoints c.get-kept.ensures
     (omega arith)) in
     let there =
-    stands-at (session_setting inside) inside.furthest inside.board.state.now inside.history ring
+    stands-at (session_setting inside) inside.furthest inside.board.value.state.now inside.history ring
     (checkpoint_steps * c.args.number) kept c.self.invariant.standing at (omega arith) in
-    value-there inside.switches inside.script inside.board c.put_back.new.board c.put_back.new.history kept inside.furthest
-    c.put_back.ensures.board c.put_back.ensures.history inside.breakpoints.items (map mark_of inside.slots.items) inside.replayed
+    value-there inside.switches inside.script inside.board.value c.put_back.new.board c.put_back.new.history kept inside.furthest
+    back c.put_back.ensures.history inside.breakpoints.items (map mark_of inside.slots.items) inside.replayed
     (checkpoint_steps * c.args.number) there.1 at.nothing
     ∙ ap (λ (s : SessionValue). record s { index = checkpoint_steps * c.args.number; due = nothing_due }) c.self.view_is

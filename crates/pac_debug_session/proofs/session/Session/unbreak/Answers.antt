@@ -11,6 +11,7 @@ returns c =
     let inside = c.self.inside in
     let left : c.retain.new.self.items ≡ filter (λ other. not (other == c.args.address)) inside.breakpoints.items
     = filter-from_retain _ (λ other. not (other == c.args.address)) _ (λ x b f' y k. search rules) _ _ c.retain.ensures.filtered in
-    ap (λ (items : List ℕ). with_board inside.switches inside.script inside.board inside.furthest items (map mark_of inside.slots.items)
+    ap (λ (items : List ℕ). with_board inside.switches inside.script inside.board.value inside.furthest items (map mark_of
+    inside.slots.items)
     inside.replayed) left
     ∙ ap (λ (s : SessionValue). without_breakpoint s c.args.address) c.self.view_is

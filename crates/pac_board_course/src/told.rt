@@ -1,0 +1,47 @@
+//! Steps of a script's run in one go, each of which is told.
+
+ghost use Rattle.std.specs.Prelude.{◌≡◌, ◌<◌, ◌≤◌, ◌+◌, ◌*◌, min};
+ghost use Rattle.pac_board.specs.Sinks.{by};
+ghost use Rattle.pac_board.specs.State as state;
+ghost use Rattle.pac_board.specs.Step.{frame_ticks};
+ghost use Rattle.pac_board.specs.Trails.{IsNoted};
+ghost use Rattle.pac_inputs.specs.Stretches.{most_frames, total_frames};
+ghost use Rattle.pac_board_course.specs.Course.{next_in};
+ghost use Rattle.pac_board_course.specs.Frames.{frame_end};
+ghost use Rattle.pac_board_course.specs.Told.{PlaysTold};
+
+use crate::course::hold;
+use pac_board::{Board, FRAME_TICKS, Refused, Sink, Stop, Trail};
+use pac_inputs::Script;
+
+/// Does the steps of a script's run on a board that begin before a limit, and before the blank of the frame under way, after which the
+/// next frame's inputs are held; or up to a stop, or to a refusal of the sink. So many frames had gone by before the script's first
+/// one. Each step is told, where there is a trail.
+pub fn play_told<S: Sink>(
+    board: &mut Board,
+    script: &Script,
+    gone: u64,
+    limit: u64,
+    told: &mut Option<Trail>,
+    sink: &mut S,
+) -> Result<Option<Stop>, Refused>
+    requires time { frame_ticks * (gone + total_frames script.now) ≤ state.latest }
+    requires short { total_frames script.now ≤ most_frames }
+    requires early { board.old.state.now.time < frame_ticks * (gone + total_frames script.now) }
+    requires begun { board.old.state.now.time < limit }
+    requires nothing { board.old.state.due ≡ state.nothing_due }
+    ensures made { PlaysTold (by S.took S.refused)
+        (record { board = board.old; script = script.now; gone = gone }) sink.old result
+        (record { board = board.new; script = script.now; gone = gone }) sink.new }
+    ensures told { IsNoted (next_in (record { board = board.old; script = script.now; gone = gone }))
+        (min limit (frame_end (record { board = board.old; script = script.now; gone = gone })))
+        board.old.state.now board.new.state.now told.old told.new }
+{
+    let frame = board.time() / FRAME_TICKS + 1;
+    let blank = FRAME_TICKS * frame;
+    let played = board.go_to_told(limit.min(blank), told, sink);
+    if board.time() >= blank {
+        hold(board, script.held((frame + 1).saturating_sub(gone) as u32));
+    }
+    played
+}

@@ -1,0 +1,35 @@
+-- What the course tells, in the trail that is there.
+use Rattle.std.proofs.Common.{◌≡◌, ℕ, min, true, List, Option, Some, is_some, refl, sym, ap, subst, ◌∙◌}
+use Rattle.pac_board_course.specs.BoardView.{BoardView}
+use Rattle.pac_board_course.specs.Course.{CourseValue, next_in}
+use Rattle.pac_board_course.specs.Frames.{frame_end}
+use Rattle.pac_board_course.specs.PastStep.{PastStep}
+use Rattle.pac_board_course.specs.Step.{Moment, Next}
+use Rattle.pac_board_course.specs.Trails.{IsNoted}
+use Rattle.pac_board_course.proofs.Noted.{noted-at}
+use Rattle.pac_debug_session.specs.Told.{told_of}
+use Rattle.pac_debug_session.proofs.Histories.{some-there, noted-there}
+use Rattle.pac_debug_session.proofs.history.History.play_told.Goals as goal
+
+-- there before and after
+still-there : (next : Moment BoardView → Next BoardView) (until : ℕ) (from to : Moment BoardView) (told after : Option (List PastStep))
+    → is_some told ≡ true → IsNoted next until from to told after → is_some after ≡ true
+still-there next until from to told after is noted = ap is_some noted.told_is ∙ noted-there next from told noted.count is
+
+pub invariant_of-self : goal.invariant_of-self
+invariant_of-self g c =
+    let old : CourseValue = record { board = c.args.board.now; script = c.args.script.now; gone = 0 } in
+    still-there (next_in old) (min c.args.limit (frame_end old)) c.args.board.now.state.now c.play_told.new.board.state.now
+    c.self.inside.told
+    c.play_told.new.told c.self.invariant c.play_told.ensures.told
+
+pub returns-clause-told : goal.returns-clause-told
+returns-clause-told g c =
+    let old : CourseValue = record { board = c.args.board.now; script = c.args.script.now; gone = 0 } in
+    let until = min c.args.limit (frame_end old) in
+    let from = c.args.board.now.state.now in
+    let to = c.play_told.new.board.state.now in
+    let there = still-there (next_in old) until from to c.self.inside.told c.play_told.new.told c.self.invariant c.play_told.ensures.told in
+    subst (λ told. IsNoted (next_in old) until from to told (Some (told_of c.play_told.new.told))) (some-there c.self.inside.told
+    c.self.invariant ∙ ap Some c.self.view_is)
+    (noted-at (next_in old) c.play_told.ensures.told refl (sym (some-there c.play_told.new.told there)))

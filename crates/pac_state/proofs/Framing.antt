@@ -1,0 +1,119 @@
+-- Blocks of states: what stands in them, and which bytes are blocks.
+use Rattle.std.proofs.Common.{◌≡◌, ℕ, ◌+◌, ◌<◌, ◌≤◌, List, [], ◌++◌, length, get_or, take, drop, Option, Some, None}
+use Rattle.std.proofs.Common.{refl, sym, ap, subst, ◌∙◌, arith, append_assoc}
+use Rattle.std.proofs.lemmas.List.{length-append, take_all}
+use Rattle.std.proofs.lemmas.Nat.{from_le_bytes-to_le_bytes_2}
+use Rattle.std.specs.Int.{w16, from_le_bytes}
+use Rattle.std.specs.List.{flat_map}
+use Rattle.pac_lemmas.proofs.Pieces.{flat_map-split}
+use Rattle.pac_board.specs.MemoryView.{IsWellFormed}
+use Rattle.pac_board.specs.PictureState.{IsPicture}
+use Rattle.pac_board.specs.declared.fields.Fields.{Fields}
+use Rattle.pac_board.specs.State.{BoardState}
+use Rattle.pac_out.specs.Pieces.{joined_pieces}
+use Rattle.pac_state.specs.Text.{file_front, body, written_version}
+use Rattle.pac_state.specs.Reading.{bytes_at_place, state_in}
+use Rattle.pac_state.specs.Saved.{file_size, version_in, IsStateInRange, IsText}
+use Rattle.pac_state.specs.Files.{IsState}
+use Rattle.pac_state.specs.Block.{no_digest, block_text, IsBlock, ReadsBlock}
+use Rattle.pac_state.specs.Framed.{IsFramed, ReadsFields}
+use Rattle.pac_state.proofs.Again.{same-again}
+use Rattle.pac_state.proofs.Files.{sizes}
+use Rattle.pac_state.proofs.Whole.{AreBytes, part-add, body-is}
+use Rattle.pac_state.proofs.Written.{HasPieces, front-pieces, part-at, length-front, length-lines, length-body}
+
+-- ---- the block of a state
+
+block-pieces : (state : BoardState) → IsWellFormed state.now.board.memory
+    → HasPieces written_version no_digest state (block_text state)
+unfolding block_text
+block-pieces state sizes =
+    subst (HasPieces written_version no_digest state)
+    (sym (append_assoc (file_front written_version no_digest state) (joined_pieces state.now.board.lines) no_digest))
+    (front-pieces written_version no_digest state (joined_pieces state.now.board.lines ++ no_digest) refl sizes)
+
+block-end : (state : BoardState) → IsWellFormed state.now.board.memory → IsPicture state.now.board.lines
+    → bytes_at_place 67736 20 (block_text state) ≡ no_digest
+unfolding block_text
+block-end state sizes picture =
+    part-at 67736 20 (body written_version no_digest state) no_digest [] (length-body written_version no_digest state refl sizes
+    picture) refl
+
+block-picture : (state : BoardState) → IsWellFormed state.now.board.memory → IsPicture state.now.board.lines
+    → bytes_at_place 3224 64512 (block_text state) ≡ joined_pieces state.now.board.lines
+unfolding block_text
+block-picture state sizes picture =
+    ap (bytes_at_place 3224 64512)
+    (append_assoc (file_front written_version no_digest state) (joined_pieces state.now.board.lines) no_digest)
+    ∙ part-at 3224 64512 (file_front written_version no_digest state) (joined_pieces state.now.board.lines) no_digest
+    (length-front written_version no_digest state refl sizes) (length-lines state.now.board.lines picture)
+
+pub block-again : (state : BoardState) → IsState state → state_in (block_text state) ≡ state
+block-again state is =
+    same-again written_version no_digest (block_text state) state is (block-pieces state is.memory)
+    (block-picture state is.memory is.range.picture)
+
+pub is-block : (state : BoardState) → IsState state → IsBlock (block_text state)
+is-block state is =
+    let same = sym (block-again state is) in
+    record { in_range = subst IsStateInRange same is.range; text = ap block_text same }
+
+-- ---- bytes that are a block
+
+pub framed-of : (bytes : List ℕ) → length bytes ≡ file_size → IsBlock bytes → IsFramed bytes
+framed-of bytes size block =
+    let well = sizes bytes size block.in_range in
+    let pieces = subst (HasPieces written_version no_digest (state_in bytes)) (sym block.text) (block-pieces (state_in bytes) well) in
+    record {
+      magic = sym pieces.magic;
+      version = ap (from_le_bytes w16) pieces.version ∙ from_le_bytes-to_le_bytes_2 2 (omega arith);
+      digests = record {
+        set = sym pieces.digest;
+        end = sym (ap (bytes_at_place 67736 20) block.text ∙ block-end (state_in bytes) well block.in_range.picture);
+      };
+    }
+
+text-of-block : (bytes : List ℕ) → length bytes ≡ file_size → IsBlock bytes → IsText bytes
+text-of-block bytes size block =
+    let well = sizes bytes size block.in_range in
+    let pieces = subst (HasPieces written_version no_digest (state_in bytes)) (sym block.text) (block-pieces (state_in bytes) well) in
+    record {
+      in_range = block.in_range;
+      written = record { processor = sym pieces.processor; controls = sym pieces.controls; due = sym pieces.due };
+    }
+
+block-of : (bytes : List ℕ) → AreBytes bytes → length bytes ≡ file_size → IsFramed bytes → IsText bytes → IsBlock bytes
+unfolding block_text
+block-of bytes fits size framed text =
+    let before : body (version_in bytes) no_digest (state_in bytes) ≡ bytes_at_place 0 67736 bytes =
+    body-is no_digest bytes fits size framed.magic framed.digests.set text.written in
+    let same : body written_version no_digest (state_in bytes) ≡ bytes_at_place 0 67736 bytes =
+    ap (λ version. body version no_digest (state_in bytes)) (sym framed.version) ∙ before in
+    record {
+      in_range = text.in_range;
+      text = sym (ap (λ (text : List ℕ). text ++ no_digest) same
+          ∙ (ap (λ (last : List ℕ). bytes_at_place 0 67736 bytes ++ last) framed.digests.end
+          ∙ (part-add 0 67736 20 bytes ∙ take_all 67756 bytes (omega (arith, size)))));
+    }
+
+pub reads-block : (bytes : List ℕ) → ((i : ℕ) → get_or bytes i 0 < 256) → length bytes ≡ file_size → IsFramed bytes
+    → (result : Option Fields) → ReadsFields bytes result → ReadsBlock bytes result
+unfolding AreBytes
+reads-block bytes fits size framed (Some fields) reads = record {
+  block = block-of bytes fits size framed reads.text;
+  state = reads.state;
+  in_range = reads.in_range;
+}
+reads-block bytes fits size framed None reads = λ (block : IsBlock bytes). reads (text-of-block bytes size block)
+
+-- ---- pieces written one after another
+
+-- the next piece fits where all of them do
+pub next-fits : {X : Type 0} (f : X → List ℕ) (pieces : List X) (k : ℕ) (default : X) (at end size : ℕ) → k < length pieces
+    → end ≡ at + length (flat_map f (take k pieces)) → at + length (flat_map f pieces) ≤ size
+    → end + length (f (get_or pieces k default)) ≤ size
+next-fits f pieces k default at end size inside here room =
+    let split = ap length (flat_map-split f pieces k default inside) in
+    let outer = length-append (flat_map f (take k pieces) ++ f (get_or pieces k default)) (flat_map f (drop (k + 1) pieces)) in
+    let inner = length-append (flat_map f (take k pieces)) (f (get_or pieces k default)) in
+    omega (arith, split, outer, inner, here, room)

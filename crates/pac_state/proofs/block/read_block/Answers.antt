@@ -1,0 +1,14 @@
+use Rattle.std.proofs.Common.{◌≡◌, true, false, sym, ◌∙◌}
+use Rattle.pac_state.specs.Block.{IsBlock}
+use Rattle.pac_state.proofs.Framing.{framed-of, reads-block}
+use Rattle.pac_state.proofs.block.read_block.Goals as goal
+
+pub returns-then-is_framed : goal.returns-then-is_framed
+returns-then-is_framed c =
+    reads-block c.args.block.now c.fits-block c.told-block (c.is_framed.ensures.0 c.if-is_framed.true) c.fields_in.result
+    c.fields_in.ensures
+
+pub returns-else-is_framed : goal.returns-else-is_framed
+returns-else-is_framed c = λ (block : IsBlock c.args.block.now).
+    let clash : false ≡ true = sym c.if-is_framed.false ∙ c.is_framed.ensures.1 (framed-of c.args.block.now c.told-block block) in
+    let no : ⊥ = cc in absurd no

@@ -1,0 +1,72 @@
+//! The block in which a host keeps a board's state: a state file's text without its digests.
+
+ghost use Rattle.std.specs.Prelude.{◌≡◌, ◌↔◌, ◌+◌, ◌++◌, ◌≤◌, true, length, take};
+ghost use Rattle.pac_board.specs.Fields.{state_of, AreBoardFields};
+ghost use Rattle.pac_board.specs.MemoryView.{IsWellFormed};
+ghost use Rattle.pac_board.specs.PictureState.{IsPicture};
+ghost use Rattle.pac_out.specs.Pieces.{joined_pieces};
+ghost use Rattle.pac_state.specs.Block as blocks;
+ghost use Rattle.pac_state.specs.Framed as framed;
+ghost use Rattle.pac_state.specs.Saved as saved;
+
+use crate::front::{front, put_at};
+use crate::header::{MAGIC, VERSION, part, word};
+use crate::ranges::in_range;
+use crate::reading::fields_in;
+use crate::sizes::{BODY_SIZE, FILE_SIZE};
+use pac_board::{Fields, HEIGHT, Lines};
+
+/// What stands where a file has a digest.
+const NO_DIGEST: [u8; 20] = [0; 20];
+
+/// Whether zeros stand in place of both digests.
+fn has_no_digests(block: &[u8]) -> bool
+    requires { length block.now ≡ saved.file_size }
+    ensures { (result ≡ true) ↔ framed.HasNoDigests block.now }
+{
+    NO_DIGEST == *part(block, 10) && NO_DIGEST == *part(block, BODY_SIZE)
+}
+
+/// Whether all that isn't of the state is that of a block: the first bytes, the version, and no digests.
+fn is_framed(block: &[u8]) -> bool
+    requires { length block.now ≡ saved.file_size }
+    ensures { (result ≡ true) ↔ framed.IsFramed block.now }
+{
+    *MAGIC == *part(block, 0) && word(block, 8) == VERSION && has_no_digests(block)
+}
+
+/// The fields in a block, with its lines, if it is the block of a state that a board can have.
+pub fn read_block<'a>(block: &'a [u8; FILE_SIZE], lines: &'a mut Lines) -> Option<Fields<'a>>
+    ensures { blocks.ReadsBlock block.now result }
+{
+    if is_framed(block) {
+        fields_in(block, lines)
+    } else {
+        None
+    }
+}
+
+/// Writes the colour numbers of a picture, line by line.
+fn put_lines(block: &mut [u8], at: usize, lines: &Lines) -> usize
+    requires { at + length (joined_pieces lines.now) ≤ length block.old }
+    ensures size { length block.new ≡ length block.old }
+    ensures end { result ≡ at + length (joined_pieces lines.now) }
+    ensures text { take result block.new ≡ take at block.old ++ joined_pieces lines.now }
+{
+    let mut end = at;
+    for y in 0..HEIGHT {
+        end = put_at(block, end, lines.row(y));
+    }
+    end
+}
+
+/// Writes the block of the state that has these fields. Takes no memory.
+pub fn write_block(fields: &Fields, block: &mut [u8; FILE_SIZE])
+    requires { AreBoardFields fields.now }
+    ensures { block.new ≡ blocks.block_text (state_of fields.now) }
+{
+    in_range(fields);
+    let picture = put_at(block, 0, &front(&NO_DIGEST, fields));
+    let end = put_lines(block, picture, fields.lines);
+    put_at(block, end, &NO_DIGEST);
+}
