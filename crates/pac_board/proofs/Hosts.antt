@@ -15,7 +15,7 @@ use Rattle.pac_board_model.proofs.HostCarried.{hosts-agree}
 use Rattle.pac_board_model.proofs.HostKeeps.{hosts-are-line-exact}
 use Rattle.pac_board_model.proofs.Told.{view-tells}
 use Rattle.pac_board_model.proofs.Walks.{ended-stays, going-steps, step-timely, not-both}
-use Rattle.pac_board.specs.declared.due.Due.{Due}
+use Rattle.pac_machine.specs.declared.due.Due.{Due}
 use Rattle.pac_board.specs.declared.exec.Ran.{Ran}
 use Rattle.pac_board.specs.declared.fault.Fault.{Fault}
 use Rattle.pac_board.specs.declared.fault.Fault.TheVariants.{TooFar, Refused}

@@ -1,16 +1,9 @@
-pub mod Moments
-pub mod Events
-pub mod Processor
-pub mod Recomposed
 pub mod Sinks
 pub mod Walked
 pub mod Turns
-pub mod Bursts
-pub mod Waits
-pub mod Trails
-pub mod Noted
 pub mod Rests
 pub mod Singles
+pub mod Told
 pub mod Stretches
 pub mod Pieces
 pub mod Parts
@@ -25,3 +18,4 @@ pub use Rattle.pac_board_model.proofs.Resumed
 pub use Rattle.pac_board_model.proofs.ResumedTimes
 pub use Rattle.pac_board_model.proofs.Runs
 pub use Rattle.pac_board_model.proofs.Walks
+pub use Rattle.pac_machine.proofs.Noted

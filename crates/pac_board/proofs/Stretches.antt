@@ -15,8 +15,9 @@ use Rattle.pac_board.specs.Sinks.{Giving, by, TookAll}
 use Rattle.pac_board.specs.State.{BoardValue, nothing_due, due_outputs}
 use Rattle.pac_board.specs.Calls.{next_of, next_from_moment, board_after_step, once_at, outputs_in, with_due, IsOfferRefused}
 use Rattle.pac_board.specs.Turns.{way_at, board_after_walk, HasGone, IsWayRefused}
-use Rattle.pac_board.specs.Bursts.{stretch_end, stretch_of, IsStretched, IsQuietUntil, IsLastTurn, HasStretched, IsStretchRefused}
-use Rattle.pac_board.proofs.Bursts.{silent-before}
+use Rattle.pac_machine.specs.Bursts.{stretch_end}
+use Rattle.pac_board.specs.Stretches.{stretch_of, IsStretched, IsQuietUntil, IsLastTurn, HasStretched, IsStretchRefused}
+use Rattle.pac_machine.proofs.Bursts.{silent-before}
 use Rattle.pac_board.proofs.Pieces.{two-parts}
 use Rattle.pac_board.proofs.Sinks.{cut-along}
 use Rattle.pac_board.proofs.Turns.{IsUnderway, after-outputs, refused-goes, stepped-moved}

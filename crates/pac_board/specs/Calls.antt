@@ -5,26 +5,23 @@ use Rattle.pac_cpu.specs.declared.once.Once.{Once}
 use Rattle.pac_cpu.specs.declared.once.Once.TheVariants.{Stepped, Stopped}
 use Rattle.pac_board_model.specs.BoardView.{BoardView}
 use Rattle.pac_board_model.specs.Output.{Output, Image}
-use Rattle.pac_board_model.specs.Step.{Moment, Next, Goes, Ends, step}
+use Rattle.pac_board_model.specs.Step.{Next, Goes, Ends, step}
 use Rattle.pac_board_model.specs.Trace.{by_view}
 use Rattle.pac_board_model.specs.Walk.{Walk, walk, walk_to}
-use Rattle.pac_board.specs.declared.due.Due.{Due}
+use Rattle.pac_machine.specs.declared.due.Due.{Due}
+pub use Rattle.pac_machine.specs.Standing.{next_from_moment, now_after}
 use Rattle.pac_board.specs.declared.fault.Fault.{Fault}
 use Rattle.pac_board.specs.declared.fault.Fault.TheVariants.{TooFar, Refused}
 use Rattle.pac_board.specs.declared.fault.Idle.{Idle}
 use Rattle.pac_board.specs.declared.fault.Idle.TheVariants.{OutputsDue, TimeIsOver}
 use Rattle.pac_board.specs.declared.exec.Ran.{Ran}
 use Rattle.pac_board.specs.Sinks.{Giving, TookAll, RefusesAt, Cut}
-use Rattle.pac_map.specs.RomParts.{Parts}
 use Rattle.pac_board.specs.State.{BoardValue, due_with, due_outputs, nothing_due, latest, most_asked}
 use Rattle.pac_board.specs.State.{time_of, steps_counted}
 
 -- ---- one step
 
--- what the next step from a moment comes to, and the next one of a board
-abbrev pub next_from_moment : Parts → Moment BoardView → Next BoardView
-next_from_moment set now = step (by_view set) now
-
+-- what the next step of a board comes to
 abbrev pub next_of : BoardValue → Next BoardView
 next_of board = next_from_moment board.set board.state.now
 
@@ -39,11 +36,6 @@ once_at (Ends stop) time = Stopped stop
 
 abbrev pub once_of_board : BoardValue → Once
 once_of_board board = once_at (next_of board) board.state.now.time
-
--- the moment after a step; a stop changes nothing
-abbrev pub now_after : Next BoardView → Moment BoardView → Moment BoardView
-now_after (Goes now outputs kind) before = now
-now_after (Ends stop) before = before
 
 -- the board after a step, with what is due then; a stop changes nothing
 abbrev pub board_after_step : Next BoardView → BoardValue → Due → BoardValue

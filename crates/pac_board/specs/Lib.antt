@@ -1,14 +1,11 @@
 pub mod Sinks
 pub mod State
 pub mod Boxed
-pub mod Events
 pub mod Calls
 pub mod Turns
-pub mod Bursts
+pub mod Stretches
 pub mod Rests
-pub mod Trails
 pub mod Laws
-pub mod Fields
 pub mod Kept
 pub mod Hosts
 pub use Rattle.pac_cpu.specs.Instructions
@@ -26,7 +23,7 @@ pub use Rattle.pac_picture.specs.Colours
 pub use Rattle.pac_picture.specs.State as PictureState
 pub use Rattle.pac_picture.specs.Tabulate
 pub use Rattle.pac_picture.specs.Tiles
-pub use Rattle.pac_wave.specs.Wave
+pub use Rattle.pac_machine.specs.Wave
 pub use Rattle.pac_map.specs.Contents as MemoryContents
 pub use Rattle.pac_map.specs.Entry
 pub use Rattle.pac_map.specs.Fields as MemoryFields
@@ -45,3 +42,9 @@ pub use Rattle.pac_board_model.specs.Shown
 pub use Rattle.pac_board_model.specs.Step
 pub use Rattle.pac_board_model.specs.Trace
 pub use Rattle.pac_board_model.specs.Walk
+pub use Rattle.pac_machine.specs.Bursts
+pub use Rattle.pac_machine.specs.Fields
+pub use Rattle.pac_machine.specs.Trails
+pub use Rattle.pac_machine.specs.declared.due.Due
+pub use Rattle.pac_machine.specs.declared.fields.Fields as BoardFields
+pub use Rattle.pac_machine.specs.declared.trail.PastStep

@@ -3,15 +3,15 @@
 ghost use Rattle.std.specs.Prelude.{◌≡◌, ◌≤◌, ◌+◌, IfOk, IfErr};
 ghost use Rattle.pac_map.specs.Inputs.{mask};
 ghost use Rattle.pac_map.specs.Contents.{read_of};
+ghost use Rattle.pac_map.specs.RomParts.{IsWhole, parts_of, zero_parts};
 ghost use Rattle.pac_map.specs.View.{held_with, held_without};
 ghost use Rattle.pac_picture.specs.State.{palette_of};
 ghost use Rattle.pac_board.specs.State as state;
 
-use crate::due::Due;
 use crate::fault::InitRefused;
-use crate::machine::Machine;
 use pac_cpu::Regs;
-use pac_map::{Inputs, RomSet};
+use pac_machine::{Due, Machine};
+use pac_map::{Inputs, Raw, RomSet};
 use pac_picture::Picture;
 use std::alloc::Global;
 use std::marker::Model;
@@ -53,6 +53,26 @@ impl Board {
             due: Due::NOTHING,
             made: 0,
         }
+    }
+
+    /// The board at power-on with ROMs of zeros, over which others are put, and the byte of the DIP switches. Takes no memory.
+    pub fn without_roms(switches: u8) -> Board
+        ensures { result ≡ state.power_on_board zero_parts switches }
+    {
+        Board {
+            machine: Machine::without_roms(switches),
+            asked: 0,
+            due: Due::NOTHING,
+            made: 0,
+        }
+    }
+
+    /// Takes other ROMs, in place: a program of 16,384 bytes, and the other parts.
+    pub fn put_roms(&mut self, program: &[u8], raw: &Raw)
+        requires { IsWhole (parts_of program.now raw.now) }
+        ensures { self.new ≡ record self.old { set = parts_of program.now raw.now } }
+    {
+        self.machine.put_roms(program, raw);
     }
 
     /// The same in a block of memory. Refused for want of memory alone; the set then comes back.

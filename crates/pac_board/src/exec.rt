@@ -1,26 +1,23 @@
 //! The calls that make steps, and offer what they give to a sink.
 
 ghost use Rattle.std.specs.Prelude.{◌≡◌, ◌<◌, ◌≤◌, ◌^◌, [], true};
-ghost use Rattle.pac_board.specs.State.{latest, due_outputs, nothing_due, steps_counted};
+ghost use Rattle.pac_machine.specs.Standing.{latest, nothing_due};
+ghost use Rattle.pac_board.specs.State.{due_outputs, steps_counted};
 ghost use Rattle.pac_board.specs.Calls.{Offers, IsAdvanced, Advances, StepsOnce, Executes};
 ghost use Rattle.pac_board.specs.Sinks.{by};
 ghost use Rattle.pac_board.specs.Turns.{Turns, GoesTo};
-ghost use Rattle.pac_board.specs.Bursts.{IsStretched, Stretches};
+ghost use Rattle.pac_board.specs.Stretches.{IsStretched, Stretches, IsTold};
 ghost use Rattle.pac_board.specs.Rests.{waits, HasRested};
-ghost use Rattle.pac_board.specs.Trails.{IsTold};
 
 use crate::board::Board;
-use crate::due::Due;
 use crate::fault::{Fault, Idle};
+use crate::offer::offer;
 use crate::sink::{Refused, Sink};
-use crate::trail::Trail;
 use pac_cpu::{Once, Stop};
+use pac_machine::{Due, MOST_ASKED, Trail};
 
 /// The time, in T-states, from which on no step is begun (this profile).
 pub const LATEST: u64 = 1 << 52;
-
-/// The most microseconds that are asked of a board (this profile).
-pub const MOST_ASKED: u64 = 1 << 50;
 
 /// What a call for some microseconds came to.
 #[derive(Clone, Copy)]
@@ -56,7 +53,7 @@ impl Board {
     pub fn offer<S: Sink>(&mut self, sink: &mut S) -> Result<(), Refused>
         ensures { Offers (by S.took S.refused) self.old sink.old result self.new sink.new }
     {
-        self.due.offer(self.machine.picture(), sink)
+        offer(&mut self.due, self.machine.picture(), sink)
     }
 
     /// Does one step, whose outputs are due then. Where outputs are due already, or the time is over, it does nothing.
@@ -140,7 +137,11 @@ impl Board {
         requires nothing { due_outputs self.old ≡ [] }
         ensures { IsStretched self.old limit result self.new }
     {
-        self.go_on_told(limit, &mut None)
+        let before = self.machine.steps();
+        let (stop, due) = self.machine.stretch_untold(limit);
+        note(&mut self.due, due);
+        count(&mut self.made, self.machine.steps() - before);
+        stop
     }
 
     /// Does the same, and tells each step, where there is a trail.
@@ -152,16 +153,29 @@ impl Board {
         ensures made { IsStretched self.old limit result self.new }
         ensures told { IsTold self.old limit self.new told.old told.new }
     {
-        let before = self.machine.steps();
+        let begun = self.machine.steps();
         let (stop, due) = self.machine.stretch(limit, told);
         note(&mut self.due, due);
-        count(&mut self.made, self.machine.steps() - before);
+        count(&mut self.made, self.machine.steps() - begun);
         stop
     }
 
-    /// Does the same, and offers what the last step gives.
+    /// Does the steps, and offers what the last of them gives.
     #[inline(always)]
-    fn stretch<S: Sink>(
+    fn stretch<S: Sink>(&mut self, limit: u64, sink: &mut S) -> Result<Option<Stop>, Refused>
+        requires early { self.old.state.now.time < limit }
+        requires limit { limit ≤ latest }
+        requires nothing { due_outputs self.old ≡ [] }
+        ensures { Stretches (by S.took S.refused) self.old limit sink.old result self.new sink.new }
+    {
+        let stop = self.go_on(limit);
+        self.give(sink)?;
+        Ok(stop)
+    }
+
+    /// Does the same, and tells each step, where there is a trail.
+    #[inline(always)]
+    fn stretch_told<S: Sink>(
         &mut self,
         limit: u64,
         told: &mut Option<Trail>,
@@ -200,32 +214,36 @@ impl Board {
     }
 
     /// Does steps while the time is before a limit, up to a stop, and offers what each gives.
-    #[inline]
     fn run<S: Sink>(&mut self, limit: u64, sink: &mut S) -> Result<Option<Stop>, Refused>
         requires limit { limit ≤ latest }
         requires nothing { due_outputs self.old ≡ [] }
         requires made { self.old.made < 2 ^ 64 }
         ensures { GoesTo (by S.took S.refused) self.old limit sink.old result self.new sink.new }
     {
-        self.run_told(limit, &mut None, sink)
+        while self.time() < limit {
+            if let Some(stop) = self.stretch(limit, sink)? {
+                return Ok(Some(stop));
+            }
+        }
+        Ok(None)
     }
 
     /// Does the same, and tells each step, where there is a trail.
     fn run_told<S: Sink>(
         &mut self,
-        limit: u64,
+        end: u64,
         told: &mut Option<Trail>,
         sink: &mut S,
     ) -> Result<Option<Stop>, Refused>
-        requires limit { limit ≤ latest }
+        requires end { end ≤ latest }
         requires nothing { due_outputs self.old ≡ [] }
         requires made { self.old.made < 2 ^ 64 }
-        ensures made { GoesTo (by S.took S.refused) self.old limit sink.old result self.new sink.new }
-        ensures told { IsTold self.old limit self.new told.old told.new }
+        ensures made { GoesTo (by S.took S.refused) self.old end sink.old result self.new sink.new }
+        ensures told { IsTold self.old end self.new told.old told.new }
     {
-        while self.time() < limit {
-            if let Some(stop) = self.stretch(limit, told, sink)? {
-                return Ok(Some(stop));
+        while self.time() < end {
+            if let Some(met) = self.stretch_told(end, told, sink)? {
+                return Ok(Some(met));
             }
         }
         Ok(None)

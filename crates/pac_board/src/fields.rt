@@ -1,143 +1,14 @@
 //! A board made from its fields, as a save file has them, and told by them.
 
-ghost use Rattle.std.specs.Prelude.{◌≡◌, ◌≤◌, ◌<◌, ◌↔◌, IfOk, IfErr, true, length};
-ghost use Rattle.pac_wave.specs.Wave.{Fit20Bits, accumulators_of_list};
-ghost use Rattle.pac_board.specs.State.{most_asked, passed_lines, recomposed_view, with_view};
-ghost use Rattle.pac_board.specs.Fields.{moment_of, state_of, AreBoardFields};
-ghost use Rattle.pac_board.specs.Events.{IsUndrawn};
+ghost use Rattle.std.specs.Prelude.{◌≡◌, IfOk, IfErr};
+ghost use Rattle.pac_board.specs.State.{passed_lines, recomposed_view, restored_board, with_view};
+ghost use Rattle.pac_machine.specs.Fields.{state_of, AreBoardFields};
 
 use crate::board::Board;
-use crate::due::Due;
-use crate::exec::MOST_ASKED;
 use crate::fault::InitRefused;
-use crate::machine::{Machine, picture_of};
-use crate::timing::{FRAME_TICKS, HIDDEN_LINES, LINE_TICKS};
-use pac_cpu::{Cpu, Regs};
-use pac_map::{Map, Memory, RomSet};
-use pac_picture::{Lines, Picture};
-use pac_wave::Wave;
+use pac_machine::{Fields, Machine};
+use pac_map::RomSet;
 use std::alloc::Global;
-
-/// The fields of a board's state, as a save file has them.
-#[derive(Clone, Copy)]
-pub struct Fields<'a> {
-    /// The registers.
-    pub regs: Regs,
-    /// The time since power-on, in T-states, at most 2^52 + 22.
-    pub time: u64,
-    /// The steps since power-on, each of which takes 4 T-states at least.
-    pub steps: u64,
-    /// The microseconds asked for so far, at most 2^50.
-    pub asked: u64,
-    /// RAM and registers, latch, switches and inputs; the watchdog's count is below 16.
-    pub memory: pac_map::MemoryFields<'a>,
-    /// The voices' accumulators, each below 2^20.
-    pub accumulators: [u32; 3],
-    /// What is due.
-    pub due: Due,
-    /// The lines of the picture as they were last composed.
-    pub lines: &'a Lines,
-}
-
-/// Whether accumulators hold what they can.
-fn fit(accumulators: &[u32; 3]) -> bool
-    ensures { (result ≡ true) ↔ Fit20Bits (accumulators_of_list accumulators.now) }
-{
-    accumulators[0] < 0x10_0000 && accumulators[1] < 0x10_0000 && accumulators[2] < 0x10_0000
-}
-
-/// The time, in T-states, at which the latest step has ended (this profile).
-const LATEST_END: u64 = (1 << 52) + 22;
-
-impl Fields<'_> {
-    /// Whether a board can have these fields: each is in its range.
-    pub fn are_in_range(&self) -> bool
-        ensures { (result ≡ true) ↔ AreBoardFields self.now }
-    {
-        self.memory.are_in_range()
-            && self.memory.count < 16
-            && fit(&self.accumulators)
-            && self.steps <= self.time / 4
-            && self.time <= LATEST_END
-            && self.asked <= MOST_ASKED
-    }
-}
-
-/// A set's picture with the lines of these fields.
-#[inline(always)]
-fn picture_with(set: &RomSet, lines: &Lines) -> Picture
-    ensures { IsUndrawn set.now lines.now result }
-{
-    let mut picture = picture_of(set);
-    picture.copy_from(lines);
-    picture
-}
-
-impl Machine {
-    /// The machine of these fields, with a copy of this ROM set.
-    #[inline(always)]
-    fn of(set: &RomSet, fields: &Fields) -> Machine
-        requires { AreBoardFields fields.now }
-        ensures { result ≡ record { set = set.now; now = moment_of fields.now } }
-    {
-        let picture = picture_with(set, fields.lines);
-        Machine {
-            cpu: Cpu::with_regs(fields.regs),
-            map: Map {
-                set: set.copied(),
-                memory: Memory::of(&fields.memory),
-            },
-            wave: Wave::of(fields.accumulators),
-            picture,
-            clock: fields.time,
-            steps: fields.steps,
-        }
-    }
-
-    /// The fields, with the microseconds asked for and what is due.
-    fn fields(&self, asked: u64, due: Due) -> Fields
-        requires { asked ≤ most_asked }
-        ensures fields { state_of result ≡ record { now = self.now.now; asked = asked; due = due } }
-        ensures in_range { AreBoardFields result }
-    {
-        Fields {
-            regs: self.cpu.regs(),
-            time: self.clock,
-            steps: self.steps,
-            asked,
-            memory: self.map.memory.fields(),
-            accumulators: self.wave.accumulators(),
-            due,
-            lines: self.picture.lines(),
-        }
-    }
-
-    /// How many lines of the picture have passed since the last blank.
-    fn passed(&self) -> u8
-        ensures passed { result ≡ passed_lines self.now.now.time }
-        ensures lines { result < length self.now.now.board.lines }
-    {
-        // the contract of reading any row tells that all of them are there
-        let _top = self.picture.row(0);
-        (self.clock % FRAME_TICKS / LINE_TICKS).saturating_sub(HIDDEN_LINES) as u8
-    }
-
-    /// Composes the lines that have passed since the last blank from what the memory keeps now.
-    fn recompose(&mut self)
-        ensures { self.new ≡ record {
-          set = self.old.set;
-          now = record self.old.now {
-            board = recomposed_view self.old.set self.old.now.board
-                (passed_lines self.old.now.time);
-          };
-        } }
-    {
-        let count = self.passed();
-        for y in 0..count {
-            self.compose(y);
-        }
-    }
-}
 
 impl Board {
     /// The board that has these fields, each in its range, with a copy of this ROM set. Takes no memory.
@@ -165,6 +36,16 @@ impl Board {
             Ok(board) => Ok(board),
             Err(_) => Err(InitRefused { set }),
         }
+    }
+
+    /// Becomes the board that has these fields, each in its range, in place; its ROM set and the count of its steps stay.
+    pub fn put_fields(&mut self, fields: &Fields)
+        requires { AreBoardFields fields.now }
+        ensures { self.new ≡ restored_board self.old (state_of fields.now) }
+    {
+        self.machine.put_fields(fields);
+        self.asked = fields.asked;
+        self.due = fields.due;
     }
 
     /// The fields of the board's state.

@@ -4,8 +4,7 @@ ghost use Rattle.std.specs.Prelude.{◌≡◌, IfOk};
 ghost use Rattle.pac_board.specs.State.{restored_board};
 
 use crate::board::Board;
-use crate::due::Due;
-use crate::frozen::Frozen;
+use pac_machine::{Due, Frozen};
 use std::alloc::{AllocError, Global};
 use std::marker::Model;
 

@@ -8,7 +8,7 @@ use Rattle.pac_board.specs.Calls.{with_due}
 use Rattle.pac_board.specs.Step.{Moment, step}
 use Rattle.pac_board.specs.Trace.{by_view}
 use Rattle.pac_board.specs.Walk.{Walk, walk}
-use Rattle.pac_board.specs.declared.due.Due.{Due}
+use Rattle.pac_board.specs.Due.{Due}
 use Rattle.pac_board.proofs.Walks.{open-is-late, walk-to-ends, step-timely, play-timely}
 use Rattle.pac_board.proofs.Sinks.{cut-along, cut-something}
 use Rattle.pac_board.specs.Sinks.{Giving, TookAll}

@@ -13,7 +13,7 @@ use Rattle.pac_board.specs.Trace.{by_view, next_with_inputs, moment_with_inputs}
 use Rattle.pac_board.specs.Trails.{noted_step, stepped, noted, IsNoted}
 use Rattle.pac_board.specs.Turns.{GoesTo, HasGone, IsWayRefused, board_after_walk, way_at}
 use Rattle.pac_board.specs.Walk.{Walk, walk, walk_after_step, has_ended}
-use Rattle.pac_board.specs.declared.trail.PastStep.{PastStep}
+use Rattle.pac_board.specs.PastStep.{PastStep}
 use Rattle.pac_board.proofs.Noted.{walk-stepped}
 use Rattle.pac_board.proofs.Walks.{not-both, ended-stays, going-steps, going-is-early, on-the-way, open-is-late, walk-to-ends}
 use Rattle.pac_board.proofs.Walks.{step-timely, play-timely}

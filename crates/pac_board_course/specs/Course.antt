@@ -8,7 +8,7 @@ use Rattle.pac_board.specs.Step.{Moment, Next, frame_ticks}
 use Rattle.pac_board.specs.Trace.{by_view, play_step}
 use Rattle.pac_board.specs.Walk.{Walk, walk, walk_to}
 use Rattle.pac_board.specs.State.{BoardValue, board_with_inputs, with_more_asked, nothing_due, steps_counted, latest, most_asked}
-use Rattle.pac_board.specs.declared.due.Due.{Due}
+use Rattle.pac_board.specs.Due.{Due}
 use Rattle.pac_board.specs.Calls.{with_due}
 use Rattle.pac_board_course.specs.declared.outcome.Outcome.{Outcome}
 

@@ -37,8 +37,8 @@ pub use Rattle.pac_board.specs.Stop
 pub use Rattle.pac_board.specs.Trace
 pub use Rattle.pac_board.specs.Trails
 pub use Rattle.pac_board.specs.Walk
-pub use Rattle.pac_board.specs.declared.due.Due
+pub use Rattle.pac_board.specs.Due
 pub use Rattle.pac_board.specs.declared.fault.Idle
 pub use Rattle.pac_board.specs.declared.fault.Idle.TheVariants as IdleVariants
 pub use Rattle.pac_board.specs.declared.sink.Refused
-pub use Rattle.pac_board.specs.declared.trail.PastStep
+pub use Rattle.pac_board.specs.PastStep

@@ -1,14 +1,16 @@
 -- Where all cells count as differing, all are counted.
 use Rattle.std.proofs.Common.{◌≡◌, ℕ, zero, suc, ◌+◌, ◌*◌, ◌<◌, Bool, true, List, [], length, map, refl, sym, ap, ◌∙◌, arith}
 use Rattle.std.proofs.Common.{get_or-set_other, sum}
+use Rattle.std.proofs.lemmas.Bool.{true≢false}
 use Rattle.std.specs.Prelude.{count_by}
 use Rattle.std.proofs.lemmas.List.{get_or-map, length-map}
 use Rattle.pac_num.specs.Tabulate.{tabulate}
+use Rattle.pac_picture.specs.declared.layer.Strip.{Strip}
 use Rattle.pac_picture.specs.declared.shadow.Shadow.{Shadow}
-use Rattle.pac_picture.specs.Picture.{VideoMemory}
+use Rattle.pac_picture.specs.Picture.{VideoMemory, VideoRoms}
 use Rattle.pac_picture.specs.Layer.{AreStale, cells_of, cell_differs, differing_cells, differing_in, all_differing, drawn_from, made_stale}
 use Rattle.pac_picture.specs.Layer.{shadow_at}
-use Rattle.pac_picture.specs.Layer.{shadow_from, stale_rows}
+use Rattle.pac_picture.specs.Layer.{shadow_from, stale_rows, IsLayer}
 use Rattle.pac_picture.specs.Laws.{StaleCellsAreDrawn, cell_row_of}
 use Rattle.pac_picture.proofs.Counts.{count-more, count-none}
 use Rattle.pac_picture.proofs.Layers.{sum-more, sum-none, stale-at, length-stale}
@@ -66,4 +68,14 @@ made-are-stale old new is high = record {
       let inside : row < length old = omega (arith, below, high) in
       ap (λ shadows. (shadow_at shadows row).stale) is
       ∙ ap (λ (shadow : Shadow). shadow.stale) (get_or-map made_stale old row (shadow_from [] []) (shadow_from [] []) inside);
+}
+
+-- a layer of which every cell counts as differing, whatever its ROMs are
+pub undrawn-layer : (roms : VideoRoms) (shadows : List Shadow) (strips : List (Strip (List (List (List ℕ))))) → AreStale shadows →
+    length strips ≡ 28 →
+    IsLayer roms shadows strips
+undrawn-layer roms shadows strips are high = record {
+  shadows_high = are.high;
+  strips_high = high;
+  drawn = λ row below fresh. absurd (true≢false (sym (are.each row below) ∙ fresh));
 }

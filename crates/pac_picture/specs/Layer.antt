@@ -52,6 +52,14 @@ pub record AreSized (roms : VideoRoms) : Type 0 where
   pub sprites : length roms.sprites ≡ sprite_rom_size
   pub lookup : length roms.lookup ≡ lookup_size
 
+-- ROMs of which each byte is 0
+unfoldable pub zero_roms : VideoRoms
+zero_roms = record {
+  tiles = replicate tile_rom_size 0;
+  sprites = replicate sprite_rom_size 0;
+  lookup = replicate lookup_size 0;
+}
+
 -- where a row of cells isn't stale, each of them is the tile that its bytes say, in the colour that they say
 abbrev pub IsDrawn : VideoRoms → Shadow → List (List (List ℕ)) → Type 0
 IsDrawn roms shadow cells =

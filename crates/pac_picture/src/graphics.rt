@@ -8,7 +8,7 @@ ghost use Rattle.pac_tiles.specs.Tiles as tile;
 ghost use Rattle.pac_sprites.specs.Sprites as sprite;
 ghost use Rattle.pac_colour.specs.Colours as colour_of;
 ghost use Rattle.pac_picture.specs.Picture.{sprite_number};
-ghost use Rattle.pac_picture.specs.Layer.{tile_pattern};
+ghost use Rattle.pac_picture.specs.Layer.{tile_pattern, zero_roms};
 ghost use Rattle.pac_picture.specs.Decoded.{tile_pair, sprite_values, ArePlaces, AreValues, AreNumbersOf};
 
 use std::marker::Model;
@@ -158,6 +158,27 @@ impl Graphics {
             sprites: copied(sprites),
             lookup: copied(lookup),
         }
+    }
+
+    /// Graphics of zeros, over which others are put.
+    #[tactic(auto, unfolding(crate::specs::Layer::zero_roms))]
+    pub(crate) fn zeroed() -> Graphics
+        ensures { result ≡ zero_roms }
+    {
+        Graphics {
+            tiles: [0; 4096],
+            sprites: [0; 4096],
+            lookup: [0; 256],
+        }
+    }
+
+    /// Becomes the graphics of these ROMs, in place.
+    pub(crate) fn put(&mut self, tiles: &[u8; 4096], sprites: &[u8; 4096], lookup: &[u8; 256])
+        ensures { self.new ≡ record { tiles = tiles.now; sprites = sprites.now; lookup = lookup.now } }
+    {
+        self.tiles = copied(tiles);
+        self.sprites = copied(sprites);
+        self.lookup = copied(lookup);
     }
 
     /// The colour numbers of a tile in a colour, line by line.

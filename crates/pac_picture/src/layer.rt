@@ -6,7 +6,7 @@ ghost use Rattle.pac_num.specs.Tabulate.{tabulate};
 ghost use Rattle.pac_tiles.specs.Tiles as tile;
 ghost use Rattle.pac_picture.specs.Layer.{cells_of, cell_differs, differing_cells, differing_in, drawn_from, shadow_at};
 ghost use Rattle.pac_picture.specs.Layer.{shadow_from, tile_pattern};
-ghost use Rattle.pac_picture.specs.Layer.{IsDrawn, all_differing, kept_dot, made_stale, stale_rows};
+ghost use Rattle.pac_picture.specs.Layer.{IsDrawn, all_differing, kept_dot, made_stale, stale_rows, zero_roms};
 
 use crate::graphics::Graphics;
 use crate::laws::{changed, is_same};
@@ -203,6 +203,29 @@ impl Layer {
             rows: repeated(Strip::of([[[0; 8]; 8]; COLUMNS])),
             shadows: repeated(Shadow::new()),
         }
+    }
+
+    /// A layer of ROMs of zeros, of which nothing is drawn.
+    pub(crate) fn zeroed() -> Layer
+        ensures { result ≡ record { roms = zero_roms; shadows = stale_rows } }
+    {
+        Layer {
+            graphics: Graphics::zeroed(),
+            rows: repeated(Strip::of([[[0; 8]; 8]; COLUMNS])),
+            shadows: repeated(Shadow::new()),
+        }
+    }
+
+    /// Takes other ROMs; every cell counts as differing then.
+    pub(crate) fn put_roms(&mut self, tiles: &[u8; 4096], sprites: &[u8; 4096], lookup: &[u8; 256])
+        ensures layer { self.new ≡ record {
+          roms = record { tiles = tiles.now; sprites = sprites.now; lookup = lookup.now };
+          shadows = map made_stale self.old.shadows;
+        } }
+        ensures high { length self.old.shadows ≡ tile.rows }
+    {
+        self.graphics.put(tiles, sprites, lookup);
+        make_stale(&mut self.shadows);
     }
 
     /// The ROMs.

@@ -78,7 +78,6 @@ impl Model for Lines {
 
 impl Lines {
     /// Lines of colour number 0 alone.
-    #[inline(always)]
     pub fn new() -> Lines
         ensures { result ≡ black }
     {

@@ -1,9 +1,9 @@
 //! The picture as a board keeps it.
 
-ghost use Rattle.std.specs.Prelude.{◌≡◌, ◌<◌, ◌/◌, ℕ, [], false, length, map, slice_index, slice_index_or, slice_set, EachIndex};
+ghost use Rattle.std.specs.Prelude.{◌≡◌, ◌<◌, ◌/◌, ℕ, [], false, length, map, replicate, slice_index, slice_index_or, slice_set, EachIndex};
 ghost use Rattle.pac_tiles.specs.Tiles as tile;
 ghost use Rattle.pac_colour.specs.Colours as colour;
-ghost use Rattle.pac_picture.specs.Layer.{AreStale, made_stale, stale_rows, cell_differs, shadow_at, cells_of};
+ghost use Rattle.pac_picture.specs.Layer.{AreStale, made_stale, stale_rows, cell_differs, shadow_at, cells_of, zero_roms};
 ghost use Rattle.pac_picture.specs.State.{IsPicture, black, palette_of, composed_picture, picture_with_line};
 
 use crate::bare::Bare;
@@ -78,6 +78,46 @@ impl Picture {
             bare: Bare::none(false),
             drawn: 0,
         }
+    }
+
+    /// A picture of colour number 0 alone, with ROMs and a colour PROM of zeros, over which others are put, and with no cell drawn.
+    pub fn zeroed() -> Picture
+        ensures picture { result ≡ record {
+          roms = zero_roms;
+          palette = palette_of (replicate 32 0);
+          lines = black;
+          shadows = stale_rows;
+          drawn = 0;
+        } }
+        ensures stale { AreStale result.shadows }
+    {
+        Picture {
+            layer: Layer::zeroed(),
+            palette: palette(&[0; 32]),
+            lines: Lines::new(),
+            bare: Bare::none(false),
+            drawn: 0,
+        }
+    }
+
+    /// Takes other ROMs and the colours of another colour PROM; every cell counts as differing then.
+    pub fn put_roms(
+        &mut self,
+        tiles: &[u8; 4096],
+        sprites: &[u8; 4096],
+        lookup: &[u8; 256],
+        colours: &[u8; 32],
+    )
+        ensures picture { self.new ≡ record self.old {
+          roms = record { tiles = tiles.now; sprites = sprites.now; lookup = lookup.now };
+          palette = palette_of colours.now;
+          shadows = map made_stale self.old.shadows;
+        } }
+        ensures stale { AreStale self.new.shadows }
+    {
+        self.bare = Bare::none(false);
+        self.layer.put_roms(tiles, sprites, lookup);
+        self.palette = palette(colours);
     }
 
     /// The lines as they were last composed or taken.

@@ -95,6 +95,34 @@ impl RomSet {
         }
     }
 
+    /// A set of zeros, over which another is put.
+    #[tactic(auto, unfolding(crate::specs::Parts::zero_parts))]
+    pub fn zeroed() -> RomSet
+        ensures { result ≡ spec.zero_parts }
+    {
+        RomSet {
+            program: [0; 16384],
+            tiles: [0; 4096],
+            sprites: [0; 4096],
+            colours: [0; 32],
+            lookup: [0; 256],
+            wave: [0; 256],
+        }
+    }
+
+    /// Becomes the set of these bytes, in place.
+    pub fn put(&mut self, program: &[u8], raw: &Raw)
+        requires { spec.IsWhole (spec.parts_of program.now raw.now) }
+        ensures { self.new ≡ spec.parts_of program.now raw.now }
+    {
+        self.program.copy_from_slice(program);
+        self.tiles.copy_from_slice(raw.tiles);
+        self.sprites.copy_from_slice(raw.sprites);
+        self.colours.copy_from_slice(raw.colours);
+        self.lookup.copy_from_slice(raw.lookup);
+        self.wave.copy_from_slice(raw.wave);
+    }
+
     /// The same set once more.
     #[inline(always)]
     pub fn copied(&self) -> RomSet

@@ -13,7 +13,7 @@ use Rattle.pac_board.proofs.LatchBits.{bits_of-byte_of}
 use Rattle.pac_board.specs.MemoryView.{View}
 use Rattle.pac_board.specs.RomParts.{Parts}
 use Rattle.pac_roms_manifest.specs.Sets.{digest_of}
-use Rattle.pac_board.specs.declared.due.Due.{Due}
+use Rattle.pac_board.specs.Due.{Due}
 use Rattle.pac_board.specs.State.{BoardState}
 use Rattle.pac_out.specs.Pieces.{joined_pieces}
 use Rattle.pac_state.specs.Text.{saved_word, number_of_mode, processor_bytes, control_bytes, due_bytes, sealed_file, body, save_text}

@@ -36,7 +36,7 @@ none-found : (digest bytes : List ℕ) → begins_with_magic bytes ≡ true → 
 unfolding load_fault
 none-found digest bytes first second third fourth fifth = rw (first, second, third, fourth, fifth) refl
 
-text-size : (version : ℕ) (set : Parts) (state : BoardState) → IsState state → length (save_text version set state) ≡ file_size
+pub text-size : (version : ℕ) (set : Parts) (state : BoardState) → IsState state → length (save_text version set state) ≡ file_size
 text-size version set state is =
     let long = length-body version (digest_of set) state (length-sha1 _) is.memory is.range.picture in
     let seal = length-sha1 (body version (digest_of set) state) in

@@ -8,7 +8,7 @@ use Rattle.std.specs.List.{flat_map}
 use Rattle.pac_lemmas.proofs.Pieces.{flat_map-split}
 use Rattle.pac_board.specs.MemoryView.{IsWellFormed}
 use Rattle.pac_board.specs.PictureState.{IsPicture}
-use Rattle.pac_board.specs.declared.fields.Fields.{Fields}
+use Rattle.pac_board.specs.BoardFields.{Fields}
 use Rattle.pac_board.specs.State.{BoardState}
 use Rattle.pac_out.specs.Pieces.{joined_pieces}
 use Rattle.pac_state.specs.Text.{file_front, body, written_version}

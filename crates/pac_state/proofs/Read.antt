@@ -2,7 +2,7 @@
 use Rattle.std.proofs.Common.{◌≡◌, ℕ, List, refl}
 use Rattle.pac_board.specs.Regs.{Regs}
 use Rattle.pac_board.specs.MemoryView.{View}
-use Rattle.pac_board.specs.declared.due.Due.{Due}
+use Rattle.pac_board.specs.Due.{Due}
 use Rattle.pac_board.specs.State.{BoardState}
 
 abbrev pub state : Regs → View → (first second third : ℕ) → List (List ℕ) → (time steps asked : ℕ) → Due → BoardState

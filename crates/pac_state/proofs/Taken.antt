@@ -3,7 +3,7 @@ use Rattle.std.proofs.Common.{◌≡◌, ℕ, ◌==◌, Bool, true, false, not, 
 use Rattle.std.proofs.Common.{List, length, Option, Some, None, refl, sym, subst}
 use Rattle.std.proofs.lemmas.Bool.{eqb-true}
 use Rattle.pac_board.specs.PictureState.{IsPicture}
-use Rattle.pac_board.specs.declared.fields.Fields.{Fields}
+use Rattle.pac_board.specs.BoardFields.{Fields}
 use Rattle.pac_board.specs.Fields.{state_of, AreBoardFields}
 use Rattle.pac_board.specs.State.{BoardState}
 use Rattle.pac_state.specs.declared.fault.LoadFault.{LoadFault}

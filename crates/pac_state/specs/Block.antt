@@ -1,7 +1,7 @@
 -- To be believed: the block in which a host keeps a board's state (this profile): the text of a state file of the version that is
 -- written, with 20 zeros in place of each of its digests. The ROM set is handed in beside it.
 use Rattle.std.specs.Prelude.{◌≡◌, ℕ, List, ◌++◌, replicate, Option, Some, None}
-use Rattle.pac_board.specs.declared.fields.Fields.{Fields}
+use Rattle.pac_board.specs.BoardFields.{Fields}
 use Rattle.pac_board.specs.Fields.{state_of, AreBoardFields}
 use Rattle.pac_board.specs.State.{BoardState}
 use Rattle.pac_state.specs.Text.{body, written_version}

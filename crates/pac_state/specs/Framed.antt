@@ -1,6 +1,6 @@
 -- For proofs: what a block has around the fields of its state, and what is read out of a file of the right size.
 use Rattle.std.specs.Prelude.{◌≡◌, ℕ, List, Option, Some, None}
-use Rattle.pac_board.specs.declared.fields.Fields.{Fields}
+use Rattle.pac_board.specs.BoardFields.{Fields}
 use Rattle.pac_board.specs.Fields.{state_of, AreBoardFields}
 use Rattle.pac_state.specs.Text.{magic, written_version}
 use Rattle.pac_state.specs.Reading.{bytes_at_place, state_in}

@@ -9,7 +9,7 @@ use Rattle.pac_board.specs.Regs.{Regs}
 use Rattle.pac_num.specs.Tabulate.{tabulate}
 use Rattle.pac_board.specs.Tiles.{width, height}
 use Rattle.pac_board.specs.MemoryView.{View}
-use Rattle.pac_board.specs.declared.due.Due.{Due}
+use Rattle.pac_board.specs.Due.{Due}
 use Rattle.pac_board.specs.State.{BoardState}
 
 -- so many bytes from a place on

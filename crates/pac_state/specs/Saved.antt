@@ -140,6 +140,11 @@ ReadsFile set bytes (Err fault) = record {
   of_file : fault ≢ NoMemory;
 }
 
+-- the board that is left where a file was taken
+abbrev pub board_left : Result (Unit {0}) LoadFault → BoardValue → Result BoardValue LoadFault
+board_left (Ok done) board = Ok board
+board_left (Err fault) board = Err fault
+
 -- a board read from the fields of a file, before lines are brought up, where nothing was found wrong before those fields
 abbrev pub ReadsState : Parts → List ℕ → Result BoardValue LoadFault → Type 0
 ReadsState set bytes (Ok board) = record {

@@ -11,7 +11,7 @@ use Rattle.pac_board.specs.Regs.{Regs}
 use Rattle.pac_board.specs.MemoryView.{View}
 use Rattle.pac_board.specs.RomParts.{Parts}
 use Rattle.pac_roms_manifest.specs.Sets.{digest_of}
-use Rattle.pac_board.specs.declared.due.Due.{Due}
+use Rattle.pac_board.specs.Due.{Due}
 use Rattle.pac_board.specs.State.{BoardState}
 
 -- numbers of 2, 4 and 8 bytes

@@ -6,6 +6,7 @@ mod blocks;
 mod fault;
 mod front;
 mod header;
+mod in_place;
 pub mod laws;
 mod loading;
 mod ranges;
@@ -15,5 +16,6 @@ mod sizes;
 
 pub use block::{read_block, write_block};
 pub use fault::{LoadFault, LoadRefused};
+pub use in_place::read_file_into;
 pub use loading::{load, read_file};
 pub use saving::save;

@@ -14,14 +14,14 @@ use pac_roms_manifest::digest;
 use std::alloc::Global;
 
 /// What is wrong with a file for a set, before any field of the state is looked at.
-fn checked(bytes: &[u8], set: &RomSet) -> Option<LoadFault>
+pub(crate) fn checked(bytes: &[u8], set: &RomSet) -> Option<LoadFault>
     ensures { result ≡ saved.load_fault (digest_of set.now) bytes.now }
 {
     fault_of(&digest(set), bytes)
 }
 
 /// Composes the lines that have passed where the board was in a file of version 1.
-fn bring_up(board: &mut Board, version: u16)
+pub(crate) fn bring_up(board: &mut Board, version: u16)
     ensures { board.new ≡ saved.upgraded_board version board.old }
 {
     if version == 1 {

@@ -1,7 +1,7 @@
 -- A single step is the first of a stretch.
 use Rattle.std.proofs.Common.{◌+◌, ◌-◌, ◌<◌, ◌^◌, ap, sym, arith, rules, Option}
 use Rattle.pac_cpu.specs.declared.once.Stop.{Stop}
-use Rattle.pac_board.specs.Bursts.{IsStretched}
+use Rattle.pac_board.specs.Stretches.{IsStretched}
 use Rattle.pac_board.proofs.Singles.{single-short, steps-alone, told_once}
 use Rattle.pac_board.proofs.board.Board.go.Goals as goal
 

@@ -1,13 +1,13 @@
 -- The count of steps only grows.
-use Rattle.std.proofs.Common.{◌≡◌, ap, arith, rules}
+use Rattle.std.proofs.Common.{ap, arith, rules}
 use Rattle.pac_board_model.specs.BoardView.{BoardView}
 use Rattle.pac_board_model.specs.Step.{Moment, step}
 use Rattle.pac_board_model.specs.Trace.{by_view}
 use Rattle.pac_board_model.proofs.Walks.{step-timely}
-use Rattle.pac_board.specs.Bursts.{MakesStretch, stretch_end}
-use Rattle.pac_board.specs.Trails.{IsNoted}
+use Rattle.pac_machine.specs.Bursts.{MakesStretch, stretch_end}
+use Rattle.pac_machine.specs.Trails.{IsNoted}
 use Rattle.pac_board.proofs.Walked.{walked-after}
-use Rattle.pac_board.proofs.Noted.{board-noted}
+use Rattle.pac_board.proofs.Told.{board-noted}
 use Rattle.pac_board.proofs.board.Board.go_on_told.Goals as goal
 
 pub overflow_sub-steps : goal.overflow_sub-steps

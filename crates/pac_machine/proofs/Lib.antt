@@ -1,0 +1,11 @@
+pub mod Moments
+pub mod Events
+pub mod Processor
+pub mod Recomposed
+pub mod Bursts
+pub mod NextKinds
+pub mod Waits
+pub mod Trails
+pub mod Notes
+pub mod Noted
+pub mod Noting

@@ -1,0 +1,20 @@
+//! The machine below a board's calls: the processor on its bus, the voices and the picture at a time, whose steps go from one sample
+//! to the next, with what they give out; a moment of it that is kept, its fields, and its last steps.
+#![tactic(auto)]
+
+mod due;
+mod fields;
+mod frozen;
+mod machine;
+mod note;
+mod ring;
+mod sockets;
+mod timing;
+mod trail;
+
+pub use due::Due;
+pub use fields::{Fields, MOST_ASKED};
+pub use frozen::Frozen;
+pub use machine::Machine;
+pub use timing::{FRAME_SAMPLES, FRAME_TICKS, SAMPLE_TICKS};
+pub use trail::{PastStep, Trail};

@@ -1,0 +1,17 @@
+use Rattle.std.proofs.Common.{ap}
+use Rattle.pac_picture.specs.Layer.{LayerState}
+use Rattle.pac_picture.specs.State.{palette_of}
+use Rattle.pac_picture.proofs.Places.{length-is}
+use Rattle.pac_picture.proofs.Stale.{new-stale}
+use Rattle.pac_picture.proofs.BareLines.{none-bare}
+use Rattle.pac_picture.proofs.picture.Picture.zeroed.Goals as goal
+
+pub invariant_of-result : goal.invariant_of-result
+unfolding palette_of
+invariant_of-result c = record {
+  colours = length-is c.palette.result 16 _ c.palette.ensures;
+  bare = none-bare c.none.result.lines c.none.result.flip c.zeroed.result.roms c.zeroed.result.shadows c.new.result c.none.ensures.lines;
+}
+
+pub returns-clause-stale : goal.returns-clause-stale
+returns-clause-stale c = new-stale c.zeroed.result.shadows (ap (λ (layer : LayerState). layer.shadows) c.zeroed.ensures)
