@@ -14,6 +14,7 @@ pub mod Runs
 pub mod RunsKeep
 pub mod Resumed
 pub mod ResumedTimes
+pub mod WalkTimes
 pub mod Outputs
 pub mod LinesPlaced
 pub mod LinesComposed

@@ -37,7 +37,7 @@ module _ {Board : Type 0} (ask : Questions Board) (given : List Output) (before 
   HasSounds : ℕ → StepProgress Board → Type 0
   HasSounds count met = sound_count (given ++ met.outputs) + before ≡ count
 
-  moment-sounds : (time moment : ℕ) (met : StepProgress Board) → moment ≡ suc time
+  pub moment-sounds : (time moment : ℕ) (met : StepProgress Board) → moment ≡ suc time
       → sound_count (given ++ met.outputs) + before ≡ time / sample_ticks
       → sound_count (given ++ (at_moment ask moment met).outputs) + before ≡ moment / sample_ticks
   unfolding HasSounds
@@ -64,7 +64,7 @@ module _ {Board : Type 0} (ask : Questions Board) (given : List Output) (before 
   HasPictures : ℕ → StepProgress Board → Type 0
   HasPictures count met = picture_count (given ++ met.outputs) + before ≡ count
 
-  moment-pictures : (time moment : ℕ) (met : StepProgress Board) → moment ≡ suc time
+  pub moment-pictures : (time moment : ℕ) (met : StepProgress Board) → moment ≡ suc time
       → picture_count (given ++ met.outputs) + before ≡ time / frame_ticks
       → picture_count (given ++ (at_moment ask moment met).outputs) + before ≡ moment / frame_ticks
   unfolding HasPictures

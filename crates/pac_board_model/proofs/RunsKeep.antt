@@ -189,6 +189,28 @@ module _ {Board : Type 0} (ask : Questions Board) (Told : ℕ → List Output �
   unfolding WalkTold
   walk-told held limit from n told = walk-kept held limit from n told
 
+  -- a walk without a script keeps it too
+  plain-onward-told : (w : Walk Board) (stop : Option Stop) (late : Bool) → WalkTold w → WalkTold (onward_if (step ask) w stop late)
+  unfolding WalkTold
+  plain-onward-told w (Some stop) late told = told
+  plain-onward-told w None true told = told
+  plain-onward-told w None false told =
+      let part = cpu_step (surroundings ask w.now.board) w.now.regs (ask.request w.now.board) in
+      step-told w (step ask w.now) (cpu-step-told w.now w.outputs part told) told
+
+  plain-walk-kept : (limit : ℕ) (from : Moment Board) (n : ℕ) → Told from.time [] from.board → WalkTold (walk (step ask) limit from n)
+  unfolding WalkTold
+  plain-walk-kept limit from zero told = told
+  plain-walk-kept limit from (suc n) told =
+      let w = walk (step ask) limit from n in
+      plain-onward-told w w.stop (nat_le limit w.now.time) (plain-walk-kept limit from n told)
+
+  pub plain-walk-told : (limit : ℕ) (from : Moment Board) (n : ℕ) → Told from.time [] from.board
+      → let w = walk (step ask) limit from n in
+      Told w.now.time w.outputs w.now.board
+  unfolding WalkTold
+  plain-walk-told limit from n told = plain-walk-kept limit from n told
+
   -- and so do a run and a play that is taken up
   pub run-told : (play : Play) (board : Board) (index : ℕ) → Told 0 [] board
       → let run = run_at ask play board index in

@@ -19,6 +19,7 @@ use Rattle.pac_board_model.specs.BoardView.{BoardView, IsBoard, power_on_board_v
 use Rattle.pac_board_model.specs.History.{read, board_after_entries, tile_at, colour_at, work_at, history_attributes, history_coordinates}
 use Rattle.pac_board_model.specs.History.{history_registers, history_inputs}
 use Rattle.pac_board_model.specs.Queries.{bit_at, history_vector, history_request, blanks_since, is_reset_due}
+use Rattle.pac_board_model.specs.Output.{sound_count, picture_count}
 use Rattle.pac_board_model.specs.Shown.{accumulators_at, memory_at, lines_at, history_outputs, sample_count, blank_count}
 use Rattle.pac_board_model.specs.Step.{Questions, Moment, Next, Goes, Ends, StepProgress, note, line_event, step, line_ticks, frame_ticks}
 use Rattle.pac_board_model.specs.Step.{sample_ticks}
@@ -248,6 +249,19 @@ pub record GoesOn {Board : Type 0} (ask : Questions Board) (limit tries : ℕ) (
 
 abbrev pub WalksGoOn : Type 0 → Type 0
 WalksGoOn Board = (ask : Questions Board) (limit tries : ℕ) (from : Moment Board) → GoesOn ask limit tries from
+
+-- A walk gives a sample at each multiple of 32 T-states that it goes through, and a picture at each of 50,688. From its limit on it does
+-- no step; before it, its last step begins before it.
+pub record IsWalkTimed {Board : Type 0} (ask : Questions Board) (limit tries : ℕ) (from : Moment Board) : Type 0 where
+  pub samples : sound_count (walk (step ask) limit from tries).outputs + from.time / sample_ticks
+      ≡ (walk (step ask) limit from tries).now.time / sample_ticks
+  pub pictures : picture_count (walk (step ask) limit from tries).outputs + from.time / frame_ticks
+      ≡ (walk (step ask) limit from tries).now.time / frame_ticks
+  pub over : limit ≤ from.time → (walk (step ask) limit from tries).now ≡ from
+  pub last : from.time < limit → (walk (step ask) limit from tries).now.time < limit + most_ticks
+
+abbrev pub WalksAreTimed : Type 0 → Type 0
+WalksAreTimed Board = (ask : Questions Board) (limit tries : ℕ) (from : Moment Board) → IsWalkTimed ask limit tries from
 
 -- ---- a run frame by frame
 

@@ -1,6 +1,6 @@
 //! Laws of steps, walks and runs.
 
-ghost use Rattle.pac_board_model.specs.Laws.{StepsAreTimely, RunsEnd, RunsAreJoined, WalksEnd, WalksJoin, WalksGoOn, RunsGoByFrames};
+ghost use Rattle.pac_board_model.specs.Laws.{StepsAreTimely, RunsEnd, RunsAreJoined, WalksEnd, WalksJoin, WalksGoOn, WalksAreTimed, RunsGoByFrames};
 
 /// A step that goes on takes 4 to 23 T-states.
 pub fn steps_are_timely<Board>()
@@ -30,6 +30,11 @@ pub fn walks_join<Board>()
 /// A walk that is taken up again goes on as it would have.
 pub fn walks_go_on<Board>()
     ensures { WalksGoOn Board }
+{}
+
+/// A walk has a sample for each 32 T-states and a picture for each 50,688, and its last step begins before its limit.
+pub fn walks_are_timed<Board>()
+    ensures { WalksAreTimed Board }
 {}
 
 /// A run is its frames, one played after another.

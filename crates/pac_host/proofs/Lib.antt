@@ -1,0 +1,5 @@
+pub mod Executed
+pub mod Filling
+pub mod OneBoard
+pub mod Sounding
+pub mod TimeParts

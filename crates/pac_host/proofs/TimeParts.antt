@@ -1,0 +1,148 @@
+-- Time of a host's board that is cut, and the room that it needs.
+use Rattle.std.proofs.Common.{◌≡◌, ◌≤◌, ◌<◌, ℕ, ℤ, ◌+◌, ◌-◌, ◌*◌, ◌/◌, Bool, true, false, nat_lt, if◌then◌else◌}
+use Rattle.std.proofs.Common.{List, [], ◌∷◌, ◌++◌, take, drop, Option, None, Some, refl, sym, ap, subst, ◌∙◌, arith}
+use Rattle.std.proofs.lemmas.Bool.Decides.{nat_tests}
+use Rattle.pac_board.specs.Calls.{course, outputs_given, board_after_run}
+use Rattle.pac_board.specs.Laws.{run_ticks, TimeCanBeCut}
+use Rattle.pac_board.specs.Output.{Output, Sound, Show, sound_count, picture_count}
+use Rattle.pac_board.specs.Step.{sample_ticks}
+use Rattle.pac_board.specs.State.{BoardState, BoardValue, time_of}
+use Rattle.pac_board.specs.Stop.{Stop}
+use Rattle.pac_state.specs.Block.{block_text}
+use Rattle.pac_state.specs.Reading.{state_in}
+use Rattle.pac_host.specs.declared.ran.PacRan.{PacRan}
+use Rattle.pac_host.specs.Codes.{ran_of}
+use Rattle.pac_host.specs.Host.{set_of_roms, samples_given, samples_due, HasExecuted}
+use Rattle.pac_host.specs.HostLaws.{stop_told, HostTimeCanBeCut, RoomIsBounded}
+use Rattle.pac_host.proofs.Sounding.{sounds-append, pictures-append, samples-append}
+
+-- ---- what is told of a run
+
+told-ticks : (ticks samples pictures : ℕ) (stop : Option Stop) → (ran_of ticks samples pictures stop).ticks ≡ ticks
+told-ticks ticks samples pictures None = refl
+told-ticks ticks samples pictures (Some stop) = refl
+
+told-samples : (ticks samples pictures : ℕ) (stop : Option Stop) → (ran_of ticks samples pictures stop).samples ≡ samples
+told-samples ticks samples pictures None = refl
+told-samples ticks samples pictures (Some stop) = refl
+
+told-pictures : (ticks samples pictures : ℕ) (stop : Option Stop) → (ran_of ticks samples pictures stop).pictures ≡ pictures
+told-pictures ticks samples pictures None = refl
+told-pictures ticks samples pictures (Some stop) = refl
+
+-- a stop alone
+abbrev told_stop : Option Stop → PacRan
+told_stop stop = ran_of 0 0 0 stop
+
+told-stop : (ticks samples pictures : ℕ) (stop : Option Stop) → stop_told (ran_of ticks samples pictures stop) ≡ told_stop stop
+told-stop ticks samples pictures None = refl
+told-stop ticks samples pictures (Some stop) = refl
+
+-- the samples stand at the head of the buffer
+head-is : (outputs : List Output) (rest : List ℤ) → take (sound_count outputs) (samples_given outputs ++ rest) ≡ samples_given outputs
+head-is [] rest = refl
+head-is (Sound sample ∷ more) rest = ap (λ samples. sample ∷ samples) (head-is more rest)
+head-is (Show image ∷ more) rest = head-is more rest
+
+-- ---- one call
+
+abbrev kept : List ℕ → BoardState → BoardValue
+kept roms state = record { set = set_of_roms roms; state = state; made = 0 }
+
+-- what a call for some time tells of a board in this state
+record Tells (roms : List ℕ) (microseconds : ℕ) (new : List ℕ) (samples : List ℤ) (ran : PacRan) (state : BoardState) : Type 0 where
+  text : new ≡ block_text (board_after_run (kept roms state) microseconds).state
+  taken : take ran.samples samples ≡ samples_given (outputs_given (kept roms state) microseconds)
+  count : ran.samples ≡ sound_count (outputs_given (kept roms state) microseconds)
+  pictures : ran.pictures ≡ picture_count (outputs_given (kept roms state) microseconds)
+  ticks : ran.ticks ≡ run_ticks (kept roms state) microseconds
+  stop : stop_told ran ≡ told_stop (course (kept roms state) microseconds).stop
+
+tells : (roms block : List ℕ) (microseconds : ℕ) (buffer : List ℤ) (new : List ℕ) (samples : List ℤ) (ran : PacRan)
+    → HasExecuted roms block microseconds buffer new samples ran → Tells roms microseconds new samples ran (state_in block)
+tells roms block microseconds buffer new samples ran done =
+    let board = kept roms (state_in block) in
+    let outputs = outputs_given board microseconds in
+    let ticks = run_ticks board microseconds in
+    let sounds = sound_count outputs in
+    let pictures = picture_count outputs in
+    let stop = (course board microseconds).stop in
+    let count : ran.samples ≡ sounds =
+    ap (λ (ran : PacRan). ran.samples) done.ran_is ∙ told-samples ticks sounds pictures stop in
+    record {
+      text = done.board.text;
+      taken = ap (λ n. take n samples) count ∙ ap (take sounds) done.samples_are ∙ head-is outputs (drop sounds buffer);
+      count = count;
+      pictures = ap (λ (ran : PacRan). ran.pictures) done.ran_is ∙ told-pictures ticks sounds pictures stop;
+      ticks = ap (λ (ran : PacRan). ran.ticks) done.ran_is ∙ told-ticks ticks sounds pictures stop;
+      stop = ap stop_told done.ran_is ∙ told-stop ticks sounds pictures stop;
+    }
+
+-- ---- two calls
+
+sum-is : (one other whole a b c : ℕ) → one ≡ a → other ≡ b → whole ≡ c → a + b ≡ c → one + other ≡ whole
+sum-is one other whole a b c first second both sum = omega (arith, first, second, both, sum)
+
+pub host-time-cut : TimeCanBeCut → HostTimeCanBeCut
+host-time-cut cuts roms block middle parts once one other buffer first_samples more second_samples wide whole_samples first second whole
+    first_done second_done whole_done =
+    let board = kept roms (state_in block) in
+    let between = board_after_run board one in
+    let a = tells roms block one buffer middle first_samples first first_done in
+    let b = subst (Tells roms other parts second_samples second) first_done.board.state_is
+    (tells roms middle other more parts second_samples second second_done) in
+    let c = tells roms block (one + other) wide once whole_samples whole whole_done in
+    let cut = cuts board one other in
+    let early = outputs_given board one in
+    let late = outputs_given between other in
+    let all = outputs_given board (one + other) in
+    record {
+      block = b.text ∙ ap (λ (board : BoardValue). block_text board.state) cut.board_is ∙ sym c.text;
+      samples =
+          ap (λ samples. samples ++ take second.samples second_samples) a.taken
+          ∙ ap (λ samples. samples_given early ++ samples) b.taken
+          ∙ sym (samples-append early late) ∙ ap samples_given cut.given_is ∙ sym c.taken;
+      counts =
+          sum-is first.samples second.samples whole.samples (sound_count early) (sound_count late) (sound_count all) a.count b.count c.count
+          (sym (sounds-append early late) ∙ ap sound_count cut.given_is);
+      pictures =
+          sum-is first.pictures second.pictures whole.pictures (picture_count early) (picture_count late) (picture_count all)
+          a.pictures b.pictures c.pictures (sym (pictures-append early late) ∙ ap picture_count cut.given_is);
+      ticks =
+          sum-is first.ticks second.ticks whole.ticks (run_ticks board one) (run_ticks between other) (run_ticks board (one + other))
+          a.ticks b.ticks c.ticks cut.ticks;
+      stop = b.stop ∙ ap told_stop cut.stop_is ∙ sym c.stop;
+    }
+
+-- ---- room
+
+-- the time of more microseconds is at most that of both and one T-state more
+limit-after : (asked microseconds : ℕ) → time_of (asked + microseconds) ≤ time_of asked + time_of microseconds + 1
+limit-after asked microseconds = omega arith
+
+-- there are 12 samples in 125 microseconds
+samples-in : (microseconds : ℕ) → time_of microseconds < 32 * (microseconds * 12 / 125) + 32
+samples-in microseconds = omega arith
+
+few-moments : (time limit samples : ℕ) → time < limit → limit ≤ time + 32 * samples + 32
+    → (limit - 1 + 23) / 32 - time / 32 ≤ samples + 2
+few-moments time limit samples before near = omega arith
+
+pub room-bounded : RoomIsBounded
+room-bounded state microseconds stands none = choose (nat_lt state.now.time (time_of (state.asked + microseconds))) refl
+  where
+    choose : (b : Bool) → nat_lt state.now.time (time_of (state.asked + microseconds)) ≡ b
+        → samples_due state.due.sample
+        + (if b then (time_of (state.asked + microseconds) - 1 + 23) / sample_ticks - state.now.time / sample_ticks else 0)
+        ≤ microseconds * 12 / 125 + 2
+    choose true early =
+        let before : state.now.time < time_of (state.asked + microseconds) = grind (arith, nat_tests) in
+        let near = limit-after state.asked microseconds in
+        let some = samples-in microseconds in
+        let few = few-moments state.now.time (time_of (state.asked + microseconds)) (microseconds * 12 / 125) before
+        (omega (arith, near, some, stands)) in
+        let due = ap samples_due none in
+        omega (arith, few, due)
+    choose false late =
+        let due = ap samples_due none in
+        omega (arith, due)

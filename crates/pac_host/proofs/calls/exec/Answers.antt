@@ -1,0 +1,38 @@
+-- What a call for some time leaves.
+use Rattle.std.proofs.Common.{ap, subst, refl, ◌∙◌}
+use Rattle.std.proofs.lemmas.Result.{err_from_is_err_and}
+use Rattle.pac_board.specs.Fields.{state_of}
+use Rattle.pac_board.specs.State.{BoardValue, restored_board}
+use Rattle.pac_host.specs.Host.{IsBlockOf, set_of_roms}
+use Rattle.pac_host.proofs.Executed.{executed, may-not-run}
+use Rattle.pac_host.proofs.calls.exec.Goals as goal
+
+pub check-requires : goal.check-requires
+check-requires c = record { in_range = c.in_ok-fields.ensures.in_range }
+
+pub returns-in_err-check : goal.returns-in_err-check
+returns-in_err-check c =
+    let opened = c.in_ok-fields.ensures in
+    let not =
+    may-not-run c.in_err-check.field-0.0 c.args.roms.now c.args.block.now.bytes c.args.microseconds c.args.samples.now _
+    c.in_ok-check_roms.ensures opened.is_block opened.state c.in_err-check.ensures in
+    let told = err_from_is_err_and c.from_residual-in_err-check.result c.from_residual-in_err-check.ensures.1 in
+    rw (told.1, told.2) (not, refl, refl, refl)
+
+pub put_fields-requires : goal.put_fields-requires
+put_fields-requires c = c.in_ok-fields.ensures.in_range
+
+pub returns : goal.returns
+returns c =
+    let roms = c.args.roms.now in
+    let opened = c.in_ok-fields.ensures in
+    let may = c.in_ok-check.ensures in
+    let state = state_of c.in_ok-fields.fields in
+    let board =
+    c.put_fields.ensures
+    ∙ ap (λ board. restored_board board state)
+    (c.put_roms.ensures ∙ ap (λ (board : BoardValue). record board { set = set_of_roms roms }) c.without_roms-machine.ensures) in
+    executed roms c.args.block.now.bytes c.args.microseconds c.args.samples.now (set_of_roms roms) _ c.put_fields.new.self
+    c.keep.new.block.bytes c.run.new.samples c.run.result (c.in_ok-check_roms.ensures, refl) opened.is_block opened.state may board
+    (subst (λ (board : BoardValue). IsBlockOf board.state c.keep.new.block.bytes) c.run.ensures.board c.keep.ensures)
+    c.run.ensures.samples c.run.ensures.ran

@@ -1,0 +1,6 @@
+pub mod Codes
+pub mod Handed
+pub mod Host
+pub mod HostLaws
+pub mod Buffers
+pub mod Sounding

@@ -1,0 +1,39 @@
+//! The block in which a host keeps its board: read, and written.
+
+ghost use Rattle.std.specs.Prelude.{◌≡◌, Ok, Err};
+ghost use Rattle.pac_host.specs.Handed.{OpensBlock};
+ghost use Rattle.pac_host.specs.Host.{IsBlockOf};
+
+use crate::codes::HostFault;
+use pac_board::{Board, Fields, Lines};
+use pac_state::laws::{blocks_are_read_back, boards_have_states, states_have_blocks};
+use pac_state::{read_block, write_block};
+
+/// A board's state, in a host's memory: a block of plain bytes that the host may copy and keep, and hand in again. Any bytes may be
+/// handed in; those that are no board's state are refused.
+#[repr(C)]
+#[derive(Drop)]
+pub struct PacBoard {
+    /// The block.
+    pub bytes: [u8; 67_756],
+}
+
+/// The fields in a block, if it is the block of a state.
+pub(crate) fn open<'a>(block: &'a PacBoard, lines: &'a mut Lines) -> Result<Fields<'a>, HostFault>
+    ensures { OpensBlock block.now.bytes result }
+{
+    match read_block(&block.bytes, lines) {
+        Some(fields) => Ok(fields),
+        None => Err(HostFault::NoBoard),
+    }
+}
+
+/// Writes a board's state over a block.
+pub(crate) fn keep(machine: &Board, block: &mut PacBoard)
+    ensures { IsBlockOf machine.now.state block.new.bytes }
+{
+    boards_have_states(machine);
+    write_block(&machine.fields(), &mut block.bytes);
+    blocks_are_read_back();
+    states_have_blocks();
+}

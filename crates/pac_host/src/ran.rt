@@ -1,0 +1,82 @@
+//! What is told of a run.
+
+ghost use Rattle.std.specs.Prelude.{◌≡◌};
+ghost use Rattle.pac_host.specs.Codes as codes;
+
+use pac_board::{Cause, Stop};
+
+/// What a call for some time came to. What isn't to be told is 0.
+#[repr(C)]
+#[derive(Clone, Copy)]
+pub struct PacRan {
+    /// The T-states that went by.
+    pub ticks: u64,
+    /// The samples at the head of the buffer.
+    pub samples: u32,
+    /// The pictures that were finished.
+    pub pictures: u32,
+    /// Why it ended before its time: 0 it didn't, 1 the bytes at PC are no documented instruction, 2 the interrupt vector is no RST.
+    pub stop: u32,
+    /// Where the processor stopped.
+    pub pc: u16,
+    /// The four bytes from there on.
+    pub bytes: [u8; 4],
+    /// The interrupt vector.
+    pub vector: u8,
+    /// 0.
+    pub zero: u8,
+}
+
+/// The number of a stop's cause.
+fn number(cause: Cause) -> u32
+    ensures { result ≡ codes.cause_number cause }
+{
+    match cause {
+        Cause::Opcode => 1,
+        Cause::Vector(_) => 2,
+    }
+}
+
+/// The interrupt vector, where it is the cause.
+fn vector(cause: Cause) -> u8
+    ensures { result ≡ codes.vector_told cause }
+{
+    match cause {
+        Cause::Opcode => 0,
+        Cause::Vector(byte) => byte,
+    }
+}
+
+/// What is told of so many T-states, samples and pictures, and of a stop.
+pub(crate) fn told(ticks: u64, samples: u32, pictures: u32, stop: Option<Stop>) -> PacRan
+    ensures { result ≡ codes.ran_of ticks samples pictures stop }
+{
+    match stop {
+        None => {
+            let bytes = [0; 4];
+            PacRan {
+                ticks,
+                samples,
+                pictures,
+                stop: 0,
+                pc: 0,
+                bytes,
+                vector: 0,
+                zero: 0,
+            }
+        }
+        Some(stop) => {
+            let bytes = stop.bytes;
+            PacRan {
+                ticks,
+                samples,
+                pictures,
+                stop: number(stop.cause),
+                pc: stop.pc,
+                bytes,
+                vector: vector(stop.cause),
+                zero: 0,
+            }
+        }
+    }
+}

@@ -1,0 +1,76 @@
+//! The ROMs that a host hands in.
+
+ghost use Rattle.std.specs.Prelude.{◌≡◌, ◌≤◌, ◌+◌, length};
+ghost use Rattle.pac_board.specs.RomParts.{IsWhole, parts_of};
+ghost use Rattle.pac_host.specs.Handed.{HaveLength};
+ghost use Rattle.pac_host.specs.Host as host;
+ghost use Rattle.pac_state.specs.Reading.{bytes_at_place};
+
+use crate::codes::HostFault;
+use pac_board::{Board, Raw};
+
+/// The ROMs in bytes: program, tiles, sprites, colour PROM, lookup PROM, wave PROM.
+const ROMS_SIZE: usize = 25_120;
+
+/// So many bytes from a place on.
+#[inline(always)]
+fn part(roms: &[u8], at: usize, size: usize) -> &[u8]
+    requires { at + size ≤ length roms.now }
+    ensures bytes { result.now ≡ bytes_at_place at size roms.now }
+    ensures size { length result.now ≡ size }
+{
+    &roms[at..at + size]
+}
+
+/// Whether a host's ROMs have their length.
+pub(crate) fn check_roms(roms: &[u8]) -> Result<(), HostFault>
+    ensures { HaveLength roms.now result }
+{
+    if roms.len() != ROMS_SIZE {
+        return Err(HostFault::WrongLength);
+    }
+    Ok(())
+}
+
+/// The program, and the other parts.
+#[inline(always)]
+fn parts(roms: &[u8]) -> (&[u8], Raw<'_>)
+    requires { length roms.now ≡ host.roms_size }
+    ensures set { parts_of result.0.now result.1 ≡ host.set_of_roms roms.now }
+    ensures whole { IsWhole (parts_of result.0.now result.1) }
+{
+    let program = part(roms, 0, 16_384);
+    let raw = Raw {
+        tiles: part(roms, 16_384, 4096),
+        sprites: part(roms, 20_480, 4096),
+        colours: part(roms, 24_576, 32),
+        lookup: part(roms, 24_608, 256),
+        wave: part(roms, 24_864, 256),
+    };
+    (program, raw)
+}
+
+/// The N bytes from a place on.
+fn chunk<const N: usize>(roms: &[u8], at: usize) -> &[u8; N]
+    requires { at + N ≤ length roms.now }
+    ensures { result.now ≡ bytes_at_place at N roms.now }
+{
+    roms[at..].first_chunk().unwrap()
+}
+
+/// The colour PROM.
+pub(crate) fn colours_of(roms: &[u8]) -> &[u8; 32]
+    requires { length roms.now ≡ host.roms_size }
+    ensures { result.now ≡ (host.set_of_roms roms.now).colours }
+{
+    chunk(roms, 24_576)
+}
+
+/// Puts a host's ROMs into a board.
+pub(crate) fn put_roms(machine: &mut Board, roms: &[u8])
+    requires { length roms.now ≡ host.roms_size }
+    ensures { machine.new ≡ record machine.old { set = host.set_of_roms roms.now } }
+{
+    let (program, raw) = parts(roms);
+    machine.put_roms(program, &raw);
+}

@@ -1,0 +1,40 @@
+//! The sink of a call for some time: a host's buffer.
+
+ghost use Rattle.pac_host.specs.Sounding.{sounding_took, sounding_refused};
+
+use pac_board::{Picture, Refused, Sink};
+
+/// Writes samples into a buffer, from its head on, and counts the pictures up to 2^32 - 1.
+#[derive(Drop)]
+pub(crate) struct Sounds<'a> {
+    /// The buffer.
+    pub samples: &'a mut [i16],
+    /// How many samples it has.
+    pub taken: usize,
+    /// How many pictures came.
+    pub pictures: u32,
+}
+
+impl Sink for Sounds<'_> {
+    ghost took = { sounding_took };
+
+    ghost refused = { sounding_refused };
+
+    /// Writes a sample after the others, where there is room.
+    #[inline]
+    fn sample(&mut self, sample: i16) -> Result<(), Refused> {
+        if self.taken >= self.samples.len() {
+            return Err(Refused);
+        }
+        self.samples[self.taken] = sample;
+        self.taken += 1;
+        Ok(())
+    }
+
+    /// Counts a picture, which the board keeps until the next one's first line.
+    #[inline]
+    fn picture(&mut self, _picture: &Picture) -> Result<(), Refused> {
+        self.pictures = self.pictures.saturating_add(1);
+        Ok(())
+    }
+}

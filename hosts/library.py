@@ -1,0 +1,111 @@
+"""The crate that is the board's C library, built by the kit: shared by hosts/build and hosts/web/build."""
+import contextlib
+import os
+import pathlib
+import re
+import shutil
+import subprocess
+import sys
+import tempfile
+import time
+
+ROOT = pathlib.Path(__file__).resolve().parent.parent
+OUT = ROOT / "hosts/out"
+LINE = re.compile(r"(\w+)( +staticlib)?(?: +[\w=]+)*: *(.*)")
+TOLD = 2  # seconds between two lines about what goes on
+TRUSTING = "--after-ci"  # the word that says that `rt ci` has just proved these very files
+
+
+def crates():
+    """What each line of crates.txt says: whether the crate is a static library, and the names after the colon."""
+    rows = (LINE.fullmatch(line.strip()) for line in (ROOT / "crates.txt").read_text().splitlines() if not line.startswith("#"))
+    return {row[1]: (row[2] is not None, row[3].split()) for row in rows if row}
+
+
+def name_of(table):
+    """The name of the static library."""
+    names = [crate for crate, (is_static, _) in table.items() if is_static]
+    if len(names) != 1:
+        sys.exit(f"crates.txt has {len(names)} static libraries, and not one")
+    return names[0]
+
+
+def crates_below(table, crate):
+    """The names of all crates below one."""
+    found, waiting = set(), [*table[crate][1]]
+    while waiting:
+        crate = waiting.pop()
+        if crate in table and crate not in found:
+            found.add(crate)
+            waiting += table[crate][1]
+    return found
+
+
+def lay_file(source, to):
+    """Gives a file a second name, or copies it to another file system."""
+    try:
+        os.link(source, to)
+    except OSError:
+        shutil.copy(source, to)
+
+
+def lay_crate(crate, to):
+    """Copies a crate. Of what was built only its proved library is taken: hundreds of megabytes of files that nobody writes."""
+    built = ROOT / "crates" / crate / "out/rlib"
+    shutil.copytree(ROOT / "crates" / crate, to, ignore=shutil.ignore_patterns("out", "wrong-bodies", "must-fail"))
+    if (built / f"{crate}.rlib").is_dir():
+        shutil.copytree(built, to / "out/rlib", copy_function=lay_file)
+
+
+def stamp(folder):
+    """Lets the kit take the libraries of a copy as they are: `rt ci` leaves them without the stamp that says of which files they are."""
+    sys.path.insert(0, os.path.dirname(os.path.realpath(shutil.which("rt"))))
+    import rtlib  # pylint: disable=import-error,import-outside-toplevel
+
+    os.chdir(folder)
+    for crate in rtlib.crates_below(str(folder)):
+        built = folder / "crates" / crate.name / "out/rlib"
+        if built.is_dir() and not (built / "stamp").exists():
+            (built / "stamp").write_text(crate.stamp())
+
+
+def run(folder):
+    """Proves and builds the crate in a folder by `rt lib`, over what is proved below it, and tells how far it is; ends where it fails."""
+    begun = time.monotonic()
+    with tempfile.TemporaryFile("w+") as said:
+        with subprocess.Popen(["rt", "lib"], cwd=folder, stdout=said, stderr=subprocess.STDOUT) as process:
+            while process.poll() is None:
+                with contextlib.suppress(subprocess.TimeoutExpired):
+                    process.wait(TOLD)
+                lines = text_of(said).splitlines() or [""]
+                print(f"rt lib, {time.monotonic() - begun:.0f} s: {lines[-1].strip()[:100]}", file=sys.stderr, flush=True)
+        if process.returncode:
+            sys.exit("\n".join(text_of(said).splitlines()[-40:]) + f"\nrt lib: status {process.returncode}")
+
+
+def text_of(file):
+    """All that stands in a file which is open, and which another program writes."""
+    return os.pread(file.fileno(), os.fstat(file.fileno()).st_size, 0).decode(errors="replace")
+
+
+def build(kind, file, to, is_after_ci):
+    """Builds the library as a crate of this kind, in a copy of it and of all below it, and takes the file that it leaves.
+
+    The copy's crates.txt says which kind it is, and the repository is left as it is.
+    """
+    table = crates()
+    name = name_of(table)
+    below = crates_below(table, name)
+    with tempfile.TemporaryDirectory(prefix="hosts-") as room:
+        folder = pathlib.Path(room).resolve()
+        lines = [f"{crate}: {' '.join(uses)}" for crate, (_, uses) in table.items() if crate in below]
+        (folder / "crates.txt").write_text("\n".join([*lines, f"{name} {kind}: {' '.join(table[name][1])}", ""]))
+        shutil.copy(ROOT / "HANDLES", folder / "HANDLES")
+        for crate in [*below, name]:
+            lay_crate(crate, folder / "crates" / crate)
+        if is_after_ci:
+            stamp(folder)
+        run(folder / "crates" / name)
+        OUT.mkdir(exist_ok=True)
+        shutil.copy(folder / "crates" / name / "out" / file.format(name), OUT / to)
+    print(f"{OUT / to}: {(OUT / to).stat().st_size:,} bytes", flush=True)

@@ -1,0 +1,186 @@
+/* The proved board as a C library: Namco's Pac-Man main board, all of whose state is one block of bytes that the host owns.
+ *
+ * The library keeps nothing between calls, takes no memory and calls nothing of the host. So a copy of a `pac_board` is a snapshot, which may
+ * be kept, compared and run again, and boards in different threads don't touch. docs/HOSTS.md goes through a host of one's own.
+ *
+ * Each call answers a code. 0 is 'done'. At any other code nothing is changed: neither the board nor what the host handed in to be written.
+ *
+ * What is trusted, for no library can test it: that pointers aren't null (also of a buffer without a byte) and are those of this header's
+ * types, that a length is that of its buffer, and that no two buffers of a call share a byte. The calls whose names end with `_checked` test
+ * for null, and answer PAC_NULL. All else is tested by the library: any bytes may stand in a board, a ROM block and a state file.
+ *
+ * Time is counted in T-states, periods of the processor's clock, of which a second has 3,072,000. A frame has 50,688 of them, which are
+ * 16,500 microseconds and 1,584 samples, and ends with the vertical blank. A second has 60.6 frames.
+ */
+#ifndef PACBOARD_H
+#define PACBOARD_H
+
+#include <stddef.h>
+#include <stdint.h>
+
+#ifdef __cplusplus
+extern "C" {
+#endif
+
+/* What a call answers. PAC_V1 to PAC_V6 are the refusals of a state file, in docs/FORMATS.md. */
+enum {
+    PAC_DONE = 0,
+    PAC_LENGTH = 1, /* a length is another than the one that is told at the call */
+    PAC_STATE = 2,  /* the block isn't the state of a board */
+    PAC_TIME = 3,   /* the microseconds that were asked of the board in all would pass 2^50 */
+    PAC_ROOM = 4,   /* the buffer has less room than the samples that the call could give */
+    PAC_V1 = 11,
+    PAC_V2 = 12,
+    PAC_V3 = 13,
+    PAC_V4 = 14,
+    PAC_V5 = 15,
+    PAC_V6 = 16,
+    PAC_NULL = 100, /* a pointer is null: by the calls with `_checked` alone */
+};
+
+/* Sizes in bytes, unless another unit is told. */
+enum {
+    PAC_BOARD_SIZE = 67756,
+    PAC_ROMS_SIZE = 25120,  /* program 16,384, tiles 4,096, sprites 4,096, colours 32, lookup 256, wave 256, in this order: hosts/roms.py */
+    PAC_STATE_SIZE = 67756, /* a state file */
+    PAC_WIDTH = 288,        /* pixels */
+    PAC_HEIGHT = 224,       /* pixels */
+    PAC_RGBA_SIZE = 258048, /* a picture: 4 bytes a pixel */
+    PAC_FRAME_MICROSECONDS = 16500,
+    PAC_FRAME_SAMPLES = 1584, /* samples */
+    PAC_SAMPLE_RATE = 96000,  /* samples a second */
+    PAC_SWITCHES = 0xC9,      /* the byte of the DIP switches that `pacboard run` takes where none is given */
+};
+
+/* The inputs, each a bit of a mask: what the names of a script stand for. */
+enum {
+    PAC_P1_UP = 1,
+    PAC_P1_LEFT = 2,
+    PAC_P1_RIGHT = 4,
+    PAC_P1_DOWN = 8,
+    PAC_RACK_TEST = 16,
+    PAC_COIN1 = 32,
+    PAC_COIN2 = 64,
+    PAC_CREDIT = 128,
+    PAC_P2_UP = 256,
+    PAC_P2_LEFT = 512,
+    PAC_P2_RIGHT = 1024,
+    PAC_P2_DOWN = 2048,
+    PAC_BOARD_TEST = 4096,
+    PAC_START1 = 8192,
+    PAC_START2 = 16384,
+    PAC_COCKTAIL = 32768,
+};
+
+/* A board: the text of its state file with zeros in the place of both digests. A plain value: copy it with `=` or memcpy. */
+typedef struct pac_board {
+    uint8_t bytes[PAC_BOARD_SIZE];
+} pac_board;
+
+/* Why the board can't go on. */
+enum {
+    PAC_GOES = 0,
+    PAC_STOP_OPCODE = 1, /* the bytes at `pc` are no documented instruction */
+    PAC_STOP_VECTOR = 2, /* interrupt mode 0 with a `vector` that is no RST; the processor would return to `pc` */
+};
+
+/* What a call of pac_exec did. */
+typedef struct pac_ran {
+    uint64_t ticks;    /* T-states that went by */
+    uint32_t samples;  /* samples that were given */
+    uint32_t pictures; /* vertical blanks that came: pictures that were finished */
+    uint32_t stop;     /* why the board stopped; PAC_GOES where it didn't, and then all below is 0 */
+    uint16_t pc;       /* where it stopped */
+    uint8_t bytes[4];  /* the bytes from there on */
+    uint8_t vector;    /* the interrupt vector where that is the reason, and else 0 */
+    uint8_t zero;      /* 0 */
+} pac_ran;
+
+/* PAC_BOARD_SIZE: a host that was compiled with another header than the library is told so by `pac_matches`. */
+size_t pac_size(void);
+
+/* Makes a board at power-on, whose DIP switches give the byte `switches`. Whatever is in `board` before is not looked at.
+ * PAC_LENGTH: `length` isn't PAC_ROMS_SIZE. */
+uint32_t pac_init(pac_board *board, const uint8_t *roms, size_t length, uint8_t switches);
+
+/* What the watchdog does: the processor begins at 0000H again, latch, request and the watchdog's count are cleared; all else stays.
+ * PAC_STATE. */
+uint32_t pac_reset(pac_board *board);
+
+/* Lets the inputs of `clear` go, and then holds those of `set`; `pac_hold(board, mask, 0xFFFF)` holds these and no other. The program sees it
+ * from the next call of pac_exec on. PAC_STATE. */
+uint32_t pac_hold(pac_board *board, uint16_t set, uint16_t clear);
+
+/* Lets so many microseconds go by: the board runs until its time is the one that was asked in all, and at most 22 T-states longer, since an
+ * instruction isn't cut. The samples, 96,000 a second, go to `samples`, which has room for `capacity` of them, and what was done to `ran`.
+ * Where the board stops, the answer is PAC_DONE and `ran->stop` tells why; a further call stops at once, and gives nothing.
+ * PAC_LENGTH: `length` isn't PAC_ROMS_SIZE. PAC_STATE. PAC_TIME. PAC_ROOM: of a board that was run from power-on by pac_exec alone,
+ * `microseconds * 12 / 125 + 2` is always enough; that is PAC_FRAME_SAMPLES + 2 for a frame. */
+uint32_t pac_exec(pac_board *board, const uint8_t *roms, size_t length, uint32_t microseconds, int16_t *samples, size_t capacity,
+                  pac_ran *ran);
+
+/* Draws the picture as it stands: after a pac_exec that ended with a blank, as one of PAC_FRAME_MICROSECONDS does from power-on, the whole
+ * picture of that frame. 224 rows from the top, each of 288 pixels from the left, each the bytes red, green, blue and 255.
+ * PAC_LENGTH: `length` isn't PAC_ROMS_SIZE, or `rgba_length` isn't PAC_RGBA_SIZE. PAC_STATE. */
+uint32_t pac_draw(const pac_board *board, const uint8_t *roms, size_t length, uint8_t *rgba, size_t rgba_length);
+
+/* Writes the board's state file, the one that `pacboard run --load` and `pac_load` take, with the digest of the ROM set in it.
+ * PAC_LENGTH: `length` isn't PAC_ROMS_SIZE, or `text_length` isn't PAC_STATE_SIZE. PAC_STATE. */
+uint32_t pac_save(const pac_board *board, const uint8_t *roms, size_t length, uint8_t *text, size_t text_length);
+
+/* Makes the board of a state file, of any length. Whatever is in `board` before is not looked at.
+ * PAC_LENGTH: `length` isn't PAC_ROMS_SIZE. PAC_V1 to PAC_V6: the file is refused, docs/FORMATS.md says why; a wrong length is PAC_V3. */
+uint32_t pac_load(pac_board *board, const uint8_t *roms, size_t length, const uint8_t *text, size_t text_length);
+
+/* Whether this header's board is the library's: look once, at the start. */
+static inline int pac_matches(void)
+{
+    return pac_size() == sizeof(pac_board);
+}
+
+/* The same calls, which answer PAC_NULL where a pointer is null, and else what the call answers. */
+
+static inline uint32_t pac_init_checked(pac_board *board, const uint8_t *roms, size_t length, uint8_t switches)
+{
+    return board && roms ? pac_init(board, roms, length, switches) : (uint32_t)PAC_NULL;
+}
+
+static inline uint32_t pac_reset_checked(pac_board *board)
+{
+    return board ? pac_reset(board) : (uint32_t)PAC_NULL;
+}
+
+static inline uint32_t pac_hold_checked(pac_board *board, uint16_t set, uint16_t clear)
+{
+    return board ? pac_hold(board, set, clear) : (uint32_t)PAC_NULL;
+}
+
+static inline uint32_t pac_exec_checked(pac_board *board, const uint8_t *roms, size_t length, uint32_t microseconds, int16_t *samples,
+                                        size_t capacity, pac_ran *ran)
+{
+    return board && roms && samples && ran ? pac_exec(board, roms, length, microseconds, samples, capacity, ran) : (uint32_t)PAC_NULL;
+}
+
+static inline uint32_t pac_draw_checked(const pac_board *board, const uint8_t *roms, size_t length, uint8_t *rgba, size_t rgba_length)
+{
+    return board && roms && rgba ? pac_draw(board, roms, length, rgba, rgba_length) : (uint32_t)PAC_NULL;
+}
+
+static inline uint32_t pac_save_checked(const pac_board *board, const uint8_t *roms, size_t length, uint8_t *text, size_t text_length)
+{
+    return board && roms && text ? pac_save(board, roms, length, text, text_length) : (uint32_t)PAC_NULL;
+}
+
+static inline uint32_t pac_load_checked(pac_board *board, const uint8_t *roms, size_t length, const uint8_t *text, size_t text_length)
+{
+    return board && roms && text ? pac_load(board, roms, length, text, text_length) : (uint32_t)PAC_NULL;
+}
+
+#ifdef __cplusplus
+}
+static_assert(sizeof(pac_board) == PAC_BOARD_SIZE && sizeof(pac_ran) == 32, "the library's layout");
+#else
+_Static_assert(sizeof(pac_board) == PAC_BOARD_SIZE && sizeof(pac_ran) == 32, "the library's layout");
+#endif
+
+#endif

@@ -1,0 +1,58 @@
+#!/usr/bin/env python3
+"""Plays a ROM block, and writes its film and its sound byte for byte as `pacboard run` does.
+
+    hosts/python/film.py ROMS HELD FRAMES.ppm WAVE.wav
+
+ROMS is made by hosts/roms.py, and HELD, which has two bytes for each frame, by hosts/script.py.
+"""
+import array
+import struct
+import sys
+
+sys.dont_write_bytecode = True
+
+import pacboard
+
+HEAD = b"P6\n%d %d\n255\n" % (pacboard.WIDTH, pacboard.HEIGHT)
+
+
+def picture(rgba):
+    """A PPM image of a picture, without its fourth bytes."""
+    rgb = bytearray(len(rgba) // 4 * 3)
+    for colour in range(3):
+        rgb[colour::3] = rgba[colour::4]
+    return HEAD + rgb
+
+
+def wave_head(samples):
+    """The head of a sound of so many samples."""
+    rate, size = pacboard.SAMPLE_RATE, 2 * samples
+    return struct.pack("<4sI8sIHHIIHH4sI", b"RIFF", 36 + size, b"WAVEfmt ", 16, 1, 1, rate, 2 * rate, 2, 16, b"data", size)
+
+
+def main(words):
+    """Writes film and sound."""
+    if len(words) != 4:
+        print(__doc__.strip())
+        return 0 if "--help" in words else 2
+    with open(words[0], "rb") as file:
+        board = pacboard.Board(file.read())
+    with open(words[1], "rb") as file:
+        held = array.array("H", file.read())
+    ran = pacboard.Ran()
+    with open(words[2], "wb") as frames, open(words[3], "wb") as wave:
+        wave.write(wave_head(pacboard.FRAME_SAMPLES * len(held)))
+        for mask in held:
+            board.hold(mask)
+            ran, samples = board.run(pacboard.FRAME_MICROSECONDS)
+            wave.write(samples.tobytes().ljust(2 * pacboard.FRAME_SAMPLES, b"\0"))  # silence after a stop
+            if ran.pictures:
+                frames.write(picture(board.draw()))
+    if ran.stop:
+        print(f"film.py: the board stopped at {ran.pc:04X}", file=sys.stderr)
+        return 5
+    return 0
+
+
+if __name__ == "__main__":
+    sys.exit(main(sys.argv[1:]))

@@ -1,0 +1,58 @@
+#!/usr/bin/env python3
+"""Plays a ROM block, keeps the board each second, and goes back: what is played again is equal, byte by byte.
+
+    hosts/python/rewind.py ROMS HELD
+
+A copy of the board's block is all that a way back needs. From each second that was kept the rest is played again with the same inputs, and
+held against the first time: each sample, each picture and the block at the end. Then the last second is played with nothing held. A line
+tells of each way back; the exit status is 1 where one differs.
+"""
+import array
+import hashlib
+import sys
+
+sys.dont_write_bytecode = True
+
+import pacboard
+
+SECOND = 61  # frames, a little more than a second
+
+
+def played(board, held):
+    """Plays frames: a sum of each one's samples and picture."""
+    sums = []
+    for mask in held:
+        board.hold(mask)
+        _, samples = board.run(pacboard.FRAME_MICROSECONDS)
+        sums.append(hashlib.sha1(samples.tobytes() + board.draw()).hexdigest())
+    return sums
+
+
+def main(words):
+    """Plays, goes back, and compares."""
+    if len(words) != 2:
+        print(__doc__.strip())
+        return 0 if "--help" in words else 2
+    with open(words[0], "rb") as file:
+        board = pacboard.Board(file.read())
+    with open(words[1], "rb") as file:
+        held = array.array("H", file.read())
+    kept, sums = {}, []
+    for at in range(0, len(held), SECOND):
+        kept[at] = board.block
+        sums += played(board, held[at : at + SECOND])
+    end, wrong = board.block, 0
+    for at, block in reversed(kept.items()):
+        board.block = block
+        is_same = played(board, held[at:]) == sums[at:] and board.block == end
+        wrong += not is_same
+        print(f"back to frame {at}, and {len(held) - at} frames again: {'equal' if is_same else 'OTHER'}", flush=True)
+    board.block = kept[max(kept)]
+    other = played(board, [0] * (len(held) - max(kept)))
+    count = sum(one != two for one, two in zip(other, sums[max(kept) :]))
+    print(f"back to frame {max(kept)}, with nothing held: {count} of {len(other)} frames are others")
+    return 1 if wrong else 0
+
+
+if __name__ == "__main__":
+    sys.exit(main(sys.argv[1:]))

@@ -1,0 +1,97 @@
+#!/usr/bin/env python3
+"""Makes the ROM block of a board: the parts of a ROM set one after another, as the calls of hosts/pacboard.h take them.
+
+    hosts/roms.py MANIFEST [--program ROM] -o FILE
+
+The parts are those of the manifest (docs/FORMATS.md), whose SHA-1 digests are compared where it has them. --program takes the program from
+a file of 16,384 bytes instead, as `pacboard asm` writes one; the manifest has none then. The block has 25,120 bytes. A set that is refused
+is told as `pacboard run` tells it, as `refused M4 tiles`, with the exit status 1.
+"""
+import argparse
+import hashlib
+import pathlib
+import sys
+import tomllib
+
+PARTS = {"tiles": 4096, "sprites": 4096, "colours": 32, "lookup": 256, "wave": 256}  # in the order of the block, after the program
+QUARTER = 4096  # bytes of a part of the program
+SIZE = 4 * QUARTER + sum(PARTS.values())
+
+
+class Refused(Exception):
+    """A ROM set is refused."""
+
+
+def is_table(table):
+    """Whether a part's table has the form of one."""
+    names = isinstance(table, dict) and isinstance(table.get("file", ""), str) and isinstance(table.get("sha1", ""), str)
+    digest = table.get("sha1", "0" * 40) if names else ""
+    return names and len(digest) == 40 and not set(digest) - set("0123456789abcdefABCDEF")
+
+
+def tables_of(text, has_program):
+    """The tables of the parts that a manifest names, in the order of the block, each with its size."""
+    try:
+        manifest = tomllib.loads(text.decode())
+    except ValueError:
+        raise Refused("refused M1") from None
+    quarters = manifest.get("program")
+    if quarters is not None and (not isinstance(quarters, list) or len(quarters) != 4):
+        raise Refused("refused M1")
+    tables = {f"program{at}": table for at, table in enumerate(quarters or [], 1)}
+    sizes = dict.fromkeys(["program1"] if not quarters and not has_program else tables, QUARTER) | PARTS
+    tables |= {name: manifest[name] for name in [*PARTS, "timing"] if name in manifest}
+    sizes |= {"timing": PARTS["wave"]} if "timing" in manifest else {}
+    if not all(is_table(table) for table in tables.values()):
+        raise Refused("refused M1")
+    for name in sizes:
+        if "file" not in tables.get(name, {}):
+            raise Refused(f"refused M2 {name}")
+    if quarters and has_program:
+        raise Refused("refused M6")
+    return {name: (tables[name], size) for name, size in sizes.items()}
+
+
+def part_of(folder, name, table, size):
+    """The bytes of a part, which are looked at."""
+    file = table["file"]
+    if not file or file.startswith("/") or ".." in file.split("/") or not (folder / file).is_file():
+        raise OSError(f"there is no file {file!r} in the manifest's folder")
+    part = (folder / file).read_bytes()
+    if len(part) != size:
+        raise Refused(f"refused M3 {name}")
+    if hashlib.sha1(part).hexdigest() != table.get("sha1", hashlib.sha1(part).hexdigest()).lower():
+        raise Refused(f"refused M4 {name}")
+    return part
+
+
+def block_of(manifest, program=None):
+    """The ROM block of a manifest, with the bytes of a program where one is given."""
+    if program is not None and len(program) != 4 * QUARTER:
+        raise Refused("the program has another length than 16,384 bytes")
+    tables = tables_of(manifest.read_bytes(), program is not None)
+    parts = {name: part_of(manifest.parent, name, *table) for name, table in tables.items()}
+    return (program or b"") + b"".join(part for name, part in parts.items() if name != "timing")
+
+
+def main():
+    """Writes a ROM block."""
+    parser = argparse.ArgumentParser(prog="roms.py", description=__doc__, formatter_class=argparse.RawDescriptionHelpFormatter)
+    parser.add_argument("manifest", type=pathlib.Path)
+    parser.add_argument("--program", metavar="ROM", type=pathlib.Path)
+    parser.add_argument("-o", dest="output", metavar="FILE", type=pathlib.Path, required=True)
+    words = parser.parse_args()
+    try:
+        program = words.program.read_bytes() if words.program else None
+        words.output.write_bytes(block_of(words.manifest, program))
+    except OSError as error:
+        print(f"roms.py: {error}", file=sys.stderr)
+        return 3
+    except Refused as error:
+        print(error, file=sys.stderr)
+        return 1
+    return 0
+
+
+if __name__ == "__main__":
+    sys.exit(main())

@@ -1,0 +1,71 @@
+#!/usr/bin/env python3
+"""Turns a script into what is held in each frame.
+
+    hosts/script.py SCRIPT -o FILE
+
+writes two bytes for each frame of the script, the low one first: the mask of the inputs that are held. docs/FORMATS.md has the script, and
+hosts/pacboard.h the masks. A script that is refused is told as `pacboard run` tells it, as `refused I1 line 2`, with the exit status 1.
+"""
+import argparse
+import pathlib
+import re
+import sys
+
+NAMES = """P1_UP P1_LEFT P1_RIGHT P1_DOWN RACK_TEST COIN1 COIN2 CREDIT
+P2_UP P2_LEFT P2_RIGHT P2_DOWN BOARD_TEST START1 START2 COCKTAIL""".split()
+MASKS = {name: 1 << bit for bit, name in enumerate(NAMES)}
+LONGEST = 36_000  # frames
+
+
+class Refused(Exception):
+    """A script is refused."""
+
+
+def mask_of(names):
+    """The mask of the names of a line; None where one is unknown."""
+    masks = [0] if names == "-" else [MASKS.get(name) for name in names.split(",")]
+    return None if None in masks else sum(set(masks))
+
+
+def frames_of(text):
+    """The mask of each frame of a script's text."""
+    frames = []
+    for number, line in enumerate(text.split("\n"), 1):
+        words = [word for word in re.split("[ \t]+", line.removesuffix("\r")) if word]
+        if not words or words[0].startswith("#"):
+            continue
+        if not re.fullmatch("[0-9]+", words[0], re.ASCII) or not 1 <= int(words[0].lstrip("0")[:6] or "0") <= LONGEST:
+            raise Refused(f"refused I2 line {number}")
+        mask = mask_of(words[1]) if len(words) == 2 else None
+        if mask is None:
+            raise Refused(f"refused I1 line {number}")
+        frames += [mask] * int(words[0])
+        if len(frames) > LONGEST:
+            raise Refused(f"refused I3 line {number}")
+    return frames
+
+
+def held_in(text):
+    """What is held in each frame, two bytes a frame, of a script's bytes."""
+    return b"".join(mask.to_bytes(2, "little") for mask in frames_of(text.decode("latin-1")))
+
+
+def main():
+    """Writes what is held in each frame of a script."""
+    parser = argparse.ArgumentParser(prog="script.py", description=__doc__, formatter_class=argparse.RawDescriptionHelpFormatter)
+    parser.add_argument("script", type=pathlib.Path)
+    parser.add_argument("-o", dest="output", type=pathlib.Path, required=True)
+    words = parser.parse_args()
+    try:
+        words.output.write_bytes(held_in(words.script.read_bytes()))
+    except OSError as error:
+        print(f"script.py: {error}", file=sys.stderr)
+        return 3
+    except Refused as error:
+        print(error, file=sys.stderr)
+        return 1
+    return 0
+
+
+if __name__ == "__main__":
+    sys.exit(main())

@@ -1,0 +1,133 @@
+// The proved board in a page or in node: the calls of hosts/pacboard.h over the module that hosts/web/build makes for wasm64.
+//
+// On wasm64 a pointer and a length are a BigInt, and all other numbers are plain. The module has no heap: what it is handed stands in its
+// memory above `__heap_base`, one buffer after another.
+
+export const WIDTH = 288, HEIGHT = 224; // pixels
+export const FRAME_MICROSECONDS = 16500, FRAME_SAMPLES = 1584, SAMPLE_RATE = 96000, SWITCHES = 0xc9;
+const ROOM = 9602; // samples: those of 100,000 microseconds
+const SIZES = { board: 67756, roms: 25120, text: 67756, rgba: 4 * WIDTH * HEIGHT, samples: 2 * ROOM, ran: 32 }; // bytes
+
+// The inputs, each a bit of a mask.
+export const INPUTS = Object.fromEntries([
+    'P1_UP', 'P1_LEFT', 'P1_RIGHT', 'P1_DOWN', 'RACK_TEST', 'COIN1', 'COIN2', 'CREDIT',
+    'P2_UP', 'P2_LEFT', 'P2_RIGHT', 'P2_DOWN', 'BOARD_TEST', 'START1', 'START2', 'COCKTAIL',
+].map((name, bit) => [name, 1 << bit]));
+
+const CODES = {
+    1: 'a length is wrong',
+    2: "the block isn't the state of a board",
+    3: 'the microseconds in all would pass 2^50',
+    4: 'the buffer has less room than the samples that the call could give',
+    11: 'the state file is refused: V1', 12: 'the state file is refused: V2', 13: 'the state file is refused: V3',
+    14: 'the state file is refused: V4', 15: 'the state file is refused: V5', 16: 'the state file is refused: V6',
+};
+
+// A call is refused, and nothing is changed.
+export class Refused extends Error {
+    constructor(code) {
+        super(CODES[code] ?? `code ${code}`);
+        this.code = code;
+    }
+}
+
+// Whether wasm64 is here: Chromium has it; node 20 has it with --experimental-wasm-memory64.
+export function isSupported() {
+    return WebAssembly.validate(new Uint8Array([0, 97, 115, 109, 1, 0, 0, 0, 5, 3, 1, 4, 1]));
+}
+
+// A board with its ROM set.
+export class Board {
+    // A board at power-on: from the module's bytes and a ROM block.
+    static async powerOn(module, roms, switches = SWITCHES) {
+        const { instance } = await WebAssembly.instantiate(module, {});
+        return new Board(instance.exports, roms, switches);
+    }
+
+    constructor(calls, roms, switches = SWITCHES) {
+        this.calls = calls;
+        this.place(Number(calls.__heap_base.value));
+        if (calls.pac_size() !== BigInt(SIZES.board)) throw new Error("the module's board has another size");
+        if (roms.length !== SIZES.roms) throw new Refused(1);
+        this.bytes('roms').set(roms);
+        this.done(calls.pac_init(this.at.board, ...this.part('roms'), switches));
+    }
+
+    // Places the buffers, each at a multiple of 8.
+    place(next) {
+        this.at = {};
+        for (const [name, size] of Object.entries(SIZES)) {
+            next = (next + 7) & ~7;
+            this.at[name] = BigInt(next);
+            next += size;
+        }
+        if (next > this.calls.memory.buffer.byteLength) throw new Error("the module's memory is too small");
+    }
+
+    // The bytes of a buffer as they stand in the module's memory.
+    bytes(name) {
+        return new Uint8Array(this.calls.memory.buffer, Number(this.at[name]), SIZES[name]);
+    }
+
+    // A buffer as a call takes it: where it is, and its length.
+    part(name) {
+        return [this.at[name], BigInt(SIZES[name])];
+    }
+
+    // Passes a code of 0, and throws what another one means.
+    done(code) {
+        if (code !== 0) throw new Refused(code);
+    }
+
+    // All of the board's state: a snapshot.
+    get block() {
+        return this.bytes('board').slice();
+    }
+
+    // Goes back to a snapshot. Whether it is one, the next call tells.
+    set block(kept) {
+        if (kept.length !== SIZES.board) throw new Refused(1);
+        this.bytes('board').set(kept);
+    }
+
+    // Does what the watchdog does.
+    reset() {
+        this.done(this.calls.pac_reset(this.at.board));
+    }
+
+    // Holds these inputs, and lets all others go.
+    hold(inputs) {
+        this.done(this.calls.pac_hold(this.at.board, inputs, 0xffff));
+    }
+
+    // Lets so many microseconds go by, 100,000 at most: what was done, and the samples.
+    run(microseconds) {
+        const { board, samples, ran } = this.at;
+        this.done(this.calls.pac_exec(board, ...this.part('roms'), microseconds, samples, BigInt(ROOM), ran));
+        const told = new DataView(this.calls.memory.buffer, Number(ran), SIZES.ran);
+        const [given, pictures, stop] = [8, 12, 16].map((at) => told.getUint32(at, true));
+        return {
+            ticks: told.getBigUint64(0, true), pictures, stop, pc: told.getUint16(20, true),
+            samples: new Int16Array(this.calls.memory.buffer, Number(samples), given).slice(),
+        };
+    }
+
+    // The picture as it stands: red, green, blue and 255 for each pixel, row by row. The next call of `draw` writes over it.
+    draw() {
+        this.done(this.calls.pac_draw(this.at.board, ...this.part('roms'), ...this.part('rgba')));
+        return new Uint8ClampedArray(this.calls.memory.buffer, Number(this.at.rgba), SIZES.rgba);
+    }
+
+    // The board's state file.
+    save() {
+        this.done(this.calls.pac_save(this.at.board, ...this.part('roms'), ...this.part('text')));
+        return this.bytes('text').slice();
+    }
+
+    // Becomes the board of a state file.
+    load(text) {
+        if (text.length > SIZES.text) throw new Refused(13);
+        this.bytes('text').set(text);
+        this.done(this.calls.pac_load(this.at.board, ...this.part('roms'), this.at.text, BigInt(text.length)));
+    }
+}
