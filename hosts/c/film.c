@@ -47,7 +47,8 @@ int main(int count, char **words)
     uint32_t code = pac_matches() ? pac_init(&board, roms, length, PAC_SWITCHES) : PAC_LENGTH;
     while (code == PAC_DONE && fread(held, 2, 1, files[1]) == 1) {
         int16_t samples[PAC_FRAME_SAMPLES + 2] = {0}; /* where the board has stopped, the rest is silence */
-        if ((code = pac_hold(&board, (uint16_t)(held[0] | held[1] << 8), 0xFFFF)) == PAC_DONE)
+        ran.pictures = 0;
+        if (ran.stop == PAC_GOES && (code = pac_hold(&board, (uint16_t)(held[0] | held[1] << 8), 0xFFFF)) == PAC_DONE)
             code = pac_exec(&board, roms, length, PAC_FRAME_MICROSECONDS, samples, PAC_FRAME_SAMPLES + 2, &ran);
         for (int at = 0; code == PAC_DONE && at < PAC_FRAME_SAMPLES; at++)
             put(files[3], (uint16_t)samples[at], 2);

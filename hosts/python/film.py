@@ -43,8 +43,10 @@ def main(words):
     with open(words[2], "wb") as frames, open(words[3], "wb") as wave:
         wave.write(wave_head(pacboard.FRAME_SAMPLES * len(held)))
         for mask in held:
-            board.hold(mask)
-            ran, samples = board.run(pacboard.FRAME_MICROSECONDS)
+            samples, ran.pictures = array.array("h"), 0
+            if not ran.stop:
+                board.hold(mask)
+                ran, samples = board.run(pacboard.FRAME_MICROSECONDS)
             wave.write(samples.tobytes().ljust(2 * pacboard.FRAME_SAMPLES, b"\0"))  # silence after a stop
             if ran.pictures:
                 frames.write(picture(board.draw()))
