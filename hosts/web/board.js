@@ -1,7 +1,7 @@
-// The proved board in a page or in node: the calls of hosts/pacboard.h over the module that hosts/web/build makes for wasm64.
+// The proved board in a page or in node: the calls of hosts/pacboard.h over the module that hosts/web/build makes.
 //
-// On wasm64 a pointer and a length are a BigInt, and all other numbers are plain. The module has no heap: what it is handed stands in its
-// memory above `__heap_base`, one buffer after another.
+// A pointer and a length are a BigInt, and all other numbers are plain. The module has no heap: what it is handed stands in its memory above
+// `__heap_base`, one buffer after another.
 
 export const WIDTH = 288, HEIGHT = 224; // pixels
 export const FRAME_MICROSECONDS = 16500, FRAME_SAMPLES = 1584, SAMPLE_RATE = 96000, SWITCHES = 0xc9;
@@ -31,9 +31,9 @@ export class Refused extends Error {
     }
 }
 
-// Whether wasm64 is here: Chromium has it; node 20 has it with --experimental-wasm-memory64.
-export function isSupported() {
-    return WebAssembly.validate(new Uint8Array([0, 97, 115, 109, 1, 0, 0, 0, 5, 3, 1, 4, 1]));
+// Whether a module can run here. One with addresses of 64 bits wants wasm64: Chromium has it, node 20 with --experimental-wasm-memory64.
+export function canRun(module) {
+    return WebAssembly.validate(module);
 }
 
 // A board with its ROM set.

@@ -3,7 +3,7 @@
 // The sound leads. A frame is run whenever fewer than four frames' samples wait to be heard, so 60.6 of them a second, whatever the screen's
 // rate is; each time the screen asks, the last picture is shown.
 
-import { Board, FRAME_MICROSECONDS, FRAME_SAMPLES, HEIGHT, INPUTS, SAMPLE_RATE, WIDTH, isSupported } from './board.js';
+import { Board, FRAME_MICROSECONDS, FRAME_SAMPLES, HEIGHT, INPUTS, SAMPLE_RATE, WIDTH, canRun } from './board.js';
 
 const AHEAD = 4 * FRAME_SAMPLES; // samples that wait to be heard
 const MOST = 8; // frames that are run for one picture on the screen, where it was late
@@ -48,11 +48,19 @@ class Host {
         this.context.putImageData(this.image, 0, 0);
     }
 
-    // Goes back to the last snapshot but one: a second or two.
+    // Goes back to the last snapshot but one: a second or two. A board that had stopped goes on from there.
     back() {
         if (this.kept.length > 1) this.kept.pop();
         if (this.kept.length > 0) this.board.block = this.kept.at(-1);
         this.frames = 1;
+        if (this.audio !== undefined && !this.isPlaying) this.begin();
+    }
+
+    // Plays on.
+    begin() {
+        at('told').textContent = '';
+        this.isPlaying = true;
+        this.turn();
     }
 
     // Begins to play, once somebody has touched the page: a browser lets no page sound before.
@@ -65,8 +73,7 @@ class Host {
         this.sound.port.onmessage = ({ data }) => Object.assign(this, data);
         this.sound.connect(this.audio.destination);
         await this.audio.resume();
-        this.isPlaying = true;
-        this.turn();
+        this.begin();
     }
 
     // Runs what is due, shows it, and comes again with the screen's next picture.
@@ -119,8 +126,8 @@ function tell(error) {
 }
 
 async function main() {
-    if (!isSupported()) throw new Error("This browser has no wasm64. Chromium has it.");
     const module = await bytesOf('../out/pac_host.wasm');
+    if (!canRun(module)) throw new Error("This browser can't run the module, which was built without wasm-opt. Chromium can.");
     at('roms').addEventListener('change', async ({ target }) => {
         begin(module, new Uint8Array(await target.files[0].arrayBuffer())).catch(tell);
     });

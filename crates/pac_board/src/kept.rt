@@ -31,7 +31,7 @@ impl Shown {
         ensures { IfOk result (λ copy. copy ≡ offered_image picture.now) }
     {
         let mut lines = Box::new(alloc, Lines::new())?;
-        lines.copy_from(picture.lines());
+        lines.copy_from(picture.lines().raw());
         let mut palette = [[0; 3]; 16];
         palette.copy_from_slice(picture.palette());
         Ok(Shown { lines, palette })

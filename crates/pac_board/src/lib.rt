@@ -20,6 +20,6 @@ pub use pac_machine::{
     Due, FRAME_SAMPLES, FRAME_TICKS, Fields, MOST_ASKED, PastStep, SAMPLE_TICKS, Trail,
 };
 pub use pac_map::{Flags, Inputs, MemoryFields, Raw, RomSet};
-pub use pac_picture::{HEIGHT, Lines, Picture, WIDTH};
+pub use pac_picture::{HEIGHT, Picture, RawLines, WIDTH, raw_row};
 pub use sink::{Refused, Sink};
 pub use snapshot::Snapshot;

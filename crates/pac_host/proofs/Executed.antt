@@ -1,5 +1,5 @@
 -- A call for some time, put together from what its parts say.
-use Rattle.std.proofs.Common.{◌≡◌, ◌≤◌, ◌<◌, ◌+◌, ◌-◌, ◌^◌, min, ℕ, ℤ, List, ◌++◌, length, drop, Ok, Err, refl, sym, ap, subst, ◌∙◌}
+use Rattle.std.proofs.Common.{◌≡◌, ◌≤◌, ◌<◌, ◌+◌, ◌-◌, ◌^◌, min, ℕ, ℤ, List, ◌++◌, length, drop, Ok, Err, ap, subst, ◌∙◌}
 use Rattle.pac_board.specs.RomParts.{Parts}
 use Rattle.pac_board.specs.Calls.{course, outputs_given, board_after_run}
 use Rattle.pac_board.specs.Laws.{run_ticks}

@@ -1,8 +1,8 @@
 -- What a host's buffer has after the outputs of a run, and that none of them is refused where there is room.
-use Rattle.std.proofs.Common.{◌≡◌, ◌≤◌, ◌<◌, ℕ, ℤ, suc, ◌+◌, ◌-◌, ◌*◌, ◌/◌, ◌^◌}
+use Rattle.std.proofs.Common.{◌≡◌, ◌≤◌, ◌<◌, ℕ, ℤ, suc, ◌+◌, ◌-◌, ◌/◌, ◌^◌}
 use Rattle.std.proofs.Common.{min, List, [], ◌∷◌, ◌++◌, length, take, drop, Option, None, Some, Err}
 use Rattle.std.proofs.Common.{Bool, true, false, nat_lt, if◌then◌else◌, refl, sym}
-use Rattle.std.proofs.Common.{ap, subst, ◌∙◌, append_assoc, slice_set, length-set, arith, rules}
+use Rattle.std.proofs.Common.{ap, subst, ◌∙◌, append_assoc, length-set, arith}
 use Rattle.std.proofs.lemmas.Grind.{common_steps}
 use Rattle.std.proofs.lemmas.Bool.Decides.{nat_tests}
 use Rattle.std.proofs.lemmas.List.{take_more_set, drop-set-lt, take-append-drop}

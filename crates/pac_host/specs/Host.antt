@@ -13,7 +13,7 @@ use Rattle.pac_board.specs.Step.{sample_ticks}
 use Rattle.pac_board.specs.Tiles.{width, height}
 use Rattle.pac_board.specs.Calls.{course, outputs_given, board_after_run}
 use Rattle.pac_board.specs.Laws.{run_ticks}
-use Rattle.pac_board.specs.State.{BoardState, BoardValue, most_asked, time_of, power_on_board, board_after_reset, board_with_inputs}
+use Rattle.pac_board.specs.State.{BoardState, BoardValue, most_asked, time_of, power_on_board, board_with_inputs}
 use Rattle.pac_state.specs.declared.fault.LoadFault.TheVariants.{NoMemory}
 use Rattle.pac_state.specs.Block.{IsBlock, block_text}
 use Rattle.pac_state.specs.Files.{IsFile, board_of_file}

@@ -1,5 +1,5 @@
 -- For proofs: the sink that writes samples into a host's buffer and counts the pictures.
-use Rattle.std.specs.Prelude.{◌≡◌, ◌≤◌, ◌<◌, ℕ, ◌+◌, ◌-◌, ◌^◌, min, length, slice_set}
+use Rattle.std.specs.Prelude.{◌≡◌, ◌≤◌, ◌<◌, ◌+◌, ◌-◌, ◌^◌, min, length, slice_set}
 use Rattle.pac_board.specs.Output.{Output, Sound, Show}
 use Rattle.pac_host.specs.declared.sounds.Sounds.{Sounds}
 

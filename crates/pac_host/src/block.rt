@@ -5,7 +5,7 @@ ghost use Rattle.pac_host.specs.Handed.{OpensBlock};
 ghost use Rattle.pac_host.specs.Host.{IsBlockOf};
 
 use crate::codes::HostFault;
-use pac_board::{Board, Fields, Lines};
+use pac_board::{Board, Fields};
 use pac_state::laws::{blocks_are_read_back, boards_have_states, states_have_blocks};
 use pac_state::{read_block, write_block};
 
@@ -19,10 +19,10 @@ pub struct PacBoard {
 }
 
 /// The fields in a block, if it is the block of a state.
-pub(crate) fn open<'a>(block: &'a PacBoard, lines: &'a mut Lines) -> Result<Fields<'a>, HostFault>
+pub(crate) fn open(block: &PacBoard) -> Result<Fields<'_>, HostFault>
     ensures { OpensBlock block.now.bytes result }
 {
-    match read_block(&block.bytes, lines) {
+    match read_block(&block.bytes) {
         Some(fields) => Ok(fields),
         None => Err(HostFault::NoBoard),
     }

@@ -9,7 +9,7 @@ use crate::codes::HostFault;
 use crate::ran::PacRan;
 use crate::roms::{check_roms, put_roms};
 use crate::time::{check, run};
-use pac_board::{Board, Inputs, Lines};
+use pac_board::{Board, Inputs};
 
 /// The board at power-on, with these ROMs and a byte of the DIP switches.
 pub(crate) fn init(block: &mut PacBoard, roms: &[u8], switches: u8) -> Result<(), HostFault>
@@ -26,8 +26,7 @@ pub(crate) fn init(block: &mut PacBoard, roms: &[u8], switches: u8) -> Result<()
 pub(crate) fn reset(block: &mut PacBoard) -> Result<(), HostFault>
     ensures { host.Becomes board_after_reset block.old.bytes result block.new.bytes }
 {
-    let mut lines = Lines::new();
-    let fields = open(block, &mut lines)?;
+    let fields = open(block)?;
     let mut machine = Board::without_roms(0);
     machine.put_fields(&fields);
     machine.reset();
@@ -39,8 +38,7 @@ pub(crate) fn reset(block: &mut PacBoard) -> Result<(), HostFault>
 pub(crate) fn hold(block: &mut PacBoard, set: Inputs, clear: Inputs) -> Result<(), HostFault>
     ensures { host.Becomes (host.board_holding (mask set) (mask clear)) block.old.bytes result block.new.bytes }
 {
-    let mut lines = Lines::new();
-    let fields = open(block, &mut lines)?;
+    let fields = open(block)?;
     let mut machine = Board::without_roms(0);
     machine.put_fields(&fields);
     machine.input_clear(clear);
@@ -61,8 +59,7 @@ pub(crate) fn exec(
         block.new.bytes samples.new ran.new }
 {
     check_roms(roms)?;
-    let mut lines = Lines::new();
-    let fields = open(block, &mut lines)?;
+    let fields = open(block)?;
     check(&fields, microseconds, samples.len())?;
     let mut machine = Board::without_roms(0);
     put_roms(&mut machine, roms);

@@ -2,7 +2,7 @@
 
 ghost use Rattle.std.specs.Prelude.{◌≡◌, ◌<◌, ◌≤◌, ◌+◌, ◌*◌, ◌++◌, length, take, slice_index, EachIndex};
 ghost use Rattle.std.specs.List.{flat_map};
-ghost use Rattle.pac_board.specs.PictureState.{palette_of};
+ghost use Rattle.pac_board.specs.PictureState.{IsPicture, palette_of};
 ghost use Rattle.pac_board.specs.Tiles as tile;
 ghost use Rattle.pac_colour.specs.Colours.{numbers};
 ghost use Rattle.pac_host.specs.Handed.{AreWholeColours};
@@ -11,7 +11,7 @@ ghost use Rattle.pac_host.specs.Host as host;
 use crate::block::{PacBoard, open};
 use crate::codes::HostFault;
 use crate::roms::{check_roms, colours_of};
-use pac_board::{HEIGHT, Lines, WIDTH};
+use pac_board::{HEIGHT, RawLines, WIDTH, raw_row};
 use pac_colour::rgb;
 
 /// Red, green and blue of the 16 colour numbers.
@@ -72,13 +72,14 @@ fn put_line(rgba: &mut [u8], at: usize, palette: &PaletteBytes, line: &[u8; WIDT
 }
 
 /// Draws lines in these colours.
-fn put_lines(rgba: &mut [u8], palette: &PaletteBytes, lines: &Lines)
+fn put_lines(rgba: &mut [u8], palette: &PaletteBytes, lines: &RawLines)
+    requires picture { IsPicture lines.now }
     requires size { length rgba.old ≡ host.rgba_size }
     requires colours { AreWholeColours palette.now }
     ensures { rgba.new ≡ host.rgba_of palette.now lines.now }
 {
     for y in 0..HEIGHT {
-        put_line(rgba, LINE * y as usize, palette, lines.row(y));
+        put_line(rgba, LINE * y as usize, palette, raw_row(lines, y));
     }
 }
 
@@ -90,8 +91,7 @@ pub(crate) fn draw(block: &PacBoard, roms: &[u8], rgba: &mut [u8]) -> Result<(),
     if rgba.len() != RGBA_SIZE {
         return Err(HostFault::WrongLength);
     }
-    let mut lines = Lines::new();
-    let fields = open(block, &mut lines)?;
+    let fields = open(block)?;
     put_lines(rgba, &palette(colours_of(roms)), fields.lines);
     Ok(())
 }

@@ -10,7 +10,7 @@ use crate::block::{PacBoard, keep, open};
 use crate::buffer::HostBuffer;
 use crate::codes::HostFault;
 use crate::roms::{check_roms, put_roms};
-use pac_board::{Board, Lines};
+use pac_board::Board;
 use pac_state::laws::boards_have_states;
 use pac_state::read_file_into;
 
@@ -32,13 +32,12 @@ fn put_file(machine: &Board, text: &mut [u8])
     let _ = pac_state::save(machine, &mut buffer);
 }
 
-/// Puts the state in a block into a board. Its lines leave the stack before a file is written.
+/// Puts the state in a block into a board.
 #[inline(never)]
 fn fill(machine: &mut Board, block: &PacBoard) -> Result<(), HostFault>
     ensures { FillsBoard block.now.bytes machine.old result machine.new }
 {
-    let mut lines = Lines::new();
-    let fields = open(block, &mut lines)?;
+    let fields = open(block)?;
     machine.put_fields(&fields);
     Ok(())
 }

@@ -1,6 +1,7 @@
 //! A machine made from the fields of a board, as a save file has them, and told by them.
 
 ghost use Rattle.std.specs.Prelude.{◌≡◌, ◌≤◌, ◌<◌, ◌↔◌, true, length};
+ghost use Rattle.pac_picture.specs.State.{IsPicture};
 ghost use Rattle.pac_wave.specs.Wave.{Fit20Bits, accumulators_of_list};
 ghost use Rattle.pac_machine.specs.Standing.{most_asked, passed_lines, recomposed_view};
 ghost use Rattle.pac_machine.specs.Fields.{moment_of, state_of, AreBoardFields};
@@ -11,7 +12,7 @@ use crate::machine::{Machine, picture_of};
 use crate::timing::{FRAME_TICKS, HIDDEN_LINES, LINE_TICKS};
 use pac_cpu::{Cpu, Regs};
 use pac_map::{Map, Memory, RomSet};
-use pac_picture::{Lines, Picture};
+use pac_picture::{Picture, RawLines, is_picture};
 use pac_wave::Wave;
 
 /// The fields of a board's state, as a save file has them.
@@ -31,8 +32,8 @@ pub struct Fields<'a> {
     pub accumulators: [u32; 3],
     /// What is due.
     pub due: Due,
-    /// The lines of the picture as they were last composed.
-    pub lines: &'a Lines,
+    /// The lines of the picture as they were last composed, of colour numbers alone.
+    pub lines: &'a RawLines,
 }
 
 /// Whether accumulators hold what they can.
@@ -59,12 +60,14 @@ impl Fields<'_> {
             && self.steps <= self.time / 4
             && self.time <= LATEST_END
             && self.asked <= MOST_ASKED
+            && is_picture(self.lines)
     }
 }
 
 /// A set's picture with the lines of these fields.
 #[inline(always)]
-fn picture_with(set: &RomSet, lines: &Lines) -> Picture
+fn picture_with(set: &RomSet, lines: &RawLines) -> Picture
+    requires { IsPicture lines.now }
     ensures { IsUndrawn set.now lines.now result }
 {
     let mut picture = picture_of(set);
@@ -120,7 +123,7 @@ impl Machine {
             memory: self.map.memory.fields(),
             accumulators: self.wave.accumulators(),
             due,
-            lines: self.picture.lines(),
+            lines: self.picture.lines().raw(),
         }
     }
 

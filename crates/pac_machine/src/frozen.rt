@@ -70,7 +70,7 @@ fn bring_back(picture: &mut Picture, frozen: &Frozen)
         ≡ record picture.old { lines = frozen.now.board.lines; shadows = picture.new.shadows } }
     ensures stale { AreStale picture.new.shadows }
 {
-    picture.copy_from(&frozen.lines);
+    picture.copy_from(frozen.lines.raw());
 }
 
 impl Machine {
@@ -81,7 +81,7 @@ impl Machine {
         frozen.cpu = Cpu::with_regs(self.cpu.regs());
         frozen.memory.copy_from(&self.map.memory);
         frozen.wave.copy_from(&self.wave);
-        frozen.lines.copy_from(self.picture.lines());
+        frozen.lines.copy_from(self.picture.lines().raw());
         frozen.clock = self.clock;
         frozen.steps = self.steps;
     }

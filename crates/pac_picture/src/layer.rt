@@ -1,6 +1,6 @@
 //! The layer of tiles: each row of cells as it was last drawn, beside the bytes that it was drawn from.
 
-ghost use Rattle.std.specs.Prelude.{◌≡◌, ◌<◌, ◌≤◌, ◌/◌, ◌%◌, ◌||◌, ℕ, true};
+ghost use Rattle.std.specs.Prelude.{◌≡◌, ◌<◌, ◌≤◌, ◌-◌, ◌/◌, ◌%◌, ◌||◌, ℕ, true};
 ghost use Rattle.std.specs.Prelude.{false, if◌then◌else◌, [], length, map, count_by, slice_index, slice_index_or, slice_set};
 ghost use Rattle.pac_num.specs.Tabulate.{tabulate};
 ghost use Rattle.pac_tiles.specs.Tiles as tile;
@@ -42,7 +42,23 @@ fn differing(shadow: &Shadow, tiles: &RowBytes, colours: &RowBytes) -> [bool; CO
     either(shadow.stale, &by_tile, &by_colour)
 }
 
-/// Draws a cell with a tile in a colour where it differs, and counts it.
+/// Whether a cell of a mask has the tile and the colour of the cell to its left, which is of the mask too.
+#[inline]
+fn is_like_left(tiles: &RowBytes, colours: &RowBytes, mask: &[bool; COLUMNS], column: usize) -> bool
+    requires { column < tile.columns }
+    ensures place { result ≡ true → 1 ≤ column }
+    ensures masked { result ≡ true → slice_index_or mask.now (column - 1) false ≡ true }
+    ensures code { result ≡ true → slice_index tiles.now column ≡ slice_index tiles.now (column - 1) }
+    ensures colour { result ≡ true → slice_index colours.now column ≡ slice_index colours.now (column - 1) }
+{
+    mask[column]
+        && column > 0
+        && mask[column - 1]
+        && tiles[column] == tiles[column - 1]
+        && colours[column] == colours[column - 1]
+}
+
+/// Draws a cell with a tile in a colour where it differs, as a copy of the cell to its left where that is the same, and counts it.
 #[inline]
 fn redraw_cell(
     cells: &mut Cells,
@@ -51,20 +67,26 @@ fn redraw_cell(
     code: u8,
     colour: u8,
     differs: bool,
+    is_like_left: bool,
 ) -> u32
-    requires { column < tile.columns }
+    requires place { column < tile.columns }
+    requires place_left { is_like_left ≡ true → 1 ≤ column }
+    requires left { is_like_left ≡ true → slice_index_or cells.old (column - 1) [] ≡ tile_pattern graphics.now colour code }
     ensures cells { cells.new ≡ (if differs then slice_set cells.old column (tile_pattern graphics.now colour code) else cells.old) }
     ensures count { result ≡ (if differs then 1 else 0) }
 {
-    if differs {
-        cells[column] = graphics.pattern(colour, code);
-        1
-    } else {
-        0
+    if !differs {
+        return 0;
     }
+    cells[column] = if is_like_left {
+        cells[column - 1]
+    } else {
+        graphics.pattern(colour, code)
+    };
+    1
 }
 
-/// Draws the cells of a mask, and counts them.
+/// Draws the cells of a mask, and counts them. Most cells of a picture are like the one to their left, so one pattern serves many.
 #[inline]
 fn redraw(
     cells: &mut Cells,
@@ -82,6 +104,7 @@ fn redraw(
 {
     let mut count = 0;
     for column in 0..COLUMNS {
+        let is_like_left = is_like_left(tiles, colours, mask, column);
         count += redraw_cell(
             cells,
             graphics,
@@ -89,6 +112,7 @@ fn redraw(
             tiles[column],
             colours[column],
             mask[column],
+            is_like_left,
         );
     }
     count

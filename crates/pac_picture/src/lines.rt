@@ -13,6 +13,7 @@ ghost use Rattle.pac_picture.specs.BareLines.{AreBare};
 use crate::bare::Bare;
 use crate::layer::Layer;
 use crate::painting::paint_sprites;
+use crate::raw::RawLines;
 use crate::screen::Screen;
 use crate::size::{HEIGHT, WIDTH, repeated};
 use std::marker::Model;
@@ -97,20 +98,21 @@ impl Lines {
         &self.lines[y as usize]
     }
 
-    /// Takes the numbers of line y, each below 16, from a line that is handed in.
-    pub fn set_row(&mut self, y: u8, numbers: &[u8; WIDTH])
-        requires y { y < tile.height }
-        requires numbers { EachIndex numbers.now (λ x. slice_index numbers.now x < colour.numbers) }
-        ensures { self.new ≡ slice_set self.old y numbers.now }
+    /// All lines.
+    #[inline]
+    pub fn raw(&self) -> &RawLines
+        ensures lines { result.now ≡ self.now }
+        ensures picture { IsPicture self.now }
     {
-        self.lines[y as usize] = *numbers;
+        &self.lines
     }
 
-    /// Takes all lines from others.
-    pub fn copy_from(&mut self, other: &Lines)
-        ensures { self.new ≡ other.now }
+    /// Takes all lines of a picture.
+    pub fn copy_from(&mut self, lines: &RawLines)
+        requires { IsPicture lines.now }
+        ensures { self.new ≡ lines.now }
     {
-        self.lines.copy_from_slice(&other.lines);
+        self.lines.copy_from_slice(lines);
     }
 
     /// Composes line y of the shown picture, through a layer whose row of that line is drawn from the screen: a line

@@ -10,6 +10,7 @@ use crate::bare::Bare;
 use crate::graphics::Graphics;
 use crate::layer::Layer;
 use crate::lines::Lines;
+use crate::raw::RawLines;
 use crate::screen::Screen;
 use pac_colour::rgb;
 use std::marker::Model;
@@ -174,8 +175,9 @@ impl Picture {
         self.layer.set_stale();
     }
 
-    /// Takes its lines from others; every cell counts as differing then.
-    pub fn copy_from(&mut self, lines: &Lines)
+    /// Takes the lines of another picture; every cell counts as differing then.
+    pub fn copy_from(&mut self, lines: &RawLines)
+        requires { IsPicture lines.now }
         ensures picture { self.new ≡ record self.old { lines = lines.now; shadows = map made_stale self.old.shadows } }
         ensures stale { AreStale self.new.shadows }
     {

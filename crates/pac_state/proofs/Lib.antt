@@ -1,4 +1,5 @@
 pub mod Again
+pub mod Chunks
 pub mod Files
 pub mod Framing
 pub mod Read

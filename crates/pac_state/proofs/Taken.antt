@@ -2,7 +2,6 @@
 use Rattle.std.proofs.Common.{◌≡◌, ℕ, ◌==◌, Bool, true, false, not, if◌then◌else◌}
 use Rattle.std.proofs.Common.{List, length, Option, Some, None, refl, sym, subst}
 use Rattle.std.proofs.lemmas.Bool.{eqb-true}
-use Rattle.pac_board.specs.PictureState.{IsPicture}
 use Rattle.pac_board.specs.BoardFields.{Fields}
 use Rattle.pac_board.specs.Fields.{state_of, AreBoardFields}
 use Rattle.pac_board.specs.State.{BoardState}
@@ -26,18 +25,17 @@ size-of digest bytes none =
     eqb-true (length bytes) file_size (tested (length bytes == file_size) Size _
     (below (is_of_another_version bytes) OtherVersion _ (below (not (begins_with_magic bytes)) NoState _ none)))
 
--- fields in their ranges, with a picture, and a state in its ranges
-pub in-range : (fields : Fields) (state : BoardState) → state_of fields ≡ state → AreBoardFields fields → IsPicture state.now.board.lines
-    → IsStateInRange state
+-- fields in their ranges and a state in its ranges
+pub in-range : (fields : Fields) (state : BoardState) → state_of fields ≡ state → AreBoardFields fields → IsStateInRange state
 in-range fields state same range =
-    subst (λ (s : BoardState). IsPicture s.now.board.lines → IsStateInRange s) same (λ picture. record {
+    subst (λ (s : BoardState). IsStateInRange s) same (record {
       registers = range.registers;
       count = range.count;
       accumulators = range.accumulators;
       steps = range.steps;
       time = range.time;
       asked = range.asked;
-      picture = picture;
+      picture = range.picture;
     })
 
 pub range-of : (fields : Fields) (state : BoardState) → state_of fields ≡ state → IsStateInRange state → AreBoardFields fields
@@ -50,4 +48,5 @@ range-of fields state same range =
       steps = r.steps;
       time = r.time;
       asked = r.asked;
+      picture = r.picture;
     }

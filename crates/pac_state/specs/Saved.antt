@@ -1,10 +1,9 @@
 -- To be believed: which files are taken, for which board, and what is wrong with the others.
 use Rattle.std.specs.Prelude.{◌≡◌, ◌≢◌, ℕ, ◌*◌, ◌<◌, ◌≤◌, ◌==◌, min, nat_le, Bool, not, ◌&&◌, ◌||◌, if◌then◌else◌, ⊤, ◌⊎◌}
-use Rattle.std.specs.Prelude.{List, length, take, drop, slice_index, EachIndex, bytes_eq, Option, Some, None, Result, Ok, Err}
+use Rattle.std.specs.Prelude.{List, length, take, drop, bytes_eq, Option, Some, None, Result, Ok, Err}
 use Rattle.sha1.specs.Sha1.{sha1}
 use Rattle.pac_board.specs.Latched.{watchdog_limit}
 use Rattle.pac_board.specs.MemoryView.{HoldWhatTheyCan}
-use Rattle.pac_board.specs.Colours.{numbers}
 use Rattle.pac_board.specs.PictureState.{IsPicture}
 use Rattle.pac_board.specs.RomParts.{Parts}
 use Rattle.pac_roms_manifest.specs.Sets.{digest_of}
@@ -86,10 +85,6 @@ pub record AreWritten (state : BoardState) (bytes : List ℕ) : Type 0 where
 pub record IsText (bytes : List ℕ) : Type 0 where
   pub in_range : IsStateInRange (state_in bytes)
   pub written : AreWritten (state_in bytes) bytes
-
--- each number is a colour number
-abbrev pub AreNumbers : List ℕ → Type 0
-AreNumbers line = EachIndex line (λ x. slice_index line x < numbers)
 
 -- ---- the board
 

@@ -14,7 +14,7 @@ use crate::header::{MAGIC, VERSION, part, word};
 use crate::ranges::in_range;
 use crate::reading::fields_in;
 use crate::sizes::{BODY_SIZE, FILE_SIZE};
-use pac_board::{Fields, HEIGHT, Lines};
+use pac_board::{Fields, HEIGHT, RawLines, raw_row};
 
 /// What stands where a file has a digest.
 const NO_DIGEST: [u8; 20] = [0; 20];
@@ -35,19 +35,19 @@ fn is_framed(block: &[u8]) -> bool
     *MAGIC == *part(block, 0) && word(block, 8) == VERSION && has_no_digests(block)
 }
 
-/// The fields in a block, with its lines, if it is the block of a state that a board can have.
-pub fn read_block<'a>(block: &'a [u8; FILE_SIZE], lines: &'a mut Lines) -> Option<Fields<'a>>
+/// The fields in a block, if it is the block of a state that a board can have.
+pub fn read_block(block: &[u8; FILE_SIZE]) -> Option<Fields<'_>>
     ensures { blocks.ReadsBlock block.now result }
 {
     if is_framed(block) {
-        fields_in(block, lines)
+        fields_in(block)
     } else {
         None
     }
 }
 
 /// Writes the colour numbers of a picture, line by line.
-fn put_lines(block: &mut [u8], at: usize, lines: &Lines) -> usize
+fn put_lines(block: &mut [u8], at: usize, lines: &RawLines) -> usize
     requires { at + length (joined_pieces lines.now) ≤ length block.old }
     ensures size { length block.new ≡ length block.old }
     ensures end { result ≡ at + length (joined_pieces lines.now) }
@@ -55,7 +55,7 @@ fn put_lines(block: &mut [u8], at: usize, lines: &Lines) -> usize
 {
     let mut end = at;
     for y in 0..HEIGHT {
-        end = put_at(block, end, lines.row(y));
+        end = put_at(block, end, raw_row(lines, y));
     }
     end
 }

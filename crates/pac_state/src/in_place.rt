@@ -8,7 +8,7 @@ use crate::fault::LoadFault;
 use crate::header::word;
 use crate::loading::{bring_up, checked};
 use crate::reading::fields_in;
-use pac_board::{Board, Lines};
+use pac_board::Board;
 
 /// Puts the fields that stand in a file of the right size into a board, as they stand there. Where there are none, it stays as it is.
 fn read_into(bytes: &[u8], board: &mut Board) -> Result<(), LoadFault>
@@ -17,8 +17,7 @@ fn read_into(bytes: &[u8], board: &mut Board) -> Result<(), LoadFault>
     ensures answer { saved.ReadsState board.old.set bytes.now (saved.board_left result board.new) }
     ensures refused { IfErr result (λ fault. board.new ≡ board.old) }
 {
-    let mut lines = Lines::new();
-    let Some(fields) = fields_in(bytes, &mut lines) else {
+    let Some(fields) = fields_in(bytes) else {
         return Err(LoadFault::OutOfRange);
     };
     board.put_fields(&fields);

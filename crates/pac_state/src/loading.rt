@@ -9,7 +9,7 @@ ghost use Rattle.pac_roms_manifest.specs.Sets.{digest_of};
 use crate::fault::{LoadFault, LoadRefused};
 use crate::header::{fault_of, word};
 use crate::reading::fields_in;
-use pac_board::{Board, Lines, RomSet};
+use pac_board::{Board, RomSet};
 use pac_roms_manifest::digest;
 use std::alloc::Global;
 
@@ -35,8 +35,7 @@ fn read(bytes: &[u8], set: &RomSet) -> Result<Board, LoadFault>
     requires { length bytes.now ≡ saved.file_size }
     ensures { saved.ReadsState set.now bytes.now result }
 {
-    let mut lines = Lines::new();
-    let Some(fields) = fields_in(bytes, &mut lines) else {
+    let Some(fields) = fields_in(bytes) else {
         return Err(LoadFault::OutOfRange);
     };
     Ok(Board::with_fields(set, &fields))

@@ -72,6 +72,4 @@ pub(crate) fn in_range(fields: &Fields)
     inputs(fields.memory.held);
     sample(fields.due);
     sizes(&fields.memory);
-    // the contract of reading any row tells that all of them are there
-    let _top = fields.lines.row(0);
 }

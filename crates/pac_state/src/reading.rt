@@ -4,7 +4,7 @@ ghost use Rattle.std.specs.Prelude.{◌≡◌, ◌↔◌, ◌<◌, ◌≤◌, �
 ghost use Rattle.pac_board.specs.Fields.{state_of, AreBoardFields};
 ghost use Rattle.pac_board.specs.Inputs as inputs;
 ghost use Rattle.pac_board.specs.MemoryFields.{view_of_fields};
-ghost use Rattle.pac_board.specs.PictureState.{IsPicture};
+ghost use Rattle.pac_board.specs.Tiles as tile;
 ghost use Rattle.pac_state.specs.Framed.{ReadsFields};
 ghost use Rattle.pac_state.specs.Reading as read;
 ghost use Rattle.pac_state.specs.Saved as saved;
@@ -13,7 +13,7 @@ ghost use Rattle.pac_state.specs.Text as text;
 use crate::blocks::{controls, due, processor};
 use crate::header::{double_word, long_word, part, word};
 use crate::sizes::{PictureBlock, ProcessorBlock};
-use pac_board::{Alternate, Due, Fields, Flags, HEIGHT, Inputs, InterruptMode, Lines, Regs, WIDTH};
+use pac_board::{Alternate, Due, Fields, Flags, Inputs, InterruptMode, RawLines, Regs, WIDTH};
 use pac_num::bit;
 
 /// Whether a bit of a byte is set.
@@ -123,10 +123,24 @@ fn memory(bytes: &[u8]) -> pac_board::MemoryFields<'_>
     }
 }
 
-/// The fields in a file, with the lines of its picture.
-fn fields<'a>(bytes: &'a [u8], lines: &'a Lines) -> Fields<'a>
-    requires size { length bytes.now ≡ saved.file_size }
-    requires picture { lines.now ≡ read.lines_of (read.picture_in bytes.now) }
+/// The lines of a picture in its bytes.
+fn lines_of(bytes: &PictureBlock) -> &RawLines
+    ensures { result.now ≡ read.lines_of bytes.now }
+{
+    all_lines(bytes.as_chunks().0)
+}
+
+/// So many lines as a picture has.
+fn all_lines(lines: &[[u8; WIDTH]]) -> &RawLines
+    requires { length lines.now ≡ tile.height }
+    ensures { result.now ≡ lines.now }
+{
+    lines.first_chunk().unwrap()
+}
+
+/// The fields in a file.
+fn fields(bytes: &[u8]) -> Fields<'_>
+    requires { length bytes.now ≡ saved.file_size }
     ensures { state_of result ≡ read.state_in bytes.now }
 {
     Fields {
@@ -141,7 +155,7 @@ fn fields<'a>(bytes: &'a [u8], lines: &'a Lines) -> Fields<'a>
             double_word(bytes, 3210),
         ],
         due: due_of(part(bytes, 3221)),
-        lines,
+        lines: lines_of(part(bytes, 3224)),
     }
 }
 
@@ -164,46 +178,12 @@ fn is_taken(fields: &Fields, bytes: &[u8]) -> bool
     fields.are_in_range() && are_written(fields, bytes)
 }
 
-/// Whether each number of a line is a colour number.
-fn are_numbers(line: &[u8; WIDTH]) -> bool
-    ensures { (result ≡ true) ↔ saved.AreNumbers line.now }
-{
-    // all are looked at, so that many are at once
-    let mut are_all = true;
-    for number in line {
-        are_all &= *number < 16;
-    }
-    are_all
-}
-
-/// Takes the lines of a picture from its bytes, and tells whether all of them are colour numbers; else lines are missing.
-fn take_lines(lines: &mut Lines, bytes: &PictureBlock) -> bool
-    ensures picture { (result ≡ true) ↔ IsPicture (read.lines_of bytes.now) }
-    ensures taken { result ≡ true → lines.new ≡ read.lines_of bytes.now }
-{
-    let _before = lines.row(0);
-    for y in 0..HEIGHT {
-        let line: &[u8; WIDTH] = part(bytes, WIDTH * y as usize);
-        if !are_numbers(line) {
-            return false;
-        }
-        lines.set_row(y, line);
-    }
-    // the contract of reading any row tells that all of them are there
-    let _after = lines.row(0);
-    true
-}
-
-/// The fields that stand in bytes of a file's size, with the lines of its picture, if they are a state's and stand there as
-/// they are written.
-pub(crate) fn fields_in<'a>(bytes: &'a [u8], lines: &'a mut Lines) -> Option<Fields<'a>>
+/// The fields that stand in bytes of a file's size, if they are a state's and stand there as they are written.
+pub(crate) fn fields_in(bytes: &[u8]) -> Option<Fields<'_>>
     requires { length bytes.now ≡ saved.file_size }
     ensures { ReadsFields bytes.now result }
 {
-    if !take_lines(lines, part(bytes, 3224)) {
-        return None;
-    }
-    let fields = fields(bytes, lines);
+    let fields = fields(bytes);
     if is_taken(&fields, bytes) {
         Some(fields)
     } else {

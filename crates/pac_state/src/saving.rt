@@ -10,7 +10,7 @@ ghost use Rattle.pac_state.specs.Saves.{Saves};
 ghost use Rattle.pac_state.specs.Text as text;
 
 use crate::front::front;
-use pac_board::{Board, Fields, HEIGHT, Lines};
+use pac_board::{Board, Fields, HEIGHT, RawLines, raw_row};
 use pac_out::counted::Counted;
 use pac_out::{Out, WriteFault};
 use pac_roms_manifest::digest;
@@ -29,14 +29,14 @@ fn put<W: Out>(file: &mut Counted<W>, hasher: &mut Sha1, bytes: &[u8]) -> Result
 fn put_lines<W: Out>(
     file: &mut Counted<W>,
     hasher: &mut Sha1,
-    lines: &Lines,
+    lines: &RawLines,
 ) -> Result<(), WriteFault>
     ensures put { Puts W.took W.refused file.old (joined_pieces lines.now) result file.new }
     ensures hashed { OnOk result ((m : List ℕ) → Holds hasher.old m
         → Holds hasher.new (m ++ joined_pieces lines.now)) }
 {
     for y in 0..HEIGHT {
-        put(file, hasher, lines.row(y))?;
+        put(file, hasher, raw_row(lines, y))?;
     }
     file.put(&[])
 }

@@ -5,6 +5,9 @@ use Rattle.pac_board.specs.State.{BoardState}
 use Rattle.pac_host.specs.Host.{set_of_roms, rgba_of}
 use Rattle.pac_host.proofs.draw.draw.Goals as goal
 
+pub put_lines-requires-clause-picture : goal.put_lines-requires-clause-picture
+put_lines-requires-clause-picture c = c.in_ok-fields.ensures.in_range.picture
+
 pub returns : goal.returns
 returns c =
     let opened = c.in_ok-fields.ensures in

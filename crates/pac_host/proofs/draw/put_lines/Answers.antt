@@ -7,7 +7,7 @@ use Rattle.pac_host.proofs.draw.put_lines.Goals as goal
 
 pub loop-y-preserved : goal.loop-y-preserved
 loop-y-preserved c =
-    let high : length c.args.lines.now ≡ 224 = c.row.ensures.picture.high in
+    let high : length c.args.lines.now ≡ 224 = c.raw_row.ensures.high in
     let inside : c.loop-y.y < length c.args.lines.now = omega (arith, high, c.loop-y-test.true) in
     let line_of = flat_map (opaque_pixel c.args.palette.now) in
     let before = flat_map line_of (take c.loop-y.y c.args.lines.now) in
@@ -17,8 +17,8 @@ loop-y-preserved c =
       text =
           ap (λ n. take n c.put_line.new.rgba) place
           ∙ (c.put_line.ensures.text
-          ∙ (ap (λ text. text ++ line_of c.row.result.now) c.loop-y.invariant.text
-          ∙ (ap (λ row. before ++ line_of row) c.row.ensures.line
+          ∙ (ap (λ text. text ++ line_of c.raw_row.result.now) c.loop-y.invariant.text
+          ∙ (ap (λ row. before ++ line_of row) c.raw_row.ensures.line
           ∙ flat_map-one-more line_of c.args.lines.now c.loop-y.y [] inside)));
       high = λ _. high;
     }

@@ -1,6 +1,6 @@
 -- The buffer has all samples, since there is room for them.
-use Rattle.std.proofs.Common.{◌≡◌, ◌≤◌, ◌+◌, ◌-◌, ◌^◌, min, ◌++◌, drop, sym, ap, ◌∙◌, arith, rules}
-use Rattle.pac_board.specs.Calls.{course, outputs_given}
+use Rattle.std.proofs.Common.{◌≡◌, ◌+◌, ◌-◌, ◌++◌, drop, ap, ◌∙◌, arith, rules}
+use Rattle.pac_board.specs.Calls.{outputs_given}
 use Rattle.pac_board.specs.Laws.{run_ticks}
 use Rattle.pac_board.specs.Output.{sound_count, picture_count}
 use Rattle.pac_board.specs.State.{BoardValue, time_of}

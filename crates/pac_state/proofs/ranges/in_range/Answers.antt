@@ -17,5 +17,5 @@ returns c = record {
   };
   held = c.inputs.ensures;
   sample = c.sample.ensures;
-  range = in-range c.args.fields.now (state_of c.args.fields.now) refl c.requires c.row-top.ensures.picture;
+  range = in-range c.args.fields.now (state_of c.args.fields.now) refl c.requires;
 }

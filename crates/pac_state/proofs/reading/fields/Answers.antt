@@ -1,5 +1,5 @@
 use Rattle.std.proofs.Common.{ap, ◌∙◌}
-use Rattle.pac_state.specs.Reading.{regs_of, due_of}
+use Rattle.pac_state.specs.Reading.{regs_of, due_of, lines_of}
 use Rattle.pac_state.proofs.Read.{same-state}
 use Rattle.pac_state.proofs.reading.fields.Goals as goal
 
@@ -7,4 +7,5 @@ pub returns : goal.returns
 returns c =
     same-state (c.regs.ensures ∙ ap regs_of c.part.ensures) c.memory.ensures c.double_word.ensures
     c.double_word-2.ensures c.double_word-3.ensures
-    c.requires.picture c.long_word.ensures c.long_word-2.ensures c.long_word-3.ensures (c.due_of.ensures ∙ ap due_of c.part-2.ensures)
+    (c.lines_of.ensures ∙ ap lines_of c.part-3.ensures) c.long_word.ensures c.long_word-2.ensures c.long_word-3.ensures
+    (c.due_of.ensures ∙ ap due_of c.part-2.ensures)

@@ -1,18 +1,10 @@
-use Rattle.std.proofs.Common.{◌≡◌, ℕ, List, true, false, sym, subst, ◌∙◌}
-use Rattle.pac_board.specs.PictureState.{IsPicture}
+use Rattle.std.proofs.Common.{◌≡◌, true, false, sym, subst, ◌∙◌}
 use Rattle.pac_board.specs.Fields.{state_of}
 use Rattle.pac_board.specs.State.{BoardState}
-use Rattle.pac_state.specs.Reading.{lines_of, picture_in, state_in}
+use Rattle.pac_state.specs.Reading.{state_in}
 use Rattle.pac_state.specs.Saved.{AreWritten, IsText}
 use Rattle.pac_state.proofs.Taken.{in-range, range-of}
 use Rattle.pac_state.proofs.reading.fields_in.Goals as goal
-
-pub returns-then-not-take_lines : goal.returns-then-not-take_lines
-returns-then-not-take_lines c = λ (text : IsText c.args.bytes.now).
-    let picture : IsPicture (lines_of c.part.result.now) =
-    subst (λ (bytes : List ℕ). IsPicture (lines_of bytes)) (sym c.part.ensures) text.in_range.picture in
-    let clash : false ≡ true = sym c.if-not-take_lines.true ∙ c.take_lines.ensures.picture.1 picture in
-    let no : ⊥ = cc in absurd no
 
 pub returns-else-is_taken : goal.returns-else-is_taken
 returns-else-is_taken c = λ (text : IsText c.args.bytes.now).
@@ -25,12 +17,9 @@ returns-else-is_taken c = λ (text : IsText c.args.bytes.now).
 pub returns-then-is_taken : goal.returns-then-is_taken
 returns-then-is_taken c =
     let taken = c.is_taken.ensures.0 c.if-is_taken.true in
-    let picture : IsPicture (lines_of (picture_in c.args.bytes.now)) =
-    subst (λ (bytes : List ℕ). IsPicture (lines_of bytes)) c.part.ensures
-    (c.take_lines.ensures.picture.0 c.if-not-take_lines.false) in
     record {
       text = record {
-        in_range = in-range c.fields-fields.result (state_in c.args.bytes.now) c.fields-fields.ensures taken.0 picture;
+        in_range = in-range c.fields-fields.result (state_in c.args.bytes.now) c.fields-fields.ensures taken.0;
         written = subst (λ (state : BoardState). AreWritten state c.args.bytes.now) c.fields-fields.ensures taken.1;
       };
       state = c.fields-fields.ensures;

@@ -1,0 +1,54 @@
+//! Lines of a picture as they come from elsewhere, and whether they are a picture's.
+
+ghost use Rattle.std.specs.Prelude.{◌≡◌, ◌<◌, ◌↔◌, [], true, length, slice_index, slice_index_or, EachIndex};
+ghost use Rattle.pac_tiles.specs.Tiles as tile;
+ghost use Rattle.pac_colour.specs.Colours as colour;
+ghost use Rattle.pac_picture.specs.State.{IsPicture};
+
+use crate::size::{HEIGHT, WIDTH};
+
+/// 224 lines of 288 numbers each, whatever these are.
+pub type RawLines = [[u8; WIDTH]; HEIGHT as usize];
+
+/// Line y, 0 to 223.
+#[inline]
+pub fn raw_row(lines: &RawLines, y: u8) -> &[u8; WIDTH]
+    requires { y < tile.height }
+    ensures line { result.now ≡ slice_index_or lines.now y [] }
+    ensures high { length lines.now ≡ tile.height }
+    ensures wide { length result.now ≡ tile.width }
+{
+    let line = &lines[y as usize];
+    has_width(line);
+    line
+}
+
+/// A line has its width.
+#[inline(always)]
+fn has_width(line: &[u8; WIDTH])
+    ensures { length line.now ≡ tile.width }
+{}
+
+/// All bits that any number of a line has: where they are below 16, so is each number.
+#[inline]
+fn bits(line: &[u8; WIDTH]) -> u8
+    ensures below { (result < colour.numbers) ↔ EachIndex line.now (λ x. slice_index line.now x < colour.numbers) }
+{
+    let mut bits = 0;
+    for number in line {
+        bits |= *number;
+    }
+    bits
+}
+
+/// Whether lines are a picture's: each number is a colour number.
+pub fn is_picture(lines: &RawLines) -> bool
+    ensures { (result ≡ true) ↔ IsPicture lines.now }
+{
+    for y in 0..HEIGHT {
+        if bits(raw_row(lines, y)) >= 16 {
+            return false;
+        }
+    }
+    true
+}
