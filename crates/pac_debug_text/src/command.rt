@@ -12,7 +12,7 @@ use pac_lex::next_word;
 use thiserror::Error;
 
 /// A command of a session. Its numbers are in the ranges that are told here.
-#[derive(Clone, Copy, Debug, PartialEq, Eq)]
+#[derive(Clone, Copy, PartialEq, Eq)]
 pub enum Command {
     /// `step n`: so many steps, 1 to 1,000,000.
     Step(u32),

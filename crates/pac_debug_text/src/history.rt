@@ -13,7 +13,7 @@ use pac_out::pending::Pending;
 use pac_out::{Out, WriteFault};
 
 /// What a step was.
-#[derive(Clone, Copy, Debug, PartialEq, Eq)]
+#[derive(Clone, Copy)]
 pub enum Done {
     /// An instruction was run; these are the four bytes from PC on, of that moment.
     Ran([u8; 4]),
@@ -24,7 +24,7 @@ pub enum Done {
 }
 
 /// A step that was done.
-#[derive(Clone, Copy, Debug, PartialEq, Eq)]
+#[derive(Clone, Copy)]
 pub struct HistoryLine {
     /// How many steps lie before it.
     pub index: u64,

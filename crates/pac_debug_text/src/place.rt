@@ -11,7 +11,7 @@ use pac_out::counted::Counted;
 use pac_out::{Out, WriteFault};
 
 /// What ended a command that moves.
-#[derive(Clone, Copy, Debug, PartialEq, Eq)]
+#[derive(Clone, Copy)]
 pub enum Ending {
     /// All steps of `step` were done.
     Step,
@@ -47,7 +47,7 @@ impl Ending {
 }
 
 /// Where a session stands, before a step.
-#[derive(Clone, Copy, Debug, PartialEq, Eq)]
+#[derive(Clone, Copy)]
 pub struct Place {
     /// How many steps lie before it.
     pub index: u64,

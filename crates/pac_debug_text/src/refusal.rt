@@ -8,7 +8,7 @@ use pac_out::counted::Counted;
 use pac_out::{Out, WriteFault};
 
 /// Why a command did nothing.
-#[derive(Clone, Copy, Debug, PartialEq, Eq)]
+#[derive(Clone, Copy)]
 pub enum Refusal {
     /// G1: the line is no command of the table.
     NoCommand,

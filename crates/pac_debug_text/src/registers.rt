@@ -13,7 +13,7 @@ use pac_out::pending::Pending;
 use pac_out::{Out, WriteFault};
 
 /// What the board keeps in its latches.
-#[derive(Clone, Copy, Debug, PartialEq, Eq)]
+#[derive(Clone, Copy)]
 pub struct Latches {
     /// The eight latch bits.
     pub latch: u8,
