@@ -71,15 +71,26 @@ fn what_no_row_matches_is_nothing(rt: HostRuntime) {
     }
 }
 
-/// Fields, n and d that LD r,n can't have: r is none of the registers, or what it has none of isn't 0.
+/// LD (4040H),A and LD B,12H.
+const STORE: [u8; 4] = [0x32, 0x40, 0x40, 0x76];
+
+const LOAD: [u8; 4] = [0x06, 0x12, 0, 0];
+
+/// Fields, n or nn, and d.
 type Fields = (u8, u8, u16, i8);
 
-static NO_LOADS: [Fields; 5] = [
-    (6, 0, 0, 0),
-    (8, 0, 0, 0),
-    (0, 1, 0, 0),
-    (0, 0, 0x100, 0),
-    (0, 0, 0, -1),
+/// An instruction, and others of its row with these fields, if there are such: not where r is none of the registers, or what the row has
+/// none of isn't 0.
+static OTHERS: [(&str, [u8; 4], Fields, bool); 9] = [
+    ("LD (0FFFFH),A", STORE, (0, 0, 0xFFFF, 0), true),
+    ("a store with r", STORE, (1, 0, 0x4040, 0), false),
+    ("a store with d", STORE, (0, 0, 0x4040, 1), false),
+    ("LD A,0FFH", LOAD, (7, 0, 0xFF, 0), true),
+    ("a load with r 6", LOAD, (6, 0, 0, 0), false),
+    ("a load with r 8", LOAD, (8, 0, 0, 0), false),
+    ("a load with a second r", LOAD, (0, 1, 0, 0), false),
+    ("a load of 100H", LOAD, (0, 0, 0x100, 0), false),
+    ("a load with d", LOAD, (0, 0, 0, -1), false),
 ];
 
 /// The instruction that bytes begin with.
@@ -107,39 +118,36 @@ fn is_store(store: &Instr) -> bool {
 }
 
 /// Whether an instruction of a row may have these fields, n and d.
-fn may_have(row: u16, fields: &Fields) -> bool {
-    let (p, q, word, disp) = *fields;
+fn may_have(row: u16, fields: Fields) -> bool {
+    let (p, q, word, disp) = fields;
     Instr::new(row, p, q, word, disp).is_some()
 }
 
-#[test]
-fn a_store(rt: HostRuntime) {
-    let Some(store) = instr_of([0x32, 0x40, 0x40, 0x76]) else {
-        return told(&rt, &"LD (4040H),A", false);
-    };
-    told(&rt, &"LD (nn),A", is_store(&store));
-    told(&rt, &"nn FFFFH", may_have(store.row(), &(0, 0, 0xFFFF, 0)));
-    told(
-        &rt,
-        &"r B and nn",
-        !may_have(store.row(), &(1, 0, 0x4040, 0)),
-    );
-    told(&rt, &"d and nn", !may_have(store.row(), &(0, 0, 0x4040, 1)));
+/// Whether there is another of the instruction's row with these fields, or isn't, as it should.
+fn is_other(bytes: [u8; 4], fields: Fields, may: bool) -> bool {
+    match instr_of(bytes) {
+        Some(instr) => may_have(instr.row(), fields) == may,
+        None => false,
+    }
 }
 
-#[test]
-fn what_no_load_can_have(rt: HostRuntime) {
-    let Some(load) = instr_of([0x06, 0x12, 0, 0]) else {
-        return told(&rt, &"LD B,12H", false);
-    };
-    told(&rt, &"LD A,0FFH", may_have(load.row(), &(7, 0, 0xFF, 0)));
-    for fields in &NO_LOADS {
-        told(&rt, fields, !may_have(load.row(), fields));
+/// Whether the parts of a store's row are those of LD (nn),A.
+fn has_parts_of_store() -> bool {
+    match instr_of(STORE) {
+        Some(store) => is_store(&store),
+        None => false,
     }
 }
 
 #[test]
-fn count_of_rows(rt: HostRuntime) {
-    told(&rt, &"140 rows", rows().len() == 140);
-    told(&rt, &"no row 140", !may_have(140, &(0, 0, 0, 0)));
+fn parts_of_rows(rt: HostRuntime) {
+    told(&rt, &"LD (nn),A", has_parts_of_store());
+    told(
+        &rt,
+        &"140 rows",
+        rows().len() == 140 && !may_have(140, (0, 0, 0, 0)),
+    );
+    for (name, bytes, fields, may) in &OTHERS {
+        told(&rt, name, is_other(*bytes, *fields, *may));
+    }
 }

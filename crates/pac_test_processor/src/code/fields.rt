@@ -60,9 +60,9 @@ fn prefixes_of_pages(rt: HostRuntime) {
 }
 
 #[test]
-fn pages_with_a_displacement_and_sizes_of_numbers(rt: HostRuntime) {
-    told(&rt, &"DD CB", Page::DdCb.is_displaced());
-    told(&rt, &"ED", !Page::Ed.is_displaced());
-    told(&rt, &"nn", Immediate::Word.size() == 2);
-    told(&rt, &"none", Immediate::Absent.size() == 0);
+fn displacements_and_sizes(rt: HostRuntime) {
+    let is_displaced = Page::DdCb.is_displaced() && !Page::Ed.is_displaced();
+    told(&rt, &"displacements", is_displaced);
+    let are_sized = Immediate::Word.size() == 2 && Immediate::Absent.size() == 0;
+    told(&rt, &"sizes", are_sized);
 }

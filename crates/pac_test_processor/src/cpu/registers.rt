@@ -5,7 +5,7 @@ use pac_bus::{Bus, Flat};
 use pac_exec::{Alternate, Regs, perform};
 use pac_num::displaced;
 use pac_table::{Instr, InterruptMode, rows};
-use std::test::Fail;
+use std::process::Abort;
 
 /// Registers that are all different: A 1, F 2, B 3 .. L 8, the second set 11 to 18.
 fn different() -> Regs {
@@ -74,13 +74,21 @@ fn has_stored(bus: &Flat) -> bool {
     bus.read(0x403F) == 0 && bus.read(0x4040) == 1 && bus.read(0x4041) == 0
 }
 
+/// The store takes its time and puts A into memory alone.
+fn stores(rt: &impl Abort, bus: &mut Flat) {
+    match store() {
+        Some(store) => told(rt, &"time and registers", is_performed(&store, bus)),
+        None => told(rt, &"LD (4040H),A", false),
+    }
+    told(rt, &"memory", has_stored(bus));
+}
+
 #[test]
-fn performs_a_store(rt: HostRuntime) -> Result<(), Fail> {
-    let store = store().ok_or("no LD (4040H),A")?;
-    let mut bus = Flat::new(rt.alloc())?;
-    told(&rt, &"time and registers", is_performed(&store, &mut bus));
-    told(&rt, &"memory", has_stored(&bus));
-    Ok(())
+fn performs_a_store(rt: HostRuntime) {
+    match Flat::new(rt.alloc()) {
+        Ok(mut bus) => stores(&rt, &mut bus),
+        Err(_) => told(&rt, &"memory", false),
+    }
 }
 
 /// The registers by their numbers in codes, and their bytes in `different`.
