@@ -1,6 +1,7 @@
 //! Tests of the assembler: rows of the language, long sources, the whole table, and memory that is refused.
 
-mod lists;
+mod assembled;
+mod long;
 mod programs;
 mod rows;
 mod sources;

@@ -9,6 +9,8 @@ mod asm_line;
 #[cfg(test)]
 mod asm_operation;
 #[cfg(test)]
+mod built;
+#[cfg(test)]
 mod dis;
 #[cfg(test)]
 mod expr;
@@ -20,3 +22,5 @@ mod listing;
 mod names;
 #[cfg(test)]
 mod printed;
+#[cfg(test)]
+mod told;

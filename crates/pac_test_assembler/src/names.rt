@@ -1,8 +1,9 @@
-//! Names for the tests.
+//! Names and counts that several of the tests use.
 
 ghost use Rattle.std.specs.Prelude.{Some, pos, None, ◌==◌, if◌then◌else◌, length};
 
 use pac_expr::SymbolLookup;
+use pac_table::Instr;
 
 /// Names of one byte stand for 5, and no other is defined.
 pub(crate) struct OneByteNames;
@@ -13,4 +14,17 @@ impl SymbolLookup for OneByteNames {
     fn symbol(&self, name: &[u8]) -> Option<i32> {
         if name.len() == 1 { Some(5) } else { None }
     }
+}
+
+/// The opcodes of the table, with the prefixes and the fields that they may have.
+pub(crate) fn opcodes() -> u16 {
+    let mut count: u16 = 0;
+    for row in 0..256u16 {
+        for fields in 0..64u8 {
+            if Instr::new(row, fields / 8, fields % 8, 0, 0).is_some() {
+                count = count.saturating_add(1);
+            }
+        }
+    }
+    count
 }

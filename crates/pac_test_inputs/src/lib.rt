@@ -10,3 +10,5 @@ mod map;
 mod printed;
 #[cfg(test)]
 mod roms_manifest;
+#[cfg(test)]
+mod told;

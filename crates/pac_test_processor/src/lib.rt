@@ -7,3 +7,5 @@ mod alu;
 mod code;
 #[cfg(test)]
 mod cpu;
+#[cfg(test)]
+mod told;

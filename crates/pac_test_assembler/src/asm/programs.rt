@@ -1,7 +1,7 @@
 //! Short sources with the bytes and the symbols that they become.
 
-use pac_asm::assemble;
-use pac_asm_program::Program;
+use super::assembled::Assembled;
+use crate::told::told;
 use std::alloc::Global;
 
 /// Whether bytes stand at an address of a ROM.
@@ -14,10 +14,7 @@ fn stand_at(rom: &[u8], at: usize, bytes: &[u8]) -> bool {
 
 /// Whether a source has a program, with these bytes at an address of its ROM.
 fn has_bytes(alloc: Global, source: &str, at: usize, bytes: &[u8]) -> bool {
-    match assemble(alloc, source.as_bytes()) {
-        Ok(program) => stand_at(program.rom(), at, bytes),
-        Err(_) => false,
-    }
+    stand_at(Assembled::of(alloc, source.as_bytes()).rom(), at, bytes)
 }
 
 /// Sources, an address of the ROM, and the bytes there.
@@ -59,46 +56,22 @@ static BYTES: [(&str, usize, &[u8]); 12] = [
 #[test]
 fn bytes_of_programs(rt: HostRuntime) {
     for (source, at, bytes) in &BYTES {
-        assert!(rt; has_bytes(rt.alloc(), source, *at, bytes), "{source}");
+        told(&rt, source, has_bytes(rt.alloc(), source, *at, bytes));
     }
 }
 
-/// Names with their numbers.
-static SYMBOLS: [(&str, i32); 3] = [("TWO", -2), ("one", 1), ("ONE", 1)];
+/// A source with a name in a line that is skipped.
+static NAMES: &str = "TWO EQU -2\nIF 0\nNONE: NOP\nENDIF\nDEFB 1\none:\nONE: DEFB 5";
 
-/// Whether a program's symbols are these, in this order.
-fn has_symbols(program: &Program, symbols: &[(&str, i32)]) -> bool {
-    if program.symbols().len() != symbols.len() {
-        return false;
-    }
-    for place in 0..symbols.len() {
-        let (name, number) = symbols[place];
-        if !has_symbol(program, place, name, number) {
-            return false;
-        }
-    }
-    true
-}
-
-/// Whether a program's symbol at a place is this one.
-fn has_symbol(program: &Program, place: usize, name: &str, number: i32) -> bool {
-    match program.symbols().get(place) {
-        Some((found, value)) => found == name.as_bytes() && value == number,
-        None => false,
-    }
-}
-
-/// Whether a source has a program with these symbols.
-fn defines(alloc: Global, source: &str, symbols: &[(&str, i32)]) -> bool {
-    match assemble(alloc, source.as_bytes()) {
-        Ok(program) => has_symbols(&program, symbols),
-        Err(_) => false,
-    }
-}
+/// The places of its names, with their numbers.
+static SYMBOLS: [(usize, &str, i32); 3] = [(0, "TWO", -2), (1, "one", 1), (2, "ONE", 1)];
 
 // A name for each number, in the order of the lines that count.
 #[test]
 fn symbols_in_order(rt: HostRuntime) {
-    let source = "TWO EQU -2\nIF 0\nNONE: NOP\nENDIF\nDEFB 1\none:\nONE: DEFB 5";
-    assert!(rt; defines(rt.alloc(), source, &SYMBOLS));
+    let made = Assembled::of(rt.alloc(), NAMES.as_bytes());
+    told(&rt, &"three symbols", made.is_of(7, 3));
+    for (place, name, number) in &SYMBOLS {
+        told(&rt, name, made.has_symbol(*place, name, *number));
+    }
 }

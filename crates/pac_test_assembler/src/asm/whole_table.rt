@@ -1,6 +1,8 @@
 //! The whole table: each code is shown as text at address 0, and the text is assembled again.
 
-use pac_asm::assemble;
+use super::assembled::Assembled;
+use crate::names::opcodes;
+use crate::told::told;
 use pac_code::encode;
 use pac_dis::disassemble;
 use pac_table::Instr;
@@ -28,15 +30,8 @@ fn is_assembled_again(alloc: Global, instr: &Instr) -> bool {
         return false;
     }
     let (text, _) = disassemble(code.as_slice(), 0);
-    becomes(alloc, text.as_str(), code.as_slice())
-}
-
-/// Whether a text is assembled to a code.
-fn becomes(alloc: Global, text: &str, code: &[u8]) -> bool {
-    match assemble(alloc, text.as_bytes()) {
-        Ok(program) => begins_with(program.rom(), code),
-        Err(_) => false,
-    }
+    let made = Assembled::of(alloc, text.as_str().as_bytes());
+    begins_with(made.rom(), code.as_slice())
 }
 
 /// Whether each instruction of a row with these fields is assembled again.
@@ -55,18 +50,15 @@ fn are_assembled_again(alloc: Global, row: u16, p: u8, q: u8) -> bool {
 
 #[test]
 fn each_code_is_assembled_again(rt: HostRuntime) {
-    let mut opcodes: u16 = 0;
     for row in 0..256u16 {
         for fields in 0..64u8 {
             let (p, q) = (fields / 8, fields % 8);
-            if Instr::new(row, p, q, 0, 0).is_some() {
-                opcodes = opcodes.saturating_add(1);
-            }
-            assert!(rt;
+            told(
+                &rt,
+                &(row, p, q),
                 are_assembled_again(rt.alloc(), row, p, q),
-                "row {row} with {p} and {q}"
             );
         }
     }
-    assert!(rt; opcodes == 698, "{opcodes}");
+    told(&rt, &"698 opcodes", opcodes() == 698);
 }

@@ -1,8 +1,10 @@
 //! What lines are, from the source language's rules.
 
+use crate::told::told;
 use pac_asm_line::{Conditional, Statement, conditional_word, form};
 use pac_lex::{first_word, tokens};
 use std::alloc::Global;
+use std::process::Abort;
 
 /// What a line is, without its operands.
 #[derive(Clone, Copy, PartialEq, Eq)]
@@ -45,8 +47,11 @@ fn is_of(alloc: Global, line: &[u8], kind: Kind, label: &[u8]) -> bool {
     }
 }
 
-/// Lines, what they are, and their labels.
-static RIGHT: [(&[u8], Kind, &[u8]); 27] = [
+/// A line, what it is, and its label.
+type Row = (&'static [u8], Kind, &'static [u8]);
+
+/// Lines of a label or an operation.
+static LABELS: [Row; 13] = [
     (b"", Kind::Nothing, b""),
     (b" ; NOP", Kind::Nothing, b""),
     (b"NOPP", Kind::Nothing, b"NOPP"),
@@ -60,6 +65,10 @@ static RIGHT: [(&[u8], Kind, &[u8]); 27] = [
     (b"label nop", Kind::Operation, b"label"),
     (b"NOP", Kind::Operation, b""),
     (b"LOOP: DJNZ LOOP", Kind::Operation, b"LOOP"),
+];
+
+/// Lines of directives.
+static DIRECTIVES: [Row; 14] = [
     (b"X: EQU 5", Kind::Equate, b"X"),
     (b"X EQU 5", Kind::Equate, b"X"),
     (b"ORG (5)", Kind::Origin, b""),
@@ -76,15 +85,21 @@ static RIGHT: [(&[u8], Kind, &[u8]); 27] = [
     (b"X: DS 5,6", Kind::Space, b"X"),
 ];
 
-#[test]
-fn right_lines(rt: HostRuntime) {
-    for (line, kind, label) in &RIGHT {
-        assert!(rt; is_of(rt.alloc(), line, *kind, label), "at {line:?}");
+/// Each line is what it should be.
+fn are_of(rt: &impl Abort, alloc: Global, rows: &[Row]) {
+    for (line, kind, label) in rows {
+        told(rt, line, is_of(alloc, line, *kind, label));
     }
 }
 
-/// Lines that are none of the language.
-static REFUSED: [&[u8]; 52] = [
+#[test]
+fn right_lines(rt: HostRuntime) {
+    are_of(&rt, rt.alloc(), &LABELS);
+    are_of(&rt, rt.alloc(), &DIRECTIVES);
+}
+
+/// Lines that are none of the language: labels, and directives without a right operand or with a label that they can't have.
+static REFUSED: [&[u8]; 25] = [
     b"L: NOP",
     b"C",
     b"nz:",
@@ -110,6 +125,10 @@ static REFUSED: [&[u8]; 52] = [
     b"ELSE 1",
     b"X ENDIF",
     b"ENDIF 5",
+];
+
+/// Further ones: data, and operations.
+static REFUSED_TOO: [&[u8]; 27] = [
     b"DEFB",
     b"DEFB 1,",
     b"DEFB ,1",
@@ -139,11 +158,17 @@ static REFUSED: [&[u8]; 52] = [
     b"JP (IX+0)",
 ];
 
+/// None of the lines is one of the language.
+fn are_refused(rt: &impl Abort, alloc: Global, lines: &[&[u8]]) {
+    for line in lines {
+        told(rt, line, is_of(alloc, line, Kind::Refused, b""));
+    }
+}
+
 #[test]
 fn refused_lines(rt: HostRuntime) {
-    for line in &REFUSED {
-        assert!(rt; is_of(rt.alloc(), line, Kind::Refused, b""), "at {line:?}");
-    }
+    are_refused(&rt, rt.alloc(), &REFUSED);
+    are_refused(&rt, rt.alloc(), &REFUSED_TOO);
 }
 
 /// Lines, and the conditional word that they begin with.
@@ -164,6 +189,6 @@ static CONDITIONAL: [(&[u8], Option<Conditional>); 11] = [
 #[test]
 fn conditional_words(rt: HostRuntime) {
     for (line, want) in &CONDITIONAL {
-        assert!(rt; conditional_word(first_word(line)) == *want, "at {line:?}");
+        told(&rt, line, conditional_word(first_word(line)) == *want);
     }
 }

@@ -1,9 +1,12 @@
 //! What is no operation, whatever its numbers are.
 
 use super::reading::{Answer, read};
+use crate::told::told;
+use std::alloc::Global;
+use std::process::Abort;
 
-/// Texts that are no operation.
-static NONE: [&[u8]; 45] = [
+/// Texts with words that are no operation, or with too few operands or too many.
+static WORDS: [&[u8]; 13] = [
     b"SLL A",
     b"RETT",
     b"ORG 5",
@@ -17,6 +20,10 @@ static NONE: [&[u8]; 45] = [
     b"LD A B",
     b"LD A,()",
     b"LD A,'AB'",
+];
+
+/// Operands that an operation can't have.
+static OPERANDS: [&[u8]; 15] = [
     b"LD A,NOP",
     b"LD A,1+HL",
     b"LD A,AF'",
@@ -32,6 +39,10 @@ static NONE: [&[u8]; 45] = [
     b"EX HL,DE",
     b"EX AF,AF",
     b"IN F,(C)",
+];
+
+/// Further ones, and displacements that are none.
+static DISPLACEMENTS: [&[u8]; 17] = [
     b"OUT (C),5",
     b"JP (5)",
     b"JP (IX+0)",
@@ -51,12 +62,21 @@ static NONE: [&[u8]; 45] = [
     b"LD A,(HL+5)",
 ];
 
+/// Whether a text is no operation.
+fn is_nothing(alloc: Global, text: &[u8]) -> bool {
+    matches!(read(alloc, text), Answer::Nothing)
+}
+
+/// None of these texts is an operation.
+fn are_nothing(rt: &impl Abort, alloc: Global, texts: &[&[u8]]) {
+    for text in texts {
+        told(rt, text, is_nothing(alloc, text));
+    }
+}
+
 #[test]
 fn no_operations(rt: HostRuntime) {
-    for text in &NONE {
-        assert!(rt;
-            matches!(read(rt.alloc(), text), Answer::Nothing),
-            "{text:?}"
-        );
-    }
+    are_nothing(&rt, rt.alloc(), &WORDS);
+    are_nothing(&rt, rt.alloc(), &OPERANDS);
+    are_nothing(&rt, rt.alloc(), &DISPLACEMENTS);
 }

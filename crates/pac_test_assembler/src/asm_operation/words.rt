@@ -1,5 +1,6 @@
 //! Reserved words, directives, and expressions of a source.
 
+use crate::told::told;
 use pac_asm_operation::{Directive, directive_of, is_reserved, is_source_expression, next_part};
 use pac_lex::{Token, tokens};
 use std::alloc::Global;
@@ -24,19 +25,33 @@ static WORDS: [(&[u8], bool); 16] = [
     (b"_LD", false),
 ];
 
-#[test]
-fn reserved_words(rt: HostRuntime) {
-    for (word, want) in &WORDS {
-        assert!(rt; is_reserved(word) == *want, "{word:?}");
+/// Words in any case, and the directives that they are.
+static DIRECTIVES: [(&[u8], &str); 4] = [
+    (b"Org", "ORG"),
+    (b"DB", "DEFB"),
+    (b"DS", "DEFS"),
+    (b"DEF", "none"),
+];
+
+/// The name of the directive that a word is, of those above.
+fn directive_name(word: &[u8]) -> &'static str {
+    match directive_of(word) {
+        Some(Directive::Origin) => "ORG",
+        Some(Directive::Bytes) => "DEFB",
+        Some(Directive::Space) => "DEFS",
+        Some(_) => "another",
+        None => "none",
     }
 }
 
 #[test]
-fn directives(rt: HostRuntime) {
-    assert!(rt; matches!(directive_of(b"Org"), Some(Directive::Origin)));
-    assert!(rt; matches!(directive_of(b"DB"), Some(Directive::Bytes)));
-    assert!(rt; matches!(directive_of(b"DS"), Some(Directive::Space)));
-    assert!(rt; directive_of(b"DEF").is_none());
+fn reserved_words_and_directives(rt: HostRuntime) {
+    for (word, want) in &WORDS {
+        told(&rt, word, is_reserved(word) == *want);
+    }
+    for (word, name) in &DIRECTIVES {
+        told(&rt, word, directive_name(word) == *name);
+    }
 }
 
 /// Operands, the tokens of the first, and whether it is an expression of a source.
@@ -67,6 +82,6 @@ fn begins_with(alloc: Global, text: &[u8], count: usize, want: bool) -> bool {
 #[test]
 fn expressions(rt: HostRuntime) {
     for (text, count, want) in &PARTS {
-        assert!(rt; begins_with(rt.alloc(), text, *count, *want), "{text:?}");
+        told(&rt, text, begins_with(rt.alloc(), text, *count, *want));
     }
 }

@@ -1,10 +1,16 @@
 //! Codes and their texts: operations by UM0080's names, numbers as this profile writes them.
 
+use crate::told::told;
 use pac_dis::disassemble;
+use std::process::Abort;
 
 /// Bytes, the address of the first, the text and how many bytes it speaks of.
-static ROWS: [(&[u8], u16, &str, u8); 73] = [
-    // Loads of bytes.
+type Row = (&'static [u8], u16, &'static str, u8);
+
+// Tables are short: the check of a table of twice as many rows takes more than twice as long.
+
+/// Loads of bytes.
+static LOADS_OF_BYTES: [Row; 12] = [
     (&[0x3E, 0x42, 0x32, 0x40], 0, "LD A,42H", 2),
     (&[0x32, 0x40, 0x40, 0x76], 2, "LD (4040H),A", 3),
     (&[0x41], 0, "LD B,C", 1),
@@ -17,7 +23,10 @@ static ROWS: [(&[u8], u16, &str, u8); 73] = [
     (&[0xDD, 0x7E, 0x80], 0, "LD A,(IX-80H)", 3),
     (&[0xDD, 0x7E, 0x00], 0, "LD A,(IX+00H)", 3),
     (&[0xFD, 0x70, 0x7F], 0, "LD (IY+7FH),B", 3),
-    // Loads of words.
+];
+
+/// Loads of words.
+static LOADS_OF_WORDS: [Row; 11] = [
     (&[0x21, 0x34, 0x12], 0, "LD HL,1234H", 3),
     (&[0x31, 0xFF, 0xFF], 0, "LD SP,0FFFFH", 3),
     (&[0x2A, 0x34, 0x12], 0, "LD HL,(1234H)", 3),
@@ -29,14 +38,20 @@ static ROWS: [(&[u8], u16, &str, u8); 73] = [
     (&[0xF5], 0, "PUSH AF", 1),
     (&[0xD1], 0, "POP DE", 1),
     (&[0xDD, 0xE5], 0, "PUSH IX", 2),
-    // Exchanges and block instructions.
+];
+
+/// Exchanges and block instructions.
+static EXCHANGES: [Row; 6] = [
     (&[0xEB], 0, "EX DE,HL", 1),
     (&[0x08], 0, "EX AF,AF'", 1),
     (&[0xD9], 0, "EXX", 1),
     (&[0xE3], 0, "EX (SP),HL", 1),
     (&[0xED, 0xB0], 0, "LDIR", 2),
     (&[0xED, 0xBB], 0, "OTDR", 2),
-    // Arithmetic.
+];
+
+/// Arithmetic.
+static ARITHMETIC: [Row; 14] = [
     (&[0x80], 0, "ADD A,B", 1),
     (&[0x8E], 0, "ADC A,(HL)", 1),
     (&[0xD6, 0xA0], 0, "SUB 0A0H", 2),
@@ -51,13 +66,19 @@ static ROWS: [(&[u8], u16, &str, u8); 73] = [
     (&[0xED, 0x52], 0, "SBC HL,DE", 2),
     (&[0xDD, 0x29], 0, "ADD IX,IX", 2),
     (&[0xFD, 0x39], 0, "ADD IY,SP", 2),
-    // Shifts and single bits.
+];
+
+/// Shifts and single bits.
+static SHIFTS: [Row; 5] = [
     (&[0xCB, 0x07], 0, "RLC A", 2),
     (&[0xCB, 0x3E], 0, "SRL (HL)", 2),
     (&[0xDD, 0xCB, 0xFF, 0x16], 0, "RL (IX-01H)", 4),
     (&[0xCB, 0x7F], 0, "BIT 7,A", 2),
     (&[0xFD, 0xCB, 0xFD, 0x46], 0, "BIT 0,(IY-03H)", 4),
-    // Jumps, calls and ports.
+];
+
+/// Jumps, calls and ports.
+static JUMPS: [Row; 14] = [
     (&[0xC2, 0x00, 0x10], 0, "JP NZ,1000H", 3),
     (&[0xE9], 0, "JP (HL)", 1),
     (&[0xFD, 0xE9], 0, "JP (IY)", 2),
@@ -72,11 +93,17 @@ static ROWS: [(&[u8], u16, &str, u8); 73] = [
     (&[0xFF], 0, "RST 38H", 1),
     (&[0xDB, 0x00], 0, "IN A,(00H)", 2),
     (&[0xED, 0x41], 0, "OUT (C),B", 2),
-    // Control.
+];
+
+/// Control.
+static CONTROL: [Row; 3] = [
     (&[0x76, 0xFF, 0xFF, 0xFF], 5, "HALT", 1),
     (&[0xED, 0x46], 0, "IM 0", 2),
     (&[0xED, 0x5E], 0, "IM 2", 2),
-    // Undocumented opcodes, and codes that are cut short.
+];
+
+/// Undocumented opcodes, and codes that are cut short.
+static UNDOCUMENTED: [Row; 8] = [
     (&[0xDD, 0x24], 0, "DEFB 0DDH", 1),
     (&[0xED, 0x00, 0x00, 0x00], 0, "DEFB 0EDH", 1),
     (&[0xCB, 0x30, 0x00, 0x00], 0, "DEFB 0CBH", 1),
@@ -96,11 +123,21 @@ fn shows(bytes: &[u8], at: u16, text: &str, size: u8) -> bool {
     shown.as_str() == text && count == size
 }
 
+/// Each code is shown by its text.
+fn are_shown(rt: &impl Abort, rows: &[Row]) {
+    for (bytes, at, text, size) in rows {
+        told(rt, text, shows(bytes, *at, text, *size));
+    }
+}
+
 #[test]
 fn codes_and_their_texts(rt: HostRuntime) {
-    let wrong = ROWS
-        .iter()
-        .find(|(bytes, at, text, size)| !shows(bytes, *at, text, *size))
-        .map(|row| row.2);
-    assert_eq!(rt; wrong, None);
+    are_shown(&rt, &LOADS_OF_BYTES);
+    are_shown(&rt, &LOADS_OF_WORDS);
+    are_shown(&rt, &EXCHANGES);
+    are_shown(&rt, &ARITHMETIC);
+    are_shown(&rt, &SHIFTS);
+    are_shown(&rt, &JUMPS);
+    are_shown(&rt, &CONTROL);
+    are_shown(&rt, &UNDOCUMENTED);
 }

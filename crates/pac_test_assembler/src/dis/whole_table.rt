@@ -2,14 +2,15 @@
 
 ghost use Rattle.std.specs.Prelude.{None};
 
+use crate::names::opcodes;
+use crate::told::told;
 use pac_asm_operation::Operation;
-use pac_code::{Code, encode};
+use pac_code::encode;
 use pac_dis::disassemble;
 use pac_expr::SymbolLookup;
-use pac_lex::{LexError, tokens};
+use pac_lex::{Token, tokens};
 use pac_table::Instr;
 use std::alloc::Global;
-use std::test::Fail;
 
 /// No name is defined.
 struct NoNames;
@@ -30,15 +31,22 @@ static WORDS: [u16; 6] = [0, 9, 0xA0, 0xFF, 0x1234, 0xFFFF];
 
 static DISPLACEMENTS: [i8; 5] = [0, 5, 127, -1, -128];
 
-/// The instruction that a text of operations stands for at its place.
-fn read(alloc: Global, text: &[u8]) -> Result<Option<Instr>, LexError> {
-    let found = tokens(alloc, text)?;
-    let Some((word, operands)) = found.as_slice().split_first() else {
-        return Ok(None);
-    };
-    match Operation::read(word.text, operands) {
-        Some(operation) => Ok(operation.instruction(&NoNames, AT).ok()),
-        None => Ok(None),
+/// The instruction that tokens stand for at their place.
+fn instr_of(found: &[Token<'_>]) -> Option<Instr> {
+    match found.split_first() {
+        Some((word, operands)) => match Operation::read(word.text, operands) {
+            Some(operation) => operation.instruction(&NoNames, AT).ok(),
+            None => None,
+        },
+        None => None,
+    }
+}
+
+/// The instruction that a text stands for at its place.
+fn read(alloc: Global, text: &[u8]) -> Option<Instr> {
+    match tokens(alloc, text) {
+        Ok(found) => instr_of(found.as_slice()),
+        Err(_) => None,
     }
 }
 
@@ -52,47 +60,45 @@ fn is_code(code: &[u8], wanted: &[u8]) -> bool {
     }
 }
 
+/// Whether a text is read as an instruction with this code.
+fn is_read_as(alloc: Global, text: &[u8], code: &[u8]) -> bool {
+    match read(alloc, text) {
+        Some(found) => is_code(encode(&found).as_slice(), code),
+        None => false,
+    }
+}
+
 /// Whether an instruction's text speaks of its whole code and is read as it again.
-fn is_read_again(alloc: Global, instr: &Instr) -> Result<bool, LexError> {
+fn is_read_again(alloc: Global, instr: &Instr) -> bool {
     let code = encode(instr);
     if code.is_empty() {
-        return Ok(false);
+        return false;
     }
     let (text, size) = disassemble(code.as_slice(), AT);
-    let again = read(alloc, text.as_str().as_bytes())?;
-    Ok(
-        usize::from(size) == code.len()
-            && again.is_some_and(|found| is_code(encode(&found).as_slice(), code.as_slice())),
-    )
+    size as usize == code.len() && is_read_as(alloc, text.as_str().as_bytes(), code.as_slice())
 }
 
 /// Whether each instruction of a row with these fields is read again.
-fn are_read_again(alloc: Global, row: u16, p: u8, q: u8) -> Result<bool, LexError> {
+fn are_read_again(alloc: Global, row: u16, p: u8, q: u8) -> bool {
     for word in &WORDS {
         for displacement in &DISPLACEMENTS {
             if let Some(instr) = Instr::new(row, p, q, *word, *displacement) {
-                if !is_read_again(alloc, &instr)? {
-                    return Ok(false);
+                if !is_read_again(alloc, &instr) {
+                    return false;
                 }
             }
         }
     }
-    Ok(true)
+    true
 }
 
 #[test]
-fn each_code_is_read_again(rt: HostRuntime) -> Result<(), Fail> {
-    let mut opcodes: u16 = 0;
+fn each_code_is_read_again(rt: HostRuntime) {
     for row in 0..256u16 {
         for fields in 0..64u8 {
             let (p, q) = (fields / 8, fields % 8);
-            if Instr::new(row, p, q, 0, 0).is_some() {
-                opcodes = opcodes.saturating_add(1);
-            }
-            let again = are_read_again(rt.alloc(), row, p, q)?;
-            assert!(rt; again, "row {row} with {p} and {q}");
+            told(&rt, &(row, p, q), are_read_again(rt.alloc(), row, p, q));
         }
     }
-    assert_eq!(rt; opcodes, 698);
-    Ok(())
+    told(&rt, &"698 opcodes", opcodes() == 698);
 }

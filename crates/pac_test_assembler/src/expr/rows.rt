@@ -1,168 +1,150 @@
 //! Expressions with their values or faults, and what is printed for each fault.
 
+use crate::built::{Piece, built};
 use crate::names::OneByteNames;
 use crate::printed::is_printed;
+use crate::told::told;
 use pac_expr::{ValueError, is_expression, value};
-use pac_lex::{LexError, Token, tokens};
+use pac_lex::{Token, tokens};
 use std::alloc::Global;
+use std::process::Abort;
 
-/// What a line comes to, read as one expression.
+/// What a line at 1234H comes to, read as one expression.
 #[derive(Clone, Copy)]
 enum Outcome {
     Value(i32),
     Fault(ValueError),
     NoExpression,
-    NoTokens(LexError),
-    /// It has a value and is no expression, or the other way round.
-    TwoAnswers,
 }
 
-/// A line at 1234H.
-fn outcome_of(alloc: Global, line: &[u8]) -> Outcome {
-    match tokens(alloc, line) {
-        Ok(found) => outcome_in(found.as_slice()),
-        Err(error) => Outcome::NoTokens(error),
+/// Whether the value of an expression, if it is one, is this.
+fn is_outcome(answer: Option<Result<i32, ValueError>>, wanted: Outcome) -> bool {
+    match (answer, wanted) {
+        (Some(Ok(number)), Outcome::Value(right)) => number == right,
+        (Some(Err(fault)), Outcome::Fault(right)) => fault == right,
+        (None, Outcome::NoExpression) => true,
+        _ => false,
     }
 }
 
-/// What a line's tokens come to at 1234H.
-fn outcome_in(found: &[Token<'_>]) -> Outcome {
+/// Whether tokens at 1234H come to this, and are told to be an expression where they have a value or a fault.
+fn come_to(found: &[Token<'_>], wanted: Outcome) -> bool {
     let answer = value(found, &OneByteNames, 0x1234);
-    if is_expression(found) != answer.is_some() {
-        return Outcome::TwoAnswers;
+    is_expression(found) == answer.is_some() && is_outcome(answer, wanted)
+}
+
+/// Whether a line at 1234H comes to this.
+fn comes_to(alloc: Global, line: &[u8], wanted: Outcome) -> bool {
+    match tokens(alloc, line) {
+        Ok(found) => come_to(found.as_slice(), wanted),
+        Err(_) => false,
     }
-    match answer {
-        Some(Ok(number)) => Outcome::Value(number),
-        Some(Err(fault)) => Outcome::Fault(fault),
-        None => Outcome::NoExpression,
-    }
 }
 
-/// Whether a line has this value.
-fn has_value(alloc: Global, line: &[u8], value: i32) -> bool {
-    matches!(outcome_of(alloc, line), Outcome::Value(number) if number == value)
-}
-
-/// Whether a line has this fault.
-fn has_fault(alloc: Global, line: &[u8], fault: ValueError) -> bool {
-    matches!(outcome_of(alloc, line), Outcome::Fault(found) if found == fault)
-}
-
-/// Whether the tokens of a line are no expression.
-fn is_no_expression(alloc: Global, line: &[u8]) -> bool {
-    matches!(outcome_of(alloc, line), Outcome::NoExpression)
-}
+/// A line, and what it comes to.
+type Row = (&'static [u8], Outcome);
 
 /// Lines with their values.
-static VALUES: [(&[u8], i32); 19] = [
-    (b"2+3*4", 14),
-    (b"1-2-3", -4),
-    (b"8/2*3", 12),
-    (b"2*3-4*5+6", -8),
-    (b"-7/2", -3),
-    (b"7/-2", -3),
-    (b"2*-3", -6),
-    (b"2--3", 5),
-    (b"--1", 1),
-    (b"(2+3)*4", 20),
-    (b"'A'+1", 66),
-    (b"''''", 39),
-    (b"$+2", 0x1236),
-    (b"x*X", 25),
-    (b"-32768*32768*2", -2_147_483_648),
-    (b"+ - ( ( 1 ) )", -1),
-    (b"100/7*7-2*(3-10)/4", 101),
-    (b"-(2)*-(3)", 6),
-    (b"7-- -2", 5),
+static VALUES: [Row; 19] = [
+    (b"2+3*4", Outcome::Value(14)),
+    (b"1-2-3", Outcome::Value(-4)),
+    (b"8/2*3", Outcome::Value(12)),
+    (b"2*3-4*5+6", Outcome::Value(-8)),
+    (b"-7/2", Outcome::Value(-3)),
+    (b"7/-2", Outcome::Value(-3)),
+    (b"2*-3", Outcome::Value(-6)),
+    (b"2--3", Outcome::Value(5)),
+    (b"--1", Outcome::Value(1)),
+    (b"(2+3)*4", Outcome::Value(20)),
+    (b"'A'+1", Outcome::Value(66)),
+    (b"''''", Outcome::Value(39)),
+    (b"$+2", Outcome::Value(0x1236)),
+    (b"x*X", Outcome::Value(25)),
+    (b"-32768*32768*2", Outcome::Value(-2_147_483_648)),
+    (b"+ - ( ( 1 ) )", Outcome::Value(-1)),
+    (b"100/7*7-2*(3-10)/4", Outcome::Value(101)),
+    (b"-(2)*-(3)", Outcome::Value(6)),
+    (b"7-- -2", Outcome::Value(5)),
 ];
-
-#[test]
-fn values(rt: HostRuntime) {
-    for (line, value) in &VALUES {
-        assert!(rt; has_value(rt.alloc(), line, *value), "at {line:?}");
-    }
-}
 
 /// Lines with a fault.
-static FAULTS: [(&[u8], ValueError); 13] = [
-    (b"65535*65535", ValueError::OutOfRange),
-    (b"65535*65535*0", ValueError::OutOfRange),
-    (b"-(-32768*32768*2)", ValueError::OutOfRange),
-    (b"-32768*32768*2/-1", ValueError::OutOfRange),
-    (b"-32768*32768*2-1", ValueError::OutOfRange),
-    (b"1/0", ValueError::DivisionByZero),
-    (b"1/(x-5)", ValueError::DivisionByZero),
-    (b"65535*65535+1/0", ValueError::OutOfRange),
-    (b"1/0+65535*65535", ValueError::OutOfRange),
-    (b"1/0+WHO", ValueError::Undefined),
-    (b"65535*65535-WHO", ValueError::Undefined),
-    (b"-WHO", ValueError::Undefined),
-    (b"2*(1/0-WHO)", ValueError::Undefined),
+static FAULTS: [Row; 13] = [
+    (b"65535*65535", Outcome::Fault(ValueError::OutOfRange)),
+    (b"65535*65535*0", Outcome::Fault(ValueError::OutOfRange)),
+    (b"-(-32768*32768*2)", Outcome::Fault(ValueError::OutOfRange)),
+    (b"-32768*32768*2/-1", Outcome::Fault(ValueError::OutOfRange)),
+    (b"-32768*32768*2-1", Outcome::Fault(ValueError::OutOfRange)),
+    (b"1/0", Outcome::Fault(ValueError::DivisionByZero)),
+    (b"1/(x-5)", Outcome::Fault(ValueError::DivisionByZero)),
+    (b"65535*65535+1/0", Outcome::Fault(ValueError::OutOfRange)),
+    (b"1/0+65535*65535", Outcome::Fault(ValueError::OutOfRange)),
+    (b"1/0+WHO", Outcome::Fault(ValueError::Undefined)),
+    (b"65535*65535-WHO", Outcome::Fault(ValueError::Undefined)),
+    (b"-WHO", Outcome::Fault(ValueError::Undefined)),
+    (b"2*(1/0-WHO)", Outcome::Fault(ValueError::Undefined)),
 ];
-
-#[test]
-fn faults(rt: HostRuntime) {
-    for (line, fault) in &FAULTS {
-        assert!(rt; has_fault(rt.alloc(), line, *fault), "at {line:?}");
-    }
-}
 
 /// Lines that are no expression.
-static NO_EXPRESSIONS: [&[u8]; 19] = [
-    b"", b"1+", b"*2", b"2*/3", b"-", b"(1", b"1)", b"()", b"(1+)", b"1 2", b"1(2)", b"(1 2)",
-    b"((1)", b"1)(2", b"1,2", b"'AB'+1", b"''", b"AF'", b"1:",
+static NO_EXPRESSIONS: [Row; 19] = [
+    (b"", Outcome::NoExpression),
+    (b"1+", Outcome::NoExpression),
+    (b"*2", Outcome::NoExpression),
+    (b"2*/3", Outcome::NoExpression),
+    (b"-", Outcome::NoExpression),
+    (b"(1", Outcome::NoExpression),
+    (b"1)", Outcome::NoExpression),
+    (b"()", Outcome::NoExpression),
+    (b"(1+)", Outcome::NoExpression),
+    (b"1 2", Outcome::NoExpression),
+    (b"1(2)", Outcome::NoExpression),
+    (b"(1 2)", Outcome::NoExpression),
+    (b"((1)", Outcome::NoExpression),
+    (b"1)(2", Outcome::NoExpression),
+    (b"1,2", Outcome::NoExpression),
+    (b"'AB'+1", Outcome::NoExpression),
+    (b"''", Outcome::NoExpression),
+    (b"AF'", Outcome::NoExpression),
+    (b"1:", Outcome::NoExpression),
 ];
 
+/// Each line comes to what it should.
+fn are_right(rt: &impl Abort, alloc: Global, rows: &[Row]) {
+    for (line, wanted) in rows {
+        told(rt, line, comes_to(alloc, line, *wanted));
+    }
+}
+
 #[test]
-fn no_expressions(rt: HostRuntime) {
-    for line in &NO_EXPRESSIONS {
-        assert!(rt; is_no_expression(rt.alloc(), line), "at {line:?}");
+fn values_and_faults(rt: HostRuntime) {
+    are_right(&rt, rt.alloc(), &VALUES);
+    are_right(&rt, rt.alloc(), &FAULTS);
+    are_right(&rt, rt.alloc(), &NO_EXPRESSIONS);
+}
+
+/// The deepest expressions that a line of 255 bytes has, in pieces, and their values.
+static DEEP: [(&[Piece], i32); 4] = [
+    // 254 signs, and 127 pairs of parentheses
+    (&[("-", 254), ("7", 1)], 7),
+    (&[("(", 127), ("9", 1), (")", 127)], 9),
+    // 36 pairs of parentheses each add one
+    (&[("1-(-(", 36), ("1", 1), (")", 72)], 37),
+    // 127 subtractions
+    (&[("1", 1), ("-1", 127)], -126),
+];
+
+/// Whether a line of some pieces has this value.
+fn has_value(alloc: Global, pieces: &[Piece], value: i32) -> bool {
+    match built(alloc, pieces) {
+        Ok(line) => comes_to(alloc, line.as_bytes(), Outcome::Value(value)),
+        Err(_) => false,
     }
 }
 
-/// A line of 254 signs before a number.
-fn signs() -> [u8; 255] {
-    let mut line = [b'-'; 255];
-    line[254] = b'7';
-    line
-}
-
-/// A line of a number within 127 pairs of parentheses.
-fn groups() -> [u8; 255] {
-    let mut line = [b'('; 255];
-    line[127] = b'9';
-    for at in 128..255 {
-        line[at] = b')';
-    }
-    line
-}
-
-/// 1-(-(1-(-( .. 1 .. )))), where 36 pairs of parentheses each add one.
-fn nested() -> [u8; 253] {
-    let mut line = [b')'; 253];
-    for at in 0..180 {
-        line[at] = b"1-(-("[at % 5];
-    }
-    line[180] = b'1';
-    line
-}
-
-/// A line of 127 subtractions.
-fn sums() -> [u8; 255] {
-    let mut line = [b'1'; 255];
-    for at in 0..127 {
-        line[2 * at + 1] = b'-';
-    }
-    line
-}
-
-// The deepest expressions that a line of 255 bytes has.
 #[test]
 fn deep_expressions(rt: HostRuntime) {
-    assert!(rt; has_value(rt.alloc(), &signs(), 7));
-    assert!(rt; has_value(rt.alloc(), &groups(), 9));
-    assert!(rt; has_value(rt.alloc(), &nested(), 37));
-    assert!(rt; has_value(rt.alloc(), &sums(), -126));
+    for (pieces, value) in &DEEP {
+        told(&rt, value, has_value(rt.alloc(), pieces, *value));
+    }
 }
 
 /// Faults with their codes.
@@ -175,6 +157,6 @@ static CODES: [(ValueError, &str); 3] = [
 #[test]
 fn codes_of_faults(rt: HostRuntime) {
     for (fault, code) in &CODES {
-        assert!(rt; is_printed(rt.alloc(), fault, code), "{code}");
+        told(&rt, code, is_printed(rt.alloc(), fault, code));
     }
 }

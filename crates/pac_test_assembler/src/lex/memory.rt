@@ -1,5 +1,6 @@
 //! Memory that is refused.
 
+use crate::told::told_refusals;
 use pac_lex::{LexError, characters, tokens};
 use pac_test_memory::{Answer, refusals};
 use std::alloc::Global;
@@ -30,13 +31,7 @@ fn spelling(alloc: Global) -> Answer {
 
 // With no memory, and then with a little more each time, there is no answer but want of it or the right one.
 #[test]
-fn tokens_in_scarce_memory(rt: HostRuntime) {
-    let refused = refusals(rt.alloc(), 50, reading);
-    assert!(rt; matches!(refused, Some(4..49)), "{refused:?}");
-}
-
-#[test]
-fn characters_in_scarce_memory(rt: HostRuntime) {
-    let refused = refusals(rt.alloc(), 50, spelling);
-    assert!(rt; matches!(refused, Some(4..49)), "{refused:?}");
+fn tokens_and_characters_in_scarce_memory(rt: HostRuntime) {
+    told_refusals(&rt, "tokens", refusals(rt.alloc(), 50, reading), 50);
+    told_refusals(&rt, "characters", refusals(rt.alloc(), 50, spelling), 50);
 }

@@ -1,11 +1,13 @@
 //! Lines, numbers, texts and words from the format's pages, and what is printed for each fault.
 
 use crate::printed::is_printed;
+use crate::told::told;
 use pac_lex::{
     LexError, LexFault, Token, TokenKind, character_count, characters, first_line, first_word,
     next_word, one_character, tokens,
 };
 use std::alloc::Global;
+use std::process::Abort;
 
 /// Whether a line has this fault.
 fn has_fault(alloc: Global, line: &[u8], fault: LexFault) -> bool {
@@ -37,58 +39,33 @@ fn are_tokens(found: &[Token<'_>], wanted: &[(TokenKind, &[u8])]) -> bool {
     true
 }
 
-/// Numbers, with their values.
-static NUMBERS: [(&[u8], u16); 11] = [
-    (b"0B", 0),
-    (b"1b", 1),
-    (b"0BH", 11),
-    (b"1DH", 29),
-    (b"1D", 1),
-    (b"0DH", 13),
-    (b"10D", 10),
-    (b"17Q", 15),
-    (b"17O", 15),
-    (b"0ffffh", 65535),
-    (b"00065535", 65535),
-];
-
-#[test]
-fn numbers_by_their_last_letter(rt: HostRuntime) {
-    for (line, value) in &NUMBERS {
-        let wanted = [(TokenKind::Number(*value), *line)];
-        assert!(rt; has_tokens(rt.alloc(), line, &wanted), "at {line:?}");
-    }
+/// Whether a line is one token, a number of this value.
+fn is_number(alloc: Global, line: &[u8], value: u16) -> bool {
+    has_tokens(alloc, line, &[(TokenKind::Number(value), line)])
 }
 
-/// Lines with a fault.
-static FAULTS: [(&[u8], LexFault); 16] = [
-    (b"2B", LexFault::WrongNumber),
-    (b"8O", LexFault::WrongNumber),
-    (b"0F", LexFault::WrongNumber),
-    (b"0X10", LexFault::WrongNumber),
-    (b"65536", LexFault::WrongNumber),
-    (b"10000H ' \"", LexFault::WrongNumber),
-    (b"'''", LexFault::OpenText),
-    (b"'x\x01", LexFault::OpenText),
-    (b"'x ; y", LexFault::OpenText),
-    (b"AF '", LexFault::OpenText),
-    (b"DEFB AF'A'", LexFault::OpenText),
-    (b"'\x01'", LexFault::NoToken),
-    (b"\x01 '", LexFault::NoToken),
-    (b"A # B", LexFault::NoToken),
-    (b"NOP\r", LexFault::NoToken),
-    (&[b'"'; 256], LexFault::LongLine),
-];
+/// What a line has.
+#[derive(Clone, Copy)]
+enum Wanted {
+    /// One token, a number of this value.
+    Number(u16),
+    /// This fault.
+    Fault(LexFault),
+    /// These tokens.
+    Tokens(&'static [(TokenKind, &'static [u8])]),
+}
 
-#[test]
-fn the_leftmost_fault(rt: HostRuntime) {
-    for (line, fault) in &FAULTS {
-        assert!(rt; has_fault(rt.alloc(), line, *fault), "at {line:?}");
+/// Whether a line has what is wanted.
+fn has(alloc: Global, line: &[u8], wanted: Wanted) -> bool {
+    match wanted {
+        Wanted::Number(value) => is_number(alloc, line, value),
+        Wanted::Fault(fault) => has_fault(alloc, line, fault),
+        Wanted::Tokens(tokens) => has_tokens(alloc, line, tokens),
     }
 }
 
 /// The tokens of a line of every kind.
-static KINDS: [(TokenKind, &[u8]); 16] = [
+const KINDS: [(TokenKind, &[u8]); 16] = [
     (TokenKind::Name, b"_a1"),
     (TokenKind::Colon, b":"),
     (TokenKind::AlternateAf, b"AF'"),
@@ -108,32 +85,79 @@ static KINDS: [(TokenKind, &[u8]); 16] = [
 ];
 
 /// A blank line, as long as a line may be.
-static BLANKS: [u8; 255] = [b' '; 255];
+const BLANKS: [u8; 255] = [b' '; 255];
 
-/// Lines where AF and a quote make no token of their own, with their tokens.
-static QUOTES: [(&[u8], &[(TokenKind, &[u8])]); 3] = [
+/// A line, with what it has.
+type Row = (&'static [u8], Wanted);
+
+/// Numbers by their last letter.
+static NUMBERS: [Row; 11] = [
+    (b"0B", Wanted::Number(0)),
+    (b"1b", Wanted::Number(1)),
+    (b"0BH", Wanted::Number(11)),
+    (b"1DH", Wanted::Number(29)),
+    (b"1D", Wanted::Number(1)),
+    (b"0DH", Wanted::Number(13)),
+    (b"10D", Wanted::Number(10)),
+    (b"17Q", Wanted::Number(15)),
+    (b"17O", Wanted::Number(15)),
+    (b"0ffffh", Wanted::Number(65535)),
+    (b"00065535", Wanted::Number(65535)),
+];
+
+/// The leftmost fault of a line.
+static FAULTS: [Row; 16] = [
+    (b"2B", Wanted::Fault(LexFault::WrongNumber)),
+    (b"8O", Wanted::Fault(LexFault::WrongNumber)),
+    (b"0F", Wanted::Fault(LexFault::WrongNumber)),
+    (b"0X10", Wanted::Fault(LexFault::WrongNumber)),
+    (b"65536", Wanted::Fault(LexFault::WrongNumber)),
+    (b"10000H ' \"", Wanted::Fault(LexFault::WrongNumber)),
+    (b"'''", Wanted::Fault(LexFault::OpenText)),
+    (b"'x\x01", Wanted::Fault(LexFault::OpenText)),
+    (b"'x ; y", Wanted::Fault(LexFault::OpenText)),
+    (b"AF '", Wanted::Fault(LexFault::OpenText)),
+    (b"DEFB AF'A'", Wanted::Fault(LexFault::OpenText)),
+    (b"'\x01'", Wanted::Fault(LexFault::NoToken)),
+    (b"\x01 '", Wanted::Fault(LexFault::NoToken)),
+    (b"A # B", Wanted::Fault(LexFault::NoToken)),
+    (b"NOP\r", Wanted::Fault(LexFault::NoToken)),
+    (&[b'"'; 256], Wanted::Fault(LexFault::LongLine)),
+];
+
+/// Every token, none, and AF and a quote that make no token of their own.
+static TOKENS: [Row; 5] = [
+    (
+        b"_a1:\tAF' 1_2,$+(''-'a''\t;')*/af;'\x01",
+        Wanted::Tokens(&KINDS),
+    ),
+    (&BLANKS, Wanted::Tokens(&[])),
     (
         b"AF 'x'",
-        &[(TokenKind::Name, b"AF"), (TokenKind::Text, b"'x'")],
+        Wanted::Tokens(&[(TokenKind::Name, b"AF"), (TokenKind::Text, b"'x'")]),
     ),
     (
         b"XAF'A'",
-        &[(TokenKind::Name, b"XAF"), (TokenKind::Text, b"'A'")],
+        Wanted::Tokens(&[(TokenKind::Name, b"XAF"), (TokenKind::Text, b"'A'")]),
     ),
     (
         b"afx'A'",
-        &[(TokenKind::Name, b"afx"), (TokenKind::Text, b"'A'")],
+        Wanted::Tokens(&[(TokenKind::Name, b"afx"), (TokenKind::Text, b"'A'")]),
     ),
 ];
 
-#[test]
-fn a_line_of_every_token(rt: HostRuntime) {
-    let line = b"_a1:\tAF' 1_2,$+(''-'a''\t;')*/af;'\x01";
-    assert!(rt; has_tokens(rt.alloc(), line, &KINDS));
-    assert!(rt; has_tokens(rt.alloc(), &BLANKS, &[]));
-    for (line, wanted) in &QUOTES {
-        assert!(rt; has_tokens(rt.alloc(), line, wanted), "at {line:?}");
+/// Each line has what is wanted.
+fn have(rt: &impl Abort, alloc: Global, rows: &[Row]) {
+    for (line, wanted) in rows {
+        told(rt, line, has(alloc, line, *wanted));
     }
+}
+
+#[test]
+fn tokens_of_lines(rt: HostRuntime) {
+    have(&rt, rt.alloc(), &NUMBERS);
+    have(&rt, rt.alloc(), &FAULTS);
+    have(&rt, rt.alloc(), &TOKENS);
 }
 
 /// Texts, with what they spell.
@@ -164,10 +188,10 @@ static CHARACTERS: [(&[u8], Option<u8>); 4] = [
 #[test]
 fn characters_of_texts(rt: HostRuntime) {
     for (text, inside) in &TEXTS {
-        assert!(rt; spells(rt.alloc(), text, inside), "at {text:?}");
+        told(&rt, text, spells(rt.alloc(), text, inside));
     }
     for (text, character) in &CHARACTERS {
-        assert!(rt; one_character(text) == *character, "at {text:?}");
+        told(&rt, text, one_character(text) == *character);
     }
 }
 
@@ -182,7 +206,7 @@ static CODES: [(LexFault, &str); 4] = [
 #[test]
 fn codes_of_faults(rt: HostRuntime) {
     for (fault, code) in &CODES {
-        assert!(rt; is_printed(rt.alloc(), fault, code), "{code}");
+        told(&rt, code, is_printed(rt.alloc(), fault, code));
     }
 }
 
@@ -213,11 +237,8 @@ fn has_words(line: &[u8], words: &[&[u8]]) -> bool {
 /// The lines of a text.
 static LINES: [&[u8]; 4] = [b"a", b"\r", b"", b"b\r"];
 
-#[test]
-fn lines_of_a_text(rt: HostRuntime) {
-    assert!(rt; has_lines(b"a\r\n\r\r\n\nb\r", &LINES));
-    assert!(rt; first_line(b"").is_none());
-}
+/// The words of a line.
+static WORDS: [&[u8]; 4] = [b"step", b"10", b"\xff,'a", b"b"];
 
 /// Lines, with the word that they begin with.
 static FIRST_WORDS: [(&[u8], &[u8]); 9] = [
@@ -232,13 +253,12 @@ static FIRST_WORDS: [(&[u8], &[u8]); 9] = [
     (b"ELSE\xff", b"ELSE"),
 ];
 
-/// The words of a line.
-static WORDS: [&[u8]; 4] = [b"step", b"10", b"\xff,'a", b"b"];
-
 #[test]
-fn words_of_a_line(rt: HostRuntime) {
-    assert!(rt; has_words(b"\t step\t10  \xff,'a b ", &WORDS));
+fn lines_and_words(rt: HostRuntime) {
+    told(&rt, &"lines", has_lines(b"a\r\n\r\r\n\nb\r", &LINES));
+    told(&rt, &"no line", has_lines(b"", &[]));
+    told(&rt, &"words", has_words(b"\t step\t10  \xff,'a b ", &WORDS));
     for (line, first) in &FIRST_WORDS {
-        assert!(rt; first_word(line) == *first, "at {line:?}");
+        told(&rt, line, first_word(line) == *first);
     }
 }

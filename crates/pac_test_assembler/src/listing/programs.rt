@@ -1,10 +1,10 @@
 //! Programs for the tests, put together by hand.
 
+use crate::told::told;
 use pac_asm_program::{Content, Item, Line, Program, Symbols};
 use pac_code::decode;
-use std::alloc::Global;
-use std::process::Abort;
-use std::test::Fail;
+use std::alloc::{AllocError, Global};
+use std::marker::Model;
 
 /// What a line puts into a program.
 #[derive(Clone, Copy)]
@@ -19,38 +19,61 @@ pub(crate) enum Entry {
     Data(u16, &'static [u8]),
 }
 
-/// What stands at an address, and the address, if anything does.
-fn placed(alloc: Global, entry: Entry) -> Result<Line, Fail> {
-    match entry {
-        Entry::Blank => Ok(Line::Blank),
-        Entry::Skipped => Ok(Line::Skipped),
-        Entry::Code(at, bytes) => {
-            let (instr, _) = decode(bytes).ok_or("no instruction")?;
-            Ok(Line::Placed(Item::new(at, Content::code(instr))))
-        }
-        Entry::Data(at, bytes) => {
-            let data = Vec::from_slice(alloc, bytes)?;
-            Ok(Line::Placed(Item::new(at, Content::data(data))))
-        }
+/// A program. Clauses see nothing of it, and it is dropped by a function of its own: so what owns one has a single value without parts for
+/// its proof to carry from step to step.
+pub(crate) struct Made {
+    program: Program,
+}
+
+impl Model for Made {
+    ghost Value = { Unit {0} };
+
+    ghost view = { λ _. tt };
+}
+
+impl Drop for Made {
+    /// Drops the program.
+    fn drop(self) {
+        let Made { program: _ } = self;
     }
 }
 
-/// A program with these lines and symbols, and a ROM of NOP.
-pub(crate) fn program(
-    alloc: Global,
-    entries: &[Entry],
-    symbols: &[(&'static [u8], i32)],
-) -> Result<Program, Fail> {
+/// The content of an instruction that begins some bytes, or no bytes.
+fn code(alloc: Global, bytes: [u8; 4]) -> Content {
+    match decode(bytes) {
+        Some((instr, _)) => Content::code(instr),
+        None => Content::data(Vec::new(alloc)),
+    }
+}
+
+/// The line that an entry puts into a program.
+fn line_of(alloc: Global, entry: Entry) -> Result<Line, AllocError> {
+    Ok(match entry {
+        Entry::Blank => Line::Blank,
+        Entry::Skipped => Line::Skipped,
+        Entry::Code(at, bytes) => Line::Placed(Item::new(at, code(alloc, bytes))),
+        Entry::Data(at, bytes) => {
+            Line::Placed(Item::new(at, Content::data(Vec::from_slice(alloc, bytes)?)))
+        }
+    })
+}
+
+/// The lines of some entries.
+fn lines_of(alloc: Global, entries: &[Entry]) -> Result<Vec<Line>, AllocError> {
     let mut lines = Vec::new(alloc);
     for entry in entries {
-        lines.push(placed(alloc, *entry)?)?;
+        lines.push(line_of(alloc, *entry)?)?;
     }
+    Ok(lines)
+}
+
+/// Symbols with these numbers.
+fn symbols_of(alloc: Global, symbols: &[(&'static [u8], i32)]) -> Result<Symbols, AllocError> {
     let mut table = Symbols::new(alloc);
     for (name, number) in symbols {
         table.define(alloc, name, *number)?;
     }
-    let rom = Box::new(alloc, [0; 16384])?;
-    Ok(Program::new(lines, table, rom))
+    Ok(table)
 }
 
 /// Whether a line has an item with these bytes at an address.
@@ -61,13 +84,36 @@ fn places(line: Option<&Line>, at: u16, bytes: &[u8]) -> bool {
     }
 }
 
-/// A program lends its ROM, its symbols and its two lines.
-fn lends_its_parts(rt: &impl Abort, made: &Program) {
-    assert!(rt; made.rom().len() == 16384);
-    assert!(rt; made.symbols().len() == 1);
-    assert!(rt; made.lines().len() == 2);
-    assert!(rt; places(made.lines().first(), 5, &[0x32, 0x40, 0x40]));
-    assert!(rt; places(made.lines().last(), 8, b"AB"));
+impl Made {
+    /// A program with these lines and symbols, and a ROM of NOP.
+    pub(crate) fn of(
+        alloc: Global,
+        entries: &[Entry],
+        symbols: &[(&'static [u8], i32)],
+    ) -> Result<Made, AllocError> {
+        let rom = Box::new(alloc, [0; 16384])?;
+        let lines = lines_of(alloc, entries)?;
+        Ok(Made {
+            program: Program::new(lines, symbols_of(alloc, symbols)?, rom),
+        })
+    }
+
+    /// The program.
+    pub(crate) fn program(&self) -> &Program {
+        &self.program
+    }
+
+    /// Whether the program lends a ROM, a symbol and two lines.
+    fn lends_parts(&self) -> bool {
+        self.program.rom().len() == 16384
+            && self.program.symbols().len() == 1
+            && self.program.lines().len() == 2
+    }
+
+    /// Whether a line has an item with these bytes at an address.
+    fn places(&self, line: usize, at: u16, bytes: &[u8]) -> bool {
+        places(self.program.lines().get(line), at, bytes)
+    }
 }
 
 /// LD (4040H),A and a text.
@@ -77,8 +123,11 @@ static STORE_AND_TEXT: [Entry; 2] = [
 ];
 
 #[test]
-fn a_program_lends_its_parts(rt: HostRuntime) -> Result<(), Fail> {
-    let made = program(rt.alloc(), &STORE_AND_TEXT, &[(b"TAB", 16)])?;
-    lends_its_parts(&rt, &made);
-    Ok(())
+fn a_program_lends_its_parts(rt: HostRuntime) {
+    let Ok(made) = Made::of(rt.alloc(), &STORE_AND_TEXT, &[(b"TAB", 16)]) else {
+        return told(&rt, &"memory", false);
+    };
+    told(&rt, &"parts", made.lends_parts());
+    told(&rt, &"LD (4040H),A", made.places(0, 5, &[0x32, 0x40, 0x40]));
+    told(&rt, &"a text", made.places(1, 8, b"AB"));
 }

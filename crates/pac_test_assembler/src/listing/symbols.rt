@@ -1,15 +1,71 @@
 //! Symbols: in order, distinct, and with memory that is refused.
 
+use crate::told::told;
 use pac_asm_program::Symbols;
 use pac_expr::SymbolLookup as Lookup;
 use pac_test_memory::Hoard;
-use std::alloc::{AllocError, Global};
-use std::process::Abort;
-use std::test::Fail;
+use std::alloc::Global;
+use std::marker::Model;
+
+/// Symbols. Clauses see nothing of them, and they are dropped by a function of their own: so a test that owns some has a single value without
+/// parts for its proof to carry from step to step.
+struct Table {
+    symbols: Symbols,
+}
+
+impl Model for Table {
+    ghost Value = { Unit {0} };
+
+    ghost view = { λ _. tt };
+}
+
+impl Drop for Table {
+    /// Drops the symbols.
+    fn drop(self) {
+        let Table { symbols: _ } = self;
+    }
+}
 
 /// The number of a name, through the trait that expressions ask.
 fn number<S: Lookup>(symbols: &S, name: &[u8]) -> Option<i32> {
     symbols.symbol(name)
+}
+
+impl Table {
+    /// No symbols.
+    fn new(alloc: Global) -> Table {
+        Table {
+            symbols: Symbols::new(alloc),
+        }
+    }
+
+    /// Whether there are so many symbols, and none after them.
+    fn has(&self, count: usize) -> bool {
+        self.symbols.len() == count
+            && self.symbols.is_empty() == (count == 0)
+            && self.symbols.get(count).is_none()
+    }
+
+    /// Whether a definition answers that its name is new, or isn't, as it should.
+    fn defines(&mut self, alloc: Global, name: &[u8], value: i32, is_new: bool) -> bool {
+        match self.symbols.define(alloc, name, value) {
+            Ok(found) => found == is_new,
+            Err(_) => false,
+        }
+    }
+
+    /// Whether a symbol at a place is this name with this number.
+    fn is_at(&self, place: usize, name: &[u8], value: i32) -> bool {
+        match self.symbols.get(place) {
+            Some((found, number)) => found == name && number == value,
+            None => false,
+        }
+    }
+
+    /// Whether a name has this number, or none.
+    fn is_number(&self, name: &[u8], wanted: Option<i32>) -> bool {
+        number(&self.symbols, name) == wanted
+    }
 }
 
 /// Names in turn, their numbers, and whether each is new.
@@ -20,57 +76,45 @@ static DEFINED: [(&[u8], i32, bool); 4] = [
     (b"SIZE", -1, true),
 ];
 
-/// Whether a symbol at a place is this name with this number.
-fn is_at(symbols: &Symbols, place: usize, name: &[u8], value: i32) -> bool {
-    match symbols.get(place) {
-        Some((found, number)) => found == name && number == value,
-        None => false,
-    }
-}
-
-/// The symbols are in the order of their definitions, each with its first number.
-fn are_in_order(rt: &impl Abort, symbols: &Symbols) {
-    assert!(rt; symbols.len() == 3);
-    assert!(rt; is_at(symbols, 0, b"size", 9));
-    assert!(rt; is_at(symbols, 2, b"SIZE", -1));
-    assert!(rt; symbols.get(3).is_none());
-    assert!(rt; number(symbols, b"TAB") == Some(16));
-    assert!(rt; number(symbols, b"Tab").is_none());
-}
-
 #[test]
 fn names_keep_their_order_and_their_first_number(rt: HostRuntime) {
-    let mut symbols = Symbols::new(rt.alloc());
-    assert!(rt; symbols.is_empty());
+    let mut table = Table::new(rt.alloc());
+    told(&rt, &"none", table.has(0));
     for (name, value, is_new) in &DEFINED {
-        assert!(rt; symbols.define(rt.alloc(), name, *value) == Ok(*is_new));
+        told(&rt, name, table.defines(rt.alloc(), name, *value, *is_new));
     }
-    are_in_order(&rt, &symbols);
+    told(&rt, &"three", table.has(3));
+    told(&rt, &"size at 0", table.is_at(0, b"size", 9));
+    told(&rt, &"SIZE at 2", table.is_at(2, b"SIZE", -1));
+    told(&rt, &"TAB", table.is_number(b"TAB", Some(16)));
+    told(&rt, &"Tab", table.is_number(b"Tab", None));
 }
 
 /// A name for which an allocator keeps no room aside.
 static LONG_NAME: [u8; 1100] = [b'A'; 1100];
 
-/// How often a definition is refused, with a block more each time; each refusal changes nothing.
-fn refusals(rt: &impl Abort, alloc: Global, symbols: &mut Symbols) -> Result<u32, AllocError> {
-    let mut hoard = Hoard::take(alloc, 40)?;
-    for turn in 0..40u32 {
-        if symbols.define(alloc, &LONG_NAME, 16).is_ok() {
-            return Ok(turn);
+/// How often a definition is refused, with a block more each time; each refusal changes nothing. None where it changes something, or where
+/// no block is left.
+fn refusals(alloc: Global, table: &mut Table) -> Option<usize> {
+    let Ok(mut hoard) = Hoard::take(alloc, 40) else {
+        return None;
+    };
+    for turn in 0..40usize {
+        if table.defines(alloc, &LONG_NAME, 16, true) {
+            return Some(turn);
         }
-        assert!(rt; symbols.is_empty());
-        assert!(rt; number(symbols, &LONG_NAME).is_none());
-        assert!(rt; hoard.release());
+        if !table.has(0) || !table.is_number(&LONG_NAME, None) || !hoard.release() {
+            return None;
+        }
     }
-    Ok(40)
+    None
 }
 
 // With no memory, and then with a little more each time, a definition is refused and changes nothing, or is taken.
 #[test]
-fn definitions_in_scarce_memory(rt: HostRuntime) -> Result<(), Fail> {
-    let mut symbols = Symbols::new(rt.alloc());
-    let refused = refusals(&rt, rt.alloc(), &mut symbols)?;
-    assert!(rt; 0 < refused && refused < 39, "{refused}");
-    assert!(rt; number(&symbols, &LONG_NAME) == Some(16));
-    Ok(())
+fn definitions_in_scarce_memory(rt: HostRuntime) {
+    let mut table = Table::new(rt.alloc());
+    let refused = refusals(rt.alloc(), &mut table);
+    told(&rt, &refused, matches!(refused, Some(1..39)));
+    told(&rt, &"the name", table.is_number(&LONG_NAME, Some(16)));
 }

@@ -1,11 +1,11 @@
 //! Scripts and their faults by the format's page, and what is printed for each fault.
 
 use crate::printed::is_printed;
+use crate::told::told;
 use bitflags::Flags;
 use pac_inputs::{Inputs, Script, ScriptCode, ScriptError, ScriptFault, read_script};
 use std::alloc::Global;
 use std::process::Abort;
-use std::test::Fail;
 
 /// Whether a script has this fault.
 fn has_fault(alloc: Global, text: &[u8], code: ScriptCode, line: u64) -> bool {
@@ -31,54 +31,62 @@ fn is_start(held: Inputs) -> bool {
         && held.in1() == 0xDF
 }
 
-/// A script holds P1_UP and START1 in frames 1 and 2 of its three, and nothing in any other.
-fn is_held_twice(rt: &impl Abort, script: &Script) {
-    assert!(rt; script.frames() == 3);
-    for frame in 1..3u32 {
-        assert!(rt; is_start(script.held(frame)), "{frame}");
-    }
-    for frame in [0, 3, 4, u32::MAX] {
-        assert!(rt; script.held(frame) == Inputs::empty(), "{frame}");
-    }
-    assert!(rt; script.held(3).in0() == 0xFF);
-}
-
-#[test]
-fn inputs_frame_by_frame(rt: HostRuntime) -> Result<(), Fail> {
-    let script = read_script(rt.alloc(), b"2 P1_UP,START1\n1 -")?;
-    is_held_twice(&rt, &script);
-    Ok(())
-}
-
-/// Lines of one frame, each with an input, and its bit.
-static NAMES: [(&[u8], u16); 16] = [
-    (b"1 P1_UP", 0x0001),
-    (b"1 P1_LEFT", 0x0002),
-    (b"1 P1_RIGHT", 0x0004),
-    (b"1 P1_DOWN", 0x0008),
-    (b"1 RACK_TEST", 0x0010),
-    (b"1 COIN1", 0x0020),
-    (b"1 COIN2", 0x0040),
-    (b"1 CREDIT", 0x0080),
-    (b"1 P2_UP", 0x0100),
-    (b"1 P2_LEFT", 0x0200),
-    (b"1 P2_RIGHT", 0x0400),
-    (b"1 P2_DOWN", 0x0800),
-    (b"1 BOARD_TEST", 0x1000),
-    (b"1 START1", 0x2000),
-    (b"1 START2", 0x4000),
-    (b"1 COCKTAIL", 0x8000),
+/// Frames of a script of three that holds P1_UP and START1 in frames 1 and 2, and whether they are held there.
+static FRAMES: [(u32, bool); 6] = [
+    (0, false),
+    (1, true),
+    (2, true),
+    (3, false),
+    (4, false),
+    (u32::MAX, false),
 ];
 
-#[test]
-fn every_input_by_its_name(rt: HostRuntime) {
-    for (line, bits) in &NAMES {
-        assert!(rt; is_script(rt.alloc(), line, 1, *bits), "at {line:?}");
+/// Whether P1_UP and START1 are held in a frame of a script, or nothing.
+fn is_held(script: &Script, frame: u32, is_started: bool) -> bool {
+    let held = script.held(frame);
+    if is_started {
+        is_start(held)
+    } else {
+        held == Inputs::empty() && held.in0() == 0xFF
     }
 }
 
-/// Scripts, their frames, and the bits of what is held in the first.
-static SCRIPTS: [(&[u8], u32, u16); 7] = [
+#[test]
+fn inputs_frame_by_frame(rt: HostRuntime) {
+    let Ok(script) = read_script(rt.alloc(), b"2 P1_UP,START1\n1 -") else {
+        return told(&rt, &"a script", false);
+    };
+    told(&rt, &"three frames", script.frames() == 3);
+    for (frame, is_started) in &FRAMES {
+        told(&rt, frame, is_held(&script, *frame, *is_started));
+    }
+}
+
+/// A script, its frames, and the bits of what is held in the first.
+type Row = (&'static [u8], u32, u16);
+
+/// Every input by its name.
+static NAMES: [Row; 16] = [
+    (b"1 P1_UP", 1, 0x0001),
+    (b"1 P1_LEFT", 1, 0x0002),
+    (b"1 P1_RIGHT", 1, 0x0004),
+    (b"1 P1_DOWN", 1, 0x0008),
+    (b"1 RACK_TEST", 1, 0x0010),
+    (b"1 COIN1", 1, 0x0020),
+    (b"1 COIN2", 1, 0x0040),
+    (b"1 CREDIT", 1, 0x0080),
+    (b"1 P2_UP", 1, 0x0100),
+    (b"1 P2_LEFT", 1, 0x0200),
+    (b"1 P2_RIGHT", 1, 0x0400),
+    (b"1 P2_DOWN", 1, 0x0800),
+    (b"1 BOARD_TEST", 1, 0x1000),
+    (b"1 START1", 1, 0x2000),
+    (b"1 START2", 1, 0x4000),
+    (b"1 COCKTAIL", 1, 0x8000),
+];
+
+/// What scripts may have.
+static SCRIPTS: [Row; 7] = [
     (b"", 0, 0x0000),
     (b"\n\n", 0, 0x0000),
     (b"# 1 COIN1\n \t#COIN1\n \t\n00001 -\n", 1, 0x0000),
@@ -88,11 +96,17 @@ static SCRIPTS: [(&[u8], u32, u16); 7] = [
     (b"0000000000000000000036000 COCKTAIL", 36_000, 0x8000),
 ];
 
-#[test]
-fn what_scripts_may_have(rt: HostRuntime) {
-    for (text, frames, first) in &SCRIPTS {
-        assert!(rt; is_script(rt.alloc(), text, *frames, *first), "at {text:?}");
+/// Each text is such a script.
+fn are_scripts(rt: &impl Abort, alloc: Global, rows: &[Row]) {
+    for (text, frames, first) in rows {
+        told(rt, text, is_script(alloc, text, *frames, *first));
     }
+}
+
+#[test]
+fn scripts_and_what_they_hold(rt: HostRuntime) {
+    are_scripts(&rt, rt.alloc(), &NAMES);
+    are_scripts(&rt, rt.alloc(), &SCRIPTS);
 }
 
 /// Scripts with a fault, and its line.
@@ -122,7 +136,7 @@ static FAULTS: [(&[u8], ScriptCode, u64); 20] = [
 #[test]
 fn the_first_fault(rt: HostRuntime) {
     for (text, code, line) in &FAULTS {
-        assert!(rt; has_fault(rt.alloc(), text, *code, *line), "at {text:?}");
+        told(&rt, text, has_fault(rt.alloc(), text, *code, *line));
     }
 }
 
@@ -133,15 +147,22 @@ static CODES: [(ScriptCode, &str); 3] = [
     (ScriptCode::Length, "I3"),
 ];
 
+/// I3 in a line.
+static FAULT: ScriptFault = ScriptFault {
+    code: ScriptCode::Length,
+    line: 2,
+};
+
 #[test]
 fn printed_faults(rt: HostRuntime) {
     for (code, text) in &CODES {
-        assert!(rt; is_printed(rt.alloc(), code, text), "{text}");
+        told(&rt, text, is_printed(rt.alloc(), code, text));
     }
-    let fault = ScriptFault {
-        code: ScriptCode::Length,
-        line: 2,
-    };
-    assert!(rt; is_printed(rt.alloc(), &fault, "I3 line 2"));
-    assert!(rt; is_printed(rt.alloc(), &ScriptError::Fault(fault), "I3 line 2"));
+    told(&rt, &"a fault", is_printed(rt.alloc(), &FAULT, "I3 line 2"));
+    let error = ScriptError::Fault(FAULT);
+    told(
+        &rt,
+        &"an error",
+        is_printed(rt.alloc(), &error, "I3 line 2"),
+    );
 }

@@ -1,10 +1,10 @@
 //! Long scripts, and scripts where memory is refused.
 
+use crate::told::told;
 use bitflags::Flags;
 use pac_inputs::{Inputs, Script, ScriptError, read_script};
 use pac_test_memory::{Answer, refusals};
 use std::alloc::Global;
-use std::test::Fail;
 
 /// Numbers of lines.
 static SIZES: [u32; 17] = [
@@ -28,14 +28,20 @@ fn reads_idle(alloc: Global, text: &str, frames: u32) -> bool {
     }
 }
 
+/// Whether so many lines of one frame each are such a script.
+fn is_idle_text(alloc: Global, lines: u32) -> bool {
+    match "1 -\n".repeat(alloc, lines as usize) {
+        Ok(text) => reads_idle(alloc, text.as_str(), lines),
+        Err(_) => false,
+    }
+}
+
 // Scripts of n lines of one frame each, as long as a script can be.
 #[test]
-fn scripts_of_many_lines(rt: HostRuntime) -> Result<(), Fail> {
+fn scripts_of_many_lines(rt: HostRuntime) {
     for lines in &SIZES {
-        let text = "1 -\n".repeat(rt.alloc(), *lines as usize)?;
-        assert!(rt; reads_idle(rt.alloc(), text.as_str(), *lines), "{lines}");
+        told(&rt, lines, is_idle_text(rt.alloc(), *lines));
     }
-    Ok(())
 }
 
 /// Whether it is the script that memory was wanted for, by its frames and what it holds near its end.
@@ -54,11 +60,17 @@ fn reading(alloc: Global, text: &[u8]) -> Answer {
     }
 }
 
+/// How often reading a script of 1,000 lines is refused.
+fn refused(alloc: Global) -> Option<usize> {
+    match "1 -\n2 COIN1\n".repeat(alloc, 500) {
+        Ok(lines) => refusals(alloc, 50, |alloc| reading(alloc, lines.as_bytes())),
+        Err(_) => None,
+    }
+}
+
 // With no memory, and then with a little more each time, there is no answer but want of it or the right one.
 #[test]
-fn scripts_in_scarce_memory(rt: HostRuntime) -> Result<(), Fail> {
-    let lines = "1 -\n2 COIN1\n".repeat(rt.alloc(), 500)?;
-    let refused = refusals(rt.alloc(), 50, |alloc| reading(alloc, lines.as_bytes()));
-    assert!(rt; matches!(refused, Some(4..49)), "{refused:?}");
-    Ok(())
+fn scripts_in_scarce_memory(rt: HostRuntime) {
+    let refused = refused(rt.alloc());
+    told(&rt, &refused, matches!(refused, Some(4..49)));
 }

@@ -1,9 +1,9 @@
 //! What the board keeps of what is written, the interrupt request and the watchdog.
 
-use super::rig::Rig;
+use super::rig::{Event, Rig};
+use crate::told::told;
 use pac_inputs::Inputs;
 use pac_map::{Memory, MemoryFields};
-use std::process::Abort;
 
 /// What the wave generator's registers keep of EFH: the low nibble, and of those that are ignored nothing.
 static KEPT: [u8; 32] = [
@@ -16,68 +16,90 @@ fn has(ram: &[u8], place: usize, byte: u8) -> bool {
     ram.get(place) == Some(&byte)
 }
 
+/// Whether the board keeps so of EFH in all registers and coordinates.
+fn has_kept(memory: &Memory) -> bool {
+    memory.registers() == &KEPT && memory.coordinates() == &[0xEF; 16]
+}
+
 #[test]
 fn registers_keep_low_nibbles_and_coordinates_bytes(rt: HostRuntime) {
     let mut rig = Rig::new();
     for address in 0x5040..0x5070u16 {
-        rig.write(address, 0xEF);
+        rig.happens(Event::Write(address, 0xEF));
     }
-    assert!(rt; rig.memory().registers() == &KEPT);
-    assert!(rt; rig.memory().coordinates() == &[0xEF; 16]);
+    told(&rt, &"registers and coordinates", has_kept(rig.memory()));
+}
+
+/// Whether the work RAM has these at its end and before it, whose end the attributes are.
+fn has_work(memory: &Memory) -> bool {
+    memory.attributes().len() == 16
+        && has(memory.attributes(), 0, 0x12)
+        && has(memory.work_ram(), 0x3EF, 0x34)
+}
+
+/// Whether a byte stands in the colour RAM alone.
+fn has_colour(memory: &Memory) -> bool {
+    has(memory.colour_ram(), 0x42, 0x56) && has(memory.tile_ram(), 0x42, 0)
 }
 
 #[test]
 fn attributes_stand_at_the_end_of_the_work_ram(rt: HostRuntime) {
     let mut rig = Rig::new();
-    rig.write(0x4FF0, 0x12);
-    rig.write(0x4FEF, 0x34);
-    rig.write(0x4442, 0x56);
-    assert!(rt; rig.memory().attributes().len() == 16);
-    assert!(rt; has(rig.memory().attributes(), 0, 0x12));
-    assert!(rt; has(rig.memory().work_ram(), 0x3EF, 0x34));
-    assert!(rt; has(rig.memory().colour_ram(), 0x42, 0x56));
-    assert!(rt; has(rig.memory().tile_ram(), 0x42, 0));
+    rig.happens(Event::Write(0x4FF0, 0x12));
+    rig.happens(Event::Write(0x4FEF, 0x34));
+    rig.happens(Event::Write(0x4442, 0x56));
+    told(&rt, &"work RAM", has_work(rig.memory()));
+    told(&rt, &"colour RAM", has_colour(rig.memory()));
 }
 
-/// Whether the latch is as a reset leaves it, with this vector.
+/// Whether the latch is as a reset leaves it, with this vector and no request.
 fn is_reset(memory: &Memory, vector: u8) -> bool {
     let latch = memory.latch();
-    latch.bits() == 0 && latch.count() == 0 && latch.vector() == vector
+    latch.bits() == 0
+        && latch.count() == 0
+        && latch.vector() == vector
+        && memory.request().is_none()
+}
+
+/// Events in turn, and the interrupt request after each.
+static EVENTS: [(&str, Event, Option<u8>); 9] = [
+    ("another port", Event::Output(1, 0x12), None),
+    ("the vector's port", Event::Output(0, 0xFA), None),
+    ("interrupt enable", Event::Write(0x5000, 1), None),
+    ("a blank", Event::Blank, Some(0xFA)),
+    ("a 0 in interrupt enable", Event::Write(0x5000, 0), None),
+    ("an odd byte in it", Event::Write(0x5000, 0xFF), None),
+    ("a blank after that", Event::Blank, Some(0xFA)),
+    ("flip", Event::Write(0x5003, 1), Some(0xFA)),
+    ("an acceptance", Event::Accept, None),
+];
+
+/// Lets an event happen; whether the interrupt request is this then.
+fn requests_after(rig: &mut Rig, event: Event, wanted: Option<u8>) -> bool {
+    rig.happens(event);
+    rig.memory().request() == wanted
 }
 
 #[test]
 fn requests(rt: HostRuntime) {
     let mut rig = Rig::new();
-    rig.output(1, 0x12);
-    rig.output(0, 0xFA);
-    rig.write(0x5000, 1);
-    rig.blank();
-    rig.write(0x5000, 0);
-    rig.requests(&rt, None);
-    rig.write(0x5000, 0xFF);
-    rig.blank();
-    rig.write(0x5003, 1);
-    rig.requests(&rt, Some(0xFA));
-    rig.accept();
-    rig.requests(&rt, None);
-    assert!(rt; rig.memory().latch().is_flipped());
-    rig.blank();
-    rig.reset();
-    rig.requests(&rt, None);
-    assert!(rt; is_reset(rig.memory(), 0xFA));
+    for (name, event, wanted) in &EVENTS {
+        told(&rt, name, requests_after(&mut rig, *event, *wanted));
+    }
+    told(&rt, &"flipped", rig.memory().latch().is_flipped());
+    rig.happens(Event::Blank);
+    rig.happens(Event::Reset);
+    told(&rt, &"reset", is_reset(rig.memory(), 0xFA));
 }
 
 #[test]
 fn sixteen_blanks_with_a_kick_after_the_eighth(rt: HostRuntime) {
     let mut rig = Rig::new();
-    for blank in 1..=16u8 {
-        assert!(rt; !rig.blank(), "blank {blank}");
+    for blank in 1..=24u8 {
+        told(&rt, &blank, rig.happens(Event::Blank) == (blank == 24));
         if blank == 8 {
-            rig.write(0x50C0, blank);
+            rig.happens(Event::Write(0x50C0, blank));
         }
-    }
-    for blank in 9..=16u8 {
-        assert!(rt; rig.blank() == (blank == 16), "blank {blank}");
     }
 }
 
@@ -105,50 +127,49 @@ fn fields(registers: [u8; 32], count: u8) -> MemoryFields<'static> {
     }
 }
 
-/// The RAMs and registers are those of the fields.
-fn has_bytes(rt: &impl Abort, told: &MemoryFields) {
-    let tile = told.tile;
-    let colour = told.colour;
-    let work = told.work;
-    assert!(rt; has(tile, 0, 1));
-    assert!(rt; has(colour, 1023, 2));
-    assert!(rt; has(work, 7, 3));
-    assert!(rt; told.coordinates == [0xC1; 16]);
-    assert!(rt; told.registers == [0; 32]);
+/// Whether the RAMs and registers are those of the fields.
+fn has_bytes(told: &MemoryFields) -> bool {
+    let (tile, colour, work) = (told.tile, told.colour, told.work);
+    has(tile, 0, 1)
+        && has(colour, 1023, 2)
+        && has(work, 7, 3)
+        && told.coordinates == [0xC1; 16]
+        && told.registers == [0; 32]
 }
 
-/// The latch, the inputs and the switches are those of the fields.
-fn has_latch(rt: &impl Abort, told: &MemoryFields) {
-    assert!(rt; told.latch == 0x8A);
-    assert!(rt; told.vector == 0xFA);
-    assert!(rt; told.requested);
-    assert!(rt; told.count == 15);
-    assert!(rt; told.held == Inputs::COCKTAIL);
-    assert!(rt; told.switches == 0x5A);
+/// Whether the latch, the inputs and the switches are those of the fields.
+fn has_latch(told: &MemoryFields) -> bool {
+    told.latch == 0x8A
+        && told.vector == 0xFA
+        && told.requested
+        && told.count == 15
+        && told.held == Inputs::COCKTAIL
+        && told.switches == 0x5A
 }
 
-/// A memory is of the fields.
-fn is_of_fields(rt: &impl Abort, memory: &Memory) {
+/// Whether a memory is of the fields.
+fn is_of_fields(memory: &Memory) -> bool {
     let told = memory.fields();
-    has_bytes(rt, &told);
-    has_latch(rt, &told);
-    assert!(rt; memory.switches() == 0x5A);
+    has_bytes(&told) && has_latch(&told) && memory.switches() == 0x5A
 }
 
 #[test]
 fn fields_and_copies(rt: HostRuntime) {
     let fields = fields([0; 32], 15);
-    assert!(rt; fields.are_in_range());
+    if !fields.are_in_range() {
+        return told(&rt, &"fields in range", false);
+    }
     let made = Memory::of(&fields);
     let mut copy = Memory::new(0);
     copy.copy_from(&made);
-    is_of_fields(&rt, &made);
-    is_of_fields(&rt, &copy);
-    assert!(rt; copy.blank());
+    told(&rt, &"made of fields", is_of_fields(&made));
+    told(&rt, &"copied", is_of_fields(&copy));
+    told(&rt, &"the sixteenth blank", copy.blank());
 }
 
 /// A register, its byte, and whether it can hold that.
-static HELD: [(usize, u8, bool); 4] = [
+static HELD: [(usize, u8, bool); 5] = [
+    (0, 0, true),
     (5, 15, true),
     (5, 16, false),
     (6, 1, false),
@@ -165,12 +186,13 @@ fn are_in_range(register: usize, byte: u8) -> bool {
 }
 
 #[test]
-fn fields_that_no_board_has(rt: HostRuntime) {
+fn fields_that_boards_have_or_no_board_has(rt: HostRuntime) {
     for (register, byte, in_range) in &HELD {
-        assert!(rt;
+        told(
+            &rt,
+            &(register, byte),
             are_in_range(*register, *byte) == *in_range,
-            "register {register}"
         );
     }
-    assert!(rt; !fields([0; 32], 17).are_in_range());
+    told(&rt, &"a count of 17", !fields([0; 32], 17).are_in_range());
 }

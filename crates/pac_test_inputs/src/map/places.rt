@@ -1,12 +1,14 @@
 //! Which place an address selects, and what is read and written there.
 
-use super::rig::Rig;
+use super::rig::{Event, Rig};
+use crate::told::told;
 use pac_inputs::Inputs;
 use pac_map::{BusPlace, read_place, write_place};
-use std::process::Abort;
 
 /// Addresses, with the places that a read and a write select.
-static PLACES: [(u16, BusPlace, BusPlace); 26] = [
+type PlaceRow = (u16, BusPlace, BusPlace);
+
+static PLACES: [PlaceRow; 26] = [
     (0x0000, BusPlace::Program(0), BusPlace::Program(0)),
     (0x3FFF, BusPlace::Program(0x3FFF), BusPlace::Program(0x3FFF)),
     (0x8040, BusPlace::Program(0x40), BusPlace::Program(0x40)),
@@ -35,21 +37,22 @@ static PLACES: [(u16, BusPlace, BusPlace); 26] = [
     (0xFFFF, BusPlace::Kick, BusPlace::Kick),
 ];
 
-/// An address selects this place.
-fn is_place(rt: &impl Abort, address: u16, place: BusPlace, wanted: BusPlace) {
-    assert_eq!(rt; place, wanted, "at {address}");
+/// Whether an address selects the places of its row.
+fn is_place(row: &PlaceRow) -> bool {
+    read_place(row.0) == row.1 && write_place(row.0) == row.2
 }
 
 #[test]
 fn places_of_the_bus_table(rt: HostRuntime) {
-    for (address, read, written) in &PLACES {
-        is_place(&rt, *address, read_place(*address), *read);
-        is_place(&rt, *address, write_place(*address), *written);
+    for row in &PLACES {
+        told(&rt, &row.0, is_place(row));
     }
 }
 
 /// Addresses that are written in turn, the byte, and an address that reads this byte then.
-static WRITTEN: [(u16, u8, u16, u8); 11] = [
+type WriteRow = (u16, u8, u16, u8);
+
+static WRITTEN: [WriteRow; 11] = [
     (0xC040, 0x11, 0x4040, 0x11),
     (0x6040, 0x22, 0x4040, 0x22),
     (0x4440, 0x33, 0xE440, 0x33),
@@ -63,36 +66,49 @@ static WRITTEN: [(u16, u8, u16, u8); 11] = [
     (0x50C0, 0x77, 0x50C0, 0xFF),
 ];
 
+/// Writes the byte of a row; whether the row's other address reads its byte then.
+fn is_written(rig: &mut Rig, row: &WriteRow) -> bool {
+    rig.happens(Event::Write(row.0, row.1));
+    rig.reads(row.2, row.3)
+}
+
 #[test]
 fn reads_after_writes(rt: HostRuntime) {
     let mut rig = Rig::new();
-    for (address, byte, at, read) in &WRITTEN {
-        rig.write(*address, *byte);
-        rig.reads(&rt, *at, *read);
+    for row in &WRITTEN {
+        told(&rt, row, is_written(&mut rig, row));
     }
-    rig.output(0, 0x88);
-    rig.has_no_port(&rt);
+    rig.happens(Event::Output(0, 0x88));
+    told(&rt, &"no port", rig.has_no_port());
 }
 
-/// These inputs are held.
-fn holds(rt: &impl Abort, rig: &Rig, inputs: Inputs) {
-    assert!(rt; rig.memory().held() == inputs);
+/// Lets an event happen; whether the inputs read these bytes then, IN0 at this address.
+fn reads_after(rig: &mut Rig, event: Event, address: u16, in0: u8, in1: u8) -> bool {
+    rig.happens(event);
+    rig.reads_inputs(address, in0, in1)
+}
+
+/// Whether P1_UP and then START1 too are held, and read so.
+fn holds_two(rig: &mut Rig) -> bool {
+    reads_after(rig, Event::Hold(Inputs::P1_UP), 0x5000, 0xFE, 0xFF)
+        && reads_after(rig, Event::HoldToo(Inputs::START1), 0x5000, 0xFE, 0xDF)
+        && rig.memory().held() == Inputs::P1_UP | Inputs::START1
 }
 
 #[test]
 fn held_inputs_read_0(rt: HostRuntime) {
     let mut rig = Rig::new();
-    rig.hold(Inputs::P1_UP);
-    rig.reads(&rt, 0x5000, 0xFE);
-    rig.reads(&rt, 0x5040, 0xFF);
-    rig.hold_too(Inputs::START1);
-    rig.reads(&rt, 0x5000, 0xFE);
-    rig.reads(&rt, 0x5040, 0xDF);
-    holds(&rt, &rig, Inputs::P1_UP | Inputs::START1);
-    rig.let_go(Inputs::P1_UP | Inputs::COIN1);
-    rig.reads(&rt, 0x7000, 0xFF);
-    rig.reads(&rt, 0x7040, 0xDF);
-    rig.hold(Inputs::CREDIT | Inputs::P2_UP);
-    rig.reads(&rt, 0x5000, 0x7F);
-    rig.reads(&rt, 0x5040, 0xFE);
+    told(&rt, &"P1_UP, START1 too", holds_two(&mut rig));
+    let up_and_coin = Event::LetGo(Inputs::P1_UP | Inputs::COIN1);
+    told(
+        &rt,
+        &"START1 alone",
+        reads_after(&mut rig, up_and_coin, 0x7000, 0xFF, 0xDF),
+    );
+    let two = Event::Hold(Inputs::CREDIT | Inputs::P2_UP);
+    told(
+        &rt,
+        &"CREDIT and P2_UP",
+        reads_after(&mut rig, two, 0x5000, 0x7F, 0xFE),
+    );
 }

@@ -2,10 +2,9 @@
 
 use super::sample::{BACKWARDS, Parsed};
 use crate::printed::is_printed;
+use crate::told::told;
 use pac_roms_manifest::{Manifest, ManifestCode, PartName, SetError, SetFault};
 use std::alloc::Global;
-use std::process::Abort;
-use std::test::Fail;
 
 /// The sample's files.
 static NAMES: [&str; 10] = [
@@ -37,37 +36,47 @@ fn digest_byte(manifest: &Manifest, part: PartName) -> Option<u8> {
     }
 }
 
-/// A manifest has the sample's files in their order, the wave PROM's digest, and none for the lookup PROM.
-fn is_sample(rt: &impl Abort, alloc: Global, manifest: &Manifest) {
-    assert!(rt; has_files(alloc, manifest, &NAMES));
-    assert!(rt; digest_byte(manifest, PartName::Wave) == Some(0x56));
-    assert!(rt; digest_byte(manifest, PartName::Lookup).is_none());
+/// Whether a manifest has the wave PROM's digest, and none for the lookup PROM.
+fn has_digests(manifest: &Manifest) -> bool {
+    digest_byte(manifest, PartName::Wave) == Some(0x56)
+        && digest_byte(manifest, PartName::Lookup).is_none()
 }
 
-/// A manifest has two files, `b` and `w`, and none for the parts between.
-fn has_two_files(rt: &impl Abort, alloc: Global, manifest: &Manifest) {
-    assert!(rt; has_files(alloc, manifest, &["b", "w"]));
-    assert!(rt; manifest.file(PartName::Program3).is_none());
-    assert!(rt; manifest.file(PartName::Tiles).is_none());
-}
-
-#[test]
-fn files_in_their_order(rt: HostRuntime) -> Result<(), Fail> {
-    let parsed = Parsed::of_tables(rt.alloc(), &BACKWARDS)?;
-    is_sample(&rt, rt.alloc(), parsed.manifest());
-    Ok(())
+/// Whether a manifest has no file for two parts between.
+fn has_gaps(manifest: &Manifest) -> bool {
+    manifest.file(PartName::Program3).is_none() && manifest.file(PartName::Tiles).is_none()
 }
 
 /// A manifest that names two files.
 static TWO_FILES: &[u8] =
     b"wave.file = 'w'\n[[program]]\n[[program]]\nfile = 'b'\n[[program]]\n[[program]]\nother = ''";
 
+/// Its files.
+static BOTH: [&str; 2] = ["b", "w"];
+
+/// Whether the sample's tables have its files in their order, and its digests.
+fn has_sample(alloc: Global) -> bool {
+    match Parsed::of_tables(alloc, &BACKWARDS) {
+        Ok(parsed) => {
+            has_files(alloc, parsed.manifest(), &NAMES) && has_digests(parsed.manifest())
+        }
+        Err(_) => false,
+    }
+}
+
+/// Whether two files follow one another, and none is between.
+fn has_both(alloc: Global) -> bool {
+    match Parsed::of(alloc, TWO_FILES) {
+        Ok(parsed) => has_files(alloc, parsed.manifest(), &BOTH) && has_gaps(parsed.manifest()),
+        Err(_) => false,
+    }
+}
+
 // Where files aren't given, the others follow one another, whatever can be said of the set.
 #[test]
-fn files_that_are_not_given(rt: HostRuntime) -> Result<(), Fail> {
-    let parsed = Parsed::of(rt.alloc(), TWO_FILES)?;
-    has_two_files(&rt, rt.alloc(), parsed.manifest());
-    Ok(())
+fn files_in_their_order(rt: HostRuntime) {
+    told(&rt, &"the sample's files", has_sample(rt.alloc()));
+    told(&rt, &"two files", has_both(rt.alloc()));
 }
 
 /// Texts of manifests.
@@ -85,13 +94,6 @@ static MANIFESTS: [&str; 8] = [
 /// Whether a text is a manifest.
 fn is_manifest(alloc: Global, text: &str) -> bool {
     Parsed::of(alloc, text.as_bytes()).is_ok()
-}
-
-#[test]
-fn what_manifests_may_have(rt: HostRuntime) {
-    for text in &MANIFESTS {
-        assert!(rt; is_manifest(rt.alloc(), text), "at {text:?}");
-    }
 }
 
 /// Texts that are no manifest.
@@ -141,9 +143,12 @@ fn is_refused(alloc: Global, text: &[u8]) -> bool {
 }
 
 #[test]
-fn texts_that_are_no_manifest(rt: HostRuntime) {
-    for text in &OTHERS {
-        assert!(rt; is_refused(rt.alloc(), text), "at {text:?}");
+fn texts_that_are_manifests_and_that_are_none(rt: HostRuntime) {
+    for text in &MANIFESTS {
+        told(&rt, text, is_manifest(rt.alloc(), text));
     }
-    assert!(rt; is_printed(rt.alloc(), &NO_MANIFEST, "M1"));
+    for text in &OTHERS {
+        told(&rt, text, is_refused(rt.alloc(), text));
+    }
+    told(&rt, &"M1", is_printed(rt.alloc(), &NO_MANIFEST, "M1"));
 }

@@ -1,12 +1,12 @@
 //! Manifests and sets where memory is refused.
 
-use super::sample::{BACKWARDS, FILES, Parsed, WHOLE, text_of};
+use super::sample::{BACKWARDS, FILES, Parsed, WHOLE};
 use crate::printed::is_printed;
+use crate::told::told;
 use pac_roms::RomSet;
 use pac_roms_manifest::{Manifest, PartName, SetError, load_set};
 use pac_test_memory::{Answer, refusals};
 use std::alloc::Global;
-use std::test::Fail;
 
 /// Whether a manifest has the first and the last of the sample's files.
 fn is_sample(manifest: &Manifest) -> bool {
@@ -28,9 +28,9 @@ fn answer_of(right: bool, error: Option<SetError>) -> Answer {
     }
 }
 
-/// What reading a manifest comes to.
-fn reading(alloc: Global, text: &[u8]) -> Answer {
-    match Parsed::of(alloc, text) {
+/// What reading the sample's manifest comes to.
+fn reading(alloc: Global) -> Answer {
+    match Parsed::of_tables(alloc, &BACKWARDS) {
         Ok(parsed) => answer_of(is_sample(parsed.manifest()), None),
         Err(error) => answer_of(false, Some(error)),
     }
@@ -44,24 +44,32 @@ fn loading(alloc: Global, manifest: &Manifest) -> Answer {
     }
 }
 
-// With no memory, and then with a little more each time, there is no answer but want of it or the right one.
-#[test]
-fn manifests_in_scarce_memory(rt: HostRuntime) -> Result<(), Fail> {
-    let text = text_of(rt.alloc(), &BACKWARDS)?;
-    let refused = refusals(rt.alloc(), 50, |alloc| reading(alloc, text.as_bytes()));
-    assert!(rt; matches!(refused, Some(1..49)), "{refused:?}");
-    Ok(())
+/// How often loading the sample's set is refused.
+fn refused(alloc: Global) -> Option<usize> {
+    match Parsed::of_tables(alloc, &WHOLE) {
+        Ok(parsed) => refusals(alloc, 90, |alloc| loading(alloc, parsed.manifest())),
+        Err(_) => None,
+    }
 }
 
+// With no memory, and then with a little more each time, there is no answer but want of it or the right one.
 #[test]
-fn sets_in_scarce_memory(rt: HostRuntime) -> Result<(), Fail> {
-    let parsed = Parsed::of_tables(rt.alloc(), &WHOLE)?;
-    let refused = refusals(rt.alloc(), 90, |alloc| loading(alloc, parsed.manifest()));
-    assert!(rt; matches!(refused, Some(4..89)), "{refused:?}");
-    Ok(())
+fn manifests_and_sets_in_scarce_memory(rt: HostRuntime) {
+    let manifests = refusals(rt.alloc(), 50, reading);
+    told(
+        &rt,
+        &("manifests", manifests),
+        matches!(manifests, Some(1..49)),
+    );
+    let sets = refused(rt.alloc());
+    told(&rt, &("sets", sets), matches!(sets, Some(4..89)));
 }
 
 #[test]
 fn want_of_memory_is_printed(rt: HostRuntime) {
-    assert!(rt; is_printed(rt.alloc(), &SetError::Memory, "out of memory"));
+    told(
+        &rt,
+        &"memory",
+        is_printed(rt.alloc(), &SetError::Memory, "out of memory"),
+    );
 }

@@ -2,11 +2,12 @@
 
 use super::sample::{
     COLOUR_PROM, COLOURS, FILES, LOOKUP, LOOKUP_PROM, PROGRAM, SPRITE_ROM, SPRITES, TILE_ROM,
-    TILES, TIMING, TIMING_PROM, WAVE, WAVE_PROM, printed,
+    TILES, TIMING, TIMING_PROM, WAVE, WAVE_PROM,
 };
-use super::sets::load;
+use super::sets::Loaded;
+use crate::told::told;
 use pac_roms_manifest::Part;
-use std::alloc::{AllocError, Global};
+use std::alloc::Global;
 use std::process::Abort;
 
 /// A program whose third and fourth tables name no file.
@@ -40,92 +41,148 @@ const SHORT_WAVE: &str = "[wave]
 file = 'colours.prom'
 ";
 
-/// What is printed for a set that is refused.
-fn refusal(
-    alloc: Global,
-    tables: &[&str],
-    files: &[Part<'_>],
-    assembled: bool,
-) -> Result<String, AllocError> {
-    match load(alloc, tables, files, assembled) {
-        Ok(_) => "none".to_string(alloc),
-        Err(error) => printed(alloc, error),
-    }
-}
+/// The tables of a set, whether a source is assembled, and what is told.
+type Row = ([&'static str; 6], bool, &'static str);
 
-/// A set of these tables and files is told of in these words.
+/// Tables one of which is wrong.
+static WRONG_TABLES: [Row; 16] = [
+    ([TILES, SPRITES, COLOURS, LOOKUP, "", ""], true, "M2 wave"),
+    (
+        [OTHER_TILES, SPRITES, COLOURS, LOOKUP, WAVE, ""],
+        true,
+        "M4 tiles",
+    ),
+    ([TILES, SPRITES, COLOURS, LOOKUP, WAVE, PROGRAM], true, "M6"),
+    (
+        [TILES, SPRITES, COLOURS, LOOKUP, WAVE, ""],
+        false,
+        "M2 program1",
+    ),
+    (
+        [TILES, SPRITES, COLOURS, LOOKUP, WAVE, HALF_PROGRAM],
+        false,
+        "M2 program3",
+    ),
+    (
+        [TILES, SPRITES, COLOURS, LOOKUP, WAVE, HALF_PROGRAM],
+        true,
+        "M2 program3",
+    ),
+    (["", SPRITES, COLOURS, LOOKUP, WAVE, ""], true, "M2 tiles"),
+    (
+        [TILES, "[sprites]\n", COLOURS, LOOKUP, WAVE, ""],
+        true,
+        "M2 sprites",
+    ),
+    (
+        [TILES, SPRITES, "[colours]\nname = 'c'\n", LOOKUP, WAVE, ""],
+        true,
+        "M2 colours",
+    ),
+    (
+        [TILES, NO_SPRITES, COLOURS, LOOKUP, WAVE, ""],
+        true,
+        "M5 sprites",
+    ),
+    (
+        [TILES, SPRITES, COLOURS, LOOKUP, WAVE, "[timing]"],
+        true,
+        "M2 timing",
+    ),
+    (
+        [
+            TILES,
+            SPRITES,
+            COLOURS,
+            LOOKUP,
+            WAVE,
+            "[timing]\nfile = 'none.prom'",
+        ],
+        true,
+        "M5 timing",
+    ),
+    (
+        [
+            TILES,
+            SPRITES,
+            COLOURS,
+            LOOKUP,
+            WAVE,
+            "[timing]\nfile = 'tiles.rom'",
+        ],
+        true,
+        "M3 timing",
+    ),
+    (
+        [TILES, SPRITES, COLOURS, LOOKUP, WAVE, "[wave]"],
+        true,
+        "M1",
+    ),
+    (
+        [TILES, SPRITES, COLOURS, LOOKUP, WAVE, TIMING],
+        true,
+        "none",
+    ),
+    (
+        [TILES, SPRITES, COLOURS, LOOKUP, WAVE, PROGRAM],
+        false,
+        "none",
+    ),
+];
+
+/// Tables with two faults, of which the first is told.
+static TWO_FAULTS: [Row; 6] = [
+    (
+        [SHORT_TILES, NO_SPRITES, COLOURS, LOOKUP, WAVE, ""],
+        true,
+        "M3 tiles",
+    ),
+    (
+        [TILES, NO_SPRITES, COLOURS, LOOKUP, SHORT_WAVE, ""],
+        true,
+        "M5 sprites",
+    ),
+    (
+        [TILES, NO_SPRITES, COLOURS, LOOKUP, "[timing]", ""],
+        true,
+        "M2 wave",
+    ),
+    (
+        [OTHER_TILES, SPRITES, COLOURS, "[lookup]\n", WAVE, ""],
+        true,
+        "M2 lookup",
+    ),
+    (
+        [PROGRAM, TILES, SPRITES, COLOURS, WAVE, ""],
+        true,
+        "M2 lookup",
+    ),
+    (["tiles = 3", "", "", "", "", ""], true, "M1"),
+];
+
+/// Whether a set of these tables and files is told of in these words.
 fn is_told(
-    rt: &impl Abort,
     alloc: Global,
     tables: &[&str],
     files: &[Part<'_>],
     assembled: bool,
     text: &str,
-) {
-    match refusal(alloc, tables, files, assembled) {
-        Ok(told) => assert!(rt; told.as_str() == text, "{told} at {tables:?}"),
-        Err(_) => assert!(rt; false, "no memory"),
-    }
+) -> bool {
+    Loaded::of(alloc, tables, files, assembled).prints(alloc, text)
 }
 
-/// A table in another's place among six, whether a source is assembled, and what is told.
-static WRONG_TABLES: [(usize, &str, bool, &str); 16] = [
-    (4, "", true, "M2 wave"),
-    (0, OTHER_TILES, true, "M4 tiles"),
-    (5, PROGRAM, true, "M6"),
-    (5, "", false, "M2 program1"),
-    (5, HALF_PROGRAM, false, "M2 program3"),
-    (5, HALF_PROGRAM, true, "M2 program3"),
-    (0, "", true, "M2 tiles"),
-    (1, "[sprites]\n", true, "M2 sprites"),
-    (2, "[colours]\nname = 'c'\n", true, "M2 colours"),
-    (1, NO_SPRITES, true, "M5 sprites"),
-    (5, "[timing]", true, "M2 timing"),
-    (5, "[timing]\nfile = 'none.prom'", true, "M5 timing"),
-    (5, "[timing]\nfile = 'tiles.rom'", true, "M3 timing"),
-    (5, "[wave]", true, "M1"),
-    (5, TIMING, true, "none"),
-    (5, PROGRAM, false, "none"),
-];
-
-/// The tables of a set with a source, one of them replaced.
-fn with_table(place: usize, table: &'static str) -> [&'static str; 6] {
-    let mut tables = [TILES, SPRITES, COLOURS, LOOKUP, WAVE, ""];
-    if let Some(one) = tables.get_mut(place) {
-        *one = table;
+/// Each set of the sample's files is told of as it should.
+fn are_told(rt: &impl Abort, alloc: Global, rows: &[Row]) {
+    for (tables, assembled, text) in rows {
+        let is_right = is_told(alloc, tables, &FILES, *assembled, text);
+        told(rt, &(text, tables), is_right);
     }
-    tables
 }
 
 #[test]
-fn one_table_that_is_wrong(rt: HostRuntime) {
-    for (place, table, assembled, text) in &WRONG_TABLES {
-        let tables = with_table(*place, table);
-        is_told(&rt, rt.alloc(), &tables, &FILES, *assembled, text);
-    }
-}
-
-/// Tables with two faults, and what is told.
-static TWO_FAULTS: [([&str; 5], &str); 6] = [
-    ([SHORT_TILES, NO_SPRITES, COLOURS, LOOKUP, WAVE], "M3 tiles"),
-    (
-        [TILES, NO_SPRITES, COLOURS, LOOKUP, SHORT_WAVE],
-        "M5 sprites",
-    ),
-    ([TILES, NO_SPRITES, COLOURS, LOOKUP, "[timing]"], "M2 wave"),
-    (
-        [OTHER_TILES, SPRITES, COLOURS, "[lookup]\n", WAVE],
-        "M2 lookup",
-    ),
-    ([PROGRAM, TILES, SPRITES, COLOURS, WAVE], "M2 lookup"),
-    (["tiles = 3", "", "", "", ""], "M1"),
-];
-
-#[test]
-fn the_first_of_two_faults(rt: HostRuntime) {
-    for (tables, text) in &TWO_FAULTS {
-        is_told(&rt, rt.alloc(), tables, &FILES, true, text);
-    }
+fn tables_that_are_wrong(rt: HostRuntime) {
+    are_told(&rt, rt.alloc(), &WRONG_TABLES);
+    are_told(&rt, rt.alloc(), &TWO_FAULTS);
 }
 
 /// A tile ROM that is a byte short.
@@ -198,10 +255,16 @@ static FAULTS_OF_FILES: [(&[Part<'static>], &str); 7] = [
     ),
 ];
 
+/// The tables of the sets of those files.
+static TABLES: [&str; 5] = [TILES, SPRITES, COLOURS, LOOKUP, WAVE];
+
 #[test]
 fn the_first_fault_of_the_files(rt: HostRuntime) {
-    let tables = [TILES, SPRITES, COLOURS, LOOKUP, WAVE];
     for (files, text) in &FAULTS_OF_FILES {
-        is_told(&rt, rt.alloc(), &tables, files, true, text);
+        told(
+            &rt,
+            &(text, files.len()),
+            is_told(rt.alloc(), &TABLES, files, true, text),
+        );
     }
 }

@@ -174,8 +174,3 @@ impl Parsed {
         &self.manifest
     }
 }
-
-/// What is printed for an error.
-pub fn printed(alloc: Global, error: SetError) -> Result<String, AllocError> {
-    format!(in alloc; "{error}")
-}

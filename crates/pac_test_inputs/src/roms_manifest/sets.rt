@@ -1,17 +1,38 @@
-//! Sets of files that are right.
+//! Sets of files, and those that are right.
 
 use super::sample::{
     ASSEMBLED, COLOURS, FILES, LOOKUP, Parsed, SPRITES, TILES, TIMING, WAVE, WHOLE,
 };
+use crate::printed::is_printed;
+use crate::told::told;
 use hex::ToHex;
 use pac_roms::RomSet;
 use pac_roms_manifest::{Part, SetError, digest, load_set};
 use std::alloc::Global;
+use std::marker::Model;
 use std::process::Abort;
-use std::test::Fail;
+
+/// What loading a set comes to. Clauses see nothing of it, and it is dropped by a function of its own: so what owns one has a single value
+/// without parts for its proof to carry from step to step.
+pub struct Loaded {
+    answer: Result<RomSet, SetError>,
+}
+
+impl Model for Loaded {
+    ghost Value = { Unit {0} };
+
+    ghost view = { λ _. tt };
+}
+
+impl Drop for Loaded {
+    /// Drops the set, if there is one.
+    fn drop(self) {
+        let Loaded { answer: _ } = self;
+    }
+}
 
 /// The set of a manifest with these tables.
-pub fn load(
+fn load(
     alloc: Global,
     tables: &[&str],
     files: &[Part<'_>],
@@ -26,9 +47,39 @@ pub fn load(
     load_set(alloc, parsed.manifest(), files, rom)
 }
 
+impl Loaded {
+    /// What loading the set of a manifest with these tables comes to.
+    pub fn of(alloc: Global, tables: &[&str], files: &[Part<'_>], assembled: bool) -> Loaded {
+        Loaded {
+            answer: load(alloc, tables, files, assembled),
+        }
+    }
+
+    /// Whether this is printed for the error, or there is a set where `none` is wanted.
+    pub fn prints(&self, alloc: Global, wanted: &str) -> bool {
+        match &self.answer {
+            Ok(_) => wanted == "none",
+            Err(error) => is_printed(alloc, error, wanted),
+        }
+    }
+
+    /// The set, if there is one.
+    fn set(&self) -> Option<&RomSet> {
+        match &self.answer {
+            Ok(set) => Some(set),
+            Err(_) => None,
+        }
+    }
+}
+
 /// Whether bytes are so many of one.
 fn is_all(bytes: &[u8], count: usize, byte: u8) -> bool {
-    bytes.len() == count && bytes.iter().all(|each| *each == byte)
+    for each in bytes {
+        if *each != byte {
+            return false;
+        }
+    }
+    bytes.len() == count
 }
 
 /// Places of the sample's program, with their bytes.
@@ -41,16 +92,18 @@ static PLACES: [(usize, u8); 6] = [
     (16383, 0x14),
 ];
 
-/// The bytes of a set are the sample's.
-fn is_sample(rt: &impl Abort, set: &RomSet) {
-    for (place, byte) in &PLACES {
-        assert!(rt; set.program().get(*place) == Some(byte), "at {place}");
-    }
-    assert!(rt; is_all(set.tiles(), 4096, 1));
-    assert!(rt; is_all(set.sprites(), 4096, 2));
-    assert!(rt; is_all(set.colours(), 32, 3));
-    assert!(rt; is_all(set.lookup(), 256, 4));
-    assert!(rt; is_all(set.wave(), 256, 5));
+/// Whether the parts of a set beside its program are the sample's.
+fn has_parts(set: &RomSet) -> bool {
+    is_all(set.tiles(), 4096, 1)
+        && is_all(set.sprites(), 4096, 2)
+        && is_all(set.colours(), 32, 3)
+        && is_all(set.lookup(), 256, 4)
+        && is_all(set.wave(), 256, 5)
+}
+
+/// Whether a program has a byte at a place.
+fn has(program: &[u8], place: usize, byte: u8) -> bool {
+    program.get(place) == Some(&byte)
 }
 
 /// Whether a set's digest has these digits.
@@ -61,20 +114,39 @@ fn has_digest(alloc: Global, set: &RomSet, digits: &str) -> bool {
     }
 }
 
-#[test]
-fn whole_sets(rt: HostRuntime) -> Result<(), Fail> {
-    let set = load(rt.alloc(), &WHOLE, &FILES, false)?;
-    is_sample(&rt, &set);
-    // what sha1sum prints for the nine files one after another
-    assert!(rt; has_digest(rt.alloc(), &set, "ea2db2aaecde64ffd2779782e693c0aab698ea29"));
-    Ok(())
+/// What `sha1sum` prints for the nine files one after another.
+static DIGEST: &str = "ea2db2aaecde64ffd2779782e693c0aab698ea29";
+
+/// A set is the sample's.
+fn is_whole(rt: &impl Abort, alloc: Global, set: &RomSet) {
+    for (place, byte) in &PLACES {
+        told(rt, place, has(set.program(), *place, *byte));
+    }
+    told(rt, &"parts", has_parts(set));
+    told(rt, &"digest", has_digest(alloc, set, DIGEST));
 }
 
 #[test]
-fn sets_with_a_source(rt: HostRuntime) -> Result<(), Fail> {
-    let tables = [TIMING, WAVE, LOOKUP, COLOURS, SPRITES, TILES];
-    let set = load(rt.alloc(), &tables, &FILES, true)?;
-    assert!(rt; is_all(set.program(), 16384, 0xC9));
-    assert!(rt; is_all(set.tiles(), 4096, 1));
-    Ok(())
+fn whole_sets(rt: HostRuntime) {
+    match Loaded::of(rt.alloc(), &WHOLE, &FILES, false).set() {
+        Some(set) => is_whole(&rt, rt.alloc(), set),
+        None => told(&rt, &"a set", false),
+    }
+}
+
+/// The tables of a set with a source.
+static SOURCED: [&str; 6] = [TIMING, WAVE, LOOKUP, COLOURS, SPRITES, TILES];
+
+/// Whether a set has the program of a source and the sample's tiles.
+fn is_sourced(set: Option<&RomSet>) -> bool {
+    match set {
+        Some(set) => is_all(set.program(), 16384, 0xC9) && is_all(set.tiles(), 4096, 1),
+        None => false,
+    }
+}
+
+#[test]
+fn sets_with_a_source(rt: HostRuntime) {
+    let loaded = Loaded::of(rt.alloc(), &SOURCED, &FILES, true);
+    told(&rt, &"program and tiles", is_sourced(loaded.set()));
 }

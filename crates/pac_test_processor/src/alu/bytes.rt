@@ -1,13 +1,16 @@
 //! Operations on bytes: vectors by hand from UM0080, with the value and F, whose bits are S 80H, Z 40H, H 10H,
 //! P/V 04H, N 02H, C 01H. Where F was FFH, the 28H in F after is bits 5 and 3.
 
+use crate::told::told;
 use pac_alu::{
     ByteOperation, ByteResult, arithmetic, complement, complement_carry, decimal_adjust, decrement,
     increment, input_flags, negate, set_carry,
 };
 
 /// An operation of A and an operand, its field in the code, A, the operand and F; then A and F after.
-static WITH_OPERAND: [(&str, u8, u8, u8, u8, u8, u8); 32] = [
+type WithOperand = (&'static str, u8, u8, u8, u8, u8, u8);
+
+static WITH_OPERAND: [WithOperand; 32] = [
     ("ADD", 0, 0x00, 0x00, 0x00, 0x00, 0x40),
     ("ADD", 0, 0x0F, 0x01, 0x00, 0x10, 0x10),
     ("ADD", 0, 0x7F, 0x01, 0x00, 0x80, 0x94),
@@ -43,7 +46,9 @@ static WITH_OPERAND: [(&str, u8, u8, u8, u8, u8, u8); 32] = [
 ];
 
 /// An operation of one byte, the byte and F; then the byte and F after.
-static OF_ONE_BYTE: [(&str, u8, u8, u8, u8); 38] = [
+type OfOneByte = (&'static str, u8, u8, u8, u8);
+
+static OF_ONE_BYTE: [OfOneByte; 38] = [
     ("INC", 0x7F, 0x00, 0x80, 0x94),
     ("INC", 0xFF, 0x00, 0x00, 0x50),
     ("INC", 0xFF, 0x01, 0x00, 0x51),
@@ -84,35 +89,58 @@ static OF_ONE_BYTE: [(&str, u8, u8, u8, u8); 38] = [
     ("IN", 0x03, 0x12, 0x03, 0x04),
 ];
 
-/// What an operation of one byte leaves; SCF, CCF and IN change F alone.
-fn outcome(name: &str, byte: u8, f: u8) -> Option<ByteResult> {
-    let of_f = |f: u8| ByteResult { value: byte, f };
+/// What an operation that changes a byte leaves.
+fn changed(name: &str, byte: u8, f: u8) -> Option<ByteResult> {
     Some(match name {
         "INC" => increment(byte, f),
         "DEC" => decrement(byte, f),
         "NEG" => negate(byte, f),
         "CPL" => complement(byte, f),
         "DAA" => decimal_adjust(byte, f),
-        "SCF" => of_f(set_carry(f)),
-        "CCF" => of_f(complement_carry(f)),
-        "IN" => of_f(input_flags(byte, f)),
         _ => return None,
     })
 }
 
+/// What an operation of one byte leaves; SCF, CCF and IN change F alone.
+fn outcome(name: &str, byte: u8, f: u8) -> Option<ByteResult> {
+    let after = match name {
+        "SCF" => set_carry(f),
+        "CCF" => complement_carry(f),
+        "IN" => input_flags(byte, f),
+        _ => return changed(name, byte, f),
+    };
+    Some(ByteResult {
+        value: byte,
+        f: after,
+    })
+}
+
+/// Whether an operation with an operand leaves what its row says.
+fn is_with_operand(row: &WithOperand) -> bool {
+    let (_, field, a, operand, f, value, after) = *row;
+    let found = arithmetic(ByteOperation::from_field(field), a, operand, f);
+    found.value == value && found.f == after
+}
+
+/// Whether an operation of one byte leaves what its row says.
+fn is_of_one_byte(row: &OfOneByte) -> bool {
+    let (name, byte, f, value, after) = *row;
+    match outcome(name, byte, f) {
+        Some(found) => found.value == value && found.f == after,
+        None => false,
+    }
+}
+
 #[test]
 fn operations_with_an_operand(rt: HostRuntime) {
-    let wrong = WITH_OPERAND.iter().find(|(_, field, a, operand, f, value, after)| {
-        let found = arithmetic(ByteOperation::from_field(*field), *a, *operand, *f);
-        (found.value, found.f) != (*value, *after)
-    });
-    assert_eq!(rt; wrong, None);
+    for row in &WITH_OPERAND {
+        told(&rt, row, is_with_operand(row));
+    }
 }
 
 #[test]
 fn operations_of_one_byte(rt: HostRuntime) {
-    let wrong = OF_ONE_BYTE.iter().find(|(name, byte, f, value, after)| {
-        outcome(name, *byte, *f).map(|found| (found.value, found.f)) != Some((*value, *after))
-    });
-    assert_eq!(rt; wrong, None);
+    for row in &OF_ONE_BYTE {
+        told(&rt, row, is_of_one_byte(row));
+    }
 }

@@ -1,9 +1,12 @@
 //! DAA of each A: against UM0080's table, and with each F against the same said by bits.
 
+use crate::told::told;
 use pac_alu::decimal_adjust;
 
 /// N, C and H before, the ranges of the high and the low digit, the number added, and C after.
-static MANUAL: [(u8, u8, u8, (u8, u8), (u8, u8), u8, u8); 13] = [
+type Line = (u8, u8, u8, (u8, u8), (u8, u8), u8, u8);
+
+static MANUAL: [Line; 13] = [
     (0, 0, 0, (0x0, 0x9), (0x0, 0x9), 0x00, 0),
     (0, 0, 0, (0x0, 0x8), (0xA, 0xF), 0x06, 0),
     (0, 0, 1, (0x0, 0x9), (0x0, 0x3), 0x06, 0),
@@ -21,7 +24,18 @@ static MANUAL: [(u8, u8, u8, (u8, u8), (u8, u8), u8, u8); 13] = [
 
 /// Whether the digits of A lie in their ranges.
 fn is_among(a: u8, highs: (u8, u8), lows: (u8, u8)) -> bool {
-    (highs.0..=highs.1).contains(&(a / 16)) && (lows.0..=lows.1).contains(&(a % 16))
+    let (high, low) = (a / 16, a % 16);
+    highs.0 <= high && high <= highs.1 && lows.0 <= low && low <= lows.1
+}
+
+/// Whether DAA of A is as a line of the manual says, if it speaks of this A.
+fn is_by_the_manual(line: &Line, a: u8) -> bool {
+    let (n, c, h, highs, lows, added, carry) = *line;
+    if !is_among(a, highs, lows) {
+        return true;
+    }
+    let found = decimal_adjust(a, h << 4 | n << 1 | c);
+    found.value == a.wrapping_add(added) && found.f % 2 == carry
 }
 
 /// DAA by the bits of the correction: a carry or borrow between the digits flips bit 4 of the result.
@@ -47,24 +61,27 @@ fn decimal_by_bits(a: u8, f: u8) -> (u8, u8) {
     (value, after)
 }
 
+/// Whether DAA is as its bits say.
+fn is_by_bits(a: u8, f: u8) -> bool {
+    let (value, after) = decimal_by_bits(a, f);
+    let found = decimal_adjust(a, f);
+    found.value == value && found.f == after
+}
+
 #[test]
 fn decimals_by_the_manual(rt: HostRuntime) {
-    let wrong = MANUAL.iter().find(|(n, c, h, highs, lows, added, carry)| {
-        !(0..=255u8).all(|a| {
-            let found = decimal_adjust(a, h << 4 | n << 1 | c);
-            !is_among(a, *highs, *lows)
-                || (found.value, found.f % 2) == (a.wrapping_add(*added), *carry)
-        })
-    });
-    assert_eq!(rt; wrong, None);
+    for line in &MANUAL {
+        for a in 0..=255u8 {
+            told(&rt, line, is_by_the_manual(line, a));
+        }
+    }
 }
 
 #[test]
 fn decimals_by_bits(rt: HostRuntime) {
-    let wrong = (0..=0xFFFFu16).find(|both| {
-        let (a, f) = ((*both >> 8) as u8, (*both & 0xFF) as u8);
-        let found = decimal_adjust(a, f);
-        (found.value, found.f) != decimal_by_bits(a, f)
-    });
-    assert_eq!(rt; wrong, None);
+    for a in 0..=255u8 {
+        for f in 0..=255u8 {
+            told(&rt, &(a, f), is_by_bits(a, f));
+        }
+    }
 }

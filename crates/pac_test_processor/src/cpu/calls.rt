@@ -1,10 +1,11 @@
 //! Each public call once, by UM0080's pages; vectors of every family stand beside.
 
+use crate::told::told;
 use pac_bus::{Bus, Flat};
 use pac_cpu::{Cpu, Once, StepKind};
 use pac_exec::{Alternate, Regs};
 use pac_table::InterruptMode;
-use std::test::Fail;
+use std::process::Abort;
 
 /// A processor that EI has just let take interrupts, in mode 1, at 0100H with SP 4FF0H and other registers in use.
 fn in_use() -> Regs {
@@ -28,32 +29,30 @@ fn in_use() -> Regs {
     }
 }
 
-#[test]
-fn steps_to_an_acceptance(rt: HostRuntime) -> Result<(), Fail> {
-    let mut bus = Flat::new(rt.alloc())?;
-    // HALT
-    bus.load(0x0100, &[0x76]);
-    let mut cpu = Cpu::with_regs(in_use());
-    let halt = cpu.step(&mut bus, Some(0xFF));
-    let accepted = cpu.step(&mut bus, Some(0xFF));
-    assert!(rt;
-        matches!(
-            halt,
-            Once::Stepped {
-                ticks: 4,
-                kind: StepKind::Ran(_)
-            }
-        )
-    );
-    assert!(rt;
-        matches!(
-            accepted,
-            Once::Stepped {
-                ticks: 13,
-                kind: StepKind::Accepted
-            }
-        )
-    );
+/// Whether a step with a request of FFH runs an instruction of 4 T-states.
+fn runs(cpu: &mut Cpu, bus: &mut Flat) -> bool {
+    matches!(
+        cpu.step(bus, Some(0xFF)),
+        Once::Stepped {
+            ticks: 4,
+            kind: StepKind::Ran(_)
+        }
+    )
+}
+
+/// Whether a step with a request of FFH accepts it, in 13 T-states.
+fn accepts(cpu: &mut Cpu, bus: &mut Flat) -> bool {
+    matches!(
+        cpu.step(bus, Some(0xFF)),
+        Once::Stepped {
+            ticks: 13,
+            kind: StepKind::Accepted
+        }
+    )
+}
+
+/// Whether a processor has entered mode 1's routine from 0101H.
+fn has_entered(cpu: &Cpu) -> bool {
     let entered = Regs {
         sp: 0x4FEE,
         pc: 0x0038,
@@ -63,15 +62,35 @@ fn steps_to_an_acceptance(rt: HostRuntime) -> Result<(), Fail> {
         after_ei: false,
         ..in_use()
     };
-    assert_eq!(rt; cpu.regs(), entered);
-    assert_eq!(rt; (bus.read(0x4FEF), bus.read(0x4FEE)), (0x01, 0x01));
-    Ok(())
+    cpu.regs() == entered
+}
+
+/// Whether 0101H was pushed from SP 4FF0H on.
+fn has_pushed(bus: &Flat) -> bool {
+    bus.read(0x4FEF) == 0x01 && bus.read(0x4FEE) == 0x01
+}
+
+/// A HALT and the acceptance after it are as they should be.
+fn halts_and_accepts(rt: &impl Abort, bus: &mut Flat) {
+    // HALT
+    bus.load(0x0100, &[0x76]);
+    let mut cpu = Cpu::with_regs(in_use());
+    told(rt, &"HALT", runs(&mut cpu, bus));
+    told(rt, &"acceptance", accepts(&mut cpu, bus));
+    told(rt, &"registers", has_entered(&cpu));
+    told(rt, &"return address", has_pushed(bus));
 }
 
 #[test]
-fn resets(rt: HostRuntime) {
-    let mut cpu = Cpu::with_regs(in_use());
-    cpu.reset();
+fn steps_to_an_acceptance(rt: HostRuntime) {
+    match Flat::new(rt.alloc()) {
+        Ok(mut bus) => halts_and_accepts(&rt, &mut bus),
+        Err(_) => told(&rt, &"memory", false),
+    }
+}
+
+/// Whether a processor is as a reset leaves one in use.
+fn is_reset(cpu: &Cpu) -> bool {
     let used = in_use();
     let kept = Regs {
         a: used.a,
@@ -80,5 +99,12 @@ fn resets(rt: HostRuntime) {
         sp: used.sp,
         ..Cpu::power_on().regs()
     };
-    assert_eq!(rt; cpu.regs(), kept);
+    cpu.regs() == kept
+}
+
+#[test]
+fn resets(rt: HostRuntime) {
+    let mut cpu = Cpu::with_regs(in_use());
+    cpu.reset();
+    told(&rt, &"registers", is_reset(&cpu));
 }

@@ -3,7 +3,7 @@
 use super::Steps;
 
 /// Arithmetic of bytes (UM0080, "8-Bit Arithmetic Group").
-pub const BYTES: [Steps; 4] = [
+pub static BYTES: [Steps; 4] = [
     Steps {
         usual: "A=15 (006F)=03 (4800)=27 (FF90)=10",
         lines: "
@@ -70,7 +70,7 @@ DEC (IY+7FH) | FD 35 7F | | 23 | F=92 (4800)=FF
 ];
 
 /// The accumulator and F (UM0080, "General-Purpose Arithmetic and CPU Control Groups").
-pub const ACCUMULATOR: [Steps; 2] = [
+pub static ACCUMULATOR: [Steps; 2] = [
     Steps {
         usual: "",
         lines: "
@@ -106,7 +106,7 @@ DAA | 27 | A=1B F=12 | 4 | A=15 F=02
 ];
 
 /// Arithmetic of words (UM0080, "16-Bit Arithmetic Group").
-pub const WORDS: [Steps; 3] = [
+pub static WORDS: [Steps; 3] = [
     Steps {
         usual: "",
         lines: "

@@ -3,7 +3,7 @@
 use super::Steps;
 
 /// Copies (UM0080, "Exchange, Block Transfer, and Search Group").
-pub const COPIES: [Steps; 2] = [
+pub static COPIES: [Steps; 2] = [
     Steps {
         usual: "HL=1111 PC=0100 (1111)=88",
         lines: "
@@ -30,7 +30,7 @@ LDIR | ED B0 | BC=0002 DE=4C00 PC=FFFF | 21 | F=04 BC=0001 DE=4C01 HL=0001 PC=FF
 ];
 
 /// Searches (UM0080, the same group).
-pub const SEARCHES: [Steps; 2] = [
+pub static SEARCHES: [Steps; 2] = [
     Steps {
         usual: "DE=2222 HL=1111 PC=0100 (1111)=3B",
         lines: "
@@ -62,7 +62,7 @@ CPDR | ED B9 | F=86 BC=0005 HL=1116 | 16 | F=46 BC=0004 HL=1115
 ];
 
 /// Blocks from and to ports (UM0080, "Input and Output Group").
-pub const PORTS: [Steps; 2] = [
+pub static PORTS: [Steps; 2] = [
     Steps {
         usual: "DE=2222 HL=1000 PC=0100 [07]=7B [0F]=66 [10]=55",
         lines: "
@@ -94,7 +94,7 @@ OTDR | ED BB | BC=0107 | 16 | F=42 BC=0007 HL=0FFF [07]=59
 ];
 
 /// Pointers at the ends of memory.
-pub const WRAPS: [Steps; 1] = [Steps {
+pub static WRAPS: [Steps; 1] = [Steps {
     usual: "BC=0202 DE=2222 PC=0100",
     lines: "
 LDI | ED A0 | HL=FFFF | 16 | F=04 BC=0201 DE=2223 HL=0000

@@ -3,7 +3,7 @@
 use super::Steps;
 
 /// Ports (UM0080, "Input and Output Group").
-pub const PORTS: [Steps; 2] = [
+pub static PORTS: [Steps; 2] = [
     Steps {
         usual: "A=23 BC=1007",
         lines: "
@@ -27,7 +27,7 @@ OUT (C),C | ED 49 | | 12 | [02]=02
 ];
 
 /// Control (UM0080, "General-Purpose Arithmetic and CPU Control Groups") and the loads of I and R.
-pub const CONTROL: [Steps; 2] = [
+pub static CONTROL: [Steps; 2] = [
     Steps {
         usual: "A=0A F=FF BC=400C DE=410E HL=420D IX=4380 IY=4281",
         lines: "

@@ -3,7 +3,7 @@
 use super::Steps;
 
 /// Jumps (UM0080, "Jump Group").
-pub const JUMPS: [Steps; 4] = [
+pub static JUMPS: [Steps; 4] = [
     Steps {
         usual: "H=48 IX=4810 IY=4820",
         lines: "
@@ -64,7 +64,7 @@ DJNZ $+2-128 | 10 80 | | 13 | B=FF PC=0402
 ];
 
 /// Calls and returns (UM0080, "Call and Return Group").
-pub const CALLS: [Steps; 4] = [
+pub static CALLS: [Steps; 4] = [
     Steps {
         usual: "",
         lines: "

@@ -3,7 +3,7 @@
 use super::Steps;
 
 /// Acceptances and halted steps (UM0080, "Interrupt Response" and "HALT"; this profile where a vector byte isn't even).
-pub const ACCEPTANCES: [Steps; 2] = [
+pub static ACCEPTANCES: [Steps; 2] = [
     Steps {
         usual: "SP=4FF0 PC=0002 I=3F R=02 IFF1=1 IFF2=1 HALT=1",
         lines: "
@@ -32,7 +32,7 @@ after EI, NOP | 00 | INT=00 EI=1 | 4 |
 ];
 
 /// Stops (this profile): bytes that are no documented instruction, and in mode 0 a vector byte that is no RST.
-pub const STOPS: [Steps; 2] = [
+pub static STOPS: [Steps; 2] = [
     Steps {
         usual: "PC=0200 SP=4FF0 R=7F",
         lines: "

@@ -3,7 +3,7 @@
 use super::Steps;
 
 /// Loads of bytes (UM0080, "8-Bit Load Group").
-pub const BYTES: [Steps; 2] = [
+pub static BYTES: [Steps; 2] = [
     Steps {
         usual: "A=0A F=FF BC=400C DE=410E HL=420D IX=4380 IY=4281 (400C)=BC (410E)=DE (420D)=E1 (4300)=1D (5000)=77 (5001)=78",
         lines: "
@@ -42,7 +42,7 @@ LD (5001H),A | 32 01 50 | | 13 | (5001)=0A
 ];
 
 /// Loads of words and the stack (UM0080, "16-Bit Load Group").
-pub const WORDS: [Steps; 4] = [
+pub static WORDS: [Steps; 4] = [
     Steps {
         usual: "F=FF",
         lines: "
@@ -91,7 +91,7 @@ POP IY | FD E1 | F=28 SP=FFFF | 14 | IY=7E93 SP=0001
 ];
 
 /// Exchanges (UM0080, "Exchange, Block Transfer, and Search Group").
-pub const EXCHANGES: [Steps; 2] = [
+pub static EXCHANGES: [Steps; 2] = [
     Steps {
         usual: "IX=4380 IY=4281",
         lines: "

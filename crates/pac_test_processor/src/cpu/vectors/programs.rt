@@ -3,7 +3,7 @@
 use super::Steps;
 
 /// Programs (UM0080; this profile's EI, repeats and acceptances between them).
-pub const PROGRAMS: [Steps; 1] = [Steps {
+pub static PROGRAMS: [Steps; 1] = [Steps {
     usual: "",
     lines: "
 LD A,42H; LD (4040H),A; HALT; halted | 3E 42 32 40 40 76 | | 7 13 4 4-halted | A=42 PC=0006 R=04 HALT=1 (4040)=42

@@ -3,7 +3,7 @@
 use super::Steps;
 
 /// Rotations and shifts (UM0080, "Rotate and Shift Group").
-pub const ROTATIONS_AND_SHIFTS: [Steps; 4] = [
+pub static ROTATIONS_AND_SHIFTS: [Steps; 4] = [
     Steps {
         usual: "H=48 IX=4880 IY=4781",
         lines: "
@@ -114,7 +114,7 @@ RRD | ED 67 | A=F1 F=13 (5000)=23 | 18 | A=F3 F=85 (5000)=12
 ];
 
 /// Single bits (UM0080, "Bit Set, Reset, and Test Group").
-pub const BITS: [Steps; 2] = [
+pub static BITS: [Steps; 2] = [
     Steps {
         usual: "",
         lines: "
