@@ -4,7 +4,13 @@
 #[cfg(test)]
 mod board;
 #[cfg(test)]
+mod case;
+#[cfg(test)]
 mod course;
+#[cfg(test)]
+mod looks;
+#[cfg(test)]
+mod play;
 #[cfg(test)]
 mod rig;
 #[cfg(test)]

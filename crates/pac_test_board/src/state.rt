@@ -5,6 +5,5 @@ mod boards;
 mod damage;
 mod files;
 mod loading;
-mod memory;
 mod refusals;
 mod scarce;

@@ -32,14 +32,6 @@ pub const TOTALS: Outcome = Outcome {
     stop: None,
 };
 
-/// Whether a run came to this, and its sink has so many outputs.
-pub fn is_total(ended: Option<(Outcome, usize)>, wanted: Outcome, outputs: usize) -> bool {
-    match ended {
-        Some((outcome, taken)) => outcome == wanted && taken == outputs,
-        None => false,
-    }
-}
-
 /// A board at power-on whose program begins with these bytes.
 pub fn board(alloc: Global, bytes: &[u8]) -> Result<Box<Board>, AllocError>
     ensures { IfOk result (λ board. IsNew board.value) }
@@ -62,7 +54,7 @@ pub fn board(alloc: Global, bytes: &[u8]) -> Result<Box<Board>, AllocError>
 }
 
 /// A session on it, with a script.
-pub fn session(alloc: Global, bytes: &[u8], script: &[u8]) -> Result<Session, AllocError> {
+fn session(alloc: Global, bytes: &[u8], script: &[u8]) -> Result<Session, AllocError> {
     let board = board(alloc, bytes)?;
     let Ok(script) = read_script(alloc, script) else {
         return Err(AllocError);
@@ -118,15 +110,5 @@ impl Rig {
     /// Sets a breakpoint; whether there was room.
     pub fn break_at(&mut self, address: u16) -> bool {
         self.session.break_at(address).is_ok()
-    }
-
-    /// The index at which the session stands.
-    pub fn index(&self) -> u64 {
-        self.session.index()
-    }
-
-    /// How many outputs the sink took.
-    pub fn outputs(&self) -> usize {
-        self.kept.taken().len()
     }
 }

@@ -1,77 +1,59 @@
-//! Boards and their states in scarce memory.
+//! Boards in scarce memory.
 
-use crate::rig::{FRAME, Rig};
-use crate::scarce::release;
+use crate::scarce::{Attempt, refusals};
 use pac_board::{Board, RomSet};
-use pac_test_memory::Hoard;
+use pac_test_memory::Answer;
 use pac_test_set::{SWITCHES, rom_set};
 use std::alloc::Global;
-use std::process::Abort;
-use std::test::Fail;
 
-/// The turns of a test, each of which gives back some blocks.
-const TURNS: u32 = 49;
+/// Where a set waits, out of which a board is to be made.
+#[derive(Drop)]
+struct Waiting(Option<RomSet>);
 
-/// Makes a board of a set, which stands at power-on then; where there isn't the memory for one, the set that comes back.
-fn set_left(rt: &impl Abort, alloc: Global, set: RomSet) -> Option<RomSet> {
-    match Board::init(alloc, set, SWITCHES) {
-        Ok(board) => {
-            assert!(rt; board.steps() == 0 && board.time() == 0);
-            assert!(rt; board.regs().pc == 0 && board.peek(0) == 0x76);
-            None
-        }
-        Err(back) => {
-            assert!(rt; back.set.program().first() == Some(&0x76));
-            Some(back.set)
+/// Whether a board stands at power-on, and its program begins with HALT.
+fn is_new(board: &Board) -> bool {
+    board.steps() == 0 && board.time() == 0 && board.regs().pc == 0 && board.peek(0) == 0x76
+}
+
+/// What it says that a board was made.
+fn made(board: &Board) -> Answer {
+    if is_new(board) {
+        Answer::Right
+    } else {
+        Answer::Wrong
+    }
+}
+
+/// What it says that a set came back.
+fn back(set: &RomSet) -> Answer {
+    if set.program().first() == Some(&0x76) {
+        Answer::Refused
+    } else {
+        Answer::Wrong
+    }
+}
+
+impl Attempt for Waiting {
+    /// Makes a board of the set; where there isn't the memory for one, the set comes back.
+    fn attempt(&mut self, alloc: Global) -> Answer {
+        let Some(set) = self.0.take() else {
+            return Answer::Wrong;
+        };
+        match Board::init(alloc, set, SWITCHES) {
+            Ok(board) => made(&board),
+            Err(refused) => {
+                let answer = back(&refused.set);
+                self.0 = Some(refused.set);
+                answer
+            }
         }
     }
 }
 
 // With no memory, and then with a little more each time, the set comes back, or there is a board at power-on.
 #[test]
-fn boards_in_scarce_memory(rt: HostRuntime) -> Result<(), Fail> {
-    let mut left = Some(rom_set(&[(0, &[0x76])]));
-    let mut hoard = Hoard::take(rt.alloc(), 2000)?;
-    let mut refused = 0;
-    for turn in 0..TURNS {
-        let Some(set) = left.take() else {
-            break;
-        };
-        refused = turn;
-        left = set_left(&rt, rt.alloc(), set);
-        release(&rt, &mut hoard);
-    }
-    drop(hoard);
-    assert!(rt; 3 < refused && refused < 48, "{refused}");
-    Ok(())
-}
-
-/// Whether there is the memory for a state of a board, which is put back after a reset then.
-fn is_put_back(alloc: Global, rig: &mut Rig) -> bool {
-    let Ok(snapshot) = rig.snapshot(alloc) else {
-        return false;
-    };
-    rig.reset();
-    rig.restore(&snapshot);
-    true
-}
-
-#[test]
-fn snapshots_in_scarce_memory(rt: HostRuntime) -> Result<(), Fail> {
-    let mut rig = Rig::new(rt.alloc(), &[])?;
-    assert!(rt; rig.ticks(FRAME).is_some());
-    let (steps, time, pc) = (rig.made(), rig.time(), rig.pc());
-    let mut hoard = Hoard::take(rt.alloc(), 2000)?;
-    let mut refused = 0;
-    for turn in 0..TURNS {
-        refused = turn;
-        if is_put_back(rt.alloc(), &mut rig) {
-            assert!(rt; rig.is_at(steps, time, pc));
-            break;
-        }
-        release(&rt, &mut hoard);
-    }
-    drop(hoard);
-    assert!(rt; 0 < refused && refused < 48, "{refused}");
-    Ok(())
+fn boards_in_scarce_memory(rt: HostRuntime) {
+    let mut waiting = Waiting(Some(rom_set(&[(0, &[0x76])])));
+    let refused = refusals(rt.alloc(), &mut waiting, 2000).unwrap_or(0);
+    assert!(rt; 120 < refused && refused < 1_881, "{refused}");
 }

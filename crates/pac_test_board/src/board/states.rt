@@ -1,81 +1,84 @@
-//! The state of a board with a picture that is due, where memory is short.
+//! States that are kept and put back, in scarce memory too, and boards by their fields.
 
-use crate::rig::{FLIP, FRAME, Rig};
-use pac_board::{Fault, Snapshot};
-use pac_test_memory::Hoard;
-use std::alloc::{AllocError, Global};
+use super::sinks::CORNER;
+use crate::case::Number::{Drawn, Outputs, Time};
+use crate::case::Step::{
+    AtPowerOn, Fails, Gave, Goes, GoesBack, Has, IsAt, IsCopied, IsKept, IsWrittenOver, Refuses,
+    Runs, Shows,
+};
+use crate::case::{Area, Case};
+use crate::rig::{CELL, FLIP, FRAME};
+use pac_board::Fault;
+use pac_test_set::SWITCHES;
 
-/// More turns than are refused.
-const TURNS: u32 = 1500;
-
-/// Whether a board of that program comes to picture 16, the flipped one, which is refused at the sixteenth blank.
-fn comes_to_its_picture(alloc: Global, rig: &mut Rig) -> bool {
-    rig.refuse(alloc, 16 * 1585);
-    rig.fails(16 * FRAME, Fault::Refused)
-}
-
-/// Whether it stands there, and the picture is then taken, the last of all outputs.
-fn gives_its_picture(rig: &mut Rig) -> bool {
-    rig.is_at(202_747, 811_009, 0)
-        && rig.outputs() == 16 * 1585 - 1
-        && rig.runs(0, 0, None)
-        && rig.outputs() == 16 * 1585
-        && rig.gave(16 * 1585 - 1, 264..272, 216..224, [255, 0, 0])
-}
-
-/// Whether there is the memory for a state of a board, which is put back after a reset then.
-fn is_put_back(alloc: Global, rig: &mut Rig) -> bool {
-    match rig.snapshot(alloc) {
-        Ok(snapshot) => {
-            rig.reset();
-            rig.restore(&snapshot);
-            true
-        }
-        Err(_) => false,
-    }
-}
-
-/// How often there isn't, first with no memory at all, and with one small block more after each time; `TURNS` where it never is.
-fn refusals(alloc: Global, rig: &mut Rig) -> u32 {
-    let Ok(mut hoard) = Hoard::take(alloc, TURNS as usize) else {
-        return TURNS;
-    };
-    for turn in 0..TURNS {
-        if is_put_back(alloc, rig) {
-            return turn;
-        }
-        hoard.release();
-    }
-    TURNS
-}
-
-#[test]
-fn a_state_in_scarce_memory(rt: HostRuntime) -> Result<(), AllocError> {
-    let mut rig = Rig::new(rt.alloc(), &FLIP)?;
-    assert!(rt; comes_to_its_picture(rt.alloc(), &mut rig));
-    let refused = refusals(rt.alloc(), &mut rig);
-    assert!(rt; 3 < refused && refused < TURNS, "{refused}");
-    assert!(rt; gives_its_picture(&mut rig));
-    Ok(())
-}
-
-/// Whether there was no memory left while the state was written over an old one, and put back after a reset.
-fn is_written_over(alloc: Global, rig: &mut Rig, old: &mut Snapshot) -> bool {
-    let Ok(_hoard) = Hoard::take(alloc, 0) else {
-        return false;
-    };
-    rig.snapshot_into(old);
-    rig.reset();
-    rig.restore(old);
-    rig.snapshot(alloc).is_err()
-}
-
-#[test]
-fn a_state_over_an_old_one_without_memory(rt: HostRuntime) -> Result<(), AllocError> {
-    let mut rig = Rig::new(rt.alloc(), &FLIP)?;
-    let mut old = rig.snapshot(rt.alloc())?;
-    assert!(rt; comes_to_its_picture(rt.alloc(), &mut rig));
-    assert!(rt; is_written_over(rt.alloc(), &mut rig, &mut old));
-    assert!(rt; gives_its_picture(&mut rig));
-    Ok(())
-}
+/// Boards whose states are kept and put back.
+pub static CASES: [Case; 5] = [
+    // After 2,625 microseconds two lines have passed; they come back. Line 2, at 8,256 T-states, draws all cells of its row again.
+    Case {
+        name: "a state is put back",
+        program: &[(0, &CELL)],
+        switches: SWITCHES,
+        steps: &[
+            Goes(2_625),
+            GoesBack(FRAME),
+            Has(Time, 8_064),
+            Shows(
+                Area {
+                    columns: [16, 24],
+                    lines: [0, 2],
+                },
+                2,
+            ),
+            Goes(63),
+            Has(Drawn, 36),
+        ],
+    },
+    Case {
+        name: "a board of fields",
+        program: &[(0, &CELL)],
+        switches: SWITCHES,
+        steps: &[AtPowerOn, IsCopied(&[(0, &CELL)])],
+    },
+    Case {
+        name: "a state in scarce memory",
+        program: &[],
+        switches: SWITCHES,
+        steps: &[
+            Goes(FRAME),
+            IsAt(12_672, 50_688, 0x3180),
+            IsKept(0, 1_881),
+            IsAt(12_672, 50_688, 0x3180),
+        ],
+    },
+    // the board of that program comes to picture 16, the flipped one, which is refused at the sixteenth blank
+    Case {
+        name: "a state with a picture that is due, in scarce memory",
+        program: &[(0, &FLIP)],
+        switches: SWITCHES,
+        steps: &[
+            Refuses(16 * 1585),
+            Fails(16 * FRAME, Fault::Refused),
+            IsKept(3, 1_500),
+            IsAt(202_747, 811_009, 0),
+            Has(Outputs, 16 * 1585 - 1),
+            Runs(0, 0, None),
+            Has(Outputs, 16 * 1585),
+            Gave(16 * 1585 - 1, CORNER, [255, 0, 0]),
+        ],
+    },
+    Case {
+        name: "a state with a picture that is due, over an old one without memory",
+        program: &[(0, &FLIP)],
+        switches: SWITCHES,
+        steps: &[
+            Refuses(16 * 1585),
+            Fails(16 * FRAME, Fault::Refused),
+            IsWrittenOver,
+            IsAt(202_747, 811_009, 0),
+            Has(Outputs, 16 * 1585 - 1),
+            Runs(0, 0, None),
+            Has(Outputs, 16 * 1585),
+            Gave(16 * 1585 - 1, CORNER, [255, 0, 0]),
+        ],
+    },
+];

@@ -1,15 +1,54 @@
 //! Blocks of states: made by hand from the table of the format, with zeros in place of both digests.
 
-use super::boards::{SOUNDING, are_sounding};
-use super::files::{Piece, SIZE, put, zeros};
-use crate::rig::{CELL, Rig};
+use super::boards::SOUNDING;
+use super::files::{SIZE, put, zeros};
+use crate::looks::are_sounding;
+use crate::rig::{CELL, Pieces, Rig};
 use pac_board::{Board, Lines};
 use pac_state::{read_block, write_block};
 use std::alloc::{AllocError, Global};
-use std::test::Fail;
+
+/// What a block is.
+#[derive(Clone, Copy)]
+enum Block {
+    /// That of a board at power-on.
+    AtPowerOn,
+    /// That of a board that sounds.
+    Sounding,
+    /// That of a board.
+    Read,
+    /// None.
+    No,
+}
+
+/// Blocks of a board at power-on with no switch on, with these pieces in them.
+static BLOCKS: [(&str, Pieces, Block); 16] = [
+    ("at power-on", &[(3220, &[0xC9])], Block::AtPowerOn),
+    ("fields", SOUNDING, Block::Sounding),
+    ("no switch", &[], Block::Read),
+    // bytes that no block has at these places: of what it begins with, the version, the digests, an unused bit, the count of blanks
+    // and the colour numbers
+    ("another first byte", &[(0, b"p")], Block::No),
+    ("another eighth byte", &[(7, b"e")], Block::No),
+    ("version 1", &[(8, &[1])], Block::No),
+    ("version 3", &[(8, &[3])], Block::No),
+    ("version 258", &[(9, &[1])], Block::No),
+    ("a digest of the set", &[(10, &[1])], Block::No),
+    ("the end of a digest of the set", &[(29, &[1])], Block::No),
+    ("an unused bit", &[(56, &[16])], Block::No),
+    ("sixteen blanks", &[(3217, &[16])], Block::No),
+    ("a first colour number of 16", &[(3224, &[16])], Block::No),
+    ("a last colour number of 16", &[(67_735, &[16])], Block::No),
+    ("a digest at the end", &[(67_736, &[1])], Block::No),
+    (
+        "the end of a digest at the end",
+        &[(67_755, &[1])],
+        Block::No,
+    ),
+];
 
 /// The block of a board at power-on with no switch on, with these pieces in it.
-fn block_of(alloc: Global, pieces: &[Piece]) -> Result<Vec<u8>, AllocError> {
+fn block_of(alloc: Global, pieces: Pieces) -> Result<Vec<u8>, AllocError> {
     let mut block = zeros(alloc, SIZE)?;
     put(&mut block, 0, b"PACSTATE\x02");
     for (at, bytes) in pieces {
@@ -19,44 +58,46 @@ fn block_of(alloc: Global, pieces: &[Piece]) -> Result<Vec<u8>, AllocError> {
 }
 
 /// Whether the block of a board, written over other bytes, is this one.
-fn is_written_as(alloc: Global, board: &Board, wanted: &[u8]) -> Result<bool, AllocError> {
-    let mut bytes = vec![in alloc; 0xFF; SIZE]?;
+fn is_written_as(alloc: Global, board: &Board, wanted: &[u8]) -> bool {
+    let Ok(mut bytes) = vec![in alloc; 0xFF; SIZE] else {
+        return false;
+    };
     match bytes.first_chunk_mut() {
         Some(block) => {
             write_block(&board.fields(), block);
-            Ok(&block[..] == wanted)
+            &block[..] == wanted
         }
-        None => Ok(false),
+        None => false,
     }
 }
 
-#[test]
-fn a_block_at_power_on(rt: HostRuntime) -> Result<(), Fail> {
-    let wanted = block_of(rt.alloc(), &[(3220, &[0xC9])])?;
-    let rig = Rig::new(rt.alloc(), &CELL)?;
-    assert!(rt; is_written_as(rt.alloc(), rig.board(), &wanted)?);
-    Ok(())
+/// Whether bytes are the block of a board at power-on.
+fn is_at_power_on(alloc: Global, bytes: &[u8]) -> bool {
+    match Rig::new(alloc, &CELL) {
+        Ok(rig) => is_written_as(alloc, &rig.board, bytes),
+        Err(_) => false,
+    }
 }
 
-/// Whether bytes are the block of a board that sounds, and are written again of its fields.
-fn is_sounding_block(alloc: Global, bytes: &[u8]) -> Result<bool, AllocError> {
-    let mut other = vec![in alloc; 0xFF; SIZE]?;
+/// Whether a block is that of a board that sounds, and is written again of its fields.
+fn is_copied(block: &[u8; SIZE], copy: &mut [u8; SIZE]) -> bool {
     let mut lines = Lines::new();
-    let (Some(block), Some(copy)) = (bytes.first_chunk(), other.first_chunk_mut()) else {
-        return Ok(false);
-    };
     let Some(fields) = read_block(block, &mut lines) else {
-        return Ok(false);
+        return false;
     };
     write_block(&fields, copy);
-    Ok(are_sounding(&fields) && &copy[..] == bytes)
+    are_sounding(&fields) && copy[..] == block[..]
 }
 
-#[test]
-fn fields_of_a_block(rt: HostRuntime) -> Result<(), Fail> {
-    let block = block_of(rt.alloc(), &SOUNDING)?;
-    assert!(rt; is_sounding_block(rt.alloc(), &block)?);
-    Ok(())
+/// Whether bytes are the block of a board that sounds, and are written again, over other bytes, of its fields.
+fn is_sounding(alloc: Global, bytes: &[u8]) -> bool {
+    let Ok(mut other) = vec![in alloc; 0xFF; SIZE] else {
+        return false;
+    };
+    match (bytes.first_chunk(), other.first_chunk_mut()) {
+        (Some(block), Some(copy)) => is_copied(block, copy),
+        _ => false,
+    }
 }
 
 /// Whether bytes are read as a block.
@@ -68,30 +109,27 @@ fn is_read(bytes: &[u8]) -> bool {
     }
 }
 
-/// Bytes that no block has at these places: of what it begins with, the version, the digests, an unused bit, the count of blanks
-/// and the colour numbers.
-static OTHERS: [(usize, u8); 13] = [
-    (0, b'p'),
-    (7, b'e'),
-    (8, 1),
-    (8, 3),
-    (9, 1),
-    (10, 1),
-    (29, 1),
-    (56, 16),
-    (3217, 16),
-    (3224, 16),
-    (67_735, 16),
-    (67_736, 1),
-    (67_755, 1),
-];
+/// Whether bytes are such a block.
+fn is_such(alloc: Global, bytes: &[u8], block: Block) -> bool {
+    match block {
+        Block::AtPowerOn => is_at_power_on(alloc, bytes),
+        Block::Sounding => is_sounding(alloc, bytes),
+        Block::Read => is_read(bytes),
+        Block::No => !is_read(bytes),
+    }
+}
+
+/// Whether the block with these pieces is such a one.
+fn is_right(alloc: Global, pieces: Pieces, block: Block) -> bool {
+    match block_of(alloc, pieces) {
+        Ok(bytes) => is_such(alloc, &bytes, block),
+        Err(_) => false,
+    }
+}
 
 #[test]
-fn bytes_that_are_no_block(rt: HostRuntime) -> Result<(), Fail> {
-    assert!(rt; is_read(&block_of(rt.alloc(), &[])?));
-    for (at, byte) in &OTHERS {
-        let bytes = block_of(rt.alloc(), &[(*at, &[*byte])])?;
-        assert!(rt; !is_read(&bytes), "byte {at}");
+fn blocks(rt: HostRuntime) {
+    for (name, pieces, block) in &BLOCKS {
+        assert!(rt; is_right(rt.alloc(), pieces, *block), "{name}");
     }
-    Ok(())
 }

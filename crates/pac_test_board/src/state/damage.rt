@@ -6,6 +6,8 @@ use pac_board::RomSet;
 use pac_state::{LoadFault, LoadRefused, load};
 use pac_test_set::rom_set;
 use std::alloc::{AllocError, Global};
+use std::marker::Model;
+use std::process::Abort;
 use std::test::Fail;
 
 /// Where the picture begins.
@@ -46,9 +48,48 @@ fn filled(alloc: Global, set: &RomSet) -> Result<Vec<u8>, AllocError> {
     )
 }
 
-/// Why a file isn't loaded with a set, which then comes back to its place; nothing where a board took it, and another such set
-/// is there.
-fn fault_of(alloc: Global, place: &mut Option<RomSet>, file: &[u8]) -> Option<LoadFault> {
+/// What is tried at a place of a file.
+#[derive(Clone, Copy)]
+enum Try {
+    /// It is cut there.
+    Length,
+    /// Where that isn't within the picture, or is in its first or last line, the byte there is each of the bytes.
+    Byte,
+    /// Where that is within the picture, the byte there is one of the bytes.
+    Dot,
+}
+
+/// A whole file, and the set of its board, which waits to be handed in. Clauses see nothing of them, and they are dropped by a
+/// function of their own.
+struct Judge {
+    file: Vec<u8>,
+    set: Option<RomSet>,
+}
+
+impl Model for Judge {
+    ghost Value = { Unit {0} };
+
+    ghost view = { λ _. tt };
+}
+
+impl Drop for Judge {
+    /// Drops both.
+    fn drop(self) {
+        let Judge { file: _, set: _ } = self;
+    }
+}
+
+/// What is told of a file that is whole but for a byte at a place.
+fn damage_at(at: usize) -> LoadFault {
+    match at {
+        0..8 => LoadFault::NoState,
+        8 | 9 => LoadFault::OtherVersion,
+        _ => LoadFault::Damaged,
+    }
+}
+
+/// Why bytes aren't loaded with a set, which then comes back to its place; nothing where a board took it, and another such set is there.
+fn fault_of(alloc: Global, file: &[u8], place: &mut Option<RomSet>) -> Option<LoadFault> {
     let Some(given) = place.take() else {
         return Some(LoadFault::NoMemory);
     };
@@ -64,96 +105,118 @@ fn fault_of(alloc: Global, place: &mut Option<RomSet>, file: &[u8]) -> Option<Lo
     }
 }
 
-/// What is told of a file that is whole but for a byte at a place.
-fn damage_at(at: usize) -> LoadFault {
-    match at {
-        0..8 => LoadFault::NoState,
-        8 | 9 => LoadFault::OtherVersion,
-        _ => LoadFault::Damaged,
+impl Judge {
+    /// The filled file.
+    fn new(alloc: Global) -> Result<Judge, AllocError> {
+        let set = rom_set(&[(0, &CELL)]);
+        let file = filled(alloc, &set)?;
+        Ok(Judge {
+            file,
+            set: Some(set),
+        })
+    }
+
+    /// Whether as many of its first bytes aren't loaded, for this reason; or are, where there is none.
+    fn is_cut(&mut self, alloc: Global, count: usize, wanted: Option<LoadFault>) -> bool {
+        let count = count.min(self.file.len());
+        fault_of(alloc, &self.file[..count], &mut self.set) == wanted
+    }
+
+    /// Puts a byte at a place, and tells what was there.
+    fn replace(&mut self, at: usize, byte: u8) -> u8 {
+        match self.file.get_mut(at) {
+            Some(place) => std::mem::replace(place, byte),
+            None => byte,
+        }
+    }
+
+    /// Whether with this byte at a place it is refused for its damage, or loads where that byte was there. Then it is as before.
+    fn is_judged(&mut self, alloc: Global, at: usize, byte: u8) -> bool {
+        let before = self.replace(at, byte);
+        let fault = fault_of(alloc, &self.file, &mut self.set);
+        self.replace(at, before);
+        if before == byte {
+            fault.is_none()
+        } else {
+            fault == Some(damage_at(at))
+        }
+    }
+
+    /// Whether it is judged so with each of the bytes at a place.
+    fn is_judged_with_each(&mut self, alloc: Global, at: usize) -> bool {
+        for byte in &BYTES {
+            if !self.is_judged(alloc, at, *byte) {
+                return false;
+            }
+        }
+        true
+    }
+
+    /// Whether the whole file is loaded, and with a byte more has another length.
+    fn is_too_long(&mut self, alloc: Global) -> bool {
+        self.is_cut(alloc, SIZE, None)
+            && self.file.push(0).is_ok()
+            && self.is_cut(alloc, SIZE + 1, Some(LoadFault::Size))
+    }
+
+    /// Whether a try at a place is told as it should be, or isn't made there.
+    fn is_right(&mut self, alloc: Global, tried: Try, at: usize) -> bool {
+        match tried {
+            Try::Length => self.is_cut(alloc, at, Some(LoadFault::Size)),
+            Try::Byte if at < PICTURE + 288 || at >= DIGEST - 288 => {
+                self.is_judged_with_each(alloc, at)
+            }
+            Try::Byte => true,
+            Try::Dot if PICTURE <= at && at < DIGEST => {
+                self.is_judged(alloc, at, BYTES[(at / 288 + at) % 3])
+            }
+            Try::Dot => true,
+        }
+    }
+
+    /// The first place at which a try isn't told as it should be, if there is one.
+    fn misjudged(&mut self, alloc: Global, tried: Try) -> Option<usize> {
+        for at in 0..SIZE {
+            if !self.is_right(alloc, tried, at) {
+                return Some(at);
+            }
+        }
+        None
     }
 }
 
-/// Puts a byte at a place, and tells what was there.
-fn replaced(file: &mut [u8], at: usize, byte: u8) -> u8 {
-    match file.get_mut(at) {
-        Some(place) => std::mem::replace(place, byte),
-        None => byte,
+/// A try at each place of a new file, at none of which it is told otherwise than it should be.
+fn are_judged(rt: &impl Abort, alloc: Global, tried: Try) {
+    match Judge::new(alloc) {
+        Ok(mut judge) => {
+            let misjudged = judge.misjudged(alloc, tried);
+            assert!(rt; misjudged.is_none(), "at {misjudged:?}");
+        }
+        Err(_) => assert!(rt; false, "no memory"),
     }
 }
 
-/// Whether a file with this byte at a place is refused for its damage, or loads where that byte was there. Then it is as before.
-fn is_judged(
-    alloc: Global,
-    set: &mut Option<RomSet>,
-    file: &mut [u8],
-    at: usize,
-    byte: u8,
-) -> bool {
-    let before = replaced(file, at, byte);
-    let fault = fault_of(alloc, set, file);
-    let _ = replaced(file, at, before);
-    if before == byte {
-        fault.is_none()
-    } else {
-        fault == Some(damage_at(at))
-    }
-}
-
-/// Whether a file is judged so with each of the bytes at a place.
-fn is_judged_with_each(
-    alloc: Global,
-    set: &mut Option<RomSet>,
-    file: &mut [u8],
-    at: usize,
-) -> bool {
-    let mut is_right = true;
-    for byte in &BYTES {
-        is_right = is_right && is_judged(alloc, set, file, at, *byte);
-    }
-    is_right
-}
-
-// A file that is cut anywhere has another length, and so has one with a byte more.
+// A file that is cut anywhere has another length.
 #[test]
-fn each_length(rt: HostRuntime) -> Result<(), Fail> {
-    let set = rom_set(&[(0, &CELL)]);
-    let mut file = filled(rt.alloc(), &set)?;
-    let mut place = Some(set);
-    for count in 0..SIZE {
-        let fault = fault_of(rt.alloc(), &mut place, &file[..count.min(file.len())]);
-        assert!(rt; fault == Some(LoadFault::Size), "{count} bytes");
-    }
-    assert!(rt; fault_of(rt.alloc(), &mut place, &file).is_none());
-    file.push(0)?;
-    assert!(rt; fault_of(rt.alloc(), &mut place, &file) == Some(LoadFault::Size));
+fn each_length(rt: HostRuntime) {
+    are_judged(&rt, rt.alloc(), Try::Length);
+}
+
+#[test]
+fn a_byte_more(rt: HostRuntime) -> Result<(), Fail> {
+    let mut judge = Judge::new(rt.alloc())?;
+    assert!(rt; judge.is_too_long(rt.alloc()));
     Ok(())
 }
 
 // Each byte before the picture, in its first and last lines, and of the digest.
 #[test]
-fn each_byte(rt: HostRuntime) -> Result<(), Fail> {
-    let set = rom_set(&[(0, &CELL)]);
-    let mut file = filled(rt.alloc(), &set)?;
-    let mut place = Some(set);
-    for at in 0..SIZE {
-        if at < PICTURE + 288 || at >= DIGEST - 288 {
-            let is_right = is_judged_with_each(rt.alloc(), &mut place, &mut file, at);
-            assert!(rt; is_right, "byte {at}");
-        }
-    }
-    Ok(())
+fn each_byte(rt: HostRuntime) {
+    are_judged(&rt, rt.alloc(), Try::Byte);
 }
 
 // Each byte of the picture, with one of the three: the next one in the next column and in the next line.
 #[test]
-fn each_dot(rt: HostRuntime) -> Result<(), Fail> {
-    let set = rom_set(&[(0, &CELL)]);
-    let mut file = filled(rt.alloc(), &set)?;
-    let mut place = Some(set);
-    for at in PICTURE..DIGEST {
-        let byte = BYTES[(at / 288 + at) % 3];
-        let is_right = is_judged(rt.alloc(), &mut place, &mut file, at, byte);
-        assert!(rt; is_right, "{byte} at byte {at}");
-    }
-    Ok(())
+fn each_dot(rt: HostRuntime) {
+    are_judged(&rt, rt.alloc(), Try::Dot);
 }

@@ -10,9 +10,6 @@ use std::alloc::{AllocError, Global};
 /// The bytes of a file.
 pub const SIZE: usize = 67_756;
 
-/// Bytes that stand at a place.
-pub type Piece<'a> = (usize, &'a [u8]);
-
 /// So many bytes of 0.
 pub fn zeros(alloc: Global, count: usize) -> Result<Vec<u8>, AllocError> {
     vec![in alloc; 0; count]
@@ -20,8 +17,8 @@ pub fn zeros(alloc: Global, count: usize) -> Result<Vec<u8>, AllocError> {
 
 /// Writes bytes over those at a place.
 pub fn put(file: &mut [u8], at: usize, bytes: &[u8]) {
-    for (place, byte) in file.iter_mut().skip(at).zip(bytes.iter()) {
-        *place = *byte;
+    if let Some(places) = file.get_mut(at..at.saturating_add(bytes.len())) {
+        places.copy_from_slice(bytes);
     }
 }
 
@@ -46,7 +43,11 @@ fn digest(set: &RomSet) -> [u8; 20] {
 
 /// The file of a board at power-on with no switch on, in which all but the first bytes, version and digests is 0; with these
 /// pieces in it before it is sealed.
-pub fn file_of(alloc: Global, set: &RomSet, pieces: &[Piece]) -> Result<Vec<u8>, AllocError> {
+pub fn file_of(
+    alloc: Global,
+    set: &RomSet,
+    pieces: &[(usize, &[u8])],
+) -> Result<Vec<u8>, AllocError> {
     let mut file = zeros(alloc, SIZE)?;
     put(&mut file, 0, b"PACSTATE\x02");
     put(&mut file, 10, &digest(set));
@@ -55,12 +56,6 @@ pub fn file_of(alloc: Global, set: &RomSet, pieces: &[Piece]) -> Result<Vec<u8>,
     }
     seal(&mut file);
     Ok(file)
-}
-
-/// Like `file_of`, for a board whose program begins with these bytes.
-pub fn file(alloc: Global, program: &[u8], pieces: &[Piece]) -> Result<Vec<u8>, AllocError> {
-    let set = rom_set(&[(0, program)]);
-    file_of(alloc, &set, pieces)
 }
 
 /// Why as many of a file's first bytes aren't loaded.
@@ -74,7 +69,7 @@ fn fault_of(alloc: Global, file: &[u8], count: usize) -> Result<LoadFault, Alloc
 
 /// Whether the file that has this piece, and is cut to so many bytes, isn't loaded for this reason.
 pub fn is_refused(alloc: Global, at: usize, bytes: &[u8], count: usize, wanted: LoadFault) -> bool {
-    match file(alloc, &CELL, &[(at, bytes)]) {
+    match file_of(alloc, &rom_set(&[(0, &CELL)]), &[(at, bytes)]) {
         Ok(file) => fault_of(alloc, &file, count) == Ok(wanted),
         Err(_) => false,
     }

@@ -5,8 +5,7 @@ use crate::rig::CELL;
 use pac_board::RomSet;
 use pac_state::{LoadFault, load};
 use pac_test_set::{rom_set, rom_set_with, tiles};
-use std::alloc::{AllocError, Global};
-use std::test::Fail;
+use std::alloc::Global;
 
 /// Places of a file, the bytes that stand there, the file's bytes, and its fault.
 static REFUSED: [(usize, &[u8], usize, LoadFault); 22] = [
@@ -59,20 +58,22 @@ fn is_of_another(alloc: Global, bytes: &[u8], set: RomSet) -> bool {
 }
 
 /// Whether the file of a board with these tile and sprite ROMs isn't loaded with the tests' set.
-fn is_told_apart(
-    alloc: Global,
-    tiles: &[u8; 4096],
-    sprites: &[u8; 4096],
-) -> Result<bool, AllocError> {
-    let other = rom_set_with(&[(0, &CELL)], tiles, sprites);
-    let file = file_of(alloc, &other, &[])?;
-    Ok(is_of_another(alloc, &file, rom_set(&[(0, &CELL)])))
+fn is_told_apart(alloc: Global, tiles: &[u8; 4096], sprites: &[u8; 4096]) -> bool {
+    match file_of(alloc, &rom_set_with(&[(0, &CELL)], tiles, sprites), &[]) {
+        Ok(file) => is_of_another(alloc, &file, rom_set(&[(0, &CELL)])),
+        Err(_) => false,
+    }
 }
+
+/// A ROM whose bytes are all 1.
+static ONES: [u8; 4096] = [1; 4096];
+
+/// A ROM whose bytes are all 0.
+static ZEROS: [u8; 4096] = [0; 4096];
 
 // The file of a board with another tile or sprite ROM; the set that was handed in comes back.
 #[test]
-fn another_set(rt: HostRuntime) -> Result<(), Fail> {
-    assert!(rt; is_told_apart(rt.alloc(), &[1; 4096], &[0; 4096])?);
-    assert!(rt; is_told_apart(rt.alloc(), &tiles(), &[1; 4096])?);
-    Ok(())
+fn another_set(rt: HostRuntime) {
+    assert!(rt; is_told_apart(rt.alloc(), &ONES, &ZEROS));
+    assert!(rt; is_told_apart(rt.alloc(), &tiles(), &ONES));
 }

@@ -46,24 +46,17 @@ impl Rig {
         }
     }
 
-    /// Whether each of these command lines is answered, one after another, and all of them by this text.
-    pub fn answers_each(&mut self, alloc: Global, lines: &str, wanted: &str) -> bool {
-        match text_of(alloc, 1000) {
-            Some(mut text) => {
-                self.obey_each(lines, &mut text) && text.writer.bytes() == wanted.as_bytes()
-            }
-            None => false,
-        }
-    }
-
-    /// Whether a text of commands is answered by this one.
-    pub fn answers(&mut self, alloc: Global, lines: &str, wanted: &str) -> bool {
-        match text_of(alloc, 1000) {
-            Some(mut text) => {
-                self.obey_all(lines, &mut text) && text.writer.bytes() == wanted.as_bytes()
-            }
-            None => false,
-        }
+    /// Whether command lines are answered by this text, one after another, or as one text of commands.
+    pub fn answers(&mut self, alloc: Global, lines: &str, wanted: &str, is_each: bool) -> bool {
+        let Some(mut text) = text_of(alloc, 1000) else {
+            return false;
+        };
+        let is_obeyed = if is_each {
+            self.obey_each(lines, &mut text)
+        } else {
+            self.obey_all(lines, &mut text)
+        };
+        is_obeyed && text.writer.bytes() == wanted.as_bytes()
     }
 
     /// Whether the sink refuses what is offered at a command line, of which nothing is told.
@@ -105,7 +98,7 @@ impl Rig {
 
     /// Whether command lines are each told to be refused after these bytes, and no more are written, by a writer that takes so many
     /// bytes a call, refuses its second call, and would take those after it.
-    pub fn stay_cut(&mut self, alloc: Global, lines: &[&[u8]], wanted: &[u8]) -> bool {
+    pub fn stays_cut(&mut self, alloc: Global, lines: &[&[u8]], wanted: &[u8]) -> bool {
         let Ok(writer) = Faulty::new(alloc, 1000, wanted.len(), 2) else {
             return false;
         };
@@ -125,34 +118,5 @@ impl Rig {
             }
             None => false,
         }
-    }
-}
-
-/// A program under a debugger, its script, the command lines, and what is told.
-#[derive(Clone, Copy)]
-pub struct Telling {
-    /// The program's first bytes.
-    pub program: &'static [u8],
-    /// The script.
-    pub script: &'static [u8],
-    /// The command lines, one after another.
-    pub lines: &'static str,
-    /// The text.
-    pub text: &'static str,
-}
-
-/// Whether a new session's lines, done one by one, are answered so.
-pub fn is_told(alloc: Global, telling: &Telling) -> bool {
-    match Rig::new(alloc, telling.program, telling.script) {
-        Ok(mut rig) => rig.answers_each(alloc, telling.lines, telling.text),
-        Err(_) => false,
-    }
-}
-
-/// Whether a new session's lines, as one text, are answered so.
-pub fn is_told_of_text(alloc: Global, telling: &Telling) -> bool {
-    match Rig::new(alloc, telling.program, telling.script) {
-        Ok(mut rig) => rig.answers(alloc, telling.lines, telling.text),
-        Err(_) => false,
     }
 }

@@ -3,14 +3,14 @@
 ghost use Rattle.std.specs.Prelude.{⊤};
 
 use super::answers::text_of;
-use crate::rig::{CELL, session};
+use crate::rig::{CELL, Rig};
 use pac_board::{Picture, Refused, Sink};
 use pac_debug::commands;
 use pac_debug_session::Session;
 use pac_out::counted::Counted;
 use pac_out::memory::MemoryWriter;
 use pac_test_memory::Hoard;
-use std::alloc::Global;
+use std::alloc::{AllocError, Global};
 
 /// A sink that counts what it takes, and keeps none of it.
 #[derive(Clone, Copy)]
@@ -73,20 +73,19 @@ fn is_obeyed(alloc: Global, session: &mut Session, text: &mut Counted<MemoryWrit
         && tally.pictures == 1
 }
 
-/// Whether a session over the three lines tells its text so.
-fn is_told(alloc: Global) -> bool {
-    let Ok(mut session) = session(alloc, &CELL, b"1 -") else {
-        return false;
-    };
+/// Whether a session's commands are told so.
+fn is_told(alloc: Global, session: &mut Session) -> bool {
     match text_of(alloc, 1000) {
         Some(mut text) => {
-            is_obeyed(alloc, &mut session, &mut text) && text.writer.bytes() == TEXT.as_bytes()
+            is_obeyed(alloc, session, &mut text) && text.writer.bytes() == TEXT.as_bytes()
         }
         None => false,
     }
 }
 
 #[test]
-fn commands_without_memory(rt: HostRuntime) {
-    assert!(rt; is_told(rt.alloc()));
+fn commands_without_memory(rt: HostRuntime) -> Result<(), AllocError> {
+    let mut rig = Rig::new(rt.alloc(), &CELL, b"1 -")?;
+    assert!(rt; is_told(rt.alloc(), &mut rig.session));
+    Ok(())
 }

@@ -1,31 +1,21 @@
 //! Sessions in scarce memory.
 
 use crate::rig::{CELL, Rig};
-use pac_test_memory::Hoard;
-use std::process::Abort;
-use std::test::Fail;
+use pac_test_memory::{Answer, refusals};
+use std::alloc::Global;
 
-/// Gives 40 blocks back.
-fn release(rt: &impl Abort, hoard: &mut Hoard) {
-    for _ in 0..40u8 {
-        assert!(rt; hoard.release());
+/// Makes a session, which stands at its beginning then.
+fn made(alloc: Global) -> Answer {
+    match Rig::new(alloc, &CELL, b"1 -") {
+        Ok(rig) if rig.is_at(0, 0, 0) => Answer::Right,
+        Ok(_) => Answer::Wrong,
+        Err(_) => Answer::Refused,
     }
 }
 
 // With no memory, and then with a little more each time, there is none, and in the end there is one.
 #[test]
-fn a_session_in_scarce_memory(rt: HostRuntime) -> Result<(), Fail> {
-    let mut hoard = Hoard::take(rt.alloc(), 4000)?;
-    let mut refused = 0;
-    for turn in 0..99u32 {
-        refused = turn;
-        if let Ok(rig) = Rig::new(rt.alloc(), &CELL, b"1 -") {
-            assert!(rt; rig.is_at(0, 0, 0));
-            break;
-        }
-        release(&rt, &mut hoard);
-    }
-    drop(hoard);
-    assert!(rt; 3 < refused && refused < 98, "{refused}");
-    Ok(())
+fn a_session_in_scarce_memory(rt: HostRuntime) {
+    let refused = refusals(rt.alloc(), 4000, made).unwrap_or(0);
+    assert!(rt; 120 < refused && refused < 3_881, "{refused}");
 }

@@ -5,47 +5,17 @@ use pac_debug_session::{Motion, MotionEnd, Outcome};
 
 impl Rig {
     /// Goes forwards, and tells why it rests; nothing where the sink refused.
-    fn go(&mut self, motion: Motion) -> Option<MotionEnd> {
+    pub fn go(&mut self, motion: Motion) -> Option<MotionEnd> {
         self.session.offer(&mut self.kept).ok()?;
         self.session.travel(motion, &mut self.kept).ok()
     }
 
-    /// Goes forwards, and tells whether it came to the end of the run.
-    pub fn ends(&mut self, motion: Motion) -> bool {
-        matches!(self.go(motion), Some(MotionEnd::AtEnd))
-    }
-
-    /// Goes on, and tells whether it came to a breakpoint.
-    pub fn breaks(&mut self) -> bool {
-        matches!(self.go(Motion::Continue), Some(MotionEnd::AtBreakpoint))
-    }
-
-    /// Goes so many steps, and tells whether it did.
-    pub fn steps(&mut self, count: u32) -> bool {
-        matches!(self.go(Motion::Steps(count)), Some(MotionEnd::AtStep))
-    }
-
-    /// Goes forwards, and tells whether the sink refused.
-    pub fn is_refused(&mut self, motion: Motion) -> bool {
-        self.go(motion).is_none()
-    }
-
     /// Goes back by so many steps; where it can't, the oldest index.
-    fn go_back(&mut self, count: u32) -> Result<(), u64> {
+    pub fn go_back(&mut self, count: u32) -> Result<(), u64> {
         if self.session.offer(&mut self.kept).is_err() || count == 0 {
             return Err(0);
         }
         self.session.back(count)
-    }
-
-    /// Goes back by so many steps, and tells whether it did.
-    pub fn goes_back(&mut self, count: u32) -> bool {
-        self.go_back(count).is_ok()
-    }
-
-    /// Tries to go back by so many steps, and tells whether it couldn't, and told this as the oldest index.
-    pub fn stays(&mut self, count: u32, oldest: u64) -> bool {
-        self.go_back(count) == Err(oldest)
     }
 
     /// Keeps the index in slot 1.
@@ -76,40 +46,10 @@ impl Rig {
         }
     }
 
-    /// Takes a breakpoint away.
-    pub fn unbreak(&mut self, address: u16) {
-        self.session.unbreak(address);
-    }
-
-    /// Whether an address is a breakpoint.
-    pub fn has_breakpoint(&self, address: u16) -> bool {
-        self.session.has_breakpoint(address)
-    }
-
     /// Whether it stands at this index, time and PC.
     pub fn is_at(&self, index: u64, time: u64, pc: u16) -> bool {
         let board = self.session.board();
         self.session.index() == index && board.time() == time && board.regs().pc == pc
-    }
-
-    /// The oldest index that it can go back to.
-    pub fn oldest(&self) -> u64 {
-        self.session.oldest()
-    }
-
-    /// The furthest index that it was at.
-    pub fn furthest(&self) -> u64 {
-        self.session.furthest()
-    }
-
-    /// The steps that the last move did again.
-    pub fn replayed(&self) -> u32 {
-        self.session.replayed()
-    }
-
-    /// How many steps are told.
-    pub fn told(&self) -> usize {
-        self.session.history_len()
     }
 
     /// Whether the step told at a place has this index and PC; the oldest is at place 0.
@@ -118,10 +58,5 @@ impl Rig {
             Some(past) => past.index == index && past.pc == pc,
             None => false,
         }
-    }
-
-    /// Whether no step is told at a place.
-    pub fn tells_none(&self, place: usize) -> bool {
-        self.session.history(place).is_none()
     }
 }

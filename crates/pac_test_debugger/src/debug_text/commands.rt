@@ -1,6 +1,7 @@
 //! Lines and what they tell.
 
 use pac_debug_text::{Command, NoCommand, Slot, read_command};
+use std::process::Abort;
 
 /// A line without words: it tells nothing.
 static SKIPPED: [&[u8]; 3] = [b"", b" \t ", b"\t"];
@@ -120,23 +121,33 @@ fn is_refused(line: &[u8]) -> bool {
     read_command(line) == Some(Err(NoCommand))
 }
 
+/// Says of which line something isn't so.
+fn told(rt: &impl Abort, line: &[u8], is_so: bool) {
+    assert!(rt; is_so, "{line:?}");
+}
+
 #[test]
 fn lines_and_what_they_tell(rt: HostRuntime) {
     for line in &SKIPPED {
-        assert!(rt; read_command(line).is_none(), "{line:?}");
+        told(&rt, line, read_command(line).is_none());
     }
     for (line, command) in &TOLD {
-        assert!(rt; tells(line, *command), "{line:?}");
+        told(&rt, line, tells(line, *command));
     }
     for line in &REFUSED {
-        assert!(rt; is_refused(line), "{line:?}");
+        told(&rt, line, is_refused(line));
     }
+}
+
+/// Whether each slot has its place.
+fn are_in_their_places() -> bool {
+    Slot::First.index() == 0
+        && Slot::Second.index() == 1
+        && Slot::Third.index() == 2
+        && Slot::Fourth.index() == 3
 }
 
 #[test]
 fn slots_by_their_places(rt: HostRuntime) {
-    assert!(rt; Slot::First.index() == 0);
-    assert!(rt; Slot::Second.index() == 1);
-    assert!(rt; Slot::Third.index() == 2);
-    assert!(rt; Slot::Fourth.index() == 3);
+    assert!(rt; are_in_their_places());
 }
