@@ -3,7 +3,7 @@
 use crate::case::Area;
 use crate::rig::Rig;
 use pac_board::kept::{Kept, Shown, Taken};
-use pac_board::{Fields, Lines, Picture};
+use pac_board::{Fields, Picture};
 use pac_test_set::SWITCHES;
 
 impl Rig {
@@ -73,16 +73,6 @@ pub fn are_same_memories(one: &Fields, other: &Fields) -> bool {
         && one.held == other.held
 }
 
-/// Whether two boards' pictures have the same lines.
-fn are_same_lines(one: &Lines, other: &Lines) -> bool {
-    for y in 0..224u8 {
-        if one.row(y) != other.row(y) {
-            return false;
-        }
-    }
-    true
-}
-
 /// Whether all fields of a state are the same.
 fn are_same(one: &Fields, other: &Fields) -> bool {
     [one.time, one.steps, one.asked] == [other.time, other.steps, other.asked]
@@ -91,7 +81,7 @@ fn are_same(one: &Fields, other: &Fields) -> bool {
         && one.due.sample == other.due.sample
         && one.due.picture == other.due.picture
         && are_same_memories(one, other)
-        && are_same_lines(one.lines, other.lines)
+        && one.lines == other.lines
 }
 
 /// Whether the fields are those of the file of a board that sounds.

@@ -4,7 +4,7 @@ use super::boards::SOUNDING;
 use super::files::{SIZE, put, zeros};
 use crate::looks::are_sounding;
 use crate::rig::{CELL, Pieces, Rig};
-use pac_board::{Board, Lines};
+use pac_board::Board;
 use pac_state::{read_block, write_block};
 use std::alloc::{AllocError, Global};
 
@@ -81,8 +81,7 @@ fn is_at_power_on(alloc: Global, bytes: &[u8]) -> bool {
 
 /// Whether a block is that of a board that sounds, and is written again of its fields.
 fn is_copied(block: &[u8; SIZE], copy: &mut [u8; SIZE]) -> bool {
-    let mut lines = Lines::new();
-    let Some(fields) = read_block(block, &mut lines) else {
+    let Some(fields) = read_block(block) else {
         return false;
     };
     write_block(&fields, copy);
@@ -102,9 +101,8 @@ fn is_sounding(alloc: Global, bytes: &[u8]) -> bool {
 
 /// Whether bytes are read as a block.
 fn is_read(bytes: &[u8]) -> bool {
-    let mut lines = Lines::new();
     match bytes.first_chunk() {
-        Some(block) => read_block(block, &mut lines).is_some(),
+        Some(block) => read_block(block).is_some(),
         None => false,
     }
 }
