@@ -1,68 +1,119 @@
 //! Writers that take few bytes a call, refuse, or are interrupted; and that each writer takes what it is given.
 
 use super::answers::is_refused;
-use crate::told::told;
-use pac_out::Out;
 use pac_out::counted::Counted;
 use pac_out::faulty::Faulty;
 use pac_out::memory::MemoryWriter;
 use pac_out::through::Through;
+use pac_out::{Out, WriteFault};
 use std::alloc::Global;
 use std::io;
 use std::io::Write;
 
 const TEXT: &[u8] = b"The quick brown fox jumps over the lazy dog.";
 
-/// Bytes that a writer takes a call.
-static MOST: [usize; 4] = [1, 7, 44, 100];
+/// What a writer is given, and what it takes of it.
+#[derive(Clone, Copy)]
+struct Row {
+    /// What it shows.
+    name: &'static str,
+    /// The bytes that it takes a call, at most.
+    most: usize,
+    /// The call that it refuses; 0 is none.
+    refusal: u64,
+    /// The bytes of the text that it has, where it tells them at a refusal.
+    cut: Option<usize>,
+    /// What it is given after that, which it takes.
+    next: &'static [u8],
+}
 
-/// Whether a writer that takes so many bytes a call takes the text.
-fn is_whole(alloc: Global, most: usize) -> bool {
-    match Faulty::new(alloc, 100, most, 0) {
-        Ok(mut output) => output.put_all(TEXT).is_ok() && output.bytes() == TEXT,
-        Err(_) => false,
+/// A writer that takes the text, seven bytes a call.
+const SEVENS: Row = Row {
+    name: "seven bytes a call",
+    most: 7,
+    refusal: 0,
+    cut: None,
+    next: b"",
+};
+
+/// Writers.
+static ROWS: [Row; 9] = [
+    Row {
+        name: "a byte a call",
+        most: 1,
+        ..SEVENS
+    },
+    SEVENS,
+    Row {
+        name: "44 bytes a call",
+        most: 44,
+        ..SEVENS
+    },
+    Row {
+        name: "100 bytes a call",
+        most: 100,
+        ..SEVENS
+    },
+    Row {
+        name: "refused call 1",
+        refusal: 1,
+        cut: Some(0),
+        next: TEXT,
+        ..SEVENS
+    },
+    Row {
+        name: "refused call 2",
+        refusal: 2,
+        cut: Some(7),
+        next: TEXT,
+        ..SEVENS
+    },
+    Row {
+        name: "refused call 4",
+        refusal: 4,
+        cut: Some(21),
+        next: TEXT,
+        ..SEVENS
+    },
+    Row {
+        name: "refused call 7",
+        refusal: 7,
+        cut: Some(42),
+        next: TEXT,
+        ..SEVENS
+    },
+    // taking no byte is a refusal, but for no bytes
+    Row {
+        name: "no byte a call",
+        most: 0,
+        cut: Some(0),
+        ..SEVENS
+    },
+];
+
+/// Whether a text is taken whole, or refused with so many bytes taken.
+fn is_taken_so(answer: Result<(), WriteFault>, cut: Option<usize>) -> bool {
+    match cut {
+        Some(count) => is_refused(answer, count as u64),
+        None => answer.is_ok(),
     }
 }
 
-#[test]
-fn few_bytes_a_call_give_the_same_bytes(rt: HostRuntime) {
-    for most in &MOST {
-        told(&rt, "bytes a call", *most, is_whole(rt.alloc(), *most));
-    }
-}
-
-/// Calls, seven bytes each, that are refused, and the bytes that were taken then.
-static REFUSALS: [(u64, u64); 4] = [(1, 0), (2, 7), (4, 21), (7, 42)];
-
-/// Whether a writer that refuses a call tells so many bytes, and has the prefix of the text; and takes the text at the next call.
-fn is_told(output: &mut Faulty, count: u64) -> bool {
-    is_refused(output.put_all(TEXT), count)
-        && output.bytes().len() as u64 == count
+/// Whether a row is so.
+fn is_right(alloc: Global, row: &Row) -> bool {
+    let Ok(mut output) = Faulty::new(alloc, 100, row.most, row.refusal) else {
+        return false;
+    };
+    is_taken_so(output.put_all(TEXT), row.cut)
+        && output.bytes().len() == row.cut.unwrap_or(TEXT.len())
         && TEXT.starts_with(output.bytes())
-        && output.put_all(TEXT).is_ok()
-}
-
-/// The same of a new writer.
-fn is_told_of(alloc: Global, refusal: u64, count: u64) -> bool {
-    match Faulty::new(alloc, 100, 7, refusal) {
-        Ok(mut output) => is_told(&mut output, count),
-        Err(_) => false,
-    }
+        && output.put_all(row.next).is_ok()
 }
 
 #[test]
-fn a_refusal_is_told_with_its_count(rt: HostRuntime) {
-    for (refusal, count) in &REFUSALS {
-        let is_so = is_told_of(rt.alloc(), *refusal, *count);
-        told(&rt, "refused call", *refusal as usize, is_so);
-    }
-}
-
-/// Whether a writer that takes no byte refuses all but nothing.
-fn takes_nothing(alloc: Global) -> bool {
-    match Faulty::new(alloc, 100, 0, 0) {
-        Ok(mut output) => is_refused(output.put_all(TEXT), 0) && output.put_all(&[]).is_ok(),
-        Err(_) => false,
+fn few_bytes_a_call_and_refused_calls(rt: HostRuntime) {
+    for row in &ROWS {
+        assert!(rt; is_right(rt.alloc(), row), "{}", row.name);
     }
 }
 
@@ -95,8 +146,7 @@ fn counts_over_all_calls(alloc: Global) -> bool {
 }
 
 #[test]
-fn taking_no_byte_is_a_refusal(rt: HostRuntime) {
-    assert!(rt; takes_nothing(rt.alloc()));
+fn writers_that_are_full_or_refuse(rt: HostRuntime) {
     assert!(rt; takes_ten(rt.alloc()));
     assert!(rt; counts_over_all_calls(rt.alloc()));
 }
