@@ -10,3 +10,5 @@ mod picture;
 mod rig;
 #[cfg(test)]
 mod set;
+#[cfg(test)]
+mod told;

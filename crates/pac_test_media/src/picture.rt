@@ -1,5 +1,6 @@
 //! Tests of the picture, its tiles, sprites and colours: outside rows, and the counts of cells drawn.
 
+mod case;
 mod colours;
 mod differences;
 mod layer;

@@ -3,8 +3,20 @@
 use crate::set::picture;
 use pac_picture::{Lines, Picture, Screen};
 use std::marker::Model;
-use std::ops::Range;
-use std::process::Abort;
+
+/// A rectangle of a picture: its first column and the one after its last, and so its lines.
+#[derive(Clone, Copy)]
+pub struct Area {
+    pub columns: [u16; 2],
+    pub lines: [u8; 2],
+}
+
+impl Area {
+    /// Whether this place is in it.
+    fn has(self, x: u16, y: u8) -> bool {
+        self.lines[0] <= y && y < self.lines[1] && self.columns[0] <= x && x < self.columns[1]
+    }
+}
 
 /// What a program may write.
 #[derive(Clone, Copy)]
@@ -129,17 +141,10 @@ impl Rig {
         self.picture.copy_from(lines);
     }
 
-    /// The last composing has drawn so many cells.
-    pub fn has_drawn(&self, rt: &impl Abort, count: u32) {
-        assert_eq!(rt; self.picture.drawn(), count);
-    }
-
-    /// The number at a place, if the picture has that.
-    pub fn number(&self, x: usize, y: u8) -> Option<u8> {
-        if y < 224 {
-            self.picture.row(y).get(x).copied()
-        } else {
-            None
+    /// Composes all lines one after another.
+    pub fn compose_lines(&mut self) {
+        for y in 0..224u8 {
+            self.compose_line(y);
         }
     }
 
@@ -168,19 +173,16 @@ impl Rig {
     }
 
     /// Whether it has one number in a rectangle, and 0 everywhere else.
-    pub fn shows(&self, columns: Range<u16>, lines: Range<u8>, number: u8) -> bool {
-        let mut is_right = true;
+    pub fn shows(&self, area: Area, number: u8) -> bool {
         for y in 0..224u8 {
             let row = self.picture.row(y);
             for x in 0..288u16 {
-                let inside = lines.start <= y
-                    && y < lines.end
-                    && columns.start <= x
-                    && x < columns.end;
-                let wanted = if inside { number } else { 0 };
-                is_right = is_right && row[x as usize] == wanted;
+                let wanted = if area.has(x, y) { number } else { 0 };
+                if row[x as usize] != wanted {
+                    return false;
+                }
             }
         }
-        is_right
+        true
     }
 }

@@ -1,14 +1,13 @@
 //! The film: its bytes, and writers that take little or refuse.
 
-use super::answers::{is_refused, is_taken};
+use super::answers::is_refused;
 use super::shown::colourful;
 use crate::rig::Rig;
+use crate::told::told;
 use pac_media::{Frames, Image};
 use pac_out::faulty::Faulty;
 use pac_picture::Picture;
 use std::alloc::{AllocError, Global};
-use std::process::Abort;
-use std::test::Fail;
 
 /// The bytes of an image.
 const SIZE: usize = 193_551;
@@ -50,10 +49,15 @@ fn is_colourful(image: &[u8]) -> bool {
 
 /// Whether the bytes after an image's header are all 0.
 fn is_black(image: &[u8]) -> bool {
-    match image.get(15..) {
-        Some(pixels) => pixels.iter().all(|byte| *byte == 0),
-        None => false,
+    let Some(pixels) = image.get(15..) else {
+        return false;
+    };
+    for byte in pixels {
+        if *byte != 0 {
+            return false;
+        }
     }
+    true
 }
 
 /// Whether these are the bytes of a black image and of the image of eight colours.
@@ -75,36 +79,33 @@ fn film(
     Ok(Frames::new(writer, Image::new(alloc)?))
 }
 
-/// A film takes two pictures, and its writer, which takes so many bytes a call, has their images.
-fn takes_both(
-    rt: &impl Abort,
-    mut frames: Frames<Faulty>,
-    black: &Rig,
-    colourful: &Rig,
-    most: usize,
-) {
-    is_taken(rt, frames.put(black.picture()));
-    is_taken(rt, frames.put(colourful.picture()));
-    let writer = frames.into_writer();
-    assert!(rt; are_both(writer.bytes()), "{most} a call");
+/// Whether a film takes two pictures.
+fn takes_both(frames: &mut Frames<Faulty>, black: &Picture, colourful: &Picture) -> bool {
+    frames.put(black).is_ok() && frames.put(colourful).is_ok()
 }
 
-/// The film of two pictures is their images, where a call takes so many bytes.
-fn has_both(rt: &impl Abort, alloc: Global, black: &Rig, colourful: &Rig, most: usize) {
+/// Whether the film of two pictures is their images, where a call takes so many bytes.
+fn has_both(alloc: Global, black: &Rig, colourful: &Rig, most: usize) -> bool {
     match film(alloc, 2 * SIZE, most, 0) {
-        Ok(frames) => takes_both(rt, frames, black, colourful, most),
-        Err(_) => assert!(rt; false, "no memory"),
+        Ok(mut frames) => {
+            takes_both(&mut frames, black.picture(), colourful.picture())
+                && are_both(frames.into_writer().bytes())
+        }
+        Err(_) => false,
     }
 }
 
+/// The bytes that a call takes.
+static MOST: [usize; 3] = [7, 1_000, 1_000_000];
+
 #[test]
-fn an_image_has_a_header_and_the_colours_of_its_pixels(rt: HostRuntime) -> Result<(), Fail> {
+fn an_image_has_a_header_and_the_colours_of_its_pixels(rt: HostRuntime) {
     let black = Rig::new();
     let colourful = colourful();
-    has_both(&rt, rt.alloc(), &black, &colourful, 7);
-    has_both(&rt, rt.alloc(), &black, &colourful, 1_000);
-    has_both(&rt, rt.alloc(), &black, &colourful, 1_000_000);
-    Ok(())
+    for most in &MOST {
+        let is_so = has_both(rt.alloc(), &black, &colourful, *most);
+        told(&rt, "bytes a call", *most, is_so);
+    }
 }
 
 /// A writer with so much room, so many bytes a call and the call that it refuses; the images that its film takes, and
@@ -118,45 +119,25 @@ struct Stop {
     count: u64,
 }
 
-/// A film takes so many pictures, and then refuses for good, with the count of its bytes.
-fn refuses(
-    rt: &impl Abort,
-    mut frames: Frames<Faulty>,
-    picture: &Picture,
-    images: u32,
-    count: u64,
-) {
-    for _ in 0..images {
-        is_taken(rt, frames.put(picture));
+/// Whether a film takes so many pictures, and then refuses for good, with the count of its bytes.
+fn refuses(frames: &mut Frames<Faulty>, picture: &Picture, stop: &Stop) -> bool {
+    for _ in 0..stop.images {
+        if frames.put(picture).is_err() {
+            return false;
+        }
     }
-    is_refused(rt, frames.put(picture), count);
-    is_refused(rt, frames.put(picture), count);
-    let writer = frames.into_writer();
-    assert!(rt; writer.bytes().len() as u64 == count, "{count}");
+    is_refused(frames.put(picture), stop.count) && is_refused(frames.put(picture), stop.count)
 }
 
-/// The film of a picture again and again stops so.
-fn stops(rt: &impl Abort, alloc: Global, picture: &Picture, stop: &Stop) {
+/// Whether the film of a picture again and again stops so.
+fn stops(alloc: Global, picture: &Picture, stop: &Stop) -> bool {
     match film(alloc, stop.room, stop.most, stop.refusal) {
-        Ok(frames) => refuses(rt, frames, picture, stop.images, stop.count),
-        Err(_) => assert!(rt; false, "no memory"),
+        Ok(mut frames) => {
+            refuses(&mut frames, picture, stop)
+                && frames.into_writer().bytes().len() as u64 == stop.count
+        }
+        Err(_) => false,
     }
-}
-
-/// A writer with room for 100 bytes.
-static FULL: Stop = Stop {
-    room: 100,
-    most: 1_000_000,
-    refusal: 0,
-    images: 0,
-    count: 100,
-};
-
-#[test]
-fn a_full_writer_stops_the_film_for_good(rt: HostRuntime) -> Result<(), Fail> {
-    let rig = Rig::new();
-    stops(&rt, rt.alloc(), rig.picture(), &FULL);
-    Ok(())
 }
 
 /// A writer that takes 100,000 bytes a call; each image takes two calls.
@@ -168,8 +149,15 @@ const TWO_CALLS: Stop = Stop {
     count: 0,
 };
 
-/// The calls that are refused in turn.
-static REFUSALS: [Stop; 5] = [
+/// Writers that stop the film for good: one with room for 100 bytes, and calls that are refused in turn.
+static STOPS: [Stop; 6] = [
+    Stop {
+        room: 100,
+        most: 1_000_000,
+        refusal: 0,
+        images: 0,
+        count: 100,
+    },
     Stop {
         refusal: 1,
         images: 0,
@@ -203,10 +191,10 @@ static REFUSALS: [Stop; 5] = [
 ];
 
 #[test]
-fn each_refused_write_is_told_with_all_bytes_of_the_film(rt: HostRuntime) -> Result<(), Fail> {
+fn each_refused_write_is_told_with_all_bytes_of_the_film(rt: HostRuntime) {
     let rig = Rig::new();
-    for stop in &REFUSALS {
-        stops(&rt, rt.alloc(), rig.picture(), stop);
+    for stop in &STOPS {
+        let is_so = stops(rt.alloc(), rig.picture(), stop);
+        told(&rt, "refused call", stop.refusal as usize, is_so);
     }
-    Ok(())
 }

@@ -5,35 +5,51 @@ use pac_media::{Frames, Image, WaveFile};
 use pac_out::faulty::Faulty;
 use pac_picture::Picture;
 use pac_test_memory::Hoard;
-use std::alloc::Global;
-use std::test::Fail;
+use std::alloc::{AllocError, Global};
 
-/// How many bytes a film of a picture has that is put with no memory left, where the room of a second image is refused;
-/// else 0.
-fn film_size(alloc: Global, picture: &Picture, writer: Faulty, room: Image) -> usize {
-    let Ok(hoard) = Hoard::take(alloc, 0) else {
-        return 0;
+/// Whether a film takes a picture with no memory left, where the room of a second image is refused.
+fn takes(alloc: Global, frames: &mut Frames<Faulty>, picture: &Picture) -> bool {
+    let Ok(_hoard) = Hoard::take(alloc, 0) else {
+        return false;
     };
-    let refused = Image::new(alloc).is_err();
-    let mut frames = Frames::new(writer, room);
-    let taken = frames.put(picture).is_ok();
-    drop(hoard);
-    if refused && taken {
-        frames.into_writer().bytes().len()
-    } else {
-        0
+    Image::new(alloc).is_err() && frames.put(picture).is_ok()
+}
+
+/// A film whose writer has ample room.
+fn film(alloc: Global) -> Result<Frames<Faulty>, AllocError> {
+    let writer = Faulty::new(alloc, 1_000_000, 1_000_000, 0)?;
+    Ok(Frames::new(writer, Image::new(alloc)?))
+}
+
+/// How many bytes a film of a picture has that is put with no memory left; else 0.
+fn film_size(alloc: Global, picture: &Picture) -> usize {
+    match film(alloc) {
+        Ok(mut frames) => {
+            if takes(alloc, &mut frames, picture) {
+                frames.into_writer().bytes().len()
+            } else {
+                0
+            }
+        }
+        Err(_) => 0,
     }
 }
 
+/// Whether a wave file is brought to its end with no memory left.
+fn is_finished(alloc: Global, wave: &mut WaveFile<Faulty>) -> bool {
+    let Ok(_hoard) = Hoard::take(alloc, 0) else {
+        return false;
+    };
+    wave.put(1).is_ok() && wave.finish().is_ok()
+}
+
 /// How many bytes a wave file of 1,584 samples has that is written with no memory left, or 0.
-fn sound_size(alloc: Global, writer: Faulty) -> usize {
-    let Ok(hoard) = Hoard::take(alloc, 0) else {
+fn sound_size(alloc: Global) -> usize {
+    let Ok(writer) = Faulty::new(alloc, 10_000, 10_000, 0) else {
         return 0;
     };
     let mut wave = WaveFile::begin(writer, 1_584);
-    let taken = wave.put(1).is_ok() && wave.finish().is_ok();
-    drop(hoard);
-    if taken {
+    if is_finished(alloc, &mut wave) {
         wave.into_writer().bytes().len()
     } else {
         0
@@ -42,17 +58,8 @@ fn sound_size(alloc: Global, writer: Faulty) -> usize {
 
 // The image's room is asked for where it is made. Where it is there, nothing more is.
 #[test]
-fn an_image_in_scarce_memory(rt: HostRuntime) -> Result<(), Fail> {
+fn files_in_scarce_memory(rt: HostRuntime) {
     let rig = colourful();
-    let writer = Faulty::new(rt.alloc(), 1_000_000, 1_000_000, 0)?;
-    let room = Image::new(rt.alloc())?;
-    assert!(rt; film_size(rt.alloc(), rig.picture(), writer, room) == 193_551);
-    Ok(())
-}
-
-#[test]
-fn a_wave_file_in_scarce_memory(rt: HostRuntime) -> Result<(), Fail> {
-    let writer = Faulty::new(rt.alloc(), 10_000, 10_000, 0)?;
-    assert!(rt; sound_size(rt.alloc(), writer) == 3_212);
-    Ok(())
+    assert!(rt; film_size(rt.alloc(), rig.picture()) == 193_551);
+    assert!(rt; sound_size(rt.alloc()) == 3_212);
 }

@@ -2,67 +2,132 @@
 
 use pac_test_set::wave;
 use pac_wave::Wave;
-use std::process::Abort;
 
-/// A sample is as worked out.
-fn is_sample(rt: &impl Abort, sample: i16, wanted: i16) {
-    assert_eq!(rt; sample, wanted);
+/// What is done with a wave generator, or seen of it.
+#[derive(Clone, Copy)]
+enum Step {
+    /// A register is written.
+    Write(usize, u8),
+    /// So many ticks, while sound is on or off, each with this sample, if it is told.
+    Ticks(u32, bool, Option<i16>),
+    /// What the accumulators are.
+    Accumulators([u32; 3]),
 }
 
-/// The accumulators are as worked out.
-fn has_accumulators(rt: &impl Abort, wave: &Wave, wanted: [u32; 3]) {
-    assert_eq!(rt; wave.accumulators(), wanted);
+/// A wave generator whose registers have this byte at first, and what is done with it and seen of it in turn.
+type Row = (&'static str, u8, &'static [Step]);
+
+/// Wave generators.
+static ROWS: [Row; 3] = [
+    (
+        "voices add up",
+        0,
+        &[
+            Step::Write(0x15, 15),
+            Step::Ticks(1, true, Some(6_720)),
+            Step::Write(0x15, 0xEF),
+            Step::Ticks(1, true, Some(6_720)),
+            Step::Write(0x1A, 15),
+            Step::Write(0x1F, 15),
+            Step::Ticks(1, true, Some(20_160)),
+            Step::Write(0x05, 1),
+            Step::Write(0x0A, 1),
+            Step::Write(0x0F, 9),
+            Step::Ticks(1, true, Some(-23_040)),
+            Step::Accumulators([0, 0, 0]),
+        ],
+    ),
+    (
+        "a voice walks through its waveform",
+        0,
+        &[
+            Step::Write(0x05, 2),
+            Step::Write(0x13, 8),
+            Step::Write(0x15, 1),
+            Step::Ticks(2, true, Some(-512)),
+            Step::Ticks(2, true, Some(-448)),
+            Step::Ticks(26, true, None),
+            Step::Ticks(2, true, Some(448)),
+            Step::Ticks(1, true, Some(-512)),
+            Step::Accumulators([32_768, 0, 0]),
+        ],
+    ),
+    (
+        "accumulators stay while sound is off",
+        1,
+        &[
+            Step::Ticks(1, true, None),
+            Step::Accumulators([0x11111, 0x11110, 0x11110]),
+            Step::Ticks(1, false, Some(0)),
+            Step::Accumulators([0x11111, 0x11110, 0x11110]),
+            Step::Write(0x14, 15),
+            Step::Ticks(1, true, None),
+            Step::Accumulators([0x02222, 0x22220, 0x22220]),
+        ],
+    ),
+];
+
+/// A wave generator and its registers.
+#[derive(Drop)]
+struct Voices {
+    wave: Wave,
+    registers: [u8; 32],
 }
 
-#[test]
-fn voices_add_up(rt: HostRuntime) {
-    let prom = wave();
-    let mut wave = Wave::new();
-    let mut registers = [0; 32];
-    registers[0x15] = 15;
-    is_sample(&rt, wave.tick(&prom, &registers, true), 6_720);
-    registers[0x15] = 0xEF;
-    is_sample(&rt, wave.tick(&prom, &registers, true), 6_720);
-    registers[0x1A] = 15;
-    registers[0x1F] = 15;
-    is_sample(&rt, wave.tick(&prom, &registers, true), 20_160);
-    registers[0x05] = 1;
-    registers[0x0A] = 1;
-    registers[0x0F] = 9;
-    is_sample(&rt, wave.tick(&prom, &registers, true), -23_040);
-    has_accumulators(&rt, &wave, [0, 0, 0]);
-}
-
-#[test]
-fn a_voice_walks_through_its_waveform(rt: HostRuntime) {
-    let prom = wave();
-    let mut wave = Wave::new();
-    let mut registers = [0; 32];
-    registers[0x05] = 2;
-    registers[0x13] = 8;
-    registers[0x15] = 1;
-    for tick in 1..=33u16 {
-        let sample = wave.tick(&prom, &registers, true);
-        match tick {
-            1 | 2 | 33 => assert!(rt; sample == -512, "tick {tick}"),
-            3 | 4 => assert!(rt; sample == -448, "tick {tick}"),
-            31 | 32 => assert!(rt; sample == 448, "tick {tick}"),
-            _ => {}
+impl Voices {
+    /// Writes a register, if there is one.
+    fn write(&mut self, place: usize, byte: u8) -> bool {
+        match self.registers.get_mut(place) {
+            Some(register) => {
+                *register = byte;
+                true
+            }
+            None => false,
         }
     }
-    has_accumulators(&rt, &wave, [32_768, 0, 0]);
+
+    /// Whether so many ticks have this sample, if it is told.
+    fn ticks(&mut self, prom: &[u8; 256], count: u32, is_on: bool, wanted: Option<i16>) -> bool {
+        for _ in 0..count {
+            let sample = self.wave.tick(prom, &self.registers, is_on);
+            if sample != wanted.unwrap_or(sample) {
+                return false;
+            }
+        }
+        true
+    }
+
+    /// Whether a step is so.
+    fn does(&mut self, prom: &[u8; 256], step: Step) -> bool {
+        match step {
+            Step::Write(place, byte) => self.write(place, byte),
+            Step::Ticks(count, is_on, wanted) => self.ticks(prom, count, is_on, wanted),
+            Step::Accumulators(wanted) => self.wave.accumulators() == wanted,
+        }
+    }
+}
+
+/// How many steps of a row are so, one after another.
+fn count(prom: &[u8; 256], registers: u8, steps: &[Step]) -> usize {
+    let mut voices = Voices {
+        wave: Wave::new(),
+        registers: [registers; 32],
+    };
+    let mut count = 0usize;
+    for step in steps {
+        if !voices.does(prom, *step) {
+            return count;
+        }
+        count = count.saturating_add(1);
+    }
+    count
 }
 
 #[test]
-fn accumulators_stay_while_sound_is_off(rt: HostRuntime) {
+fn samples_of_voices(rt: HostRuntime) {
     let prom = wave();
-    let mut wave = Wave::new();
-    let mut registers = [1; 32];
-    wave.tick(&prom, &registers, true);
-    has_accumulators(&rt, &wave, [0x11111, 0x11110, 0x11110]);
-    is_sample(&rt, wave.tick(&prom, &registers, false), 0);
-    has_accumulators(&rt, &wave, [0x11111, 0x11110, 0x11110]);
-    registers[0x14] = 15;
-    wave.tick(&prom, &registers, true);
-    has_accumulators(&rt, &wave, [0x02222, 0x22220, 0x22220]);
+    for (name, registers, steps) in &ROWS {
+        let right = count(&prom, *registers, steps);
+        assert!(rt; right == steps.len(), "{name}: {right} steps are right");
+    }
 }

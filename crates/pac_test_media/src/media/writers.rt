@@ -1,61 +1,154 @@
 //! Writers that take few bytes a call, refuse, or are interrupted; and that each writer takes what it is given.
 
-use super::answers::{is_refused, is_taken};
-use pac_out::Out;
+use super::answers::is_refused;
 use pac_out::counted::Counted;
 use pac_out::faulty::Faulty;
 use pac_out::memory::MemoryWriter;
 use pac_out::through::Through;
-use std::alloc::AllocError;
+use pac_out::{Out, WriteFault};
+use std::alloc::Global;
 use std::io;
 use std::io::Write;
 
 const TEXT: &[u8] = b"The quick brown fox jumps over the lazy dog.";
 
-#[test]
-fn few_bytes_a_call_give_the_same_bytes(rt: HostRuntime) -> Result<(), AllocError> {
-    for most in [1, 7, 44, 100] {
-        let mut output = Faulty::new(rt.alloc(), 100, most, 0)?;
-        is_taken(&rt, output.put_all(TEXT));
-        assert!(rt; output.bytes() == TEXT, "{most} a call");
+/// What a writer is given, and what it takes of it.
+#[derive(Clone, Copy)]
+struct Row {
+    /// What it shows.
+    name: &'static str,
+    /// The bytes that it takes a call, at most.
+    most: usize,
+    /// The call that it refuses; 0 is none.
+    refusal: u64,
+    /// The bytes of the text that it has, where it tells them at a refusal.
+    cut: Option<usize>,
+    /// What it is given after that, which it takes.
+    next: &'static [u8],
+}
+
+/// A writer that takes the text, seven bytes a call.
+const SEVENS: Row = Row {
+    name: "seven bytes a call",
+    most: 7,
+    refusal: 0,
+    cut: None,
+    next: b"",
+};
+
+/// Writers.
+static ROWS: [Row; 9] = [
+    Row {
+        name: "a byte a call",
+        most: 1,
+        ..SEVENS
+    },
+    SEVENS,
+    Row {
+        name: "44 bytes a call",
+        most: 44,
+        ..SEVENS
+    },
+    Row {
+        name: "100 bytes a call",
+        most: 100,
+        ..SEVENS
+    },
+    Row {
+        name: "refused call 1",
+        refusal: 1,
+        cut: Some(0),
+        next: TEXT,
+        ..SEVENS
+    },
+    Row {
+        name: "refused call 2",
+        refusal: 2,
+        cut: Some(7),
+        next: TEXT,
+        ..SEVENS
+    },
+    Row {
+        name: "refused call 4",
+        refusal: 4,
+        cut: Some(21),
+        next: TEXT,
+        ..SEVENS
+    },
+    Row {
+        name: "refused call 7",
+        refusal: 7,
+        cut: Some(42),
+        next: TEXT,
+        ..SEVENS
+    },
+    // taking no byte is a refusal, but for no bytes
+    Row {
+        name: "no byte a call",
+        most: 0,
+        cut: Some(0),
+        ..SEVENS
+    },
+];
+
+/// Whether a text is taken whole, or refused with so many bytes taken.
+fn is_taken_so(answer: Result<(), WriteFault>, cut: Option<usize>) -> bool {
+    match cut {
+        Some(count) => is_refused(answer, count as u64),
+        None => answer.is_ok(),
     }
-    Ok(())
+}
+
+/// Whether a row is so.
+fn is_right(alloc: Global, row: &Row) -> bool {
+    let Ok(mut output) = Faulty::new(alloc, 100, row.most, row.refusal) else {
+        return false;
+    };
+    is_taken_so(output.put_all(TEXT), row.cut)
+        && output.bytes().len() == row.cut.unwrap_or(TEXT.len())
+        && TEXT.starts_with(output.bytes())
+        && output.put_all(row.next).is_ok()
 }
 
 #[test]
-fn a_refusal_is_told_with_its_count(rt: HostRuntime) -> Result<(), AllocError> {
-    for (refusal, count) in [(1, 0), (2, 7), (4, 21), (7, 42)] {
-        let mut output = Faulty::new(rt.alloc(), 100, 7, refusal)?;
-        is_refused(&rt, output.put_all(TEXT), count);
-        assert!(rt; output.bytes().len() as u64 == count);
-        assert!(rt; TEXT.starts_with(output.bytes()), "the prefix at {count}");
-        is_taken(&rt, output.put_all(TEXT));
+fn few_bytes_a_call_and_refused_calls(rt: HostRuntime) {
+    for row in &ROWS {
+        assert!(rt; is_right(rt.alloc(), row), "{}", row.name);
     }
-    Ok(())
+}
+
+/// Whether a writer with room for ten bytes takes those, and refuses then.
+fn takes_ten(alloc: Global) -> bool {
+    match MemoryWriter::new(alloc, 10) {
+        Ok(mut output) => is_refused(output.put_all(TEXT), 10)
+            && output.bytes() == b"The quick ".as_slice(),
+        Err(_) => false,
+    }
+}
+
+/// Whether a file that refuses its fifth call counts over all calls, and refuses for good.
+fn counts(file: &mut Counted<Faulty>) -> bool {
+    file.put(TEXT).is_ok()
+        && file.put(&TEXT[..6]).is_ok()
+        && file.count == 50
+        && is_refused(file.put(TEXT), 80)
+        && is_refused(file.put(&[]), 80)
+        && is_refused(file.put(TEXT), 80)
+        && file.writer.bytes().len() == 80
+}
+
+/// The same of a new file, that takes 30 bytes a call.
+fn counts_over_all_calls(alloc: Global) -> bool {
+    match Faulty::new(alloc, 1000, 30, 5) {
+        Ok(writer) => counts(&mut Counted::new(writer)),
+        Err(_) => false,
+    }
 }
 
 #[test]
-fn taking_no_byte_is_a_refusal(rt: HostRuntime) -> Result<(), AllocError> {
-    let mut output = Faulty::new(rt.alloc(), 100, 0, 0)?;
-    is_refused(&rt, output.put_all(TEXT), 0);
-    is_taken(&rt, output.put_all(&[]));
-    let mut output = MemoryWriter::new(rt.alloc(), 10)?;
-    is_refused(&rt, output.put_all(TEXT), 10);
-    assert!(rt; output.bytes() == b"The quick ".as_slice());
-    Ok(())
-}
-
-#[test]
-fn a_file_counts_over_all_calls(rt: HostRuntime) -> Result<(), AllocError> {
-    let mut file = Counted::new(Faulty::new(rt.alloc(), 1000, 30, 5)?);
-    is_taken(&rt, file.put(TEXT));
-    is_taken(&rt, file.put(&TEXT[..6]));
-    assert!(rt; file.count == 50);
-    is_refused(&rt, file.put(TEXT), 80);
-    is_refused(&rt, file.put(&[]), 80);
-    is_refused(&rt, file.put(TEXT), 80);
-    assert!(rt; file.writer.bytes().len() == 80);
-    Ok(())
+fn writers_that_are_full_or_refuse(rt: HostRuntime) {
+    assert!(rt; takes_ten(rt.alloc()));
+    assert!(rt; counts_over_all_calls(rt.alloc()));
 }
 
 /// Whether bytes are the text and what was put after it.
@@ -63,22 +156,30 @@ fn are_both(bytes: &[u8]) -> bool {
     bytes.get(..TEXT.len()) == Some(TEXT) && bytes.get(TEXT.len()..) == Some(b" Again.".as_slice())
 }
 
-#[test]
-fn a_writer_of_std_takes_the_bytes(rt: HostRuntime) -> Result<(), AllocError> {
+/// Whether a vector takes the text, and more through a reference.
+fn is_taken_by_vector(alloc: Global) -> bool {
     let mut output = Through {
-        inner: Vec::new(rt.alloc()),
+        inner: Vec::new(alloc),
     };
-    is_taken(&rt, output.put_all(TEXT));
-    is_taken(&rt, (&mut output).put_all(b" Again."));
-    assert!(rt; are_both(output.inner.as_slice()));
+    output.put_all(TEXT).is_ok()
+        && (&mut output).put_all(b" Again.").is_ok()
+        && are_both(output.inner.as_slice())
+}
 
+/// Whether nine bytes of room take those, and refuse then.
+fn are_taken_by_room() -> bool {
     let mut room = [0u8; 9];
     let mut output = Through {
         inner: &mut room[..],
     };
-    is_refused(&rt, output.put_all(TEXT), 9);
-    assert!(rt; &room == b"The quick");
-    Ok(())
+    let is_refused = is_refused(output.put_all(TEXT), 9);
+    is_refused && &room == b"The quick"
+}
+
+#[test]
+fn a_writer_of_std_takes_the_bytes(rt: HostRuntime) {
+    assert!(rt; is_taken_by_vector(rt.alloc()));
+    assert!(rt; are_taken_by_room());
 }
 
 /// Answers its writes one after another: 0 takes all bytes, 1 is interrupted, 2 is another error.
@@ -90,6 +191,7 @@ struct Answers {
 }
 
 impl Write for Answers {
+    /// Gives the next answer.
     fn write(&mut self, buf: &[u8]) -> io::Result<usize> {
         let answer = self.all.get(self.next).copied().unwrap_or(0);
         self.next = self.next.saturating_add(1);
@@ -103,23 +205,29 @@ impl Write for Answers {
         }
     }
 
+    /// Has nothing to do.
     fn flush(&mut self) -> io::Result<()> {
         Ok(())
     }
 }
 
-#[test]
-fn an_interrupted_write_is_tried_again(rt: HostRuntime) {
+/// Whether a write that is interrupted twice is tried again, and one that fails then is refused for good.
+fn is_tried_again() -> bool {
     let inner = Answers {
         all: [1, 1, 0, 2],
         next: 0,
         taken: 0,
     };
     let mut file = Counted::new(Through { inner });
-    is_taken(&rt, file.put(TEXT));
-    assert!(rt; file.count == 44);
-    is_refused(&rt, file.put(TEXT), 44);
-    is_refused(&rt, file.put(TEXT), 44);
-    assert!(rt; file.writer.inner.taken == 44);
-    assert!(rt; file.writer.inner.next == 4);
+    file.put(TEXT).is_ok()
+        && file.count == 44
+        && is_refused(file.put(TEXT), 44)
+        && is_refused(file.put(TEXT), 44)
+        && file.writer.inner.taken == 44
+        && file.writer.inner.next == 4
+}
+
+#[test]
+fn an_interrupted_write_is_tried_again(rt: HostRuntime) {
+    assert!(rt; is_tried_again());
 }

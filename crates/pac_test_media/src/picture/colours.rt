@@ -1,5 +1,6 @@
 //! Colours of the colour PROM, and numbers of the lookup PROM.
 
+use crate::told::{told, told_of_two};
 use pac_colour::{index, rgb};
 
 /// Bytes of the colour PROM, with their levels of red, green and blue.
@@ -16,7 +17,7 @@ static LEVELS: [(u8, [u8; 3]); 7] = [
 #[test]
 fn bytes_of_the_colour_prom_have_their_colours(rt: HostRuntime) {
     for (byte, levels) in &LEVELS {
-        assert!(rt; rgb(*byte) == *levels, "colour byte {byte}");
+        told(&rt, "colour byte", *byte as usize, rgb(*byte) == *levels);
     }
 }
 
@@ -48,9 +49,13 @@ fn has_number(lookup: &[u8; 256], colour: u8, pixel: u8, number: u8) -> bool {
 fn pixels_have_their_colour_numbers(rt: HostRuntime) {
     let lookup = places();
     for (colour, pixel, number) in &NUMBERS {
-        assert!(rt;
-            has_number(&lookup, *colour, *pixel, *number),
-            "colour {colour}, pixel {pixel}"
+        let is_so = has_number(&lookup, *colour, *pixel, *number);
+        told_of_two(
+            &rt,
+            "colour and pixel",
+            *colour as usize,
+            *pixel as usize,
+            is_so,
         );
     }
 }

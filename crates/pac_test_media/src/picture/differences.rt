@@ -1,5 +1,6 @@
 //! Lists of bytes compared a vector at a time.
 
+use crate::told::{told, told_of_two};
 use pac_picture::laws::changed;
 use std::process::Abort;
 
@@ -25,7 +26,11 @@ fn set(bytes: &mut [u8; 1024], place: usize, byte: u8) {
 
 /// How many of the first marks, so many, are set.
 fn marks(mask: &[bool; 1024], length: usize) -> usize {
-    mask.iter().take(length).filter(|differs| **differs).count()
+    let mut count = 0usize;
+    for differs in mask.iter().take(length) {
+        count = count.saturating_add(usize::from(*differs));
+    }
+    count
 }
 
 /// Whether of the first marks, so many, the one at a place alone is set.
@@ -38,15 +43,14 @@ fn are_told_apart(rt: &impl Abort, length: usize) {
     let mut shadow = [0x5Au8; 1024];
     let mut mask = [true; 1024];
     mark(&shadow, length, &mut mask);
-    assert!(rt; marks(&mask, length) == 0, "length {length}");
-    assert!(rt;
-        marks(&mask, 1024) == 1024usize.saturating_sub(length),
-        "length {length}"
-    );
+    let beyond = 1024usize.saturating_sub(length);
+    let is_so = marks(&mask, length) == 0 && marks(&mask, 1024) == beyond;
+    told(rt, "length", length, is_so);
     for place in 0..length {
         set(&mut shadow, place, 0x5B);
         mark(&shadow, length, &mut mask);
-        assert!(rt; is_alone(&mask, length, place), "place {place} of {length}");
+        let is_so = is_alone(&mask, length, place);
+        told_of_two(rt, "length and place", length, place, is_so);
         set(&mut shadow, place, 0x5A);
     }
 }

@@ -1,14 +1,15 @@
 //! Pixels and lines of sprites, and what their bytes say.
 
+use crate::told::{told, told_of_two};
 use pac_sprites::{Sprite, pixel};
 
 // Sprite 1 is 0 save on these two lines.
-static LINE_0: [u8; 16] = [1, 2, 3, 0, 0, 3, 1, 2, 2, 2, 2, 2, 1, 1, 1, 1];
+const LINE_0: [u8; 16] = [1, 2, 3, 0, 0, 3, 1, 2, 2, 2, 2, 2, 1, 1, 1, 1];
 
-static LINE_8: [u8; 16] = [3, 3, 3, 3, 0, 0, 0, 0, 0, 0, 0, 0, 0, 0, 0, 2];
+const LINE_8: [u8; 16] = [3, 3, 3, 3, 0, 0, 0, 0, 0, 0, 0, 0, 0, 0, 0, 2];
 
 /// Line 8 from right to left.
-static MIRRORED: [u8; 16] = [2, 0, 0, 0, 0, 0, 0, 0, 0, 0, 0, 0, 3, 3, 3, 3];
+const MIRRORED: [u8; 16] = [2, 0, 0, 0, 0, 0, 0, 0, 0, 0, 0, 0, 3, 3, 3, 3];
 
 /// A sprite ROM with that sprite.
 fn rom() -> [u8; 4096] {
@@ -35,7 +36,7 @@ fn is_column(rom: &[u8; 4096], x: u8) -> bool {
 fn pixels_stand_in_their_bytes(rt: HostRuntime) {
     let rom = rom();
     for x in 0..16u8 {
-        assert!(rt; is_column(&rom, x), "column {x}");
+        told(&rt, "column", x as usize, is_column(&rom, x));
     }
 }
 
@@ -82,10 +83,9 @@ static SPRITES: [([u8; 2], [u8; 2], Sprite); 3] = [
 #[test]
 fn bytes_say_which_sprite_and_where(rt: HostRuntime) {
     for (attributes, coordinates, sprite) in &SPRITES {
-        assert!(rt;
-            Sprite::of(*attributes, *coordinates) == *sprite,
-            "at {attributes:?}"
-        );
+        let is_so = Sprite::of(*attributes, *coordinates) == *sprite;
+        let [first, second] = *attributes;
+        told_of_two(&rt, "attributes", first as usize, second as usize, is_so);
     }
 }
 
@@ -114,35 +114,51 @@ fn has_columns(sprite: &Sprite, start: u16, end: u16) -> bool {
 fn a_sprite_covers_the_places_of_its_box(rt: HostRuntime) {
     for (coordinates, start, end, x, y, covered) in &COVERED {
         let sprite = Sprite::of([0x00, 0x00], *coordinates);
-        assert!(rt;
-            has_columns(&sprite, *start, *end),
-            "columns {start} to {end}"
-        );
-        assert!(rt; sprite.covers(*x, *y) == *covered, "({x}, {y})");
+        let has_columns = has_columns(&sprite, *start, *end);
+        told_of_two(&rt, "columns", *start as usize, *end as usize, has_columns);
+        let is_so = sprite.covers(*x, *y) == *covered;
+        told_of_two(&rt, "place", *x as usize, *y as usize, is_so);
     }
 }
 
-// Of a sprite ROM of which only pixel (15, 15) of sprite 0 has a value.
+/// Places of the box of a sprite that is flipped both ways, and the pixels there, of a sprite ROM of which only pixel (15, 15) of sprite 0
+/// has a value.
+static FLIPPED: [(u16, u8, Option<u8>); 3] = [
+    (100, 0, Some(3)),
+    (115, 15, Some(0)),
+    (116, 15, None),
+];
+
 #[test]
 fn flips_mirror_pixels_of_a_sprite_in_its_box(rt: HostRuntime) {
     let mut corner = [0u8; 4096];
     corner[39] = 0b0001_0001;
     let both = Sprite::of([0x03, 0x00], [0x1F, 0xAC]);
-    assert!(rt; both.pixel(&corner, 100, 0) == Some(3));
-    assert!(rt; both.pixel(&corner, 115, 15) == Some(0));
-    assert!(rt; both.pixel(&corner, 116, 15).is_none());
+    for (x, y, wanted) in &FLIPPED {
+        let is_so = both.pixel(&corner, *x, *y) == *wanted;
+        told_of_two(&rt, "place", *x as usize, *y as usize, is_so);
+    }
 }
 
-/// Whether a sprite of these attributes shows this at a line.
-fn has_line(rom: &[u8; 4096], attributes: [u8; 2], y: u8, wanted: Option<[u8; 16]>) -> bool {
-    Sprite::of(attributes, [0x1F, 0xAC]).line(rom, y) == wanted
-}
+/// First attribute bytes of a sprite, lines, and what it shows there.
+static LINES: [(u8, u8, Option<[u8; 16]>); 4] = [
+    (0x04, 0, Some(LINE_0)),
+    (0x04, 8, Some(LINE_8)),
+    (0x04, 16, None),
+    (0x07, 7, Some(MIRRORED)),
+];
 
 #[test]
 fn flips_mirror_lines_of_a_sprite_in_its_box(rt: HostRuntime) {
     let rom = rom();
-    assert!(rt; has_line(&rom, [0x04, 0x00], 0, Some(LINE_0)));
-    assert!(rt; has_line(&rom, [0x04, 0x00], 8, Some(LINE_8)));
-    assert!(rt; has_line(&rom, [0x04, 0x00], 16, None));
-    assert!(rt; has_line(&rom, [0x07, 0x00], 7, Some(MIRRORED)));
+    for (attribute, y, wanted) in &LINES {
+        let is_so = Sprite::of([*attribute, 0x00], [0x1F, 0xAC]).line(&rom, *y) == *wanted;
+        told_of_two(
+            &rt,
+            "attribute and line",
+            *attribute as usize,
+            *y as usize,
+            is_so,
+        );
+    }
 }

@@ -1,5 +1,6 @@
 //! Places and pixels of tiles.
 
+use crate::told::{told, told_of_two};
 use pac_tiles::{offset, pixel};
 
 /// Columns and rows of cells, and where these stand in the RAMs.
@@ -20,9 +21,13 @@ fn stands_at(column: u8, row: u8, place: u16) -> bool {
 #[test]
 fn cells_stand_at_their_offsets(rt: HostRuntime) {
     for (column, row, place) in &CELLS {
-        assert!(rt;
-            stands_at(*column, *row, *place),
-            "column {column}, row {row}"
+        let is_so = stands_at(*column, *row, *place);
+        told_of_two(
+            &rt,
+            "column and row",
+            *column as usize,
+            *row as usize,
+            is_so,
         );
     }
 }
@@ -44,10 +49,8 @@ fn each_cell_has_a_place_of_its_own(rt: HostRuntime) {
     let mut seen = [false; 1024];
     for column in 0..36u8 {
         for row in 0..28u8 {
-            assert!(rt;
-                !was_seen(&mut seen, column, row),
-                "column {column}, row {row}"
-            );
+            let is_so = !was_seen(&mut seen, column, row);
+            told_of_two(&rt, "column and row", column as usize, row as usize, is_so);
         }
     }
 }
@@ -75,6 +78,6 @@ fn is_column(rom: &[u8; 4096], x: u8) -> bool {
 fn pixels_stand_in_their_bytes(rt: HostRuntime) {
     let rom = rom();
     for x in 0..8u8 {
-        assert!(rt; is_column(&rom, x), "column {x}");
+        told(&rt, "column", x as usize, is_column(&rom, x));
     }
 }
