@@ -1,7 +1,7 @@
 //! A picture over the bytes that a program may write, changed by calls and asked by calls with small answers.
 
 use crate::set::picture;
-use pac_picture::{Lines, Picture, Screen};
+use pac_picture::{Picture, RawLines, Screen, is_picture, raw_row};
 use std::marker::Model;
 
 /// A rectangle of a picture: its first column and the one after its last, and so its lines.
@@ -136,9 +136,13 @@ impl Rig {
         self.picture.set_stale();
     }
 
-    /// Takes its lines from others.
-    pub fn copy_from(&mut self, lines: &Lines) {
-        self.picture.copy_from(lines);
+    /// Takes its lines from others, if they are a picture's.
+    pub fn copy_from(&mut self, lines: &RawLines) -> bool {
+        let is_taken = is_picture(lines);
+        if is_taken {
+            self.picture.copy_from(lines);
+        }
+        is_taken
     }
 
     /// Composes all lines one after another.
@@ -159,10 +163,10 @@ impl Rig {
     }
 
     /// Black lines, but for one that is this picture's line 0.
-    pub fn first_line_at(&self, y: u8) -> Lines {
-        let mut lines = Lines::new();
+    pub fn first_line_at(&self, y: u8) -> RawLines {
+        let mut lines = [[0; 288]; 224];
         if y < 224 {
-            lines.set_row(y, self.picture.lines().row(0));
+            lines[y as usize] = *raw_row(self.picture.lines().raw(), 0);
         }
         lines
     }

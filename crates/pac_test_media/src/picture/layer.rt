@@ -1,7 +1,7 @@
 //! Lines that are taken from another picture.
 
 use crate::rig::Rig;
-use pac_picture::Lines;
+use pac_picture::{RawLines, is_picture};
 
 /// A picture that shows tile 42H in its first row.
 fn shown() -> Rig {
@@ -12,16 +12,26 @@ fn shown() -> Rig {
 }
 
 /// Whether lines have green at line 100, and nothing above it.
-fn has_line_100(lines: &Lines) -> bool {
-    lines.row(99)[16] == 0 && lines.row(100)[16] == 2
+fn has_line_100(lines: &RawLines) -> bool {
+    lines[99][16] == 0 && lines[100][16] == 2
 }
 
-/// A picture of no tiles that has taken its line 100 from the first of another.
-fn taken(shown: &Rig) -> Rig {
+/// Whether a picture takes lines whose last number is this one, which is a colour number where it is below 16.
+fn is_taken(number: u8) -> bool {
+    let mut lines = [[0; 288]; 224];
+    lines[223][287] = number;
+    is_picture(&lines)
+}
+
+/// A picture of no tiles that has taken its line 100 from the first of another, if it takes that.
+fn taken(shown: &Rig) -> Option<Rig> {
     let mut rig = Rig::new();
     rig.compose();
-    rig.copy_from(&shown.first_line_at(100));
-    rig
+    if rig.copy_from(&shown.first_line_at(100)) {
+        Some(rig)
+    } else {
+        None
+    }
 }
 
 /// Whether a picture has that line of another one, and black at the beginning.
@@ -35,11 +45,23 @@ fn is_drawn_again(rig: &mut Rig) -> bool {
     rig.picture().drawn() == 36 && rig.picture().row(100)[16] == 0
 }
 
+/// Whether a picture takes that line of another one, until it is composed again.
+fn takes_a_line(shown: &Rig) -> bool {
+    match taken(shown) {
+        Some(mut rig) => has_taken(&rig, shown) && is_drawn_again(&mut rig),
+        None => false,
+    }
+}
+
 #[test]
 fn lines_are_taken_from_others(rt: HostRuntime) {
     let shown = shown();
     assert!(rt; has_line_100(&shown.first_line_at(100)));
-    let mut rig = taken(&shown);
-    assert!(rt; has_taken(&rig, &shown));
-    assert!(rt; is_drawn_again(&mut rig));
+    assert!(rt; takes_a_line(&shown));
+}
+
+#[test]
+fn lines_of_colour_numbers_are_a_picture_s(rt: HostRuntime) {
+    assert!(rt; is_taken(15));
+    assert!(rt; !is_taken(16));
 }
