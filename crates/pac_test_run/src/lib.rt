@@ -9,3 +9,5 @@ mod run;
 mod run_command;
 #[cfg(test)]
 mod run_options;
+#[cfg(test)]
+mod told;

@@ -2,6 +2,7 @@
 
 use super::outputs::{Given, Lengths, Outputs};
 use crate::cell::CELL;
+use crate::told::told;
 use pac_out::faulty::Faulty;
 use pac_run::{Output, RunFault};
 use pac_test_set::{SET, SWITCHES};
@@ -115,6 +116,6 @@ fn is_cut(alloc: Global, cut: &Cut) -> bool {
 #[test]
 fn a_cut_text_leaves_what_its_lines_gave(rt: HostRuntime) {
     for cut in &CUTS {
-        assert!(rt; is_cut(rt.alloc(), cut), "{}", cut.commands);
+        told(&rt, &cut.commands, is_cut(rt.alloc(), cut));
     }
 }

@@ -3,6 +3,7 @@
 
 use super::outputs::{AMPLE, Given, Outputs, run};
 use crate::cell::{CELL, LISTING, REPORT};
+use crate::told::told;
 use pac_asm::{AsmCode, AsmFault};
 use pac_inputs::ScriptFault;
 use pac_run::RunFault;
@@ -113,9 +114,19 @@ static ROWS: [Row; 9] = [
     },
 ];
 
+/// Whether all bytes from a place on are 0.
+fn are_zero(bytes: &[u8], from: usize) -> bool {
+    for place in from..bytes.len() {
+        if bytes[place] != 0 {
+            return false;
+        }
+    }
+    true
+}
+
 /// Whether a sound has so many bytes, and no sample but 0.
 fn is_silent(wave: &[u8], length: usize) -> bool {
-    wave.len() == length && wave.starts_with(b"RIFF") && wave.iter().skip(44).all(|byte| *byte == 0)
+    wave.len() == length && wave.starts_with(b"RIFF") && are_zero(wave, 44)
 }
 
 /// Whether a run gives out what its row says.
@@ -139,7 +150,7 @@ fn holds(alloc: Global, row: &Row) -> bool {
 #[test]
 fn reports_pictures_and_silence(rt: HostRuntime) {
     for row in &ROWS {
-        assert!(rt; holds(rt.alloc(), row), "{}", row.source);
+        told(&rt, &(row.source, row.dip), holds(rt.alloc(), row));
     }
 }
 
@@ -150,19 +161,24 @@ const HEADER: [u8; 44] = [
     0x02, 0x00, 0x10, 0x00, 0x64, 0x61, 0x74, 0x61, 0x60, 0x0C, 0x00, 0x00,
 ];
 
-/// Whether a sound's first sample is 6,720, and each other of its 1,584 is 20,160.
-fn sounds(wave: &[u8]) -> bool {
-    let mut is_right = wave.len() == 3_212 && wave.starts_with(&HEADER);
-    for (place, byte) in wave.iter().skip(44).enumerate() {
-        let sample = if place < 2 { 6_720u16 } else { 20_160 };
-        let half = if place % 2 == 0 {
-            sample % 256
-        } else {
-            sample / 256
-        };
-        is_right = is_right && *byte as u16 == half;
+/// The byte at a place of a sound whose first sample is 6,720, and each other 20,160; the low byte of each stands first.
+fn sound_byte(place: usize) -> u16 {
+    let sample = if place < 46 { 6_720u16 } else { 20_160 };
+    if place % 2 == 0 {
+        sample % 256
+    } else {
+        sample / 256
     }
-    is_right
+}
+
+/// Whether a sound has 1,584 samples, of which the first is 6,720, and each other 20,160.
+fn sounds(wave: &[u8]) -> bool {
+    for place in 44..wave.len() {
+        if u16::from(wave[place]) != sound_byte(place) {
+            return false;
+        }
+    }
+    wave.len() == 3_212 && wave.starts_with(&HEADER)
 }
 
 /// Whether a run of the three voices is reported, and heard.
@@ -292,7 +308,7 @@ fn is_refused(alloc: Global, row: &Refused) -> bool {
 
 #[test]
 fn refused_inputs_write_nothing(rt: HostRuntime) {
-    for (number, row) in REFUSED.iter().enumerate() {
-        assert!(rt; is_refused(rt.alloc(), row), "row {number}");
+    for row in &REFUSED {
+        told(&rt, &row.fault, is_refused(rt.alloc(), row));
     }
 }

@@ -2,6 +2,7 @@
 
 use super::outputs::{AMPLE, Given, Lengths, Outputs, SHOWN, run};
 use crate::cell::{COMMANDS, REPORT, TEXT};
+use crate::told::told;
 use pac_out::faulty::Faulty;
 use pac_run::{Output, RunFault};
 use std::alloc::Global;
@@ -158,6 +159,6 @@ fn is_cut(alloc: Global, cut: &Cut) -> bool {
 #[test]
 fn full_writers_are_told_with_their_counts(rt: HostRuntime) {
     for cut in &CUTS {
-        assert!(rt; is_cut(rt.alloc(), cut), "{}", cut.output);
+        told(&rt, &(cut.script, cut.rooms), is_cut(rt.alloc(), cut));
     }
 }

@@ -14,10 +14,12 @@ fn lay(rt: &(impl rt::Files + AllocGlobal), folder: &str, name: &str, bytes: &[u
 /// Lays the files of the set's parts; whether it could.
 fn lay_parts(rt: &(impl rt::Files + AllocGlobal), folder: &str) -> bool {
     let files = Files::new();
-    files
-        .parts()
-        .iter()
-        .all(|part| lay(rt, folder, part.name, part.bytes))
+    for part in &files.parts() {
+        if !lay(rt, folder, part.name, part.bytes) {
+            return false;
+        }
+    }
+    true
 }
 
 /// Lays the set's manifest; whether it could.

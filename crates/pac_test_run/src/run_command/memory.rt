@@ -51,11 +51,14 @@ fn length_of(rt: &impl Files, path: &str) -> Option<u64> {
     }
 }
 
+/// Whether a file isn't there, or has no byte.
+fn is_empty(rt: &impl Files, path: &str) -> bool {
+    matches!(length_of(rt, path), None | Some(0))
+}
+
 /// Whether none of the outputs has a byte.
 fn is_unwritten(rt: &impl Files) -> bool {
-    ["scarce/f", "scarce/w", "scarce/l"]
-        .iter()
-        .all(|path| matches!(length_of(rt, path), None | Some(0)))
+    is_empty(rt, "scarce/f") && is_empty(rt, "scarce/w") && is_empty(rt, "scarce/l")
 }
 
 /// Whether a first refusal has told that there is no memory; what later ones tell follows it.
@@ -97,10 +100,9 @@ fn refusals_from_nothing(
 
 /// The count of runs that find no memory, over a console.
 fn refusals_of_a_run(rt: &(impl Files + AllocGlobal)) -> Option<usize> {
-    let words = words_of(rt.alloc()).ok()?;
-    match Console::new(rt.alloc(), 200, 4000) {
-        Ok(console) => refusals_from_nothing(rt, &console, &words),
-        Err(_) => None,
+    match (words_of(rt.alloc()), Console::new(rt.alloc(), 200, 4000)) {
+        (Ok(words), Ok(console)) => refusals_from_nothing(rt, &console, &words),
+        _ => None,
     }
 }
 

@@ -1,5 +1,6 @@
 //! Command lines, what they ask for, and how `clap` refuses them.
 
+use crate::told::told;
 use clap::error::ErrorKind;
 use pac_run_options::{AsmFiles, DebugFiles, PlayFiles, Request, RunFiles, options};
 use std::alloc::Global;
@@ -155,7 +156,7 @@ static ASKED: [(&[&str], Request<'static>); 6] = [
 #[test]
 fn each_subcommand(rt: HostRuntime) {
     for (words, request) in &ASKED {
-        assert!(rt; ask_for(rt.alloc(), words, request), "{words:?}");
+        told(&rt, words, ask_for(rt.alloc(), words, request));
     }
 }
 
@@ -200,6 +201,6 @@ static REFUSED: [(&[&str], ErrorKind); 16] = [
 #[test]
 fn refusals_and_help(rt: HostRuntime) {
     for (words, kind) in &REFUSED {
-        assert!(rt; are_refused(rt.alloc(), words, *kind), "{words:?}");
+        told(&rt, words, are_refused(rt.alloc(), words, *kind));
     }
 }
