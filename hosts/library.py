@@ -69,11 +69,30 @@ def stamp(folder):
             (built / "stamp").write_text(crate.stamp())
 
 
-def run(folder):
+def lay_kit(flags, to):
+    """Lays the kit beside itself, its files by links, with a C compiler that gets these flags too, and returns the copy's `rt`.
+
+    The kit proves the same, and hands the compiler the same program; the flags say which instructions of the processor it may use.
+    """
+    kit = pathlib.Path(shutil.which("rt")).resolve().parent.parent
+    compiler = "toolchain/bin/clang"
+    for file in [*kit.iterdir(), *(kit / "bin").iterdir(), *(kit / "toolchain").iterdir(), *(kit / "toolchain/bin").iterdir()]:
+        name = file.relative_to(kit)
+        (to / name).parent.mkdir(parents=True, exist_ok=True)
+        if str(name) in ("bin/rt", "bin/rtlib.py"):
+            shutil.copy(file, to / name)  # (they look for the rest beside themselves)
+        elif str(name) not in ("bin", "toolchain", "toolchain/bin", compiler):
+            (to / name).symlink_to(file)
+    (to / compiler).write_text(f'#!/bin/sh\nexec {kit / compiler} "$@" {" ".join(flags)}\n')
+    (to / compiler).chmod(0o755)
+    return to / "bin/rt"
+
+
+def run(rt, folder):
     """Proves and builds the crate in a folder by `rt lib`, over what is proved below it, and tells how far it is; ends where it fails."""
     begun = time.monotonic()
     with tempfile.TemporaryFile("w+") as said:
-        with subprocess.Popen(["rt", "lib"], cwd=folder, stdout=said, stderr=subprocess.STDOUT) as process:
+        with subprocess.Popen([rt, "lib"], cwd=folder, stdout=said, stderr=subprocess.STDOUT) as process:
             while process.poll() is None:
                 with contextlib.suppress(subprocess.TimeoutExpired):
                     process.wait(TOLD)
@@ -88,10 +107,10 @@ def text_of(file):
     return os.pread(file.fileno(), os.fstat(file.fileno()).st_size, 0).decode(errors="replace")
 
 
-def build(kind, file, to, is_after_ci):
+def build(kind, file, to, is_after_ci, flags=()):
     """Builds the library as a crate of this kind, in a copy of it and of all below it, and takes the file that it leaves.
 
-    The copy's crates.txt says which kind it is, and the repository is left as it is.
+    The copy's crates.txt says which kind it is, and the repository is left as it is. The flags are for the compiler.
     """
     table = crates()
     name = name_of(table)
@@ -105,7 +124,7 @@ def build(kind, file, to, is_after_ci):
             lay_crate(crate, folder / "crates" / crate)
         if is_after_ci:
             stamp(folder)
-        run(folder / "crates" / name)
+        run(lay_kit(flags, folder / "kit") if flags else "rt", folder / "crates" / name)
         OUT.mkdir(exist_ok=True)
         shutil.copy(folder / "crates" / name / "out" / file.format(name), OUT / to)
     print(f"{OUT / to}: {(OUT / to).stat().st_size:,} bytes", flush=True)

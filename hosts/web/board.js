@@ -31,7 +31,7 @@ export class Refused extends Error {
     }
 }
 
-// Whether a module can run here. One with addresses of 64 bits wants wasm64: Chromium has it, node 20 with --experimental-wasm-memory64.
+// Whether a module can run here: it has vectors.
 export function canRun(module) {
     return WebAssembly.validate(module);
 }

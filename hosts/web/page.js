@@ -127,7 +127,7 @@ function tell(error) {
 
 async function main() {
     const module = await bytesOf('../out/pac_host.wasm');
-    if (!canRun(module)) throw new Error("This browser can't run the module, which was built without wasm-opt. Chromium can.");
+    if (!canRun(module)) throw new Error("This browser can't run the module, which has WebAssembly's vectors.");
     at('roms').addEventListener('change', async ({ target }) => {
         begin(module, new Uint8Array(await target.files[0].arrayBuffer())).catch(tell);
     });

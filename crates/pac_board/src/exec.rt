@@ -49,7 +49,7 @@ fn note(due: &mut Due, given: Due)
 
 impl Board {
     /// Offers what is due to a sink, the sample before the picture. What it refuses stays due, with what comes after it.
-    #[inline]
+    #[inline(always)]
     pub fn offer<S: Sink>(&mut self, sink: &mut S) -> Result<(), Refused>
         ensures { Offers (by S.took S.refused) self.old sink.old result self.new sink.new }
     {

@@ -10,7 +10,7 @@ use pac_machine::Due;
 use pac_picture::Picture;
 
 /// Offers what is due to a sink, the sample before this picture, and keeps what it refuses, with what comes after it.
-#[inline]
+#[inline(always)]
 pub(crate) fn offer<S: Sink>(due: &mut Due, picture: &Picture, sink: &mut S) -> Result<(), Refused>
     ensures { OffersDue (by S.took S.refused)
         (offered_image picture.now) due.old sink.old result due.new sink.new }
@@ -20,7 +20,7 @@ pub(crate) fn offer<S: Sink>(due: &mut Due, picture: &Picture, sink: &mut S) -> 
 }
 
 /// Offers the sample, where one is due.
-#[inline]
+#[inline(always)]
 fn offer_sample<S: Sink>(due: &mut Due, sink: &mut S) -> Result<(), Refused>
     ensures { OffersPart (by S.took S.refused) (sounds_of due.old.sample) due.old
         (record due.old { sample = None }) sink.old result due.new sink.new }
@@ -33,7 +33,7 @@ fn offer_sample<S: Sink>(due: &mut Due, sink: &mut S) -> Result<(), Refused>
 }
 
 /// Offers this picture, where it is due.
-#[inline]
+#[inline(always)]
 fn offer_picture<S: Sink>(due: &mut Due, picture: &Picture, sink: &mut S) -> Result<(), Refused>
     ensures { OffersPart (by S.took S.refused)
         (shows_of (offered_image picture.now) due.old.picture) due.old

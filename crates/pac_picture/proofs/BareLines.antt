@@ -12,10 +12,9 @@ use Rattle.pac_sprites.specs.Sprites.{is_in_box}
 use Rattle.pac_picture.specs.declared.shadow.Shadow.{Shadow}
 use Rattle.pac_picture.specs.Picture.{VideoRoms, VideoMemory, sprite_at, sprite_dot, tile_dot, dot, picture_line}
 use Rattle.pac_picture.specs.Layer.{drawn_from, kept_dot, made_stale, shadow_at, shadow_from, differing_in, differing_cells, cell_differs}
-use Rattle.pac_picture.specs.Painting.{painted_number}
 use Rattle.pac_picture.specs.State.{source_of}
 use Rattle.pac_picture.specs.BareLines.{unflipped_line, row_line, AreBare}
-use Rattle.pac_picture.proofs.Painted.{painted, painted-first}
+use Rattle.pac_picture.proofs.Painted.{none-painted}
 use Rattle.pac_picture.proofs.Dots.{dot-off}
 use Rattle.pac_picture.proofs.Layers.{dot-drawn, shadow-set}
 use Rattle.pac_picture.proofs.Counts.{count-more}
@@ -27,24 +26,15 @@ none-bare marks flip roms shadows lines none = record {
   each = λ y down is. absurd (true≢false (sym is ∙ none (unflipped_line flip y)));
 }
 
--- sprites that don't show paint nothing
-unpainted : (count : ℕ) (numbers : ℕ → ℕ) (below : ℕ) → ((k under : ℕ) → k < 8 → under ≡ painted_number (numbers k) under) →
-    painted count numbers below ≡ below
-unfolding painted
-unpainted zero numbers below clear = refl
-unpainted (suc count) numbers below clear =
-    sym (clear (7 - count) (painted count numbers below) (omega arith)) ∙ unpainted count numbers below clear
-
 -- a line on which no sprite stands is that of its row of cells
 dot-bare : (roms : VideoRoms) (memory : VideoMemory) (x y : ℕ) → x < 288 →
     ((k : ℕ) → k < 8 → is_in_box (sprite_at memory k).top y ≡ false) →
     dot roms memory x y ≡ kept_dot roms (drawn_from memory (y / 8)) x y
 unfolding dot
 dot-bare roms memory x y across off =
-    sym (painted-first (λ k. sprite_dot roms (sprite_at memory k) x y) (tile_dot roms memory x y))
-    ∙ (unpainted 8 (λ k. sprite_dot roms (sprite_at memory k) x y) (tile_dot roms memory x y)
-    (λ k under below. dot-off roms (sprite_at memory k) x y under (off k below))
-    ∙ sym (dot-drawn roms memory x y across))
+    sym (none-painted (λ k. sprite_dot roms (sprite_at memory k) x y) (tile_dot roms memory x y)
+    (λ k under below. dot-off roms (sprite_at memory k) x y under (off k below)))
+    ∙ sym (dot-drawn roms memory x y across)
 
 either-bare : (roms : VideoRoms) (memory : VideoMemory) (flip : Bool) (y x : ℕ) → x < 288 →
     ((k : ℕ) → k < 8 → is_in_box (sprite_at memory k).top (unflipped_line flip y) ≡ false) →

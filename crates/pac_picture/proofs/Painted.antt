@@ -1,5 +1,6 @@
 -- Sprites painted one over another.
-use Rattle.std.proofs.Common.{◌≡◌, ℕ, zero, suc, ◌+◌, ◌-◌, Bool, true, false, if◌then◌else◌, List, [], ◌∷◌, refl, sym, ap, ◌∙◌, add-one}
+use Rattle.std.proofs.Common.{◌≡◌, ℕ, zero, suc, ◌+◌, ◌-◌, ◌<◌, Bool, true, false, if◌then◌else◌, List, [], ◌∷◌, refl, sym, ap, ◌∙◌}
+use Rattle.std.proofs.Common.{add-one, arith}
 use Rattle.std.specs.Prelude.{Some, find, unwrap_or}
 use Rattle.pac_num.specs.Tabulate.{tabulate}
 use Rattle.pac_picture.specs.Picture.{is_opaque}
@@ -41,3 +42,15 @@ find-over (number ∷ rest) below =
 pub painted-first : (numbers : ℕ → ℕ) (below : ℕ) → painted 8 numbers below ≡ unwrap_or (find is_opaque (tabulate 8 numbers)) below
 unfolding painted tabulate over_all
 painted-first numbers below = sym (find-over (tabulate 8 numbers) below)
+
+-- none that shows
+unpainted : (count : ℕ) (numbers : ℕ → ℕ) (below : ℕ) → ((k under : ℕ) → k < 8 → under ≡ painted_number (numbers k) under) →
+    painted count numbers below ≡ below
+unfolding painted
+unpainted zero numbers below clear = refl
+unpainted (suc count) numbers below clear =
+    sym (clear (7 - count) (painted count numbers below) (omega arith)) ∙ unpainted count numbers below clear
+
+pub none-painted : (numbers : ℕ → ℕ) (below : ℕ) → ((k under : ℕ) → k < 8 → under ≡ painted_number (numbers k) under) →
+    below ≡ unwrap_or (find is_opaque (tabulate 8 numbers)) below
+none-painted numbers below clear = sym (unpainted 8 numbers below clear) ∙ painted-first numbers below

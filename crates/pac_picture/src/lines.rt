@@ -12,7 +12,7 @@ ghost use Rattle.pac_picture.specs.BareLines.{AreBare};
 
 use crate::bare::Bare;
 use crate::layer::Layer;
-use crate::painting::paint_sprites;
+use crate::painting::paint_unless_none;
 use crate::raw::RawLines;
 use crate::screen::Screen;
 use crate::size::{HEIGHT, WIDTH, repeated};
@@ -36,8 +36,9 @@ fn compose_line(layer: &Layer, screen: &Screen<'_>, y: u8, out: &mut [u8; WIDTH]
     ensures { out.new ≡ picture_line layer.now.roms screen.now y }
 {
     let source = screen.source(y);
+    let has_sprite = screen.has_sprite_on(source);
     layer.line(source, out);
-    paint_sprites(layer.graphics(), screen, source, out);
+    paint_unless_none(has_sprite, layer.graphics(), screen, source, out);
     turn(out, screen.flip());
 }
 

@@ -1,6 +1,6 @@
 //! A line of the picture: the cells of its row, and the sprites painted over them.
 
-ghost use Rattle.std.specs.Prelude.{◌≡◌, ◌<◌, ℕ, ◌/◌, ◌%◌, [], if◌then◌else◌, find, unwrap_or, length, slice_index, slice_index_or};
+ghost use Rattle.std.specs.Prelude.{◌≡◌, ◌<◌, ℕ, ◌/◌, ◌%◌, [], if◌then◌else◌, find, unwrap_or, length, slice_index, slice_index_or, false};
 ghost use Rattle.pac_num.specs.Tabulate.{tabulate};
 ghost use Rattle.pac_tiles.specs.Tiles as tile;
 ghost use Rattle.pac_sprites.specs.Sprites as sprites;
@@ -78,5 +78,23 @@ pub(crate) fn paint_sprites(graphics: &Graphics, screen: &Screen<'_>, y: u8, out
     for painted in 0..8u8 {
         let sprite = screen.sprite(7 - painted);
         paint(graphics, &sprite, y, out);
+    }
+}
+
+/// Paints the eight sprites over line y of the picture, where one of them may stand on it.
+#[inline]
+pub(crate) fn paint_unless_none(
+    has_sprite: bool,
+    graphics: &Graphics,
+    screen: &Screen<'_>,
+    y: u8,
+    out: &mut [u8; WIDTH],
+)
+    requires none { has_sprite ≡ false → (k : ℕ) → k < 8 → sprites.is_in_box (sprite_at screen.now k).top y ≡ false }
+    ensures dots { (x : ℕ) → x < tile.width → slice_index out.new x
+        ≡ unwrap_or (find is_opaque (tabulate 8 (λ k. sprite_dot graphics.now (sprite_at screen.now k) x y))) (slice_index out.old x) }
+{
+    if has_sprite {
+        paint_sprites(graphics, screen, y, out);
     }
 }

@@ -14,7 +14,7 @@ use crate::header::{MAGIC, VERSION, part, word};
 use crate::ranges::in_range;
 use crate::reading::fields_in;
 use crate::sizes::{BODY_SIZE, FILE_SIZE};
-use pac_board::{Fields, HEIGHT, RawLines, raw_row};
+use pac_board::{Fields, RawLines};
 
 /// What stands where a file has a digest.
 const NO_DIGEST: [u8; 20] = [0; 20];
@@ -46,18 +46,14 @@ pub fn read_block(block: &[u8; FILE_SIZE]) -> Option<Fields<'_>>
     }
 }
 
-/// Writes the colour numbers of a picture, line by line.
+/// Writes the colour numbers of a picture, line after line.
 fn put_lines(block: &mut [u8], at: usize, lines: &RawLines) -> usize
     requires { at + length (joined_pieces lines.now) ≤ length block.old }
     ensures size { length block.new ≡ length block.old }
     ensures end { result ≡ at + length (joined_pieces lines.now) }
     ensures text { take result block.new ≡ take at block.old ++ joined_pieces lines.now }
 {
-    let mut end = at;
-    for y in 0..HEIGHT {
-        end = put_at(block, end, raw_row(lines, y));
-    }
-    end
+    put_at(block, at, lines.as_flattened())
 }
 
 /// Writes the block of the state that has these fields. Takes no memory.

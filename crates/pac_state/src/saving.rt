@@ -10,7 +10,7 @@ ghost use Rattle.pac_state.specs.Saves.{Saves};
 ghost use Rattle.pac_state.specs.Text as text;
 
 use crate::front::front;
-use pac_board::{Board, Fields, HEIGHT, RawLines, raw_row};
+use pac_board::{Board, Fields, RawLines};
 use pac_out::counted::Counted;
 use pac_out::{Out, WriteFault};
 use pac_roms_manifest::digest;
@@ -25,7 +25,7 @@ fn put<W: Out>(file: &mut Counted<W>, hasher: &mut Sha1, bytes: &[u8]) -> Result
     file.put(bytes)
 }
 
-/// Writes the colour numbers of a picture, line by line.
+/// Writes the colour numbers of a picture, line after line.
 fn put_lines<W: Out>(
     file: &mut Counted<W>,
     hasher: &mut Sha1,
@@ -35,10 +35,7 @@ fn put_lines<W: Out>(
     ensures hashed { OnOk result ((m : List ℕ) → Holds hasher.old m
         → Holds hasher.new (m ++ joined_pieces lines.now)) }
 {
-    for y in 0..HEIGHT {
-        put(file, hasher, raw_row(lines, y))?;
-    }
-    file.put(&[])
+    put(file, hasher, lines.as_flattened())
 }
 
 /// Writes the state that has these fields, and the digest of what was written.

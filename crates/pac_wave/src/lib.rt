@@ -106,6 +106,7 @@ impl Wave {
     /// The next sound sample, -23,040 to 20,160, from the wave PROM's 256 bytes and the 32 registers, of which the
     /// low four bits count; register n is the one at address 5040H + n. While sound is off the sample is 0 and the
     /// accumulators stay; else they grow by their voices' frequencies after the sample.
+    #[inline(always)]
     pub fn tick(&mut self, prom: &[u8; 256], registers: &[u8; 32], on: bool) -> i16
         ensures sample { result ≡ spec.sound_sample prom.now registers.now self.old on }
         ensures accumulators { self.new ≡ spec.accumulators_after registers.now on self.old }

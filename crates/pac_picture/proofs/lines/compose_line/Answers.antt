@@ -3,7 +3,7 @@ use Rattle.pac_picture.proofs.lines.compose_line.Goals as goal
 
 pub returns : goal.returns
 returns c =
-    line-is c.args.layer.now.roms c.args.screen.now c.args.y c.line.new.out c.paint_sprites.new.out c.turn.new.out
+    line-is c.args.layer.now.roms c.args.screen.now c.args.y c.line.new.out c.paint_unless_none.new.out c.turn.new.out
     (rw (c.source-source.ensures.line, c.requires.drawn) at c.line.ensures)
-    (λ x across. rw (c.graphics.ensures, c.source-source.ensures.line) at (c.paint_sprites.ensures.dots x across))
-    c.paint_sprites.array_long (rw c.flip.ensures at c.turn.ensures)
+    (λ x across. rw (c.graphics.ensures, c.source-source.ensures.line) at (c.paint_unless_none.ensures.dots x across))
+    c.paint_unless_none.array_long (rw c.flip.ensures at c.turn.ensures)
