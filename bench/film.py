@@ -1,12 +1,12 @@
 #!/usr/bin/env python3
-"""Times `pacboard run` and plain Rust on one film.
+"""Times `pacboard run`, plain Rust and a session on one film.
 
-    bench/film.py PLAIN PACBOARD [ROUNDS [SOURCE SET SCRIPT]]
+    bench/film.py PLAIN PACBOARD[,PACBOARD ..] [ROUNDS [SOURCE SET SCRIPT]]
 
-PLAIN is what bench/bench.rs was compiled to, PACBOARD the built program. Both make the film of a source with its manifest and script, or
-1,200 frames of the mixed program where none are given: into a folder of a file system in memory, where frames and wave are compared (a
-difference ends the script), and to /dev/null. The two take turns. Printed are the least times of the processor in some rounds, in user mode
-and in the system.
+PLAIN is what bench/bench.rs was compiled to, PACBOARD the built program, or several builds of it. All make the film of a source with its
+manifest and script, or 1,200 frames of the mixed program where none are given: into a folder of a file system in memory, where frames and
+wave are compared (a difference ends the script), and to /dev/null, and there `pacboard debug` makes it, too, by the one command `frames`.
+They take turns. Printed are the least times of the processor in some rounds, in user mode and in the system, and of both together.
 """
 import filecmp
 import os
@@ -81,17 +81,18 @@ def compare(where, rounds, commands):
             times[name].append(timed(words))
     for name, rows in times.items():
         user, system = (min(column) for column in zip(*rows))
-        print(f"{where}, {name}: {user:.3f} seconds in user mode, {system:.3f} in the system", flush=True)
+        both = min(sum(row) for row in rows)
+        print(f"{where}, {name}: {user:.4f} seconds in user mode, {system:.4f} in the system, {both:.4f} together", flush=True)
 
 
 def main():
     if "--help" in sys.argv[1:]:
         return print(__doc__.strip())
     if len(sys.argv) not in (3, 4, 7) or not "".join(sys.argv[3:4] or "1").isdigit():
-        print("film.py: usage: bench/film.py PLAIN PACBOARD [ROUNDS [SOURCE SET SCRIPT]]; --help tells more", file=sys.stderr)
+        print("film.py: usage: bench/film.py PLAIN PACBOARD[,PACBOARD ..] [ROUNDS [SOURCE SET SCRIPT]]; --help tells more", file=sys.stderr)
         return 2
-    plain, pacboard = map(os.path.abspath, sys.argv[1:3])
-    for program in (plain, pacboard):
+    plain, *builds = map(os.path.abspath, [sys.argv[1], *sys.argv[2].split(",")])
+    for program in (plain, *builds):
         if not os.access(program, os.X_OK):
             print(f"film.py: {program} isn't there", file=sys.stderr)
             return 2
@@ -99,17 +100,22 @@ def main():
     with tempfile.TemporaryDirectory(dir="/dev/shm") as folder:
         at = lambda name: os.path.join(folder, name)
         source, manifest, script = map(os.path.abspath, sys.argv[4:] or lay_mixed(at))
-        lay_plain(at, pacboard, source, manifest, script)
-        ours = [pacboard, "run", "--source", source, "--set", manifest, "--script", script, "--listing", os.devnull]
-        files = ["--frames", at("ours.ppm"), "--wave", at("ours.wav")]
-        compare("into memory", rounds, {"plain Rust": [plain, "film", folder], "pacboard": ours + files})
+        lay_plain(at, builds[0], source, manifest, script)
+        lay(at("commands"), b"frames %d\n" % sum(int(span.split()[0]) for span in spans_of(script)))
+        given = ["--source", source, "--set", manifest, "--script", script, "--listing", os.devnull]
+        into = lambda frames, wave: [*given, "--frames", frames, "--wave", wave]
+        runs = {program: [program, "run", *into(at(f"{n}.ppm"), at(f"{n}.wav"))] for n, program in enumerate(builds)}
+        compare("into memory", rounds, {"plain Rust": [plain, "film", folder], **runs})
         for kind in "ppm", "wav":
-            if not filecmp.cmp(at("plain." + kind), at("ours." + kind), shallow=False):
-                sys.exit(f"film.py: the files of kind {kind} differ")
+            for n, program in enumerate(builds):
+                if not filecmp.cmp(at("plain." + kind), at(f"{n}.{kind}"), shallow=False):
+                    sys.exit(f"film.py: the file of kind {kind} of {program} differs")
             os.remove(at("plain." + kind))
             os.symlink(os.devnull, at("plain." + kind))
-        nowhere = ["--frames", os.devnull, "--wave", os.devnull]
-        compare("to /dev/null", rounds, {"plain Rust": [plain, "film", folder], "pacboard": ours + nowhere})
+        nowhere = into(os.devnull, os.devnull)
+        runs = {program: [program, "run", *nowhere] for program in builds}
+        runs |= {f"{program} debug": [program, "debug", "--commands", at("commands"), *nowhere] for program in builds}
+        compare("to /dev/null", rounds, {"plain Rust": [plain, "film", folder], **runs})
     return 0
 
 
