@@ -3,6 +3,7 @@ import contextlib
 import os
 import pathlib
 import re
+import shlex
 import shutil
 import subprocess
 import sys
@@ -70,9 +71,9 @@ def stamp(folder):
 
 
 def lay_kit(flags, to):
-    """Lays the kit beside itself, its files by links, with a C compiler that gets these flags too, and returns the copy's `rt`.
+    """Lays a copy of the kit into a folder, its files by links, whose C compiler gets these flags too, and answers the copy's `rt`.
 
-    The kit proves the same, and hands the compiler the same program; the flags say which instructions of the processor it may use.
+    The copy proves the same, and hands the compiler the same program; the flags say which instructions of the processor it may use.
     """
     kit = pathlib.Path(shutil.which("rt")).resolve().parent.parent
     compiler = "toolchain/bin/clang"
@@ -83,7 +84,7 @@ def lay_kit(flags, to):
             shutil.copy(file, to / name)  # (they look for the rest beside themselves)
         elif str(name) not in ("bin", "toolchain", "toolchain/bin", compiler):
             (to / name).symlink_to(file)
-    (to / compiler).write_text(f'#!/bin/sh\nexec {kit / compiler} "$@" {" ".join(flags)}\n')
+    (to / compiler).write_text(f'#!/bin/sh\nexec {shlex.quote(str(kit / compiler))} "$@" {shlex.join(flags)}\n')
     (to / compiler).chmod(0o755)
     return to / "bin/rt"
 

@@ -1,17 +1,26 @@
 """Gives a WebAssembly module with addresses of 64 bits those of 32 bits, which each browser has.
 
 An address is cut to its low 32 bits where memory is read or written, and nothing else changes: functions take and give what they did. The
-module has one memory, and no instruction of threads or exceptions, which is what the kit writes. The format is that of the WebAssembly core
-specification, release 3.0.
+module has one memory that doesn't grow, and no instruction of threads, exceptions or references, which is what the kit writes; what isn't known
+here is refused. The format is that of the WebAssembly core specification, release 3.0.
 """
 import struct
 
 TYPE, FUNCTION, MEMORY, CODE, DATA = 1, 3, 5, 10, 11  # sections
 I32, I64, F32, F64, V128 = 0x7F, 0x7E, 0x7D, 0x7C, 0x7B  # types of values
 TYPES = I32, I64, F32, F64, V128  # of the locals that each function gets, in this order
-WRAP, EXTEND, SET, GET = b"\xa7", b"\xad", b"\x21", b"\x20"  # i32.wrap_i64, i64.extend_i32_u, local.set, local.get
-STORES = {0x36: I32, 0x37: I64, 0x38: F32, 0x39: F64, 0x3A: I32, 0x3B: I32, 0x3C: I64, 0x3D: I64, 0x3E: I64}
-ONE_INDEX = {*range(0x0C, 0x0E), 0x10, *range(0x20, 0x27), 0x3F, 0x40, 0xD0, 0xD2}  # br, br_if, call, variables, tables, memory.size ..
+WRAP, SET, GET = b"\xa7", b"\x21", b"\x20"  # i32.wrap_i64, local.set, local.get
+
+# opcodes
+BLOCKS, CONSTANTS, BRANCHES, VARIABLES = range(0x02, 0x05), range(0x41, 0x43), (0x0C, 0x0D), range(0x20, 0x25)
+CALL, CALL_INDIRECT, BRANCH_TABLE, SELECT_TYPED, F32_CONST, F64_CONST = 0x10, 0x11, 0x0E, 0x1C, 0x43, 0x44
+LOADS = range(0x28, 0x36)
+STORES = {0x36: I32, 0x37: I64, 0x38: F32, 0x39: F64, 0x3A: I32, 0x3B: I32, 0x3C: I64, 0x3D: I64, 0x3E: I64}  # and what is stored
+PLAIN = {0x00, 0x01, 0x05, 0x0B, 0x0F, 0x1A, 0x1B, *range(0x45, 0xC5)}  # those that nothing stands after
+BULK, VECTOR = 0xFC, 0xFD  # a second opcode follows
+TRUNCATIONS, COPY, FILL = range(8), 10, 11  # after BULK
+VECTOR_LOADS, VECTOR_STORE, LANE_LOADS_AND_STORES = (*range(11), 92, 93), 11, range(84, 92)  # after VECTOR
+SIXTEEN_BYTES, LANES = (12, 13), (*range(21, 35), *LANE_LOADS_AND_STORES)  # a vector or sixteen lanes; the number of a lane
 
 
 class Reader:
@@ -38,6 +47,8 @@ class Reader:
     def bytes(self, count):
         """So many bytes."""
         self.at += count
+        if self.at > len(self.text):
+            raise ValueError("the module is cut")
         return self.text[self.at - count : self.at]
 
 
@@ -63,29 +74,28 @@ def memory_operands(code):
 
 def read_operands(code, opcode):
     """What stands after an opcode: the second opcode, where there is one, and the rest."""
+    if opcode == VECTOR:
+        second = code.number()
+        has_place = second in VECTOR_LOADS or second == VECTOR_STORE or second in LANE_LOADS_AND_STORES
+        return second, (memory_operands(code) if has_place else b"") + code.bytes(16 if second in SIXTEEN_BYTES else 1 if second in LANES else 0)
+    if opcode == BULK:
+        second = code.number()
+        if second not in (*TRUNCATIONS, COPY, FILL):
+            raise ValueError(f"opcode {opcode:#x} {second} isn't known")
+        return second, code.bytes({COPY: 2, FILL: 1}.get(second, 0))  # (the number of the memory, twice and once)
+    if opcode in LOADS or opcode in STORES or opcode == CALL_INDIRECT:
+        return None, memory_operands(code)  # (a type and a table are two numbers, too)
     begun = code.at
-    if opcode == 0x11 or 0x28 <= opcode <= 0x3E:  # call_indirect; loads and stores
-        return None, memory_operands(code)
-    if opcode == 0xFD:
-        second = code.number()
-        places = memory_operands(code) if second < 12 or 84 <= second <= 93 else b""
-        return second, places + code.bytes(16 if second in (12, 13) else 1 if 21 <= second <= 34 or 84 <= second <= 91 else 0)
-    if opcode == 0xFC:
-        second = code.number()
-        begun = code.at
-        for _ in range({8: 2, 9: 1, 10: 2, 11: 1, 12: 2, 13: 1, 14: 2, 15: 1, 16: 1, 17: 1}.get(second, 0)):
-            code.number()
-        return second, code.text[begun : code.at]
-    if opcode in ONE_INDEX or opcode in (0x02, 0x03, 0x04, 0x41, 0x42):  # blocks with their types, and numbers
+    if opcode in BLOCKS or opcode in CONSTANTS or opcode in BRANCHES or opcode in VARIABLES or opcode == CALL:
         code.number()
-    elif opcode == 0x0E:  # br_table
+    elif opcode == BRANCH_TABLE:
         for _ in range(code.number() + 1):
             code.number()
-    elif opcode == 0x1C:  # select of types
+    elif opcode == SELECT_TYPED:
         code.bytes(code.number())
-    elif opcode in (0x43, 0x44):
-        code.bytes(4 if opcode == 0x43 else 8)
-    elif opcode >= 0xC5 and opcode != 0xD1:
+    elif opcode in (F32_CONST, F64_CONST):
+        code.bytes(4 if opcode == F32_CONST else 8)
+    elif opcode not in PLAIN:
         raise ValueError(f"opcode {opcode:#x} isn't known")
     return None, code.text[begun : code.at]
 
@@ -93,23 +103,17 @@ def read_operands(code, opcode):
 def lowered_instruction(opcode, second, text, temporary):
     """An instruction of 64-bit addresses by those of 32 bits: what lies above an address is kept in a local meanwhile."""
     def kept(kind):
-        return SET + temporary[kind] + WRAP + GET + temporary[kind] + text
+        return SET + temporary[kind] + WRAP + GET + temporary[kind]
 
-    if 0x28 <= opcode <= 0x35 or opcode == 0xFD and (second < 11 or second in (92, 93)):
+    if opcode in LOADS or opcode == VECTOR and second in VECTOR_LOADS:
         return WRAP + text
     if opcode in STORES:
-        return kept(STORES[opcode])
-    if opcode == 0xFD and (second == 11 or 84 <= second <= 91):
-        return kept(V128)
-    if opcode == 0x3F:
-        return text + EXTEND
-    if opcode == 0x40:
-        return WRAP + text + EXTEND
-    if opcode == 0xFC and second in (8, 10, 11):  # memory.init, copy and fill: only that of a copy has a second address
-        middle = WRAP if second == 10 else b""
-        rest = GET + temporary[I32] + GET + temporary[I64] + WRAP
-        count = b"" if second != 8 else EXTEND
-        return count + SET + temporary[I64] + middle + SET + temporary[I32] + WRAP + rest + text
+        return kept(STORES[opcode]) + text
+    if opcode == VECTOR and (second == VECTOR_STORE or second in LANE_LOADS_AND_STORES):
+        return kept(V128) + text
+    if opcode == BULK and second in (COPY, FILL):  # above the address lie a second one or a byte, and a count
+        cut = WRAP if second == COPY else b""
+        return SET + temporary[I64] + cut + kept(I32) + GET + temporary[I64] + WRAP + text
     return text
 
 
@@ -169,16 +173,9 @@ def lowered_data(section):
     count = read.number()
     out = bytearray(number(count))
     for _ in range(count):
-        kind = read.number()
-        out += number(kind)
-        if kind == 0:
-            if read.byte() != 0x42:
-                raise ValueError("the place of data isn't a number")
-            out += b"\x41" + signed(read.number())
-            read.byte()
-            out += b"\x0b"
-        elif kind != 1:
-            raise ValueError("data of a second memory")
+        if read.bytes(2) != b"\x00\x42":
+            raise ValueError("the place of data isn't a number")
+        out += b"\x00\x41" + signed(read.number()) + read.bytes(1)
         size = read.number()
         out += number(size) + read.bytes(size)
     return bytes(out)
