@@ -23,22 +23,28 @@ pub struct Board {
     pub(crate) machine: Machine,
     pub(crate) asked: u64,
     pub(crate) due: Due,
+    /// The steps that it did before its machine's count of steps was last set.
     pub(crate) made: u64,
+    /// The count that was set then.
+    pub(crate) since: u64,
 }
 
 impl Model for Board {
-    ghost use Rattle.std.specs.Prelude.{◌≤◌};
-    ghost use Rattle.pac_board.specs.State.{BoardValue, most_asked};
+    ghost use Rattle.std.specs.Prelude.{◌≤◌, ◌-◌};
+    ghost use Rattle.pac_board.specs.State.{BoardValue, most_asked, steps_counted};
 
     ghost Value = { BoardValue };
 
     ghost view = { λ board. record {
       set = board.machine.set;
       state = record { now = board.machine.now; asked = board.asked; due = board.due };
-      made = board.made;
+      made = steps_counted board.made (board.machine.now.steps - board.since);
     } };
 
-    ghost invariant = { λ board. board.asked ≤ most_asked };
+    ghost invariant = { λ board. record {
+      asked : board.asked ≤ most_asked;
+      since : board.since ≤ board.machine.now.steps;
+    } };
 }
 
 impl Board {
@@ -52,6 +58,7 @@ impl Board {
             asked: 0,
             due: Due::NOTHING,
             made: 0,
+            since: 0,
         }
     }
 
@@ -64,6 +71,7 @@ impl Board {
             asked: 0,
             due: Due::NOTHING,
             made: 0,
+            since: 0,
         }
     }
 
@@ -155,7 +163,7 @@ impl Board {
     pub fn made(&self) -> u64
         ensures { result ≡ self.now.made }
     {
-        self.made
+        self.made.saturating_add(self.machine.steps() - self.since)
     }
 
     /// The byte that the processor would read at an address.

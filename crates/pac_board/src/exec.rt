@@ -2,7 +2,7 @@
 
 ghost use Rattle.std.specs.Prelude.{◌≡◌, ◌<◌, ◌≤◌, ◌^◌, [], true};
 ghost use Rattle.pac_machine.specs.Standing.{latest, nothing_due};
-ghost use Rattle.pac_board.specs.State.{due_outputs, steps_counted};
+ghost use Rattle.pac_board.specs.State.{due_outputs};
 ghost use Rattle.pac_board.specs.Calls.{Offers, IsAdvanced, Advances, StepsOnce, Executes};
 ghost use Rattle.pac_board.specs.Sinks.{by};
 ghost use Rattle.pac_board.specs.Turns.{Turns, GoesTo};
@@ -26,14 +26,6 @@ pub struct Ran {
     pub ticks: u64,
     /// Why it ended before its time, if it did.
     pub stop: Option<Stop>,
-}
-
-/// Counts steps, staying at the most that the count can hold.
-#[inline(always)]
-fn count(made: &mut u64, steps: u64)
-    ensures { made.new ≡ steps_counted made.old steps }
-{
-    *made = made.saturating_add(steps);
 }
 
 /// Notes what a step gave out. Nothing was due before, so after most steps, which give nothing, nothing is written.
@@ -80,7 +72,7 @@ impl Board {
     {
         let kind = self.machine.kind();
         let before = self.time();
-        match self.go_on(before + 1) {
+        match self.go_on(before + 1, &mut None) {
             Some(stop) => Once::Stopped(stop),
             None => Once::Stepped {
                 ticks: (self.time() - before) as u8,
@@ -129,53 +121,23 @@ impl Board {
     }
 
     /// Does the steps of a board with nothing due up to the next sample, to a limit before it, or to a stop; what the last of them
-    /// gives is due then.
+    /// gives is due then. Each step is told, where there is a trail.
     #[inline(always)]
-    fn go_on(&mut self, limit: u64) -> Option<Stop>
-        requires early { self.old.state.now.time < limit }
-        requires limit { limit ≤ latest }
-        requires nothing { due_outputs self.old ≡ [] }
-        ensures { IsStretched self.old limit result self.new }
-    {
-        let before = self.machine.steps();
-        let (stop, due) = self.machine.stretch_untold(limit);
-        note(&mut self.due, due);
-        count(&mut self.made, self.machine.steps() - before);
-        stop
-    }
-
-    /// Does the same, and tells each step, where there is a trail.
-    #[inline(always)]
-    fn go_on_told(&mut self, limit: u64, told: &mut Option<Trail>) -> Option<Stop>
+    fn go_on(&mut self, limit: u64, told: &mut Option<Trail>) -> Option<Stop>
         requires early { self.old.state.now.time < limit }
         requires limit { limit ≤ latest }
         requires nothing { due_outputs self.old ≡ [] }
         ensures made { IsStretched self.old limit result self.new }
         ensures told { IsTold self.old limit self.new told.old told.new }
     {
-        let begun = self.machine.steps();
         let (stop, due) = self.machine.stretch(limit, told);
         note(&mut self.due, due);
-        count(&mut self.made, self.machine.steps() - begun);
         stop
     }
 
     /// Does the steps, and offers what the last of them gives.
     #[inline(always)]
-    fn stretch<S: Sink>(&mut self, limit: u64, sink: &mut S) -> Result<Option<Stop>, Refused>
-        requires early { self.old.state.now.time < limit }
-        requires limit { limit ≤ latest }
-        requires nothing { due_outputs self.old ≡ [] }
-        ensures { Stretches (by S.took S.refused) self.old limit sink.old result self.new sink.new }
-    {
-        let stop = self.go_on(limit);
-        self.give(sink)?;
-        Ok(stop)
-    }
-
-    /// Does the same, and tells each step, where there is a trail.
-    #[inline(always)]
-    fn stretch_told<S: Sink>(
+    fn stretch<S: Sink>(
         &mut self,
         limit: u64,
         told: &mut Option<Trail>,
@@ -187,7 +149,7 @@ impl Board {
         ensures made { Stretches (by S.took S.refused) self.old limit sink.old result self.new sink.new }
         ensures told { IsTold self.old limit self.new told.old told.new }
     {
-        let stop = self.go_on_told(limit, told);
+        let stop = self.go_on(limit, told);
         self.give(sink)?;
         Ok(stop)
     }
@@ -210,26 +172,12 @@ impl Board {
         requires nothing { due_outputs self.old ≡ [] }
         ensures { HasRested self.old limit self.new }
     {
-        self.go_on(limit);
+        self.go_on(limit, &mut None);
     }
 
-    /// Does steps while the time is before a limit, up to a stop, and offers what each gives.
-    fn run<S: Sink>(&mut self, limit: u64, sink: &mut S) -> Result<Option<Stop>, Refused>
-        requires limit { limit ≤ latest }
-        requires nothing { due_outputs self.old ≡ [] }
-        requires made { self.old.made < 2 ^ 64 }
-        ensures { GoesTo (by S.took S.refused) self.old limit sink.old result self.new sink.new }
-    {
-        while self.time() < limit {
-            if let Some(stop) = self.stretch(limit, sink)? {
-                return Ok(Some(stop));
-            }
-        }
-        Ok(None)
-    }
-
-    /// Does the same, and tells each step, where there is a trail.
-    fn run_told<S: Sink>(
+    /// Does steps while the time is before a limit, up to a stop, and offers what each gives. Each step is told, where there is a trail.
+    #[inline(always)]
+    fn run<S: Sink>(
         &mut self,
         end: u64,
         told: &mut Option<Trail>,
@@ -242,7 +190,7 @@ impl Board {
         ensures told { IsTold self.old end self.new told.old told.new }
     {
         while self.time() < end {
-            if let Some(met) = self.stretch_told(end, told, sink)? {
+            if let Some(met) = self.stretch(end, told, sink)? {
                 return Ok(Some(met));
             }
         }
@@ -257,7 +205,7 @@ impl Board {
     {
         // (its bound, that of a u64, is what `run` asks of the count)
         self.made();
-        self.run(limit, sink)
+        self.run(limit, &mut None, sink)
     }
 
     /// Does the same, and tells each step, where there is a trail.
@@ -273,7 +221,7 @@ impl Board {
         ensures told { IsTold self.old limit self.new told.old told.new }
     {
         self.made();
-        self.run_told(limit, told, sink)
+        self.run(limit, told, sink)
     }
 
     /// Lets so many microseconds go by: offers what is due, then does steps, and offers what each gives, while the time is before
@@ -290,7 +238,7 @@ impl Board {
         if self.offer(sink).is_err() {
             return Err(Fault::Refused);
         }
-        match self.run(384 * asked / 125, sink) {
+        match self.run(384 * asked / 125, &mut None, sink) {
             Ok(stop) => Ok(Ran {
                 ticks: self.time() - begun,
                 stop,

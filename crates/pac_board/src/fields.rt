@@ -22,6 +22,7 @@ impl Board {
             asked: fields.asked,
             due: fields.due,
             made: 0,
+            since: fields.steps,
         }
     }
 
@@ -43,6 +44,8 @@ impl Board {
         requires { AreBoardFields fields.now }
         ensures { self.new ≡ restored_board self.old (state_of fields.now) }
     {
+        self.made = self.made();
+        self.since = fields.steps;
         self.machine.put_fields(fields);
         self.asked = fields.asked;
         self.due = fields.due;

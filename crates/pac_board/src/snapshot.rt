@@ -54,7 +54,9 @@ impl Board {
     pub fn restore(&mut self, snapshot: &Snapshot)
         ensures { self.new ≡ restored_board self.old snapshot.now }
     {
+        self.made = self.made();
         self.machine.thaw(&snapshot.frozen);
+        self.since = self.machine.steps();
         self.asked = snapshot.asked;
         self.due = snapshot.due;
     }

@@ -28,8 +28,8 @@ returns-in-Some c =
     stretched (ap (λ (stop : Option Stop). told_once stop
     (c.go_on.new.self.state.now.time - old.state.now.time) c.kind-kind.result) (sym c.in-Some.is))
 
-pub returns-in-None : goal.returns-in-None
-returns-in-None c =
+pub returns : goal.returns
+returns c =
     let old = c.args.self.now in
     let stretched : IsStretched old (old.state.now.time + 1) c.go_on.result c.go_on.new.self = search rules in
     let made : old.made < 2 ^ 64 = search rules in
