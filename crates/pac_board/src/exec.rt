@@ -1,9 +1,9 @@
 //! The calls that make steps, and offer what they give to a sink.
 
-ghost use Rattle.std.specs.Prelude.{◌≡◌, ◌<◌, ◌≤◌, ◌^◌, [], true};
+ghost use Rattle.std.specs.Prelude.{◌≡◌, ◌<◌, ◌≤◌, ◌^◌, [], true, None, is_some};
 ghost use Rattle.pac_machine.specs.Standing.{latest, nothing_due};
 ghost use Rattle.pac_board.specs.State.{due_outputs};
-ghost use Rattle.pac_board.specs.Calls.{Offers, IsAdvanced, Advances, StepsOnce, Executes};
+ghost use Rattle.pac_board.specs.Calls.{with_due, Offers, IsAdvanced, Advances, StepsOnce, Executes};
 ghost use Rattle.pac_board.specs.Sinks.{by};
 ghost use Rattle.pac_board.specs.Turns.{Turns, GoesTo};
 ghost use Rattle.pac_board.specs.Stretches.{IsStretched, Stretches, IsTold};
@@ -26,17 +26,6 @@ pub struct Ran {
     pub ticks: u64,
     /// Why it ended before its time, if it did.
     pub stop: Option<Stop>,
-}
-
-/// Notes what a step gave out. Nothing was due before, so after most steps, which give nothing, nothing is written.
-#[inline(always)]
-fn note(due: &mut Due, given: Due)
-    requires { due.old ≡ nothing_due }
-    ensures { due.new ≡ given }
-{
-    if given.is_some() {
-        *due = given;
-    }
 }
 
 impl Board {
@@ -72,7 +61,9 @@ impl Board {
     {
         let kind = self.machine.kind();
         let before = self.time();
-        match self.go_on(before + 1, &mut None) {
+        let mut met = None;
+        self.go_on(before + 1, &mut met);
+        match met {
             Some(stop) => Once::Stopped(stop),
             None => Once::Stepped {
                 ticks: (self.time() - before) as u8,
@@ -89,19 +80,22 @@ impl Board {
         ensures { Turns (by S.took S.refused) self.old sink.old result self.new sink.new }
     {
         let once = self.go();
-        self.give(sink)?;
+        self.offer(sink)?;
         Ok(once)
     }
 
-    /// Offers what is due, where anything is; after most steps nothing is.
+    /// Offers what steps gave, of a board with nothing due. It becomes due where it's refused alone, for it's taken nearly always.
     #[inline(always)]
-    fn give<S: Sink>(&mut self, sink: &mut S) -> Result<(), Refused>
-        ensures { Offers (by S.took S.refused) self.old sink.old result self.new sink.new }
+    fn give<S: Sink>(&mut self, given: Due, sink: &mut S) -> Result<(), Refused>
+        requires nothing { self.old.state.due ≡ nothing_due }
+        ensures { Offers (by S.took S.refused) (with_due self.old given) sink.old result self.new sink.new }
     {
-        if !self.due.is_some() {
-            return Ok(());
+        let mut due = given;
+        let offered = offer(&mut due, self.machine.picture(), sink);
+        if offered.is_err() {
+            self.due = due;
         }
-        self.offer(sink)
+        offered
     }
 
     /// Offers what is due, does one step, and offers what it gives.
@@ -120,19 +114,38 @@ impl Board {
         }
     }
 
-    /// Does the steps of a board with nothing due up to the next sample, to a limit before it, or to a stop; what the last of them
-    /// gives is due then. Each step is told, where there is a trail.
+    /// Does the steps of a board with nothing due up to the next sample, to a limit before it, or to a stop. Answers whether a stop came,
+    /// and what the last of them gives, which isn't due yet. Each step is told, where there is a trail.
     #[inline(always)]
-    fn go_on(&mut self, limit: u64, told: &mut Option<Trail>) -> Option<Stop>
+    fn go_apart(
+        &mut self,
+        limit: u64,
+        told: &mut Option<Trail>,
+        met: &mut Option<Stop>,
+    ) -> (bool, Due)
         requires early { self.old.state.now.time < limit }
         requires limit { limit ≤ latest }
         requires nothing { due_outputs self.old ≡ [] }
-        ensures made { IsStretched self.old limit result self.new }
+        requires none { met.old ≡ None }
+        ensures made { IsStretched self.old limit met.new (with_due self.new result.1) }
         ensures told { IsTold self.old limit self.new told.old told.new }
+        ensures nothing { self.new.state.due ≡ nothing_due }
+        ensures stopped { result.0 ≡ is_some met.new }
     {
-        let (stop, due) = self.machine.stretch(limit, told);
-        note(&mut self.due, due);
-        stop
+        self.machine.stretch(limit, told, met)
+    }
+
+    /// Does the same, and what the last of them gives is due then. No step is told.
+    #[inline(always)]
+    fn go_on(&mut self, limit: u64, met: &mut Option<Stop>)
+        requires early { self.old.state.now.time < limit }
+        requires limit { limit ≤ latest }
+        requires nothing { due_outputs self.old ≡ [] }
+        requires none { met.old ≡ None }
+        ensures { IsStretched self.old limit met.new self.new }
+    {
+        let (_, due) = self.go_apart(limit, &mut None, met);
+        self.due = due;
     }
 
     /// Does the steps, and offers what the last of them gives.
@@ -149,9 +162,13 @@ impl Board {
         ensures made { Stretches (by S.took S.refused) self.old limit sink.old result self.new sink.new }
         ensures told { IsTold self.old limit self.new told.old told.new }
     {
-        let stop = self.go_on(limit, told);
-        self.give(sink)?;
-        Ok(stop)
+        let mut met = None;
+        let (stopped, given) = self.go_apart(limit, told, &mut met);
+        self.give(given, sink)?;
+        if stopped {
+            return Ok(met);
+        }
+        Ok(None)
     }
 
     /// Whether the processor is halted, and no interrupt is accepted before the next events.

@@ -8,30 +8,30 @@ use Rattle.pac_board.proofs.board.Board.go.Goals as goal
 pub overflow_sub-result : goal.overflow_sub-result
 overflow_sub-result c =
     let old = c.args.self.now in
-    let stretched : IsStretched old (old.state.now.time + 1) c.go_on.result c.go_on.new.self = search rules in
-    let short = single-short old c.go_on.new.self c.go_on.result stretched in
+    let stretched : IsStretched old (old.state.now.time + 1) c.go_on.new.met c.go_on.new.self = search rules in
+    let short = single-short old c.go_on.new.self c.go_on.new.met stretched in
     omega arith
 
 pub overflow_cast-result : goal.overflow_cast-result
 overflow_cast-result c =
     let old = c.args.self.now in
-    let stretched : IsStretched old (old.state.now.time + 1) c.go_on.result c.go_on.new.self = search rules in
-    let short = single-short old c.go_on.new.self c.go_on.result stretched in
+    let stretched : IsStretched old (old.state.now.time + 1) c.go_on.new.met c.go_on.new.self = search rules in
+    let short = single-short old c.go_on.new.self c.go_on.new.met stretched in
     omega arith
 
 pub returns-in-Some : goal.returns-in-Some
 returns-in-Some c =
     let old = c.args.self.now in
-    let stretched : IsStretched old (old.state.now.time + 1) c.go_on.result c.go_on.new.self = search rules in
+    let stretched : IsStretched old (old.state.now.time + 1) c.go_on.new.met c.go_on.new.self = search rules in
     let made : old.made < 2 ^ 64 = search rules in
-    steps-alone old c.go_on.new.self _ c.go_on.result c.kind-kind.result c.requires.early c.requires.nothing made (search rules)
+    steps-alone old c.go_on.new.self _ c.go_on.new.met c.kind-kind.result c.requires.early c.requires.nothing made (search rules)
     stretched (ap (λ (stop : Option Stop). told_once stop
     (c.go_on.new.self.state.now.time - old.state.now.time) c.kind-kind.result) (sym c.in-Some.is))
 
-pub returns : goal.returns
-returns c =
+pub returns-in-None : goal.returns-in-None
+returns-in-None c =
     let old = c.args.self.now in
-    let stretched : IsStretched old (old.state.now.time + 1) c.go_on.result c.go_on.new.self = search rules in
+    let stretched : IsStretched old (old.state.now.time + 1) c.go_on.new.met c.go_on.new.self = search rules in
     let made : old.made < 2 ^ 64 = search rules in
-    steps-alone old c.go_on.new.self _ c.go_on.result c.kind-kind.result c.requires.early c.requires.nothing made (search rules)
+    steps-alone old c.go_on.new.self _ c.go_on.new.met c.kind-kind.result c.requires.early c.requires.nothing made (search rules)
     stretched (search rules)

@@ -3,10 +3,10 @@ use Rattle.std.proofs.lemmas.Result.{err_from_is_err_and}
 use Rattle.pac_board.proofs.Turns.{turn-left, turn-taken}
 use Rattle.pac_board.proofs.board.Board.turn.Goals as goal
 
-pub returns-in_err-give : goal.returns-in_err-give
-returns-in_err-give g c =
+pub returns-in_err-offer : goal.returns-in_err-offer
+returns-in_err-offer g c =
     let told = err_from_is_err_and c.from_residual.result c.from_residual.ensures.1 in
-    rw told.1 (turn-left c.go-once.ensures c.in_err-give.ensures)
+    rw told.1 (turn-left c.go-once.ensures c.in_err-offer.ensures)
 
 pub returns : goal.returns
-returns g c = let given = c.in_ok-give.ensures in turn-taken c.go-once.ensures given.0 given.1
+returns g c = let given = c.in_ok-offer.ensures in turn-taken c.go-once.ensures given.0 given.1

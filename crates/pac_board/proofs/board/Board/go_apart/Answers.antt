@@ -5,13 +5,13 @@ use Rattle.pac_board_model.specs.Trace.{by_view}
 use Rattle.pac_machine.specs.Bursts.{stretch_end}
 use Rattle.pac_machine.specs.Trails.{IsNoted}
 use Rattle.pac_board.proofs.Told.{board-noted}
-use Rattle.pac_board.proofs.board.Board.go_on.Goals as goal
+use Rattle.pac_board.proofs.board.Board.go_apart.Goals as goal
 
 pub returns-clause-told : goal.returns-clause-told
 returns-clause-told c =
     let old = c.self.inside.machine in
     let until = stretch_end c.args.limit old.now.time in
-    let told : IsNoted (step (by_view old.set)) until old.now c.stretch-stop.new.self.now c.args.told.now c.stretch-stop.new.told =
-    c.stretch-stop.ensures.told in
-    board-noted c.args.self.now old c.stretch-stop.new.self.now c.args.limit c.args.told.now c.stretch-stop.new.told
+    let told : IsNoted (step (by_view old.set)) until old.now c.stretch.new.self.now c.args.told.now c.stretch.new.told =
+    c.stretch.ensures.told in
+    board-noted c.args.self.now old c.stretch.new.self.now c.args.limit c.args.told.now c.stretch.new.told
     (search rules) told
