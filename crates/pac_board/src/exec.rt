@@ -15,6 +15,7 @@ use crate::offer::offer;
 use crate::sink::{Refused, Sink};
 use pac_cpu::{Once, Stop};
 use pac_machine::{Due, MOST_ASKED, Trail};
+use std::mem::forget;
 
 /// The time, in T-states, from which on no step is begun (this profile).
 pub const LATEST: u64 = 1 << 52;
@@ -144,7 +145,9 @@ impl Board {
         requires none { met.old ≡ None }
         ensures { IsStretched self.old limit met.new self.new }
     {
-        let (_, due) = self.go_apart(limit, &mut None, met);
+        let mut nobody = None;
+        let (_, due) = self.go_apart(limit, &mut nobody, met);
+        forget(nobody);
         self.due = due;
     }
 
@@ -214,6 +217,21 @@ impl Board {
         Ok(None)
     }
 
+    /// Does the same, and no step is told. That there is no trail is forgotten and not dropped, for a trail would give memory back, and
+    /// what calls for that can't be linked where a host has no heap.
+    #[inline(always)]
+    fn run_untold<S: Sink>(&mut self, end: u64, sink: &mut S) -> Result<Option<Stop>, Refused>
+        requires end { end ≤ latest }
+        requires nothing { due_outputs self.old ≡ [] }
+        requires made { self.old.made < 2 ^ 64 }
+        ensures { GoesTo (by S.took S.refused) self.old end sink.old result self.new sink.new }
+    {
+        let mut nobody = None;
+        let ran = self.run(end, &mut nobody, sink);
+        forget(nobody);
+        ran
+    }
+
     /// Does steps while the time is before a limit, up to a stop, and offers what each gives. Nothing is due before.
     pub fn go_to<S: Sink>(&mut self, limit: u64, sink: &mut S) -> Result<Option<Stop>, Refused>
         requires limit { limit ≤ latest }
@@ -222,7 +240,7 @@ impl Board {
     {
         // (its bound, that of a u64, is what `run` asks of the count)
         self.made();
-        self.run(limit, &mut None, sink)
+        self.run_untold(limit, sink)
     }
 
     /// Does the same, and tells each step, where there is a trail.
@@ -255,7 +273,7 @@ impl Board {
         if self.offer(sink).is_err() {
             return Err(Fault::Refused);
         }
-        match self.run(384 * asked / 125, &mut None, sink) {
+        match self.run_untold(384 * asked / 125, sink) {
             Ok(stop) => Ok(Ran {
                 ticks: self.time() - begun,
                 stop,
