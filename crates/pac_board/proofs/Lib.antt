@@ -19,3 +19,4 @@ pub use Rattle.pac_board_model.proofs.ResumedTimes
 pub use Rattle.pac_board_model.proofs.Runs
 pub use Rattle.pac_board_model.proofs.Walks
 pub use Rattle.pac_machine.proofs.Noted
+pub use Rattle.pac_machine.proofs.Trails

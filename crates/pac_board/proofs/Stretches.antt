@@ -30,6 +30,10 @@ has-no-stop : (stop : Option Stop) (late : Bool) → (is_some stop || late) ≡ 
 has-no-stop (Some stop) late going = not-both going
 has-no-stop None late going = refl
 
+pub no-stop : (stop : Option Stop) → is_some stop ≡ false → stop ≡ None
+no-stop (Some stop) none = absurd (cc)
+no-stop None none = refl
+
 module _ (old : BoardValue) (limit : ℕ) where
   abbrev stretch_until : ℕ
   stretch_until = stretch_end limit old.state.now.time

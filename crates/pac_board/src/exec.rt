@@ -116,14 +116,9 @@ impl Board {
     }
 
     /// Does the steps of a board with nothing due up to the next sample, to a limit before it, or to a stop. Answers whether a stop came,
-    /// and what the last of them gives, which isn't due yet. Each step is told, where there is a trail.
+    /// and what the last of them gives, which isn't due yet. Each step is told.
     #[inline(always)]
-    fn go_apart(
-        &mut self,
-        limit: u64,
-        told: &mut Option<Trail>,
-        met: &mut Option<Stop>,
-    ) -> (bool, Due)
+    fn make_stretch(&mut self, limit: u64, told: &mut Trail, met: &mut Option<Stop>) -> (bool, Due)
         requires early { self.old.state.now.time < limit }
         requires limit { limit ≤ latest }
         requires nothing { due_outputs self.old ≡ [] }
@@ -145,8 +140,8 @@ impl Board {
         requires none { met.old ≡ None }
         ensures { IsStretched self.old limit met.new self.new }
     {
-        let mut nobody = None;
-        let (_, due) = self.go_apart(limit, &mut nobody, met);
+        let mut nobody = Trail::silent();
+        let (_, due) = self.make_stretch(limit, &mut nobody, met);
         forget(nobody);
         self.due = due;
     }
@@ -156,7 +151,7 @@ impl Board {
     fn stretch<S: Sink>(
         &mut self,
         limit: u64,
-        told: &mut Option<Trail>,
+        told: &mut Trail,
         sink: &mut S,
     ) -> Result<Option<Stop>, Refused>
         requires early { self.old.state.now.time < limit }
@@ -166,7 +161,7 @@ impl Board {
         ensures told { IsTold self.old limit self.new told.old told.new }
     {
         let mut met = None;
-        let (stopped, given) = self.go_apart(limit, told, &mut met);
+        let (stopped, given) = self.make_stretch(limit, told, &mut met);
         self.give(given, sink)?;
         if stopped {
             return Ok(met);
@@ -195,12 +190,12 @@ impl Board {
         self.go_on(limit, &mut None);
     }
 
-    /// Does steps while the time is before a limit, up to a stop, and offers what each gives. Each step is told, where there is a trail.
+    /// Does steps while the time is before a limit, up to a stop, and offers what each gives. Each step is told.
     #[inline(always)]
     fn run<S: Sink>(
         &mut self,
         end: u64,
-        told: &mut Option<Trail>,
+        told: &mut Trail,
         sink: &mut S,
     ) -> Result<Option<Stop>, Refused>
         requires end { end ≤ latest }
@@ -217,7 +212,7 @@ impl Board {
         Ok(None)
     }
 
-    /// Does the same, and no step is told. That there is no trail is forgotten and not dropped, for a trail would give memory back, and
+    /// Does the same, and no step is told. The silent trail is forgotten and not dropped, for one that tells would give memory back, and
     /// what calls for that can't be linked where a host has no heap.
     #[inline(always)]
     fn run_untold<S: Sink>(&mut self, end: u64, sink: &mut S) -> Result<Option<Stop>, Refused>
@@ -226,7 +221,7 @@ impl Board {
         requires made { self.old.made < 2 ^ 64 }
         ensures { GoesTo (by S.took S.refused) self.old end sink.old result self.new sink.new }
     {
-        let mut nobody = None;
+        let mut nobody = Trail::silent();
         let ran = self.run(end, &mut nobody, sink);
         forget(nobody);
         ran
@@ -243,11 +238,11 @@ impl Board {
         self.run_untold(limit, sink)
     }
 
-    /// Does the same, and tells each step, where there is a trail.
+    /// Does the same, and tells each step.
     pub fn go_to_told<S: Sink>(
         &mut self,
         limit: u64,
-        told: &mut Option<Trail>,
+        told: &mut Trail,
         sink: &mut S,
     ) -> Result<Option<Stop>, Refused>
         requires limit { limit ≤ latest }

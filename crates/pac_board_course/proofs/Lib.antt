@@ -14,4 +14,5 @@ pub use Rattle.pac_board.proofs.Resumed
 pub use Rattle.pac_board.proofs.ResumedTimes
 pub use Rattle.pac_board.proofs.Runs
 pub use Rattle.pac_board.proofs.Sinks
+pub use Rattle.pac_board.proofs.Trails
 pub use Rattle.pac_board.proofs.Walks

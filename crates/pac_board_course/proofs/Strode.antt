@@ -1,5 +1,5 @@
 -- Steps of a course in one go: those of its board up to a limit within the frame under way.
-use Rattle.std.proofs.Common.{◌≡◌, ℕ, zero, suc, ◌+◌, ◌/◌, ◌==◌, ◌<◌, ◌≤◌, min}
+use Rattle.std.proofs.Common.{◌≡◌, ℕ, zero, suc, ◌+◌, ◌/◌, ◌==◌, ◌<◌, ◌≤◌}
 use Rattle.std.proofs.Common.{◌||◌, if◌then◌else◌, Bool, true, false, is_some, inl, inr, Option, None, Some}
 use Rattle.std.proofs.Common.{Result, Ok, Err, List, refl, sym, ap, subst, ◌∙◌, arith}
 use Rattle.std.proofs.lemmas.Bool.Decides.{nat_tests}
@@ -11,14 +11,14 @@ use Rattle.pac_board.specs.ModelLaws.{IsTimely}
 use Rattle.pac_board.specs.Step.{Moment, Next, Goes, Ends, step, frame_ticks}
 use Rattle.pac_board.specs.Trace.{by_view, next_with_inputs, moment_with_inputs}
 use Rattle.pac_board.specs.Trails.{noted_step, stepped, noted, IsNoted}
-use Rattle.pac_board.specs.Turns.{GoesTo, HasGone, IsWayRefused, board_after_walk, way_at}
+use Rattle.pac_board.specs.Turns.{GoesTo, HasGone, IsWayRefused, board_after_walk}
 use Rattle.pac_board.specs.Walk.{Walk, walk, walk_after_step, has_ended}
 use Rattle.pac_board.specs.PastStep.{PastStep}
 use Rattle.pac_board.proofs.Noted.{walk-stepped}
 use Rattle.pac_board.proofs.Walks.{not-both, ended-stays, going-steps, going-is-early, on-the-way, open-is-late, walk-to-ends}
 use Rattle.pac_board.proofs.Walks.{step-timely, play-timely}
 use Rattle.pac_board.specs.Sinks.{Giving, TookAll}
-use Rattle.pac_board.specs.State.{BoardValue, nothing_due}
+use Rattle.pac_board.specs.State.{BoardValue}
 use Rattle.pac_board.proofs.Sinks.{cut-along}
 use Rattle.pac_inputs.specs.declared.line.Stretch.{Stretch}
 use Rattle.pac_board_course.proofs.Answered.{IsClosed, due-kept, underway, frame-answered}
@@ -26,8 +26,7 @@ use Rattle.pac_board_course.proofs.Counted.{going-if-counted, going-same, going-
 use Rattle.pac_board_course.proofs.Framed.{frame_walk}
 use Rattle.pac_board_course.specs.Course.{CourseValue, end_of, next_in, held_in, way_walked}
 use Rattle.pac_board_course.specs.Frames.{frame_end}
-use Rattle.pac_board_course.specs.Plays.{IsCourseHeldUp}
-use Rattle.pac_board_course.specs.Told.{HasEndedBy, PlaysTold}
+use Rattle.pac_board_course.specs.Told.{PlaysTold}
 
 -- ---- the step that meets a stop
 

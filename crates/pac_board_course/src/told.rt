@@ -16,13 +16,13 @@ use pac_inputs::Script;
 
 /// Does the steps of a script's run on a board that begin before a limit, and before the blank of the frame under way, after which the
 /// next frame's inputs are held; or up to a stop, or to a refusal of the sink. So many frames had gone by before the script's first
-/// one. Each step is told, where there is a trail.
+/// one. Each step is told.
 pub fn play_told<S: Sink>(
     board: &mut Board,
     script: &Script,
     gone: u64,
     limit: u64,
-    told: &mut Option<Trail>,
+    told: &mut Trail,
     sink: &mut S,
 ) -> Result<Option<Stop>, Refused>
     requires time { frame_ticks * (gone + total_frames script.now) ≤ state.latest }

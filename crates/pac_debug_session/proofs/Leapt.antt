@@ -12,11 +12,10 @@ use Rattle.pac_board_course.specs.Calls.{now_after}
 use Rattle.pac_board_course.specs.Course.{CourseValue, next_in, way_walked}
 use Rattle.pac_board_course.specs.Frames.{frame_end}
 use Rattle.pac_board_course.specs.ModelLaws.{IsTimely}
-use Rattle.pac_board_course.specs.Output.{Output}
 use Rattle.pac_board_course.specs.PastStep.{PastStep}
 use Rattle.pac_board_course.specs.Sinks.{Giving, TookAll}
 use Rattle.pac_board_course.specs.State.{BoardValue, nothing_due, due_outputs, due_outputs_in, steps_counted}
-use Rattle.pac_board_course.specs.Step.{Moment, Next, Goes, Ends, frame_ticks}
+use Rattle.pac_board_course.specs.Step.{Moment, Next, Goes, frame_ticks}
 use Rattle.pac_board_course.specs.Stop.{Stop}
 use Rattle.pac_board_course.specs.Stretch.{Stretch}
 use Rattle.pac_board_course.specs.Plays.{IsCourseHeldUp}
@@ -29,13 +28,13 @@ use Rattle.pac_debug_session.specs.Keeping.{Ring, kept_of, ring_after_index}
 use Rattle.pac_debug_session.specs.Motions.{checkpoint_steps, moved_to}
 use Rattle.pac_debug_session.specs.Past.{past_steps, past_of, told_at, told_step_count}
 use Rattle.pac_debug_session.specs.Playing.{course_of}
-use Rattle.pac_debug_session.specs.Running.{Setting, now_at, next_from, next_at, limit, is_late, stop_in, stop_at, goes_at, outputs_between}
+use Rattle.pac_debug_session.specs.Running.{Setting, now_at, next_from, stop_in, stop_at, goes_at, outputs_between}
 use Rattle.pac_debug_session.specs.Session.{SessionValue, IsSession, session_due_outputs}
 use Rattle.pac_debug_session.specs.Strides.{MeetNothing, IsLeap, LeapEnds, IsLeapt, IsLeapRefused, Leaps, IsStrideRefused, StepsOn}
-use Rattle.pac_debug_session.specs.Told.{told_of}
+use Rattle.pac_board_course.specs.Trails.{told_of}
 use Rattle.pac_debug_session.proofs.Ends.{goes-if-counted}
 use Rattle.pac_debug_session.proofs.Forwards.{between-self}
-use Rattle.pac_debug_session.proofs.Histories.{kept-joined}
+use Rattle.pac_board_course.proofs.Trails.{kept-joined}
 use Rattle.pac_debug_session.proofs.Indices.{IsOpen, open-up-to, one-more, goes-on, goes-early, timely}
 use Rattle.pac_debug_session.proofs.PlayedOn.{run-walked, given-walked}
 use Rattle.pac_debug_session.proofs.Steppings.{with_board, IsLeft, left}

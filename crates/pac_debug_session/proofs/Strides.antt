@@ -27,7 +27,7 @@ use Rattle.pac_debug_session.specs.Running.{Setting, run, now_at, next_from, nex
 use Rattle.pac_debug_session.specs.Running.{outputs_between}
 use Rattle.pac_debug_session.specs.Strides.{AreAlike}
 use Rattle.pac_debug_session.specs.Told.{halted_steps}
-use Rattle.pac_debug_session.proofs.Histories.{kept-joined}
+use Rattle.pac_board_course.proofs.Trails.{kept-joined}
 use Rattle.pac_debug_session.proofs.Indices.{IsOpen, IsOneMore, open-up-to, one-more, between}
 use Rattle.pac_debug_session.proofs.Steppings.{with_board, IsLeft, left}
 

@@ -1,8 +1,6 @@
 -- A motion is steps forwards, one after another, up to the least index at which it rests.
 use Rattle.std.proofs.Common.{◌≡◌, ℕ, suc, ◌+◌, ◌-◌, ◌^◌, ◌==◌, ◌<◌, ◌≤◌, Bool, true, false, not, ◌&&◌, ◌||◌, is_none, max, nat_lt}
-use Rattle.std.proofs.Common.{nat_le, if◌then◌else◌, Option, None, Some, [], ◌++◌, refl, sym, ap, subst, ◌∙◌, arith}
-use Rattle.std.specs.List.{list_any}
-use Rattle.std.proofs.lemmas.List.{append-nil}
+use Rattle.std.proofs.Common.{nat_le, if◌then◌else◌, Option, None, Some, ◌++◌, refl, sym, ap, subst, ◌∙◌, arith}
 use Rattle.std.proofs.lemmas.Bool.Decides.{nat_tests}
 use mathlib.Core.List.{IsPrefix}
 use Rattle.pac_board_course.specs.Stop.{Stop}

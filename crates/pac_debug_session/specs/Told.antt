@@ -1,16 +1,11 @@
 -- For proofs: the steps that are told, and what is told after one more.
-use Rattle.std.specs.Prelude.{ℕ, zero, suc, ◌+◌, List, [], ◌∷◌, ◌++◌, Option, None, Some}
+use Rattle.std.specs.Prelude.{ℕ, zero, suc, ◌+◌, List, [], ◌∷◌, ◌++◌}
 use Rattle.circular_buffer.specs.Buffer.{keep_last}
 use Rattle.pac_board_course.specs.Once.{Once}
 use Rattle.pac_board_course.specs.OnceVariants.{Stepped, Stopped}
 use Rattle.pac_board_course.specs.StepKindVariants.{Halted}
 use Rattle.pac_board_course.specs.PastStep.{PastStep}
 use Rattle.pac_debug_session.specs.Past.{told_step_count}
-
--- the steps that are told, where there is a trail
-abbrev pub told_of : {A : Type 0} → Option (List A) → List A
-told_of None = []
-told_of (Some told) = told
 
 -- a step after those that are told, unless it was a stop
 abbrev pub told_after : List PastStep → (index pc : ℕ) → Once → List PastStep

@@ -22,14 +22,14 @@ use std::marker::Model;
 /// The last 256 steps, the oldest first.
 #[derive(Drop)]
 pub struct History {
-    /// Their trail. There is one in any case: what a board's run takes may be none.
-    told: Option<Trail>,
+    /// Their trail, which isn't silent.
+    told: Trail,
 }
 
 impl Model for History {
     ghost use Rattle.std.specs.Prelude.{◌≡◌, true, is_some, List};
     ghost use Rattle.pac_board_course.specs.PastStep.{PastStep};
-    ghost use Rattle.pac_debug_session.specs.Told.{told_of};
+    ghost use Rattle.pac_board_course.specs.Trails.{told_of};
 
     ghost Value = { List PastStep };
 
@@ -44,18 +44,8 @@ impl History {
         ensures { IfOk result (λ history. history ≡ []) }
     {
         Ok(History {
-            told: Some(Trail::new(alloc)?),
+            told: Trail::new(alloc)?,
         })
-    }
-
-    /// The trail.
-    fn trail(&self) -> &Trail
-        ensures { result.now ≡ self.now }
-    {
-        let Some(trail) = &self.told else {
-            unreachable!();
-        };
-        trail
     }
 
     /// Adds a step after the others, and keeps the last 256.
@@ -63,9 +53,7 @@ impl History {
     pub fn push(&mut self, step: PastStep)
         ensures { self.new ≡ keep_last told_step_count (self.old ++ step ∷ []) }
     {
-        if let Some(trail) = &mut self.told {
-            trail.push(step);
-        }
+        self.told.push(step);
     }
 
     /// Adds what a step from an index and an address was, unless it was a stop.
@@ -126,9 +114,7 @@ impl History {
     pub fn copy_from(&mut self, other: &History)
         ensures { self.new ≡ other.now }
     {
-        if let Some(trail) = &mut self.told {
-            trail.copy_from(other.trail());
-        }
+        self.told.copy_from(&other.told);
     }
 
     /// How many steps are told, 0 to 256.
@@ -136,13 +122,13 @@ impl History {
         ensures count { result ≡ length self.now }
         ensures within { result ≤ told_step_count }
     {
-        self.trail().len()
+        self.told.len()
     }
 
     /// The step at a place, the oldest being 0.
     pub fn get(&self, place: usize) -> Option<PastStep>
         ensures { result ≡ slice_get self.now place }
     {
-        self.trail().get(place)
+        self.told.get(place)
     }
 }

@@ -1,5 +1,5 @@
 -- The answer is the board's, and the next frame's inputs are held where it has ended.
-use Rattle.std.proofs.Common.{◌≡◌, ◌+◌, ◌*◌, ◌/◌, ◌<◌, ◌≤◌, min, inl, inr, refl, ap, subst, arith, rules}
+use Rattle.std.proofs.Common.{◌≡◌, ◌<◌, ◌≤◌, min, inl, inr, refl, subst, arith, rules}
 use Rattle.pac_board.specs.Sinks.{by}
 use Rattle.pac_board.specs.Step.{step}
 use Rattle.pac_board.specs.Trace.{by_view}

@@ -8,39 +8,38 @@ use Rattle.pac_board.specs.Calls.{with_due}
 use Rattle.pac_board.specs.State.{BoardValue}
 use Rattle.pac_board.specs.Stretches.{IsStretched}
 use Rattle.pac_machine.proofs.Noted.{noted-at}
-use Rattle.pac_machine.proofs.Noting.{unmet}
-use Rattle.pac_board.proofs.Stretches.{stretch-left, stretch-taken}
+use Rattle.pac_board.proofs.Stretches.{no-stop, stretch-left, stretch-taken}
 use Rattle.pac_board.proofs.board.Board.stretch.Goals as goal
 
 pub returns-in_err-give-clause-made : goal.returns-in_err-give-clause-made
 returns-in_err-give-clause-made g c =
     let told = err_from_is_err_and c.from_residual.result c.from_residual.ensures.1 in
-    rw told.1 (stretch-left c.requires.early c.go_apart-stopped.ensures.made c.in_err-give.ensures)
+    rw told.1 (stretch-left c.requires.early c.make_stretch-stopped.ensures.made c.in_err-give.ensures)
 
 pub returns-then-stopped-clause-made : goal.returns-then-stopped-clause-made
 returns-then-stopped-clause-made g c =
-    let given = c.in_ok-give.ensures in stretch-taken c.requires.early c.go_apart-stopped.ensures.made given.0 given.1
+    let given = c.in_ok-give.ensures in stretch-taken c.requires.early c.make_stretch-stopped.ensures.made given.0 given.1
 
 pub returns-clause-made : goal.returns-clause-made
 returns-clause-made g c =
     let given = c.in_ok-give.ensures in
-    let none = unmet c.go_apart-stopped.new.met (sym c.go_apart-stopped.ensures.stopped ∙ c.if-stopped.false) in
+    let none = no-stop c.make_stretch-stopped.new.met (sym c.make_stretch-stopped.ensures.stopped ∙ c.if-stopped.false) in
     stretch-taken c.requires.early
     (subst (λ (stop : Option Stop). IsStretched c.args.self.now c.args.limit stop
-    (with_due c.go_apart-stopped.new.self c.go_apart-stopped.result.1)) none c.go_apart-stopped.ensures.made)
+    (with_due c.make_stretch-stopped.new.self c.make_stretch-stopped.result.1)) none c.make_stretch-stopped.ensures.made)
     given.0 given.1
 
 pub returns-in_err-give-clause-told : goal.returns-in_err-give-clause-told
 returns-in_err-give-clause-told g c =
-    noted-at (step (by_view c.args.self.now.set)) c.go_apart-stopped.ensures.told
+    noted-at (step (by_view c.args.self.now.set)) c.make_stretch-stopped.ensures.told
     (ap (λ (b : BoardValue). b.state.now) c.in_err-give.ensures.board) refl
 
 pub returns-then-stopped-clause-told : goal.returns-then-stopped-clause-told
 returns-then-stopped-clause-told g c =
-    noted-at (step (by_view c.args.self.now.set)) c.go_apart-stopped.ensures.told
+    noted-at (step (by_view c.args.self.now.set)) c.make_stretch-stopped.ensures.told
     (ap (λ (b : BoardValue). b.state.now) c.in_ok-give.ensures.0) refl
 
 pub returns-clause-told : goal.returns-clause-told
 returns-clause-told g c =
-    noted-at (step (by_view c.args.self.now.set)) c.go_apart-stopped.ensures.told
+    noted-at (step (by_view c.args.self.now.set)) c.make_stretch-stopped.ensures.told
     (ap (λ (b : BoardValue). b.state.now) c.in_ok-give.ensures.0) refl

@@ -5,7 +5,7 @@ use Rattle.pac_board_course.specs.StepKindVariants.{Halted}
 use Rattle.pac_board_course.specs.PastStep.{PastStep}
 use Rattle.pac_debug_session.specs.Past.{told_step_count}
 use Rattle.pac_debug_session.specs.Told.{halted_steps}
-use Rattle.pac_debug_session.proofs.Histories.{kept-joined, kept-whole}
+use Rattle.pac_board_course.proofs.Trails.{kept-joined, kept-whole}
 use Rattle.pac_debug_session.proofs.history.History.tell_halted.Goals as goal
 
 pub telling-init : goal.telling-init

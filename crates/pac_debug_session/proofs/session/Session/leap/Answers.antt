@@ -1,5 +1,5 @@
 -- What stood before the steps stands after them, and what they gave was offered.
-use Rattle.std.proofs.Common.{◌≡◌, List, ◌+◌, ◌-◌, ◌*◌, ◌%◌, ℕ, min, max, [], map, Some, refl, ap, sym, subst, ◌∙◌, arith, rules}
+use Rattle.std.proofs.Common.{◌≡◌, List, ◌+◌, ◌-◌, ◌*◌, ◌%◌, min, max, [], map, Some, ap, sym, subst, ◌∙◌, arith, rules}
 use Rattle.pac_board_course.specs.RomParts.{Parts}
 use Rattle.pac_board_course.specs.Course.{CourseValue, next_in}
 use Rattle.pac_board_course.specs.Frames.{frame_end}

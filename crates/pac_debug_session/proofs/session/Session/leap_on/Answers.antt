@@ -1,5 +1,5 @@
 -- From the furthest index on what the steps give is fresh.
-use Rattle.std.proofs.Common.{◌≡◌, ◌<◌, nat_lt, if◌then◌else◌, None, Option, Ok, ap, sym, subst, ◌∙◌, arith}
+use Rattle.std.proofs.Common.{◌≡◌, nat_lt, if◌then◌else◌, None, Option, Ok, ap, sym, subst, ◌∙◌, arith}
 use Rattle.std.proofs.lemmas.Result.{err_from_is_err_and}
 use Rattle.pac_board_course.specs.Refused.{Refused}
 use Rattle.pac_board_course.specs.Sinks.{by}

@@ -1,5 +1,5 @@
 -- Behind the furthest index what the steps give was taken before.
-use Rattle.std.proofs.Common.{◌≡◌, ◌<◌, ◌-◌, min, nat_lt, if◌then◌else◌, None, Option, Ok, ap, sym, subst, ◌∙◌, arith}
+use Rattle.std.proofs.Common.{◌≡◌, nat_lt, if◌then◌else◌, None, Option, Ok, ap, sym, subst, ◌∙◌, arith}
 use Rattle.pac_board_course.specs.Refused.{Refused}
 use Rattle.pac_board_course.specs.Sinks.{by}
 use Rattle.pac_board_course.specs.Stop.{Stop}

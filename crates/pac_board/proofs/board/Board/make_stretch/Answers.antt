@@ -5,7 +5,7 @@ use Rattle.pac_board_model.specs.Trace.{by_view}
 use Rattle.pac_machine.specs.Bursts.{stretch_end}
 use Rattle.pac_machine.specs.Trails.{IsNoted}
 use Rattle.pac_board.proofs.Told.{board-noted}
-use Rattle.pac_board.proofs.board.Board.go_apart.Goals as goal
+use Rattle.pac_board.proofs.board.Board.make_stretch.Goals as goal
 
 pub returns-clause-told : goal.returns-clause-told
 returns-clause-told c =
