@@ -18,8 +18,6 @@ pub mod laws;
 mod ran;
 mod roms;
 mod sounds;
-#[cfg(test)]
-mod tests;
 mod time;
 
 pub use block::PacBoard;
