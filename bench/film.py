@@ -16,33 +16,13 @@ import sys
 import tempfile
 import tomllib
 
+sys.dont_write_bytecode = True
+
+from mixed import SIZES, lay, lay_set
+
 FRAMES = 1200
-SIZES = {"tiles": (4096, 37), "sprites": (4096, 91), "lookup": (256, 7), "wave": (256, 5), "colours": (32, 29)}
 INPUTS = ["P1_UP", "P1_LEFT", "P1_RIGHT", "P1_DOWN", "RACK_TEST", "COIN1", "COIN2", "CREDIT"]
 INPUTS += ["P2_UP", "P2_LEFT", "P2_RIGHT", "P2_DOWN", "BOARD_TEST", "START1", "START2", "COCKTAIL"]
-
-
-def rom(size, factor):
-    """The bytes that bench.rs has for a ROM."""
-    return bytes((n % 4096 * factor + n // 16) & 255 for n in range(size))
-
-
-def lay_mixed(at):
-    """Lays source, manifest and script of the mixed program into the folder, and answers their names."""
-    path = os.path.join(os.path.dirname(os.path.abspath(__file__)), "..", "crates", "pacbench", "src", "mixed.rt")
-    with open(path, "rb") as file:
-        lay(at("mixed.asm"), file.read().split(b'= b"\n')[1].split(b'";')[0])
-    for name, (size, factor) in SIZES.items():
-        lay(at(name + ".rom"), rom(size, factor))
-    lay(at("set.toml"), "".join(f'{name}.file = "{name}.rom"\n' for name in SIZES).encode())
-    lay(at("mixed.script"), b"%d -\n" % FRAMES)
-    return at("mixed.asm"), at("set.toml"), at("mixed.script")
-
-
-def lay(name, data):
-    """Writes a file."""
-    with open(name, "wb") as file:
-        file.write(data)
 
 
 def spans_of(script):
@@ -99,7 +79,7 @@ def main():
     rounds = int(sys.argv[3]) if len(sys.argv) > 3 else 1
     with tempfile.TemporaryDirectory(dir="/dev/shm") as folder:
         at = lambda name: os.path.join(folder, name)
-        source, manifest, script = map(os.path.abspath, sys.argv[4:] or lay_mixed(at))
+        source, manifest, script = map(os.path.abspath, sys.argv[4:] or lay_set(folder, FRAMES))
         lay_plain(at, builds[0], source, manifest, script)
         lay(at("commands"), b"frames %d\n" % sum(int(span.split()[0]) for span in spans_of(script)))
         given = ["--source", source, "--set", manifest, "--script", script, "--listing", os.devnull]
@@ -119,4 +99,5 @@ def main():
     return 0
 
 
-sys.exit(main())
+if __name__ == "__main__":
+    sys.exit(main())

@@ -2,7 +2,7 @@
 //! of a few steps alone where it wasn't asked for rounds. RAM's sum is what the plain Rust in the folder `bench` prints for the same
 //! steps.
 
-use crate::mixed::{mixed_program, summed};
+use crate::mixed::{PROGRAM, summed};
 use pac_bus::{Bus, Flat};
 use pac_cpu::Cpu;
 use std::io;
@@ -43,8 +43,7 @@ fn ram_sum(bus: &Flat) -> u64 {
 /// A round of so many steps from power-on.
 fn make_round(rt: &HostRuntime, steps: u32) -> io::Result<Round> {
     let mut bus = Flat::new(rt.alloc())?;
-    let program = mixed_program(rt.alloc())?;
-    bus.load(0, program.rom());
+    bus.load(0, &PROGRAM);
     let mut cpu = Cpu::power_on();
     let start = Instant::now(rt)?;
     make_steps(&mut cpu, &mut bus, steps);
