@@ -56,7 +56,8 @@ def main():
         backs = least_times(folder, builds, SHORT, {"there": there, "back": there + BACKS * "back 1\n"}, rounds)
         for program in builds:
             seconds = backs[program, "back"] - backs[program, "there"]
-            print(f"{program}: {seconds / BACKS * 1e6:.1f} microseconds a back, {seconds / AGAIN * 1e9:.1f} ns for a step that is done again", flush=True)
+            back, step = seconds / BACKS * 1e6, seconds / AGAIN * 1e9
+            print(f"{program}: {back:.1f} microseconds a back, {step:.1f} ns for a step that is done again", flush=True)
         frames = least_times(folder, builds, LONG, {"frames": f"frames {LONG}\n"}, 1)
         for program in builds:
             print(f"{program}: {frames[program, 'frames'] / LONG * 1e6:.1f} microseconds a frame, with its film", flush=True)
