@@ -1,12 +1,11 @@
 //! What lines place, and the faults of their expressions.
 
-use crate::told::told;
+use crate::told::{Wanted, hold};
 use pac_asm_line::{ContentError, Expression, Statement, form};
 use pac_asm_operation::OperationFault;
 use pac_asm_program::{Content, Symbols};
 use pac_lex::tokens;
 use std::alloc::{AllocError, Global};
-use std::process::Abort;
 
 /// What a line at 1234H comes to, or its expression, where FIVE is 5 and a space has three bytes.
 #[derive(Clone, Copy)]
@@ -71,14 +70,16 @@ fn is_outcome(alloc: Global, statement: &Statement<'_, '_>, wanted: Outcome<'_>)
     }
 }
 
-/// Whether a line has a form, and comes to this.
-fn is_right(alloc: Global, line: &[u8], wanted: Outcome<'_>) -> bool {
-    let Ok(tokens) = tokens(alloc, line) else {
-        return false;
-    };
-    match form(tokens.as_slice()) {
-        Some(form) => is_outcome(alloc, &form.statement, wanted),
-        None => false,
+impl Wanted for Outcome<'static> {
+    /// Whether a line has a form, and comes to this.
+    fn is_met(&self, alloc: Global, line: &[u8]) -> bool {
+        let Ok(tokens) = tokens(alloc, line) else {
+            return false;
+        };
+        match form(tokens.as_slice()) {
+            Some(form) => is_outcome(alloc, &form.statement, *self),
+            None => false,
+        }
     }
 }
 
@@ -152,16 +153,9 @@ static EXPRESSIONS: [Row; 12] = [
     (b"ORG WHO", Outcome::Value(None)),
 ];
 
-/// Each line comes to what it should.
-fn are_right(rt: &impl Abort, alloc: Global, rows: &[Row]) {
-    for (line, wanted) in rows {
-        told(rt, line, is_right(alloc, line, *wanted));
-    }
-}
-
 #[test]
 fn contents_and_values(rt: HostRuntime) {
-    are_right(&rt, rt.alloc(), &BYTES);
-    are_right(&rt, rt.alloc(), &FAULTS);
-    are_right(&rt, rt.alloc(), &EXPRESSIONS);
+    hold(&rt, rt.alloc(), &BYTES);
+    hold(&rt, rt.alloc(), &FAULTS);
+    hold(&rt, rt.alloc(), &EXPRESSIONS);
 }

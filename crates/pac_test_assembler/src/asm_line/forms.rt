@@ -1,10 +1,9 @@
 //! What lines are, from the source language's rules.
 
-use crate::told::told;
+use crate::told::{Wanted, hold};
 use pac_asm_line::{Conditional, Statement, conditional_word, form};
 use pac_lex::{first_word, tokens};
 use std::alloc::Global;
-use std::process::Abort;
 
 /// What a line is, without its operands.
 #[derive(Clone, Copy, PartialEq, Eq)]
@@ -36,140 +35,122 @@ fn kind_of(statement: &Statement<'_, '_>) -> Kind {
     }
 }
 
-/// Whether a line is of this kind, with this label.
-fn is_of(alloc: Global, line: &[u8], kind: Kind, label: &[u8]) -> bool {
-    let Ok(tokens) = tokens(alloc, line) else {
-        return false;
-    };
-    match form(tokens.as_slice()) {
-        Some(form) => kind_of(&form.statement) == kind && form.label.unwrap_or(b"") == label,
-        None => kind == Kind::Refused,
+/// What a line is, and its label.
+struct Form(Kind, &'static [u8]);
+
+/// A line that is none of the language.
+const NONE: Form = Form(Kind::Refused, b"");
+
+impl Wanted for Form {
+    /// Whether a line is of this kind, with this label.
+    fn is_met(&self, alloc: Global, line: &[u8]) -> bool {
+        let Ok(tokens) = tokens(alloc, line) else {
+            return false;
+        };
+        match form(tokens.as_slice()) {
+            Some(form) => kind_of(&form.statement) == self.0 && form.label.unwrap_or(b"") == self.1,
+            None => self.0 == Kind::Refused,
+        }
     }
 }
 
 /// A line, what it is, and its label.
-type Row = (&'static [u8], Kind, &'static [u8]);
+type Row = (&'static [u8], Form);
 
 /// Lines of a label or an operation.
 static LABELS: [Row; 13] = [
-    (b"", Kind::Nothing, b""),
-    (b" ; NOP", Kind::Nothing, b""),
-    (b"NOPP", Kind::Nothing, b"NOPP"),
-    (b"END", Kind::Nothing, b"END"),
-    (b"RETT:", Kind::Nothing, b"RETT"),
-    (b"SLL", Kind::Nothing, b"SLL"),
-    (b"PC", Kind::Nothing, b"PC"),
-    (b"F", Kind::Nothing, b"F"),
-    (b"IFX", Kind::Nothing, b"IFX"),
-    (b"Label: NOP", Kind::Operation, b"Label"),
-    (b"label nop", Kind::Operation, b"label"),
-    (b"NOP", Kind::Operation, b""),
-    (b"LOOP: DJNZ LOOP", Kind::Operation, b"LOOP"),
+    (b"", Form(Kind::Nothing, b"")),
+    (b" ; NOP", Form(Kind::Nothing, b"")),
+    (b"NOPP", Form(Kind::Nothing, b"NOPP")),
+    (b"END", Form(Kind::Nothing, b"END")),
+    (b"RETT:", Form(Kind::Nothing, b"RETT")),
+    (b"SLL", Form(Kind::Nothing, b"SLL")),
+    (b"PC", Form(Kind::Nothing, b"PC")),
+    (b"F", Form(Kind::Nothing, b"F")),
+    (b"IFX", Form(Kind::Nothing, b"IFX")),
+    (b"Label: NOP", Form(Kind::Operation, b"Label")),
+    (b"label nop", Form(Kind::Operation, b"label")),
+    (b"NOP", Form(Kind::Operation, b"")),
+    (b"LOOP: DJNZ LOOP", Form(Kind::Operation, b"LOOP")),
 ];
 
 /// Lines of directives.
 static DIRECTIVES: [Row; 14] = [
-    (b"X: EQU 5", Kind::Equate, b"X"),
-    (b"X EQU 5", Kind::Equate, b"X"),
-    (b"ORG (5)", Kind::Origin, b""),
-    (b"IF(1)", Kind::Condition, b""),
-    (b"if 'A'", Kind::Condition, b""),
-    (b"eLsE", Kind::Otherwise, b""),
-    (b"ENDIF ; text", Kind::EndCondition, b""),
-    (b"X DEFB (5)", Kind::Data, b"X"),
-    (b"DB 'A'+1,'AB',''", Kind::Data, b""),
-    (b"DEFW 1,X", Kind::Data, b""),
-    (b"dm ''", Kind::Data, b""),
-    (b"DEFM 'A'", Kind::Data, b""),
-    (b"DEFS (5)", Kind::Space, b""),
-    (b"X: DS 5,6", Kind::Space, b"X"),
+    (b"X: EQU 5", Form(Kind::Equate, b"X")),
+    (b"X EQU 5", Form(Kind::Equate, b"X")),
+    (b"ORG (5)", Form(Kind::Origin, b"")),
+    (b"IF(1)", Form(Kind::Condition, b"")),
+    (b"if 'A'", Form(Kind::Condition, b"")),
+    (b"eLsE", Form(Kind::Otherwise, b"")),
+    (b"ENDIF ; text", Form(Kind::EndCondition, b"")),
+    (b"X DEFB (5)", Form(Kind::Data, b"X")),
+    (b"DB 'A'+1,'AB',''", Form(Kind::Data, b"")),
+    (b"DEFW 1,X", Form(Kind::Data, b"")),
+    (b"dm ''", Form(Kind::Data, b"")),
+    (b"DEFM 'A'", Form(Kind::Data, b"")),
+    (b"DEFS (5)", Form(Kind::Space, b"")),
+    (b"X: DS 5,6", Form(Kind::Space, b"X")),
 ];
 
-/// Each line is what it should be.
-fn are_of(rt: &impl Abort, alloc: Global, rows: &[Row]) {
-    for (line, kind, label) in rows {
-        told(rt, line, is_of(alloc, line, *kind, label));
-    }
-}
-
-#[test]
-fn right_lines(rt: HostRuntime) {
-    are_of(&rt, rt.alloc(), &LABELS);
-    are_of(&rt, rt.alloc(), &DIRECTIVES);
-}
-
 /// Lines that are none of the language: labels, and directives without a right operand or with a label that they can't have.
-static REFUSED: [&[u8]; 25] = [
-    b"L: NOP",
-    b"C",
-    b"nz:",
-    b"FOO BAR",
-    b"SLL A",
-    b"LABEL::",
-    b"A1: B1: NOP",
-    b"1_2",
-    b"(5)",
-    b"AF'",
-    b"EQU 5",
-    b"X EQU",
-    b"X EQU 1,2",
-    b"LD EQU 5",
-    b"X ORG 5",
-    b"ORG",
-    b"ORG 1,2",
-    b"ORG ''",
-    b"X: IF 1",
-    b"IF",
-    b"IF 1,2",
-    b"X ELSE",
-    b"ELSE 1",
-    b"X ENDIF",
-    b"ENDIF 5",
+static REFUSED: [Row; 25] = [
+    (b"L: NOP", NONE),
+    (b"C", NONE),
+    (b"nz:", NONE),
+    (b"FOO BAR", NONE),
+    (b"SLL A", NONE),
+    (b"LABEL::", NONE),
+    (b"A1: B1: NOP", NONE),
+    (b"1_2", NONE),
+    (b"(5)", NONE),
+    (b"AF'", NONE),
+    (b"EQU 5", NONE),
+    (b"X EQU", NONE),
+    (b"X EQU 1,2", NONE),
+    (b"LD EQU 5", NONE),
+    (b"X ORG 5", NONE),
+    (b"ORG", NONE),
+    (b"ORG 1,2", NONE),
+    (b"ORG ''", NONE),
+    (b"X: IF 1", NONE),
+    (b"IF", NONE),
+    (b"IF 1,2", NONE),
+    (b"X ELSE", NONE),
+    (b"ELSE 1", NONE),
+    (b"X ENDIF", NONE),
+    (b"ENDIF 5", NONE),
 ];
 
 /// Further ones: data, and operations.
-static REFUSED_TOO: [&[u8]; 27] = [
-    b"DEFB",
-    b"DEFB 1,",
-    b"DEFB ,1",
-    b"DEFB 1,,2",
-    b"DEFB 'AB'+1",
-    b"DEFB HL",
-    b"DEFB nop",
-    b"DEFB 1+DEFB",
-    b"DEFW",
-    b"DEFW 'AB'",
-    b"DEFW 1,",
-    b"DEFM",
-    b"DEFM 'A','B'",
-    b"DEFM 'A'+1",
-    b"DEFM 5",
-    b"DEFS",
-    b"DEFS 1,",
-    b"DEFS 1,2,3",
-    b"NOP 1",
-    b"LD A,",
-    b"LD A,'AB'",
-    b"LD A,()",
-    b"ADD B",
-    b"SUB A,B",
-    b"EX HL,DE",
-    b"JP (5)",
-    b"JP (IX+0)",
+static REFUSED_TOO: [Row; 27] = [
+    (b"DEFB", NONE),
+    (b"DEFB 1,", NONE),
+    (b"DEFB ,1", NONE),
+    (b"DEFB 1,,2", NONE),
+    (b"DEFB 'AB'+1", NONE),
+    (b"DEFB HL", NONE),
+    (b"DEFB nop", NONE),
+    (b"DEFB 1+DEFB", NONE),
+    (b"DEFW", NONE),
+    (b"DEFW 'AB'", NONE),
+    (b"DEFW 1,", NONE),
+    (b"DEFM", NONE),
+    (b"DEFM 'A','B'", NONE),
+    (b"DEFM 'A'+1", NONE),
+    (b"DEFM 5", NONE),
+    (b"DEFS", NONE),
+    (b"DEFS 1,", NONE),
+    (b"DEFS 1,2,3", NONE),
+    (b"NOP 1", NONE),
+    (b"LD A,", NONE),
+    (b"LD A,'AB'", NONE),
+    (b"LD A,()", NONE),
+    (b"ADD B", NONE),
+    (b"SUB A,B", NONE),
+    (b"EX HL,DE", NONE),
+    (b"JP (5)", NONE),
+    (b"JP (IX+0)", NONE),
 ];
-
-/// None of the lines is one of the language.
-fn are_refused(rt: &impl Abort, alloc: Global, lines: &[&[u8]]) {
-    for line in lines {
-        told(rt, line, is_of(alloc, line, Kind::Refused, b""));
-    }
-}
-
-#[test]
-fn refused_lines(rt: HostRuntime) {
-    are_refused(&rt, rt.alloc(), &REFUSED);
-    are_refused(&rt, rt.alloc(), &REFUSED_TOO);
-}
 
 /// Lines, and the conditional word that they begin with.
 static CONDITIONAL: [(&[u8], Option<Conditional>); 11] = [
@@ -186,9 +167,18 @@ static CONDITIONAL: [(&[u8], Option<Conditional>); 11] = [
     (b"", None),
 ];
 
-#[test]
-fn conditional_words(rt: HostRuntime) {
-    for (line, want) in &CONDITIONAL {
-        told(&rt, line, conditional_word(first_word(line)) == *want);
+impl Wanted for Option<Conditional> {
+    /// Whether a line begins with this word, or with none.
+    fn is_met(&self, _alloc: Global, line: &[u8]) -> bool {
+        conditional_word(first_word(line)) == *self
     }
+}
+
+#[test]
+fn forms_and_conditional_words(rt: HostRuntime) {
+    hold(&rt, rt.alloc(), &LABELS);
+    hold(&rt, rt.alloc(), &DIRECTIVES);
+    hold(&rt, rt.alloc(), &REFUSED);
+    hold(&rt, rt.alloc(), &REFUSED_TOO);
+    hold(&rt, rt.alloc(), &CONDITIONAL);
 }

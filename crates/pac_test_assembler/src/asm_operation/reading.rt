@@ -1,6 +1,7 @@
 //! Operations that are read, and the instructions that they stand for.
 
 use crate::names::OneByteNames;
+use crate::told::Wanted;
 use pac_asm_operation::{Operation, OperationFault};
 use pac_code::{Code, encode};
 use pac_lex::tokens;
@@ -8,7 +9,7 @@ use std::alloc::Global;
 
 /// What a text at 1000H comes to.
 #[derive(Drop)]
-pub(crate) enum Answer {
+enum Answer {
     /// It can't be read.
     NoTokens,
     /// It is no operation.
@@ -20,7 +21,7 @@ pub(crate) enum Answer {
 }
 
 /// What a text at 1000H comes to.
-pub(crate) fn read(alloc: Global, text: &[u8]) -> Answer {
+fn read(alloc: Global, text: &[u8]) -> Answer {
     let Ok(found) = tokens(alloc, text) else {
         return Answer::NoTokens;
     };
@@ -39,5 +40,39 @@ fn answer_of(operation: Option<Operation<'_, '_>>) -> Answer {
     match operation.instruction(&OneByteNames, 0x1000) {
         Ok(instruction) => Answer::Code(size, encode(&instruction)),
         Err(fault) => Answer::Fault(size, fault),
+    }
+}
+
+/// What a text at 1000H is wanted to come to.
+pub(crate) enum Outcome {
+    /// No operation.
+    Nothing,
+    /// This code, whose size the operation's form tells.
+    Code(&'static [u8]),
+    /// An operation of this size, with the fault of its numbers.
+    Fault(u8, OperationFault),
+}
+
+/// Whether a code is this one, and so many bytes.
+fn is_code(size: u8, code: &Code, bytes: &[u8]) -> bool {
+    code.as_slice() == bytes && size as usize == bytes.len()
+}
+
+/// Whether an answer is the one that is wanted.
+fn is_answer(answer: &Answer, wanted: &Outcome) -> bool {
+    match (answer, wanted) {
+        (Answer::Nothing, Outcome::Nothing) => true,
+        (Answer::Code(size, code), Outcome::Code(bytes)) => is_code(*size, code, bytes),
+        (Answer::Fault(size, fault), Outcome::Fault(right_size, right)) => {
+            size == right_size && fault == right
+        }
+        _ => false,
+    }
+}
+
+impl Wanted for Outcome {
+    /// Whether a text at 1000H comes to this.
+    fn is_met(&self, alloc: Global, line: &[u8]) -> bool {
+        is_answer(&read(alloc, line), self)
     }
 }

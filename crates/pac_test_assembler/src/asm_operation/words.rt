@@ -1,12 +1,12 @@
 //! Reserved words, directives, and expressions of a source.
 
-use crate::told::told;
+use crate::told::Wanted;
 use pac_asm_operation::{Directive, directive_of, is_reserved, is_source_expression, next_part};
 use pac_lex::{Token, tokens};
 use std::alloc::Global;
 
 /// Words, and whether they are reserved.
-static WORDS: [(&[u8], bool); 16] = [
+pub(super) static WORDS: [(&[u8], bool); 16] = [
     (b"ld", true),
     (b"OtDr", true),
     (b"endif", true),
@@ -26,7 +26,7 @@ static WORDS: [(&[u8], bool); 16] = [
 ];
 
 /// Words in any case, and the directives that they are.
-static DIRECTIVES: [(&[u8], &str); 4] = [
+pub(super) static DIRECTIVES: [(&[u8], &str); 4] = [
     (b"Org", "ORG"),
     (b"DB", "DEFB"),
     (b"DS", "DEFS"),
@@ -44,23 +44,30 @@ fn directive_name(word: &[u8]) -> &'static str {
     }
 }
 
-#[test]
-fn reserved_words_and_directives(rt: HostRuntime) {
-    for (word, want) in &WORDS {
-        told(&rt, word, is_reserved(word) == *want);
-    }
-    for (word, name) in &DIRECTIVES {
-        told(&rt, word, directive_name(word) == *name);
+impl Wanted for bool {
+    /// Whether a word is reserved, or isn't.
+    fn is_met(&self, _alloc: Global, line: &[u8]) -> bool {
+        is_reserved(line) == *self
     }
 }
 
-/// Operands, the tokens of the first, and whether it is an expression of a source.
-static PARTS: [(&[u8], usize, bool); 5] = [
-    (b"-(X+1)*2", 8, true),
-    (b"'A',HL", 1, true),
-    (b"HL+1", 3, false),
-    (b"ENDIF", 1, false),
-    (b",5", 0, false),
+impl Wanted for &'static str {
+    /// Whether a word is the directive of this name.
+    fn is_met(&self, _alloc: Global, line: &[u8]) -> bool {
+        directive_name(line) == *self
+    }
+}
+
+/// How many tokens a text's first operand has, and whether it is an expression of a source.
+pub(super) struct Part(usize, bool);
+
+/// Operands, and what the first is.
+pub(super) static PARTS: [(&[u8], Part); 5] = [
+    (b"-(X+1)*2", Part(8, true)),
+    (b"'A',HL", Part(1, true)),
+    (b"HL+1", Part(3, false)),
+    (b"ENDIF", Part(1, false)),
+    (b",5", Part(0, false)),
 ];
 
 /// Whether the first operand has so many tokens, with others after it or none, and is such an expression or isn't.
@@ -71,17 +78,12 @@ fn is_part(found: &[Token<'_>], count: usize, want: bool) -> bool {
         && rest.is_some() == (count < found.len())
 }
 
-/// Whether a text's first operand is so.
-fn begins_with(alloc: Global, text: &[u8], count: usize, want: bool) -> bool {
-    match tokens(alloc, text) {
-        Ok(found) => is_part(found.as_slice(), count, want),
-        Err(_) => false,
-    }
-}
-
-#[test]
-fn expressions(rt: HostRuntime) {
-    for (text, count, want) in &PARTS {
-        told(&rt, text, begins_with(rt.alloc(), text, *count, *want));
+impl Wanted for Part {
+    /// Whether a text's first operand is so.
+    fn is_met(&self, alloc: Global, line: &[u8]) -> bool {
+        match tokens(alloc, line) {
+            Ok(found) => is_part(found.as_slice(), self.0, self.1),
+            Err(_) => false,
+        }
     }
 }

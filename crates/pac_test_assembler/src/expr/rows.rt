@@ -3,11 +3,10 @@
 use crate::built::{Piece, built};
 use crate::names::OneByteNames;
 use crate::printed::is_printed;
-use crate::told::told;
+use crate::told::{Wanted, hold, told};
 use pac_expr::{ValueError, is_expression, value};
 use pac_lex::{Token, tokens};
 use std::alloc::Global;
-use std::process::Abort;
 
 /// What a line at 1234H comes to, read as one expression.
 #[derive(Clone, Copy)]
@@ -33,11 +32,13 @@ fn come_to(found: &[Token<'_>], wanted: Outcome) -> bool {
     is_expression(found) == answer.is_some() && is_outcome(answer, wanted)
 }
 
-/// Whether a line at 1234H comes to this.
-fn comes_to(alloc: Global, line: &[u8], wanted: Outcome) -> bool {
-    match tokens(alloc, line) {
-        Ok(found) => come_to(found.as_slice(), wanted),
-        Err(_) => false,
+impl Wanted for Outcome {
+    /// Whether a line at 1234H comes to this.
+    fn is_met(&self, alloc: Global, line: &[u8]) -> bool {
+        match tokens(alloc, line) {
+            Ok(found) => come_to(found.as_slice(), *self),
+            Err(_) => false,
+        }
     }
 }
 
@@ -107,18 +108,11 @@ static NO_EXPRESSIONS: [Row; 19] = [
     (b"1:", Outcome::NoExpression),
 ];
 
-/// Each line comes to what it should.
-fn are_right(rt: &impl Abort, alloc: Global, rows: &[Row]) {
-    for (line, wanted) in rows {
-        told(rt, line, comes_to(alloc, line, *wanted));
-    }
-}
-
 #[test]
 fn values_and_faults(rt: HostRuntime) {
-    are_right(&rt, rt.alloc(), &VALUES);
-    are_right(&rt, rt.alloc(), &FAULTS);
-    are_right(&rt, rt.alloc(), &NO_EXPRESSIONS);
+    hold(&rt, rt.alloc(), &VALUES);
+    hold(&rt, rt.alloc(), &FAULTS);
+    hold(&rt, rt.alloc(), &NO_EXPRESSIONS);
 }
 
 /// The deepest expressions that a line of 255 bytes has, in pieces, and their values.
@@ -135,7 +129,7 @@ static DEEP: [(&[Piece], i32); 4] = [
 /// Whether a line of some pieces has this value.
 fn has_value(alloc: Global, pieces: &[Piece], value: i32) -> bool {
     match built(alloc, pieces) {
-        Ok(line) => comes_to(alloc, line.as_bytes(), Outcome::Value(value)),
+        Ok(line) => Outcome::Value(value).is_met(alloc, line.as_bytes()),
         Err(_) => false,
     }
 }

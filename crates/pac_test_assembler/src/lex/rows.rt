@@ -1,13 +1,12 @@
 //! Lines, numbers, texts and words from the format's pages, and what is printed for each fault.
 
 use crate::printed::is_printed;
-use crate::told::told;
+use crate::told::{Wanted, hold, told};
 use pac_lex::{
     LexError, LexFault, Token, TokenKind, character_count, characters, first_line, first_word,
     next_word, one_character, tokens,
 };
 use std::alloc::Global;
-use std::process::Abort;
 
 /// Whether a line has this fault.
 fn has_fault(alloc: Global, line: &[u8], fault: LexFault) -> bool {
@@ -45,8 +44,7 @@ fn is_number(alloc: Global, line: &[u8], value: u16) -> bool {
 }
 
 /// What a line has.
-#[derive(Clone, Copy)]
-enum Wanted {
+enum Lexed {
     /// One token, a number of this value.
     Number(u16),
     /// This fault.
@@ -55,12 +53,14 @@ enum Wanted {
     Tokens(&'static [(TokenKind, &'static [u8])]),
 }
 
-/// Whether a line has what is wanted.
-fn has(alloc: Global, line: &[u8], wanted: Wanted) -> bool {
-    match wanted {
-        Wanted::Number(value) => is_number(alloc, line, value),
-        Wanted::Fault(fault) => has_fault(alloc, line, fault),
-        Wanted::Tokens(tokens) => has_tokens(alloc, line, tokens),
+impl Wanted for Lexed {
+    /// Whether a line has this.
+    fn is_met(&self, alloc: Global, line: &[u8]) -> bool {
+        match self {
+            Lexed::Number(value) => is_number(alloc, line, *value),
+            Lexed::Fault(fault) => has_fault(alloc, line, *fault),
+            Lexed::Tokens(tokens) => has_tokens(alloc, line, tokens),
+        }
     }
 }
 
@@ -88,92 +88,83 @@ const KINDS: [(TokenKind, &[u8]); 16] = [
 const BLANKS: [u8; 255] = [b' '; 255];
 
 /// A line, with what it has.
-type Row = (&'static [u8], Wanted);
+type Row = (&'static [u8], Lexed);
 
 /// Numbers by their last letter.
 static NUMBERS: [Row; 11] = [
-    (b"0B", Wanted::Number(0)),
-    (b"1b", Wanted::Number(1)),
-    (b"0BH", Wanted::Number(11)),
-    (b"1DH", Wanted::Number(29)),
-    (b"1D", Wanted::Number(1)),
-    (b"0DH", Wanted::Number(13)),
-    (b"10D", Wanted::Number(10)),
-    (b"17Q", Wanted::Number(15)),
-    (b"17O", Wanted::Number(15)),
-    (b"0ffffh", Wanted::Number(65535)),
-    (b"00065535", Wanted::Number(65535)),
+    (b"0B", Lexed::Number(0)),
+    (b"1b", Lexed::Number(1)),
+    (b"0BH", Lexed::Number(11)),
+    (b"1DH", Lexed::Number(29)),
+    (b"1D", Lexed::Number(1)),
+    (b"0DH", Lexed::Number(13)),
+    (b"10D", Lexed::Number(10)),
+    (b"17Q", Lexed::Number(15)),
+    (b"17O", Lexed::Number(15)),
+    (b"0ffffh", Lexed::Number(65535)),
+    (b"00065535", Lexed::Number(65535)),
 ];
 
 /// The leftmost fault of a line.
 static FAULTS: [Row; 16] = [
-    (b"2B", Wanted::Fault(LexFault::WrongNumber)),
-    (b"8O", Wanted::Fault(LexFault::WrongNumber)),
-    (b"0F", Wanted::Fault(LexFault::WrongNumber)),
-    (b"0X10", Wanted::Fault(LexFault::WrongNumber)),
-    (b"65536", Wanted::Fault(LexFault::WrongNumber)),
-    (b"10000H ' \"", Wanted::Fault(LexFault::WrongNumber)),
-    (b"'''", Wanted::Fault(LexFault::OpenText)),
-    (b"'x\x01", Wanted::Fault(LexFault::OpenText)),
-    (b"'x ; y", Wanted::Fault(LexFault::OpenText)),
-    (b"AF '", Wanted::Fault(LexFault::OpenText)),
-    (b"DEFB AF'A'", Wanted::Fault(LexFault::OpenText)),
-    (b"'\x01'", Wanted::Fault(LexFault::NoToken)),
-    (b"\x01 '", Wanted::Fault(LexFault::NoToken)),
-    (b"A # B", Wanted::Fault(LexFault::NoToken)),
-    (b"NOP\r", Wanted::Fault(LexFault::NoToken)),
-    (&[b'"'; 256], Wanted::Fault(LexFault::LongLine)),
+    (b"2B", Lexed::Fault(LexFault::WrongNumber)),
+    (b"8O", Lexed::Fault(LexFault::WrongNumber)),
+    (b"0F", Lexed::Fault(LexFault::WrongNumber)),
+    (b"0X10", Lexed::Fault(LexFault::WrongNumber)),
+    (b"65536", Lexed::Fault(LexFault::WrongNumber)),
+    (b"10000H ' \"", Lexed::Fault(LexFault::WrongNumber)),
+    (b"'''", Lexed::Fault(LexFault::OpenText)),
+    (b"'x\x01", Lexed::Fault(LexFault::OpenText)),
+    (b"'x ; y", Lexed::Fault(LexFault::OpenText)),
+    (b"AF '", Lexed::Fault(LexFault::OpenText)),
+    (b"DEFB AF'A'", Lexed::Fault(LexFault::OpenText)),
+    (b"'\x01'", Lexed::Fault(LexFault::NoToken)),
+    (b"\x01 '", Lexed::Fault(LexFault::NoToken)),
+    (b"A # B", Lexed::Fault(LexFault::NoToken)),
+    (b"NOP\r", Lexed::Fault(LexFault::NoToken)),
+    (&[b'"'; 256], Lexed::Fault(LexFault::LongLine)),
 ];
 
 /// Every token, none, and AF and a quote that make no token of their own.
 static TOKENS: [Row; 5] = [
     (
         b"_a1:\tAF' 1_2,$+(''-'a''\t;')*/af;'\x01",
-        Wanted::Tokens(&KINDS),
+        Lexed::Tokens(&KINDS),
     ),
-    (&BLANKS, Wanted::Tokens(&[])),
+    (&BLANKS, Lexed::Tokens(&[])),
     (
         b"AF 'x'",
-        Wanted::Tokens(&[(TokenKind::Name, b"AF"), (TokenKind::Text, b"'x'")]),
+        Lexed::Tokens(&[(TokenKind::Name, b"AF"), (TokenKind::Text, b"'x'")]),
     ),
     (
         b"XAF'A'",
-        Wanted::Tokens(&[(TokenKind::Name, b"XAF"), (TokenKind::Text, b"'A'")]),
+        Lexed::Tokens(&[(TokenKind::Name, b"XAF"), (TokenKind::Text, b"'A'")]),
     ),
     (
         b"afx'A'",
-        Wanted::Tokens(&[(TokenKind::Name, b"afx"), (TokenKind::Text, b"'A'")]),
+        Lexed::Tokens(&[(TokenKind::Name, b"afx"), (TokenKind::Text, b"'A'")]),
     ),
 ];
 
-/// Each line has what is wanted.
-fn have(rt: &impl Abort, alloc: Global, rows: &[Row]) {
-    for (line, wanted) in rows {
-        told(rt, line, has(alloc, line, *wanted));
-    }
-}
-
-#[test]
-fn tokens_of_lines(rt: HostRuntime) {
-    have(&rt, rt.alloc(), &NUMBERS);
-    have(&rt, rt.alloc(), &FAULTS);
-    have(&rt, rt.alloc(), &TOKENS);
-}
+/// The characters that a text spells.
+struct Spelled(&'static [u8]);
 
 /// Texts, with what they spell.
-static TEXTS: [(&[u8], &[u8]); 5] = [
-    (b"''", b""),
-    (b"''''", b"'"),
-    (b"'A'", b"A"),
-    (b"'it''s'", b"it's"),
-    (b"''''''", b"''"),
+static TEXTS: [(&[u8], Spelled); 5] = [
+    (b"''", Spelled(b"")),
+    (b"''''", Spelled(b"'")),
+    (b"'A'", Spelled(b"A")),
+    (b"'it''s'", Spelled(b"it's")),
+    (b"''''''", Spelled(b"''")),
 ];
 
-/// Whether a text spells these characters, so many.
-fn spells(alloc: Global, text: &[u8], inside: &[u8]) -> bool {
-    match characters(alloc, text) {
-        Ok(found) => found.as_slice() == inside && character_count(text) == inside.len(),
-        Err(_) => false,
+impl Wanted for Spelled {
+    /// Whether a text spells these characters, so many.
+    fn is_met(&self, alloc: Global, line: &[u8]) -> bool {
+        match characters(alloc, line) {
+            Ok(found) => found.as_slice() == self.0 && character_count(line) == self.0.len(),
+            Err(_) => false,
+        }
     }
 }
 
@@ -185,13 +176,10 @@ static CHARACTERS: [(&[u8], Option<u8>); 4] = [
     (b"'AB'", None),
 ];
 
-#[test]
-fn characters_of_texts(rt: HostRuntime) {
-    for (text, inside) in &TEXTS {
-        told(&rt, text, spells(rt.alloc(), text, inside));
-    }
-    for (text, character) in &CHARACTERS {
-        told(&rt, text, one_character(text) == *character);
+impl Wanted for Option<u8> {
+    /// Whether a text spells this character alone, or none or several.
+    fn is_met(&self, _alloc: Global, line: &[u8]) -> bool {
+        one_character(line) == *self
     }
 }
 
@@ -240,25 +228,42 @@ static LINES: [&[u8]; 4] = [b"a", b"\r", b"", b"b\r"];
 /// The words of a line.
 static WORDS: [&[u8]; 4] = [b"step", b"10", b"\xff,'a", b"b"];
 
+/// The word that a line begins with.
+struct FirstWord(&'static [u8]);
+
 /// Lines, with the word that they begin with.
-static FIRST_WORDS: [(&[u8], &[u8]); 9] = [
-    (b"", b""),
-    (b" \t", b""),
-    (b"\t endif;", b"endif"),
-    (b"If(1)", b"If"),
-    (b"_9a'", b"_9a"),
-    (b"L1: IF 1", b"L1"),
-    (b"'IF'", b""),
-    (b"\x01", b""),
-    (b"ELSE\xff", b"ELSE"),
+static FIRST_WORDS: [(&[u8], FirstWord); 9] = [
+    (b"", FirstWord(b"")),
+    (b" \t", FirstWord(b"")),
+    (b"\t endif;", FirstWord(b"endif")),
+    (b"If(1)", FirstWord(b"If")),
+    (b"_9a'", FirstWord(b"_9a")),
+    (b"L1: IF 1", FirstWord(b"L1")),
+    (b"'IF'", FirstWord(b"")),
+    (b"\x01", FirstWord(b"")),
+    (b"ELSE\xff", FirstWord(b"ELSE")),
 ];
+
+impl Wanted for FirstWord {
+    /// Whether a line begins with this word.
+    fn is_met(&self, _alloc: Global, line: &[u8]) -> bool {
+        first_word(line) == self.0
+    }
+}
+
+#[test]
+fn tokens_characters_and_first_words(rt: HostRuntime) {
+    hold(&rt, rt.alloc(), &NUMBERS);
+    hold(&rt, rt.alloc(), &FAULTS);
+    hold(&rt, rt.alloc(), &TOKENS);
+    hold(&rt, rt.alloc(), &TEXTS);
+    hold(&rt, rt.alloc(), &CHARACTERS);
+    hold(&rt, rt.alloc(), &FIRST_WORDS);
+}
 
 #[test]
 fn lines_and_words(rt: HostRuntime) {
     told(&rt, &"lines", has_lines(b"a\r\n\r\r\n\nb\r", &LINES));
     told(&rt, &"no line", has_lines(b"", &[]));
     told(&rt, &"words", has_words(b"\t step\t10  \xff,'a b ", &WORDS));
-    for (line, first) in &FIRST_WORDS {
-        told(&rt, line, first_word(line) == *first);
-    }
 }
