@@ -4,4 +4,4 @@ mod manifests;
 mod memory;
 mod refusals;
 mod sample;
-mod sets;
+pub(crate) mod sets;

@@ -1,6 +1,6 @@
 //! Which place an address selects, and what is read and written there.
 
-use super::rig::{Event, Rig};
+use super::rig::{Case, Step, plays};
 use crate::told::told;
 use pac_inputs::Inputs;
 use pac_map::{BusPlace, read_place, write_place};
@@ -49,66 +49,61 @@ fn places_of_the_bus_table(rt: HostRuntime) {
     }
 }
 
-/// Addresses that are written in turn, the byte, and an address that reads this byte then.
-type WriteRow = (u16, u8, u16, u8);
-
-static WRITTEN: [WriteRow; 11] = [
-    (0xC040, 0x11, 0x4040, 0x11),
-    (0x6040, 0x22, 0x4040, 0x22),
-    (0x4440, 0x33, 0xE440, 0x33),
-    (0x4FFF, 0x44, 0x6FFF, 0x44),
-    (0x0040, 0x55, 0x0040, 0x76),
-    (0x3FFF, 0x55, 0xBFFF, 0x76),
-    (0x4800, 0x66, 0x4800, 0xBF),
-    (0x5000, 0x77, 0x5000, 0xFF),
-    (0x5060, 0x77, 0x5060, 0xFF),
-    (0x5080, 0x77, 0x5080, 0xC9),
-    (0x50C0, 0x77, 0x50C0, 0xFF),
+static CASES: [Case; 2] = [
+    (
+        "reads after writes",
+        &[
+            Step::Write(0xC040, 0x11),
+            Step::Reads(0x4040, 0x11),
+            Step::Write(0x6040, 0x22),
+            Step::Reads(0x4040, 0x22),
+            Step::Write(0x4440, 0x33),
+            Step::Reads(0xE440, 0x33),
+            Step::Write(0x4FFF, 0x44),
+            Step::Reads(0x6FFF, 0x44),
+            Step::Write(0x0040, 0x55),
+            Step::Reads(0x0040, 0x76),
+            Step::Write(0x3FFF, 0x55),
+            Step::Reads(0xBFFF, 0x76),
+            Step::Write(0x4800, 0x66),
+            Step::Reads(0x4800, 0xBF),
+            Step::Write(0x5000, 0x77),
+            Step::Reads(0x5000, 0xFF),
+            Step::Write(0x5060, 0x77),
+            Step::Reads(0x5060, 0xFF),
+            Step::Write(0x5080, 0x77),
+            Step::Reads(0x5080, 0xC9),
+            Step::Write(0x50C0, 0x77),
+            Step::Reads(0x50C0, 0xFF),
+            // the board has no port to read
+            Step::Output(0, 0x88),
+            Step::Inputs(0, 0xFF),
+            Step::Inputs(255, 0xFF),
+        ],
+    ),
+    (
+        "held inputs read 0",
+        &[
+            Step::Hold(&[Inputs::P1_UP]),
+            Step::Reads(0x5000, 0xFE),
+            Step::Reads(0x5040, 0xFF),
+            Step::HoldToo(&[Inputs::START1]),
+            Step::Reads(0x5000, 0xFE),
+            Step::Reads(0x5040, 0xDF),
+            Step::Holds(&[Inputs::P1_UP, Inputs::START1]),
+            Step::LetGo(&[Inputs::P1_UP, Inputs::COIN1]),
+            Step::Reads(0x7000, 0xFF),
+            Step::Reads(0x7040, 0xDF),
+            Step::Hold(&[Inputs::CREDIT, Inputs::P2_UP]),
+            Step::Reads(0x5000, 0x7F),
+            Step::Reads(0x5040, 0xFE),
+        ],
+    ),
 ];
 
-/// Writes the byte of a row; whether the row's other address reads its byte then.
-fn is_written(rig: &mut Rig, row: &WriteRow) -> bool {
-    rig.happens(Event::Write(row.0, row.1));
-    rig.reads(row.2, row.3)
-}
-
 #[test]
-fn reads_after_writes(rt: HostRuntime) {
-    let mut rig = Rig::new();
-    for row in &WRITTEN {
-        told(&rt, row, is_written(&mut rig, row));
+fn reads_after_writes_and_held_inputs(rt: HostRuntime) {
+    for case in &CASES {
+        plays(&rt, case);
     }
-    rig.happens(Event::Output(0, 0x88));
-    told(&rt, &"no port", rig.has_no_port());
-}
-
-/// Lets an event happen; whether the inputs read these bytes then, IN0 at this address.
-fn reads_after(rig: &mut Rig, event: Event, address: u16, in0: u8, in1: u8) -> bool {
-    rig.happens(event);
-    rig.reads_inputs(address, in0, in1)
-}
-
-/// Whether P1_UP and then START1 too are held, and read so.
-fn holds_two(rig: &mut Rig) -> bool {
-    reads_after(rig, Event::Hold(Inputs::P1_UP), 0x5000, 0xFE, 0xFF)
-        && reads_after(rig, Event::HoldToo(Inputs::START1), 0x5000, 0xFE, 0xDF)
-        && rig.memory().held() == Inputs::P1_UP | Inputs::START1
-}
-
-#[test]
-fn held_inputs_read_0(rt: HostRuntime) {
-    let mut rig = Rig::new();
-    told(&rt, &"P1_UP, START1 too", holds_two(&mut rig));
-    let up_and_coin = Event::LetGo(Inputs::P1_UP | Inputs::COIN1);
-    told(
-        &rt,
-        &"START1 alone",
-        reads_after(&mut rig, up_and_coin, 0x7000, 0xFF, 0xDF),
-    );
-    let two = Event::Hold(Inputs::CREDIT | Inputs::P2_UP);
-    told(
-        &rt,
-        &"CREDIT and P2_UP",
-        reads_after(&mut rig, two, 0x5000, 0x7F, 0xFE),
-    );
 }

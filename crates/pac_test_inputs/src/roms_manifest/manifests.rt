@@ -5,6 +5,7 @@ use crate::printed::is_printed;
 use crate::told::told;
 use pac_roms_manifest::{Manifest, ManifestCode, PartName, SetError, SetFault};
 use std::alloc::Global;
+use std::process::Abort;
 
 /// The sample's files.
 static NAMES: [&str; 10] = [
@@ -79,76 +80,104 @@ fn files_in_their_order(rt: HostRuntime) {
     told(&rt, &"two files", has_both(rt.alloc()));
 }
 
+/// A text, and whether it is a manifest.
+type Text = (&'static [u8], bool);
+
 /// Texts of manifests.
-static MANIFESTS: [&str; 8] = [
-    "",
-    "# nothing\n",
-    "tile = 3\nwaves = [1]\n",
-    "[tiles]\n",
-    "tiles = {}",
-    "[tiles]\nfile = ''\nsize = 3\n[tiles.sprites]\nfile = 4",
-    "program = [{}, {}, {}, {file = 'd'}]",
-    "tiles.sha1 = \"0123456789abcdefABCDEF012345678901234567\"",
+static MANIFESTS: [Text; 8] = [
+    (b"", true),
+    (b"# nothing\n", true),
+    (b"tile = 3\nwaves = [1]\n", true),
+    (b"[tiles]\n", true),
+    (b"tiles = {}", true),
+    (
+        b"[tiles]\nfile = ''\nsize = 3\n[tiles.sprites]\nfile = 4",
+        true,
+    ),
+    (b"program = [{}, {}, {}, {file = 'd'}]", true),
+    (
+        b"tiles.sha1 = \"0123456789abcdefABCDEF012345678901234567\"",
+        true,
+    ),
 ];
 
-/// Whether a text is a manifest.
-fn is_manifest(alloc: Global, text: &str) -> bool {
-    Parsed::of(alloc, text.as_bytes()).is_ok()
-}
-
 /// Texts that are no manifest.
-static OTHERS: [&[u8]; 24] = [
-    b"tiles = 3",
-    b"tiles = 'tiles.rom'",
-    b"tiles = []",
-    b"[[tiles]]\nfile = 'a'",
-    b"timing = true",
-    b"sprites.file = 3",
-    b"colours.file = ['a']",
-    b"lookup.sha1 = 3",
-    b"wave.sha1 = ''",
+static OTHERS: [Text; 24] = [
+    (b"tiles = 3", false),
+    (b"tiles = 'tiles.rom'", false),
+    (b"tiles = []", false),
+    (b"[[tiles]]\nfile = 'a'", false),
+    (b"timing = true", false),
+    (b"sprites.file = 3", false),
+    (b"colours.file = ['a']", false),
+    (b"lookup.sha1 = 3", false),
+    (b"wave.sha1 = ''", false),
     // 39, 41 and 40 digits, one of which is no hexadecimal one
-    b"wave.sha1 = '000000000000000000000000000000000000000'",
-    b"wave.sha1 = '00000000000000000000000000000000000000000'",
-    b"wave.sha1 = '000000000000000000000000000000000000000g'",
+    (
+        b"wave.sha1 = '000000000000000000000000000000000000000'",
+        false,
+    ),
+    (
+        b"wave.sha1 = '00000000000000000000000000000000000000000'",
+        false,
+    ),
+    (
+        b"wave.sha1 = '000000000000000000000000000000000000000g'",
+        false,
+    ),
     // no tables, and fewer or more than four
-    b"[program]\nfile = 'a'",
-    b"program = 'a'",
-    b"program = [1, 2, 3, 4]",
-    b"program = [{}, {}, {}, 4]",
-    b"program = []",
-    b"program = [{}, {}, {}]",
-    b"program = [{}, {}, {}, {}, {}]",
+    (b"[program]\nfile = 'a'", false),
+    (b"program = 'a'", false),
+    (b"program = [1, 2, 3, 4]", false),
+    (b"program = [{}, {}, {}, 4]", false),
+    (b"program = []", false),
+    (b"program = [{}, {}, {}]", false),
+    (b"program = [{}, {}, {}, {}, {}]", false),
     // a digest that is none, where it is the last that is looked at
-    b"wave.file = 'w'\n[[program]]\n[[program]]\nfile = 'b'\n[[program]]\n[[program]]\nsha1 = ''",
+    (
+        b"wave.file = 'w'\n[[program]]\n[[program]]\nfile = 'b'\n[[program]]\n[[program]]\nsha1 = ''",
+        false,
+    ),
     // no TOML
-    b"tiles",
-    b"a = 1\na = 2",
-    b"[wave]\n[wave]",
-    b"# \xFF",
+    (b"tiles", false),
+    (b"a = 1\na = 2", false),
+    (b"[wave]\n[wave]", false),
+    (b"# \xFF", false),
 ];
 
 /// M1.
-static NO_MANIFEST: SetError = SetError::Fault(SetFault {
+const NO_MANIFEST: SetError = SetError::Fault(SetFault {
     code: ManifestCode::Manifest,
     part: None,
 });
 
-/// Whether M1 is the answer to a text.
-fn is_refused(alloc: Global, text: &[u8]) -> bool {
+/// Whether a text is a manifest, or M1 is the answer to it, as it should.
+fn is_answered(alloc: Global, text: &[u8], is_manifest: bool) -> bool {
     match Parsed::of(alloc, text) {
-        Ok(_) => false,
-        Err(error) => error == NO_MANIFEST,
+        Ok(_) => is_manifest,
+        Err(error) => !is_manifest && error == NO_MANIFEST,
+    }
+}
+
+/// Each text is a manifest, or is none, as it should.
+fn are_answered(rt: &impl Abort, alloc: Global, texts: &[Text]) {
+    for (text, is_manifest) in texts {
+        told(rt, text, is_answered(alloc, text, *is_manifest));
     }
 }
 
 #[test]
 fn texts_that_are_manifests_and_that_are_none(rt: HostRuntime) {
-    for text in &MANIFESTS {
-        told(&rt, text, is_manifest(rt.alloc(), text));
+    are_answered(&rt, rt.alloc(), &MANIFESTS);
+    are_answered(&rt, rt.alloc(), &OTHERS);
+}
+
+/// Errors as they are printed.
+static PRINTED: [(SetError, &str); 2] = [(NO_MANIFEST, "M1"), (SetError::Memory, "out of memory")];
+
+#[test]
+fn printed_errors(rt: HostRuntime) {
+    for (error, text) in &PRINTED {
+        told(&rt, text, is_printed(rt.alloc(), error, text));
     }
-    for text in &OTHERS {
-        told(&rt, text, is_refused(rt.alloc(), text));
-    }
-    told(&rt, &"M1", is_printed(rt.alloc(), &NO_MANIFEST, "M1"));
 }

@@ -1,7 +1,6 @@
 //! Manifests and sets where memory is refused.
 
 use super::sample::{BACKWARDS, FILES, Parsed, WHOLE};
-use crate::printed::is_printed;
 use crate::told::told;
 use pac_roms::RomSet;
 use pac_roms_manifest::{Manifest, PartName, SetError, load_set};
@@ -63,13 +62,4 @@ fn manifests_and_sets_in_scarce_memory(rt: HostRuntime) {
     );
     let sets = refused(rt.alloc());
     told(&rt, &("sets", sets), matches!(sets, Some(4..89)));
-}
-
-#[test]
-fn want_of_memory_is_printed(rt: HostRuntime) {
-    told(
-        &rt,
-        &"memory",
-        is_printed(rt.alloc(), &SetError::Memory, "out of memory"),
-    );
 }

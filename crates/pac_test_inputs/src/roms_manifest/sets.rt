@@ -73,7 +73,7 @@ impl Loaded {
 }
 
 /// Whether bytes are so many of one.
-fn is_all(bytes: &[u8], count: usize, byte: u8) -> bool {
+pub fn is_all(bytes: &[u8], count: usize, byte: u8) -> bool {
     for each in bytes {
         if *each != byte {
             return false;
@@ -92,13 +92,24 @@ static PLACES: [(usize, u8); 6] = [
     (16383, 0x14),
 ];
 
-/// Whether the parts of a set beside its program are the sample's.
-fn has_parts(set: &RomSet) -> bool {
-    is_all(set.tiles(), 4096, 1)
-        && is_all(set.sprites(), 4096, 2)
-        && is_all(set.colours(), 32, 3)
-        && is_all(set.lookup(), 256, 4)
-        && is_all(set.wave(), 256, 5)
+/// A part of a set beside its program that isn't the sample's, if there is one.
+pub fn wrong_part(set: &RomSet) -> Option<&'static str> {
+    if !is_all(set.tiles(), 4096, 1) {
+        return Some("tiles");
+    }
+    if !is_all(set.sprites(), 4096, 2) {
+        return Some("sprites");
+    }
+    if !is_all(set.colours(), 32, 3) {
+        return Some("colours");
+    }
+    if !is_all(set.lookup(), 256, 4) {
+        return Some("lookup");
+    }
+    if !is_all(set.wave(), 256, 5) {
+        return Some("wave");
+    }
+    None
 }
 
 /// Whether a program has a byte at a place.
@@ -122,16 +133,9 @@ fn is_whole(rt: &impl Abort, alloc: Global, set: &RomSet) {
     for (place, byte) in &PLACES {
         told(rt, place, has(set.program(), *place, *byte));
     }
-    told(rt, &"parts", has_parts(set));
+    let wrong = wrong_part(set);
+    told(rt, &wrong, wrong.is_none());
     told(rt, &"digest", has_digest(alloc, set, DIGEST));
-}
-
-#[test]
-fn whole_sets(rt: HostRuntime) {
-    match Loaded::of(rt.alloc(), &WHOLE, &FILES, false).set() {
-        Some(set) => is_whole(&rt, rt.alloc(), set),
-        None => told(&rt, &"a set", false),
-    }
 }
 
 /// The tables of a set with a source.
@@ -145,8 +149,16 @@ fn is_sourced(set: Option<&RomSet>) -> bool {
     }
 }
 
+/// Whether a set with a source has its program, and the sample's tiles.
+fn has_source(alloc: Global) -> bool {
+    is_sourced(Loaded::of(alloc, &SOURCED, &FILES, true).set())
+}
+
 #[test]
-fn sets_with_a_source(rt: HostRuntime) {
-    let loaded = Loaded::of(rt.alloc(), &SOURCED, &FILES, true);
-    told(&rt, &"program and tiles", is_sourced(loaded.set()));
+fn whole_sets_and_sets_with_a_source(rt: HostRuntime) {
+    match Loaded::of(rt.alloc(), &WHOLE, &FILES, false).set() {
+        Some(set) => is_whole(&rt, rt.alloc(), set),
+        None => told(&rt, &"a set", false),
+    }
+    told(&rt, &"program and tiles", has_source(rt.alloc()));
 }
