@@ -1,8 +1,8 @@
 //! Nothing but tests of the processor: steps and short programs, a line each, held against `Cpu::step`.
 
+mod bench;
 mod calls;
 mod fields;
-mod flat;
 mod machine;
 mod mode_0;
 mod registers;

@@ -1,7 +1,7 @@
 //! Operations on bytes: vectors by hand from UM0080, with the value and F, whose bits are S 80H, Z 40H, H 10H,
 //! P/V 04H, N 02H, C 01H. Where F was FFH, the 28H in F after is bits 5 and 3.
 
-use crate::told::told;
+use crate::told::Row;
 use pac_alu::{
     ByteOperation, ByteResult, arithmetic, complement, complement_carry, decimal_adjust, decrement,
     increment, input_flags, negate, set_carry,
@@ -10,7 +10,7 @@ use pac_alu::{
 /// An operation of A and an operand, its field in the code, A, the operand and F; then A and F after.
 type WithOperand = (&'static str, u8, u8, u8, u8, u8, u8);
 
-static WITH_OPERAND: [WithOperand; 32] = [
+pub(super) static WITH_OPERAND: [WithOperand; 32] = [
     ("ADD", 0, 0x00, 0x00, 0x00, 0x00, 0x40),
     ("ADD", 0, 0x0F, 0x01, 0x00, 0x10, 0x10),
     ("ADD", 0, 0x7F, 0x01, 0x00, 0x80, 0x94),
@@ -48,7 +48,7 @@ static WITH_OPERAND: [WithOperand; 32] = [
 /// An operation of one byte, the byte and F; then the byte and F after.
 type OfOneByte = (&'static str, u8, u8, u8, u8);
 
-static OF_ONE_BYTE: [OfOneByte; 38] = [
+pub(super) static OF_ONE_BYTE: [OfOneByte; 38] = [
     ("INC", 0x7F, 0x00, 0x80, 0x94),
     ("INC", 0xFF, 0x00, 0x00, 0x50),
     ("INC", 0xFF, 0x01, 0x00, 0x51),
@@ -115,32 +115,22 @@ fn outcome(name: &str, byte: u8, f: u8) -> Option<ByteResult> {
     })
 }
 
-/// Whether an operation with an operand leaves what its row says.
-fn is_with_operand(row: &WithOperand) -> bool {
-    let (_, field, a, operand, f, value, after) = *row;
-    let found = arithmetic(ByteOperation::from_field(field), a, operand, f);
-    found.value == value && found.f == after
-}
-
-/// Whether an operation of one byte leaves what its row says.
-fn is_of_one_byte(row: &OfOneByte) -> bool {
-    let (name, byte, f, value, after) = *row;
-    match outcome(name, byte, f) {
-        Some(found) => found.value == value && found.f == after,
-        None => false,
+impl Row for WithOperand {
+    /// Whether the operation leaves what its row says.
+    fn is_right(&self) -> bool {
+        let (_, field, a, operand, f, value, after) = *self;
+        let found = arithmetic(ByteOperation::from_field(field), a, operand, f);
+        found.value == value && found.f == after
     }
 }
 
-#[test]
-fn operations_with_an_operand(rt: HostRuntime) {
-    for row in &WITH_OPERAND {
-        told(&rt, row, is_with_operand(row));
-    }
-}
-
-#[test]
-fn operations_of_one_byte(rt: HostRuntime) {
-    for row in &OF_ONE_BYTE {
-        told(&rt, row, is_of_one_byte(row));
+impl Row for OfOneByte {
+    /// Whether the operation leaves what its row says.
+    fn is_right(&self) -> bool {
+        let (name, byte, f, value, after) = *self;
+        match outcome(name, byte, f) {
+            Some(found) => found.value == value && found.f == after,
+            None => false,
+        }
     }
 }

@@ -1,12 +1,12 @@
 //! DAA of each A: against UM0080's table, and with each F against the same said by bits.
 
-use crate::told::told;
+use crate::told::{Row, told};
 use pac_alu::decimal_adjust;
 
 /// N, C and H before, the ranges of the high and the low digit, the number added, and C after.
 type Line = (u8, u8, u8, (u8, u8), (u8, u8), u8, u8);
 
-static MANUAL: [Line; 13] = [
+pub(super) static MANUAL: [Line; 13] = [
     (0, 0, 0, (0x0, 0x9), (0x0, 0x9), 0x00, 0),
     (0, 0, 0, (0x0, 0x8), (0xA, 0xF), 0x06, 0),
     (0, 0, 1, (0x0, 0x9), (0x0, 0x3), 0x06, 0),
@@ -68,12 +68,15 @@ fn is_by_bits(a: u8, f: u8) -> bool {
     found.value == value && found.f == after
 }
 
-#[test]
-fn decimals_by_the_manual(rt: HostRuntime) {
-    for line in &MANUAL {
+impl Row for Line {
+    /// Whether DAA of each A is as the line says, if it speaks of it.
+    fn is_right(&self) -> bool {
         for a in 0..=255u8 {
-            told(&rt, line, is_by_the_manual(line, a));
+            if !is_by_the_manual(self, a) {
+                return false;
+            }
         }
+        true
     }
 }
 

@@ -1,6 +1,6 @@
 //! Rotations, shifts and single bits: vectors by hand from UM0080.
 
-use crate::told::told;
+use crate::told::Row;
 use pac_alu::{
     Shift, reset_bit, rotate_accumulator, rotate_digits_left, rotate_digits_right, set_bit,
     shift_byte, test_bit,
@@ -9,7 +9,7 @@ use pac_alu::{
 /// A shift, whether it is one of A alone, its field in the code, the byte and F; then the byte and F after.
 type ShiftRow = (&'static str, bool, u8, u8, u8, u8, u8);
 
-static SHIFTS: [ShiftRow; 17] = [
+pub(super) static SHIFTS: [ShiftRow; 17] = [
     ("RLC", false, 0, 0x88, 0x00, 0x11, 0x05),
     ("RLC", false, 0, 0x00, 0x13, 0x00, 0x44),
     ("RRC", false, 1, 0x31, 0x00, 0x98, 0x81),
@@ -32,7 +32,7 @@ static SHIFTS: [ShiftRow; 17] = [
 /// Whether it is RLD, else RRD; A, the byte in memory and F; then these after.
 type DigitRow = (bool, u8, u8, u8, u8, u8, u8);
 
-static DIGITS: [DigitRow; 4] = [
+pub(super) static DIGITS: [DigitRow; 4] = [
     (true, 0x7A, 0x31, 0x00, 0x73, 0x1A, 0x00),
     (true, 0x00, 0x05, 0xFF, 0x00, 0x50, 0x6D),
     (false, 0x84, 0x20, 0x12, 0x80, 0x42, 0x80),
@@ -42,7 +42,7 @@ static DIGITS: [DigitRow; 4] = [
 /// A byte, the place that BIT asks for, and F; then F after.
 type TestRow = (u8, u8, u8, u8);
 
-static TESTED: [TestRow; 5] = [
+pub(super) static TESTED: [TestRow; 5] = [
     (0x10, 4, 0x00, 0x10),
     (0xEF, 4, 0x00, 0x50),
     (0x00, 7, 0xFF, 0xFD),
@@ -51,71 +51,55 @@ static TESTED: [TestRow; 5] = [
 ];
 
 /// A byte and a place; then the byte after SET and after RES.
-type ChangeRow = (u8, u8, u8, u8);
+type ChangeRow = ((u8, u8), (u8, u8));
 
-static CHANGED: [ChangeRow; 5] = [
-    (0x00, 4, 0x10, 0x00),
-    (0x10, 4, 0x10, 0x00),
-    (0x7F, 7, 0xFF, 0x7F),
-    (0xFF, 6, 0xFF, 0xBF),
-    (0x01, 0, 0x01, 0x00),
+pub(super) static CHANGED: [ChangeRow; 5] = [
+    ((0x00, 4), (0x10, 0x00)),
+    ((0x10, 4), (0x10, 0x00)),
+    ((0x7F, 7), (0xFF, 0x7F)),
+    ((0xFF, 6), (0xFF, 0xBF)),
+    ((0x01, 0), (0x01, 0x00)),
 ];
 
-/// Whether a shift leaves what its row says.
-fn is_shifted(row: &ShiftRow) -> bool {
-    let (_, is_of_a, field, byte, f, value, after) = *row;
-    let shift = Shift::from_field(field);
-    let found = if is_of_a {
-        rotate_accumulator(shift, byte, f)
-    } else {
-        shift_byte(shift, byte, f)
-    };
-    found.value == value && found.f == after
-}
-
-/// Whether digits are rotated as their row says.
-fn is_rotated(row: &DigitRow) -> bool {
-    let (is_left, a, memory, f, a_after, memory_after, after) = *row;
-    let found = if is_left {
-        rotate_digits_left(a, memory, f)
-    } else {
-        rotate_digits_right(a, memory, f)
-    };
-    found.a == a_after && found.memory == memory_after && found.f == after
-}
-
-/// Whether BIT leaves the F that its row says.
-fn is_tested(row: &TestRow) -> bool {
-    let (byte, place, f, after) = *row;
-    test_bit(byte, place, f) == after
-}
-
-/// Whether SET and RES leave the bytes that their row says.
-fn is_changed(row: &ChangeRow) -> bool {
-    let (byte, place, set, reset) = *row;
-    set_bit(byte, place) == set && reset_bit(byte, place) == reset
-}
-
-#[test]
-fn shifts_and_rotations(rt: HostRuntime) {
-    for row in &SHIFTS {
-        told(&rt, row, is_shifted(row));
+impl Row for ShiftRow {
+    /// Whether the shift leaves what its row says.
+    fn is_right(&self) -> bool {
+        let (_, is_of_a, field, byte, f, value, after) = *self;
+        let shift = Shift::from_field(field);
+        let found = if is_of_a {
+            rotate_accumulator(shift, byte, f)
+        } else {
+            shift_byte(shift, byte, f)
+        };
+        found.value == value && found.f == after
     }
 }
 
-#[test]
-fn digits(rt: HostRuntime) {
-    for row in &DIGITS {
-        told(&rt, row, is_rotated(row));
+impl Row for DigitRow {
+    /// Whether digits are rotated as their row says.
+    fn is_right(&self) -> bool {
+        let (is_left, a, memory, f, a_after, memory_after, after) = *self;
+        let found = if is_left {
+            rotate_digits_left(a, memory, f)
+        } else {
+            rotate_digits_right(a, memory, f)
+        };
+        found.a == a_after && found.memory == memory_after && found.f == after
     }
 }
 
-#[test]
-fn bits(rt: HostRuntime) {
-    for row in &TESTED {
-        told(&rt, row, is_tested(row));
+impl Row for TestRow {
+    /// Whether BIT leaves the F that its row says.
+    fn is_right(&self) -> bool {
+        let (byte, place, f, after) = *self;
+        test_bit(byte, place, f) == after
     }
-    for row in &CHANGED {
-        told(&rt, row, is_changed(row));
+}
+
+impl Row for ChangeRow {
+    /// Whether SET and RES leave the bytes that their row says.
+    fn is_right(&self) -> bool {
+        let ((byte, place), (set, reset)) = *self;
+        set_bit(byte, place) == set && reset_bit(byte, place) == reset
     }
 }

@@ -1,6 +1,6 @@
 //! Operations on words: vectors by hand from UM0080, with the word and F.
 
-use crate::told::told;
+use crate::told::Row;
 use pac_alu::{
     WordOutcome, add_words, add_words_with_carry, decrement_word, increment_word,
     subtract_words_with_carry,
@@ -9,7 +9,7 @@ use pac_alu::{
 /// An operation, its words and F; then the word and F after. INC and DEC take one word and leave F.
 type Vector = (&'static str, u16, u16, u8, u16, u8);
 
-static VECTORS: [Vector; 27] = [
+pub(super) static VECTORS: [Vector; 27] = [
     ("ADD", 0x4242, 0x1111, 0x00, 0x5353, 0x00),
     ("ADD", 0x0FFF, 0x0001, 0x02, 0x1000, 0x10),
     ("ADD", 0xFFFF, 0x0001, 0x00, 0x0000, 0x11),
@@ -57,18 +57,13 @@ fn outcome(name: &str, left: u16, right: u16, f: u8) -> Option<WordOutcome> {
     })
 }
 
-/// Whether an operation leaves what its row says.
-fn is_left(row: &Vector) -> bool {
-    let (name, left, right, f, value, after) = *row;
-    match outcome(name, left, right, f) {
-        Some(found) => found.value == value && found.f == after,
-        None => false,
-    }
-}
-
-#[test]
-fn operations_on_words(rt: HostRuntime) {
-    for row in &VECTORS {
-        told(&rt, row, is_left(row));
+impl Row for Vector {
+    /// Whether the operation leaves what its row says.
+    fn is_right(&self) -> bool {
+        let (name, left, right, f, value, after) = *self;
+        match outcome(name, left, right, f) {
+            Some(found) => found.value == value && found.f == after,
+            None => false,
+        }
     }
 }

@@ -1,14 +1,12 @@
-//! Each public call once, by UM0080's pages; vectors of every family stand beside.
+//! Each public call of the processor, by UM0080's pages; vectors of every family stand beside.
 
-use crate::told::told;
-use pac_bus::{Bus, Flat};
+use pac_bus::Flat;
 use pac_cpu::{Cpu, Once, StepKind};
 use pac_exec::{Alternate, Regs};
 use pac_table::InterruptMode;
-use std::process::Abort;
 
 /// A processor that EI has just let take interrupts, in mode 1, at 0100H with SP 4FF0H and other registers in use.
-fn in_use() -> Regs {
+pub(super) fn in_use() -> Regs {
     let blank = Cpu::power_on().regs();
     Regs {
         a: 1,
@@ -30,7 +28,7 @@ fn in_use() -> Regs {
 }
 
 /// Whether a step with a request of FFH runs an instruction of 4 T-states.
-fn runs(cpu: &mut Cpu, bus: &mut Flat) -> bool {
+pub(super) fn runs(cpu: &mut Cpu, bus: &mut Flat) -> bool {
     matches!(
         cpu.step(bus, Some(0xFF)),
         Once::Stepped {
@@ -41,7 +39,7 @@ fn runs(cpu: &mut Cpu, bus: &mut Flat) -> bool {
 }
 
 /// Whether a step with a request of FFH accepts it, in 13 T-states.
-fn accepts(cpu: &mut Cpu, bus: &mut Flat) -> bool {
+pub(super) fn accepts(cpu: &mut Cpu, bus: &mut Flat) -> bool {
     matches!(
         cpu.step(bus, Some(0xFF)),
         Once::Stepped {
@@ -52,7 +50,7 @@ fn accepts(cpu: &mut Cpu, bus: &mut Flat) -> bool {
 }
 
 /// Whether a processor has entered mode 1's routine from 0101H.
-fn has_entered(cpu: &Cpu) -> bool {
+pub(super) fn has_entered(cpu: &Cpu) -> bool {
     let entered = Regs {
         sp: 0x4FEE,
         pc: 0x0038,
@@ -65,32 +63,8 @@ fn has_entered(cpu: &Cpu) -> bool {
     cpu.regs() == entered
 }
 
-/// Whether 0101H was pushed from SP 4FF0H on.
-fn has_pushed(bus: &Flat) -> bool {
-    bus.read(0x4FEF) == 0x01 && bus.read(0x4FEE) == 0x01
-}
-
-/// A HALT and the acceptance after it are as they should be.
-fn halts_and_accepts(rt: &impl Abort, bus: &mut Flat) {
-    // HALT
-    bus.load(0x0100, &[0x76]);
-    let mut cpu = Cpu::with_regs(in_use());
-    told(rt, &"HALT", runs(&mut cpu, bus));
-    told(rt, &"acceptance", accepts(&mut cpu, bus));
-    told(rt, &"registers", has_entered(&cpu));
-    told(rt, &"return address", has_pushed(bus));
-}
-
-#[test]
-fn steps_to_an_acceptance(rt: HostRuntime) {
-    match Flat::new(rt.alloc()) {
-        Ok(mut bus) => halts_and_accepts(&rt, &mut bus),
-        Err(_) => told(&rt, &"memory", false),
-    }
-}
-
 /// Whether a processor is as a reset leaves one in use.
-fn is_reset(cpu: &Cpu) -> bool {
+pub(super) fn is_reset(cpu: &Cpu) -> bool {
     let used = in_use();
     let kept = Regs {
         a: used.a,
@@ -100,11 +74,4 @@ fn is_reset(cpu: &Cpu) -> bool {
         ..Cpu::power_on().regs()
     };
     cpu.regs() == kept
-}
-
-#[test]
-fn resets(rt: HostRuntime) {
-    let mut cpu = Cpu::with_regs(in_use());
-    cpu.reset();
-    told(&rt, &"registers", is_reset(&cpu));
 }

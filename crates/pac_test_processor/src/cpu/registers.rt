@@ -1,14 +1,13 @@
 //! An instruction by UM0080's page, and the registers by its tables of r.
 
-use crate::told::told;
-use pac_bus::{Bus, Flat};
+use crate::told::{Row, hold};
+use pac_bus::Flat;
 use pac_exec::{Alternate, Regs, perform};
 use pac_num::displaced;
 use pac_table::{Instr, InterruptMode, rows};
-use std::process::Abort;
 
 /// Registers that are all different: A 1, F 2, B 3 .. L 8, the second set 11 to 18.
-fn different() -> Regs {
+pub(super) fn different() -> Regs {
     let alternate = Alternate {
         a: 11,
         f: 12,
@@ -63,74 +62,24 @@ fn store() -> Option<Instr> {
     }
 }
 
-/// Whether a store takes 13 T-states and changes no register.
-fn is_performed(store: &Instr, bus: &mut Flat) -> bool {
-    let mut regs = different();
-    perform(store, &mut regs, bus) == 13 && regs == different()
-}
-
-/// Whether the cell at 4040H alone has A, of itself and the two beside it.
-fn has_stored(bus: &Flat) -> bool {
-    bus.read(0x403F) == 0 && bus.read(0x4040) == 1 && bus.read(0x4041) == 0
-}
-
-/// The store takes its time and puts A into memory alone.
-fn stores(rt: &impl Abort, bus: &mut Flat) {
+/// Whether LD (4040H),A takes 13 T-states, and changes none of the registers that are all different.
+pub(super) fn is_performed(regs: &mut Regs, bus: &mut Flat) -> bool {
     match store() {
-        Some(store) => told(rt, &"time and registers", is_performed(&store, bus)),
-        None => told(rt, &"LD (4040H),A", false),
-    }
-    told(rt, &"memory", has_stored(bus));
-}
-
-#[test]
-fn performs_a_store(rt: HostRuntime) {
-    match Flat::new(rt.alloc()) {
-        Ok(mut bus) => stores(&rt, &mut bus),
-        Err(_) => told(&rt, &"memory", false),
+        Some(store) => perform(&store, regs, bus) == 13 && *regs == different(),
+        None => false,
     }
 }
-
-/// The registers by their numbers in codes, and their bytes in `different`.
-static NUMBERS: [(u8, u8); 7] = [(0, 3), (1, 4), (2, 5), (3, 6), (4, 7), (5, 8), (7, 1)];
 
 /// Whether BC, DE and HL hold these.
-fn has_pairs(regs: &Regs, bc: u16, de: u16, hl: u16) -> bool {
+pub(super) fn has_pairs(regs: &Regs, bc: u16, de: u16, hl: u16) -> bool {
     regs.bc() == bc && regs.de() == de && regs.hl() == hl
 }
 
 /// Whether a register has this byte, and then another that is put into it.
-fn takes(regs: &mut Regs, r: u8, byte: u8, other: u8) -> bool {
+pub(super) fn takes(regs: &mut Regs, r: u8, byte: u8, other: u8) -> bool {
     let had = regs.register(r);
     regs.set_register(r, other);
     had == byte && regs.register(r) == other
-}
-
-/// Whether AF' was A and F, and BC, DE and HL hold these.
-fn has_alternate(regs: &Regs, bc: u16, de: u16, hl: u16) -> bool {
-    regs.af() == 0x0B0C && has_pairs(regs, bc, de, hl)
-}
-
-#[test]
-fn names_and_exchanges_registers(rt: HostRuntime) {
-    let mut regs = different();
-    for (r, byte) in &NUMBERS {
-        told(&rt, r, takes(&mut regs, *r, *byte, *byte + 100));
-    }
-    told(&rt, &"pairs", has_pairs(&regs, 0x6768, 0x696A, 0x6B6C));
-    regs.exchange_af();
-    regs.exchange_bank();
-    told(
-        &rt,
-        &"exchanged",
-        has_alternate(&regs, 0x0D0E, 0x0F10, 0x1112),
-    );
-    regs.exchange_bank();
-    told(
-        &rt,
-        &"bank again",
-        has_alternate(&regs, 0x6768, 0x696A, 0x6B6C),
-    );
 }
 
 /// An address, d, and the address that is so far from it.
@@ -143,9 +92,14 @@ static DISPLACEMENTS: [Displacement; 4] = [
     (0xFFFF, 1, 0x0000),
 ];
 
+impl Row for Displacement {
+    /// Whether the address is so far from the other.
+    fn is_right(&self) -> bool {
+        displaced(self.0, self.1) == self.2
+    }
+}
+
 #[test]
 fn displaces_past_the_ends(rt: HostRuntime) {
-    for row in &DISPLACEMENTS {
-        told(&rt, row, displaced(row.0, row.1) == row.2);
-    }
+    hold(&rt, &DISPLACEMENTS);
 }
