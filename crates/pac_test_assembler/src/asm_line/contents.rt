@@ -5,7 +5,7 @@ use pac_asm_line::{ContentError, Expression, Statement, form};
 use pac_asm_operation::OperationFault;
 use pac_asm_program::{Content, Symbols};
 use pac_lex::tokens;
-use std::alloc::{AllocError, Global};
+use std::alloc::Global;
 
 /// What a line at 1234H comes to, or its expression, where FIVE is 5 and a space has three bytes.
 #[derive(Clone, Copy)]
@@ -14,13 +14,6 @@ enum Outcome<'a> {
     Bytes(u16, &'a [u8]),
     Fault(OperationFault),
     Value(Option<i32>),
-}
-
-/// The symbols, of which FIVE is the only one.
-fn five(alloc: Global) -> Result<Symbols, AllocError> {
-    let mut symbols = Symbols::new(alloc);
-    symbols.define(alloc, b"FIVE", 5)?;
-    Ok(symbols)
 }
 
 /// Whether a fault is wanted, and this one.
@@ -61,13 +54,23 @@ fn has_value(statement: &Statement<'_, '_>, symbols: &Symbols, wanted: Option<i3
     }
 }
 
-/// Whether a statement comes to this, or has an expression of this value.
-fn is_outcome(alloc: Global, statement: &Statement<'_, '_>, wanted: Outcome<'_>) -> bool {
-    match (five(alloc), wanted) {
-        (Ok(symbols), Outcome::Value(value)) => has_value(statement, &symbols, value),
-        (Ok(symbols), _) => comes_to(alloc, statement, &symbols, wanted),
-        (Err(_), _) => false,
+/// Whether a statement comes to this, or has an expression of this value, with these symbols.
+fn is_outcome_with(
+    alloc: Global,
+    statement: &Statement<'_, '_>,
+    symbols: &Symbols,
+    wanted: Outcome<'_>,
+) -> bool {
+    match wanted {
+        Outcome::Value(value) => has_value(statement, symbols, value),
+        _ => comes_to(alloc, statement, symbols, wanted),
     }
+}
+
+/// Whether a statement comes to this, or has an expression of this value, where FIVE is the only symbol.
+fn is_outcome(alloc: Global, statement: &Statement<'_, '_>, wanted: Outcome<'_>) -> bool {
+    let mut symbols = Symbols::new(alloc);
+    symbols.define(alloc, b"FIVE", 5).is_ok() && is_outcome_with(alloc, statement, &symbols, wanted)
 }
 
 impl Wanted for Outcome<'static> {

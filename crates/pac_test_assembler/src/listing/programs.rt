@@ -5,6 +5,7 @@ use pac_asm_program::{Content, Item, Line, Program, Symbols};
 use pac_code::decode;
 use std::alloc::{AllocError, Global};
 use std::marker::Model;
+use std::process::Abort;
 
 /// What a line puts into a program.
 #[derive(Clone, Copy)]
@@ -122,12 +123,17 @@ static STORE_AND_TEXT: [Entry; 2] = [
     Entry::Data(8, b"AB"),
 ];
 
+/// A program lends its parts.
+fn lends_each(rt: &impl Abort, made: &Made) {
+    told(rt, &"parts", made.lends_parts());
+    told(rt, &"LD (4040H),A", made.places(0, 5, &[0x32, 0x40, 0x40]));
+    told(rt, &"a text", made.places(1, 8, b"AB"));
+}
+
 #[test]
 fn a_program_lends_its_parts(rt: HostRuntime) {
-    let Ok(made) = Made::of(rt.alloc(), &STORE_AND_TEXT, &[(b"TAB", 16)]) else {
-        return told(&rt, &"memory", false);
-    };
-    told(&rt, &"parts", made.lends_parts());
-    told(&rt, &"LD (4040H),A", made.places(0, 5, &[0x32, 0x40, 0x40]));
-    told(&rt, &"a text", made.places(1, 8, b"AB"));
+    match Made::of(rt.alloc(), &STORE_AND_TEXT, &[(b"TAB", 16)]) {
+        Ok(made) => lends_each(&rt, &made),
+        Err(_) => told(&rt, &"memory", false),
+    }
 }

@@ -68,26 +68,48 @@ impl Table {
     }
 }
 
-/// Names in turn, their numbers, and whether each is new.
-static DEFINED: [(&[u8], i32, bool); 4] = [
-    (b"size", 9, true),
-    (b"TAB", 16, true),
-    (b"size", 5, false),
-    (b"SIZE", -1, true),
+/// What is done with symbols, and what they are found to be.
+#[derive(Clone, Copy)]
+enum Step {
+    /// There are so many, and none after them.
+    Has(usize),
+    /// A name is defined with this number; whether it is new.
+    Defines(&'static [u8], i32, bool),
+    /// At a place is this name with this number.
+    IsAt(usize, &'static [u8], i32),
+    /// A name has this number, or none.
+    IsNumber(&'static [u8], Option<i32>),
+}
+
+static STEPS: [(&str, Step); 10] = [
+    ("none", Step::Has(0)),
+    ("size", Step::Defines(b"size", 9, true)),
+    ("TAB", Step::Defines(b"TAB", 16, true)),
+    ("size again", Step::Defines(b"size", 5, false)),
+    ("SIZE", Step::Defines(b"SIZE", -1, true)),
+    ("three", Step::Has(3)),
+    ("size at 0", Step::IsAt(0, b"size", 9)),
+    ("SIZE at 2", Step::IsAt(2, b"SIZE", -1)),
+    ("the number of TAB", Step::IsNumber(b"TAB", Some(16))),
+    ("the number of Tab", Step::IsNumber(b"Tab", None)),
 ];
+
+/// Does a step; whether what it says is so.
+fn does(table: &mut Table, alloc: Global, step: Step) -> bool {
+    match step {
+        Step::Has(count) => table.has(count),
+        Step::Defines(name, value, is_new) => table.defines(alloc, name, value, is_new),
+        Step::IsAt(place, name, value) => table.is_at(place, name, value),
+        Step::IsNumber(name, wanted) => table.is_number(name, wanted),
+    }
+}
 
 #[test]
 fn names_keep_their_order_and_their_first_number(rt: HostRuntime) {
     let mut table = Table::new(rt.alloc());
-    told(&rt, &"none", table.has(0));
-    for (name, value, is_new) in &DEFINED {
-        told(&rt, name, table.defines(rt.alloc(), name, *value, *is_new));
+    for (name, step) in &STEPS {
+        told(&rt, name, does(&mut table, rt.alloc(), *step));
     }
-    told(&rt, &"three", table.has(3));
-    told(&rt, &"size at 0", table.is_at(0, b"size", 9));
-    told(&rt, &"SIZE at 2", table.is_at(2, b"SIZE", -1));
-    told(&rt, &"TAB", table.is_number(b"TAB", Some(16)));
-    told(&rt, &"Tab", table.is_number(b"Tab", None));
 }
 
 /// A name for which an allocator keeps no room aside.
