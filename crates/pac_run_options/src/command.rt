@@ -1,7 +1,8 @@
 //! The command line as `clap` knows it: the subcommands, and what each takes.
 
-ghost use Rattle.std.specs.Prelude.{◌≡◌, IfOk, false, map};
-ghost use Rattle.clap.specs.Words.{app_of, kind_of, rule_of};
+ghost use Rattle.std.specs.Prelude.{◌≡◌, IfOk, Ok, [], codes, false, map, true};
+ghost use Rattle.clap.specs.Simple.{new_app, new_shape};
+ghost use Rattle.clap.specs.Words.{AddsSubcommand, app_of, kind_of, rule_of};
 ghost use Rattle.clap.specs.declared.builder.command.Command.TheViews.{out-Command as fields_of};
 ghost use Rattle.pac_run_options.specs.CommandLine as line;
 
@@ -13,15 +14,43 @@ use std::alloc::{AllocError, Global};
 pub fn pacboard<'a>(alloc: Global) -> Result<Command<'a>, AllocError>
     ensures { IfOk result (λ command. app_of command ≡ line.pacboard) }
 {
+    let program = with_command(program(alloc), asm_command(alloc))?;
+    let program = with_command(program, run_command(alloc))?;
+    let program = with_command(program, debug_command(alloc))?;
+    with_command(program, dis_command(alloc))
+}
+
+/// The program before its subcommands.
+fn program<'a>(alloc: Global) -> Command<'a>
+    ensures { app_of result ≡ record {
+      top = record (new_shape (codes "pacboard")) { has_version = true; subcommand_required = true; disable_help_subcommand = true };
+      subs = [];
+    } }
+{
     Command::new(alloc, "pacboard")
         .version("0.1")
         .about("Assembles and runs programs for Namco's Pac-Man main board")
         .subcommand_required(true)
         .disable_help_subcommand(true)
-        .subcommand(asm_command(alloc)?)?
-        .subcommand(run_command(alloc)?)?
-        .subcommand(debug_command(alloc)?)?
-        .subcommand(dis_command(alloc)?)
+}
+
+/// A program with one more subcommand, where there was memory for that. The subcommand's own failure is passed on here, so that
+/// the caller has no two commands to drop where one fails.
+fn with_command<'a>(
+    program: Command<'a>,
+    subcommand: Result<Command<'a>, AllocError>,
+) -> Result<Command<'a>, AllocError>
+    ensures { IfOk result (λ r. (sub : _) × (subcommand.entry ≡ Ok sub) × AddsSubcommand program.entry sub r) }
+{
+    program.subcommand(subcommand?)
+}
+
+/// A subcommand with its description, before what it takes.
+fn command<'a>(alloc: Global, name: &'a str, about: &'a str) -> Command<'a>
+    ensures shape { app_of result ≡ new_app name.entry.now }
+    ensures local { (fields_of result).has_globals ≡ false }
+{
+    Command::new(alloc, name).about(about)
 }
 
 /// `asm SOURCE --rom FILE --listing FILE`.
@@ -29,9 +58,12 @@ fn asm_command<'a>(alloc: Global) -> Result<Command<'a>, AllocError>
     ensures shape { IfOk result (λ command. app_of command ≡ line.app_of_command line.asm_command) }
     ensures local { IfOk result (λ command. (fields_of command).has_globals ≡ false) }
 {
-    let command = Command::new(alloc, "asm")
-        .about("Assembles a source into a ROM and its listing")
-        .arg(required_place(alloc, "source", "SOURCE", "The source"))?;
+    let command = command(
+        alloc,
+        "asm",
+        "Assembles a source into a ROM and its listing",
+    )
+    .arg(required_place(alloc, "source", "SOURCE", "The source"))?;
     with_files(
         alloc,
         command,
@@ -47,7 +79,9 @@ fn run_command<'a>(alloc: Global) -> Result<Command<'a>, AllocError>
     ensures shape { IfOk result (λ command. app_of command ≡ line.app_of_command line.run_command) }
     ensures local { IfOk result (λ command. (fields_of command).has_globals ≡ false) }
 {
-    let command = Command::new(alloc, "run").about(
+    let command = command(
+        alloc,
+        "run",
         "Runs a ROM set by a script, and writes its pictures and its sound",
     );
     with_run_options(alloc, command)?
@@ -70,7 +104,9 @@ fn debug_command<'a>(alloc: Global) -> Result<Command<'a>, AllocError>
     ensures shape { IfOk result (λ command. app_of command ≡ line.app_of_command line.debug_command) }
     ensures local { IfOk result (λ command. (fields_of command).has_globals ≡ false) }
 {
-    let command = Command::new(alloc, "debug").about(
+    let command = command(
+        alloc,
+        "debug",
         "Runs a ROM set as run does, and does a debugger's commands on the run",
     );
     with_run_options(alloc, command)?.arg(required_option(
@@ -130,7 +166,7 @@ fn dis_command<'a>(alloc: Global) -> Result<Command<'a>, AllocError>
     ensures shape { IfOk result (λ command. app_of command ≡ line.app_of_command line.dis_command) }
     ensures local { IfOk result (λ command. (fields_of command).has_globals ≡ false) }
 {
-    Command::new(alloc, "dis").about("Disassembles a file").arg(required_place(
+    command(alloc, "dis", "Disassembles a file").arg(required_place(
         alloc,
         "file",
         "FILE",
@@ -182,9 +218,14 @@ fn dip_option<'a>(alloc: Global) -> Arg<'a>
 pub fn dip_conflict(alloc: Global) -> Result<Error, AllocError>
     ensures { IfOk result (λ error. kind_of error ≡ ErrorKind.ArgumentConflict) }
 {
-    let mut command = run_command(alloc)?.bin_name("pacboard run")?;
+    let mut command = named_run_command(alloc)?;
     command.error(
         ErrorKind::ArgumentConflict,
         "the argument '--dip <N>' cannot be used with '--load <FILE>'",
     )
+}
+
+/// The subcommand `run` as usage lines name it.
+fn named_run_command<'a>(alloc: Global) -> Result<Command<'a>, AllocError> {
+    run_command(alloc)?.bin_name("pacboard run")
 }

@@ -62,10 +62,10 @@ fn request<'a>(matches: &ArgMatches<'a>) -> Option<Request<'a>>
 {
     let (name, values) = matches.subcommand()?;
     match name {
-        "asm" => Some(Request::Asm(asm_files(values)?)),
-        "run" => Some(Request::Run(play_files(values)?)),
-        "debug" => Some(Request::Debug(debug_files(values)?)),
-        "dis" => Some(Request::Dis(values.get_str("file")?)),
+        "asm" => asm_files(values).map(Request::Asm),
+        "run" => play_files(values).map(Request::Run),
+        "debug" => debug_files(values).map(Request::Debug),
+        "dis" => values.get_str("file").map(Request::Dis),
         _ => None,
     }
 }
