@@ -218,14 +218,9 @@ fn dip_option<'a>(alloc: Global) -> Arg<'a>
 pub fn dip_conflict(alloc: Global) -> Result<Error, AllocError>
     ensures { IfOk result (λ error. kind_of error ≡ ErrorKind.ArgumentConflict) }
 {
-    let mut command = named_run_command(alloc)?;
+    let mut command = run_command(alloc)?.bin_name("pacboard run")?;
     command.error(
         ErrorKind::ArgumentConflict,
         "the argument '--dip <N>' cannot be used with '--load <FILE>'",
     )
-}
-
-/// The subcommand `run` as usage lines name it.
-fn named_run_command<'a>(alloc: Global) -> Result<Command<'a>, AllocError> {
-    run_command(alloc)?.bin_name("pacboard run")
 }
