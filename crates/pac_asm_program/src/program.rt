@@ -8,11 +8,21 @@ use crate::symbols::Symbols;
 use std::marker::Model;
 
 /// What a source becomes: an entry for each of its lines, the symbols, and the program ROM.
-#[derive(Drop)]
 pub struct Program {
     lines: Vec<Line>,
     symbols: Symbols,
     rom: Box<[u8; 16384]>,
+}
+
+impl Drop for Program {
+    /// Drops each part.
+    fn drop(self) {
+        let Program {
+            lines: _,
+            symbols: _,
+            rom: _,
+        } = self;
+    }
 }
 
 impl Model for Program {

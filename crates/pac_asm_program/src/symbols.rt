@@ -8,9 +8,15 @@ use std::alloc::{AllocError, Global};
 use std::marker::Model;
 
 /// Names that stand for numbers, in the order in which they were defined. Small and capital letters differ.
-#[derive(Drop)]
 pub struct Symbols {
     names: IndexMap<Vec<u8>, i32>,
+}
+
+impl Drop for Symbols {
+    /// Drops the table.
+    fn drop(self) {
+        let Symbols { names: _ } = self;
+    }
 }
 
 impl Model for Symbols {

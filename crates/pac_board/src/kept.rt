@@ -11,10 +11,19 @@ use std::alloc::{AllocError, Global};
 use std::marker::Model;
 
 /// A picture as it was taken: its lines, and red, green and blue of its colour numbers.
-#[derive(Drop)]
 pub struct Shown {
     lines: Box<Lines>,
     palette: [[u8; 3]; 16],
+}
+
+impl Drop for Shown {
+    /// Drops each part.
+    fn drop(self) {
+        let Shown {
+            lines: _,
+            palette: _,
+        } = self;
+    }
 }
 
 impl Model for Shown {
@@ -68,11 +77,21 @@ pub enum Taken {
 
 /// A sink that keeps what it takes, and refuses one offer. Clauses see the outputs that it took and the number of the
 /// offer that it refuses.
-#[derive(Drop)]
 pub struct Kept {
     alloc: Global,
     taken: Vec<Taken>,
     refusal: u64,
+}
+
+impl Drop for Kept {
+    /// Drops each part.
+    fn drop(self) {
+        let Kept {
+            alloc: _,
+            taken: _,
+            refusal: _,
+        } = self;
+    }
 }
 
 impl Model for Kept {

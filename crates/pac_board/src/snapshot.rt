@@ -9,11 +9,21 @@ use std::alloc::{AllocError, Global};
 use std::marker::Model;
 
 /// A board's state: the moment that it stood at, the microseconds asked of it, and what was due. Clauses see the state.
-#[derive(Drop)]
 pub struct Snapshot {
     frozen: Box<Frozen>,
     asked: u64,
     due: Due,
+}
+
+impl Drop for Snapshot {
+    /// Drops each part.
+    fn drop(self) {
+        let Snapshot {
+            frozen: _,
+            asked: _,
+            due: _,
+        } = self;
+    }
 }
 
 impl Model for Snapshot {

@@ -11,10 +11,19 @@ use std::marker::Model;
 
 /// 65,536 bytes of memory, each one writable, and 256 ports that give back what they were last given:
 /// a bus for whoever takes the processor by itself. All are 0 at first.
-#[derive(Drop)]
 pub struct Flat {
     memory: Box<[u8; 65536]>,
     ports: [u8; 256],
+}
+
+impl Drop for Flat {
+    /// Drops each part.
+    fn drop(self) {
+        let Flat {
+            memory: _,
+            ports: _,
+        } = self;
+    }
 }
 
 impl Model for Flat {

@@ -16,10 +16,16 @@ const COUNT: usize = 16;
 
 /// The last 16 checkpoints, each written over the oldest one. Clauses see them, the oldest first, and how many were
 /// ever taken.
-#[derive(Drop)]
 pub struct Checkpoints {
     ring: HeapCircularBuffer<SessionSnapshot>,
     taken: u64,
+}
+
+impl Drop for Checkpoints {
+    /// Drops each part.
+    fn drop(self) {
+        let Checkpoints { ring: _, taken: _ } = self;
+    }
 }
 
 impl Model for Checkpoints {

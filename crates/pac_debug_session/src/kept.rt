@@ -9,10 +9,19 @@ use pac_board_course::{Board, Snapshot};
 use std::alloc::{AllocError, Global};
 
 /// A board's state, and the steps that were told then.
-#[derive(Drop)]
 pub struct SessionSnapshot {
     pub snapshot: Snapshot,
     pub history: History,
+}
+
+impl Drop for SessionSnapshot {
+    /// Drops each part.
+    fn drop(self) {
+        let SessionSnapshot {
+            snapshot: _,
+            history: _,
+        } = self;
+    }
 }
 
 /// What a slot has, where it is filled.

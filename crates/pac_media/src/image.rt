@@ -199,11 +199,21 @@ fn black_lines(alloc: Global) -> Result<Vec<Numbers>, AllocError>
 
 /// Room for the bytes of one image, and the lines and the palette that it was drawn from, so that another picture costs
 /// what differs in it. Clauses see the bytes of the image that it holds.
-#[derive(Drop)]
 pub struct Image {
     bytes: Vec<u8>,
     lines: Vec<Numbers>,
     palette: Palette,
+}
+
+impl Drop for Image {
+    /// Drops each part.
+    fn drop(self) {
+        let Image {
+            bytes: _,
+            lines: _,
+            palette: _,
+        } = self;
+    }
 }
 
 impl Model for Image {

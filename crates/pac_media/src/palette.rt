@@ -68,10 +68,19 @@ fn pair(pairs: &[TwoPixels], place: u8) -> TwoPixels
 }
 
 /// A palette, with a table of the pixels of any two of its colours side by side. Clauses see the palette.
-#[derive(Drop)]
 pub(crate) struct Palette {
     colours: Vec<[u8; 3]>,
     pairs: Vec<TwoPixels>,
+}
+
+impl Drop for Palette {
+    /// Drops each part.
+    fn drop(self) {
+        let Palette {
+            colours: _,
+            pairs: _,
+        } = self;
+    }
 }
 
 impl Model for Palette {

@@ -10,11 +10,21 @@ use std::alloc::{AllocError, Global};
 use std::marker::Model;
 
 /// A writer over memory for tests. It takes at most so many bytes a call, and refuses one call.
-#[derive(Drop)]
 pub struct Faulty {
     memory: MemoryWriter,
     most: usize,
     refusal: u64,
+}
+
+impl Drop for Faulty {
+    /// Drops each part.
+    fn drop(self) {
+        let Faulty {
+            memory: _,
+            most: _,
+            refusal: _,
+        } = self;
+    }
 }
 
 impl Model for Faulty {

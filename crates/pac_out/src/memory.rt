@@ -10,10 +10,16 @@ use std::marker::Model;
 
 /// A writer over memory of a fixed size, made at the start. It keeps the bytes that it took, and refuses
 /// where no room is left.
-#[derive(Drop)]
 pub struct MemoryWriter {
     held: Vec<u8>,
     room: usize,
+}
+
+impl Drop for MemoryWriter {
+    /// Drops each part.
+    fn drop(self) {
+        let MemoryWriter { held: _, room: _ } = self;
+    }
 }
 
 impl Model for MemoryWriter {

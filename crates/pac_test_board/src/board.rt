@@ -11,10 +11,22 @@ use crate::play::are_played;
 pub use rows::AT_ONCE;
 
 #[test]
-fn cases(rt: HostRuntime) {
+fn steps_times_and_stops(rt: HostRuntime) {
     are_played(&rt, rt.alloc(), &rows::CASES);
+}
+
+#[test]
+fn pictures_of_programs(rt: HostRuntime) {
     are_played(&rt, rt.alloc(), &pictures::CASES);
+}
+
+#[test]
+fn sounds_of_programs(rt: HostRuntime) {
     are_played(&rt, rt.alloc(), &sounds::CASES);
+}
+
+#[test]
+fn sinks_that_refuse(rt: HostRuntime) {
     are_played(&rt, rt.alloc(), &sinks::CASES);
 }
 
