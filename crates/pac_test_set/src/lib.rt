@@ -1,12 +1,6 @@
-//! A ROM set for tests: its parts, the files of runs, manifests that name them, and what images of it show.
+//! A ROM set for tests, whose tiles have one colour each.
 #![tactic(auto)]
 
-mod picture;
 mod set;
 
-pub use pac_roms_manifest::{ManifestCode, Part, PartName, SetFault};
-pub use picture::{ALL_BLACK, BLUE_AND_RED, GREEN_TILE, LATE_GREEN_TILE, Picture, are_shown};
-pub use set::{
-    Files, NO_WAVE, SET, SWITCHES, Tables, WHOLE_SET, colours, lookup, rom_set, rom_set_with,
-    sprites, text_of, tiles, wave,
-};
+pub use set::{SWITCHES, colours, lookup, rom_set, rom_set_with, sprites, tiles, wave};

@@ -1,64 +1,9 @@
-//! The ROM set of the rows: the bytes of its parts and of its files, and the manifests that name them.
+//! The ROM set of the rows: the bytes of its parts.
 
 use pac_roms::{Raw, RomSet};
-use pac_roms_manifest::Part;
-use std::alloc::{AllocError, Global};
 
 /// The byte of the DIP switches as they are set at the factory.
 pub const SWITCHES: u8 = 0xC9;
-
-/// The table of the wave PROM.
-const WAVE_TABLE: &str = "[wave]\nfile = 'wave.prom'\n";
-
-/// The tables of the other parts that each set has.
-const TABLES: &str = "[tiles]
-file = 'tiles.rom'
-[sprites]
-file = 'sprites.rom'
-[colours]
-file = 'colours.prom'
-[lookup]
-file = 'lookup.prom'
-";
-
-/// The tables of a program, whose four ROMs are alike.
-const PROGRAM_TABLES: &str = "[[program]]
-file = 'program.rom'
-[[program]]
-file = 'program.rom'
-[[program]]
-file = 'program.rom'
-[[program]]
-file = 'program.rom'
-";
-
-/// A manifest, as the texts that it is joined of.
-pub type Tables = [&'static str; 3];
-
-/// The set without a program.
-pub const SET: Tables = [TABLES, WAVE_TABLE, ""];
-
-/// The set with a program.
-pub const WHOLE_SET: Tables = [TABLES, WAVE_TABLE, PROGRAM_TABLES];
-
-/// A set without a program and without the wave PROM.
-pub const NO_WAVE: Tables = [TABLES, "", ""];
-
-/// A manifest's text.
-pub fn text_of(alloc: Global, [first, second, third]: &Tables) -> Result<String, AllocError> {
-    format!(in alloc; "{first}{second}{third}")
-}
-
-/// The files of the set.
-#[derive(Drop)]
-pub struct Files {
-    program: [u8; 4096],
-    tiles: [u8; 4096],
-    sprites: [u8; 4096],
-    colours: [u8; 32],
-    lookup: [u8; 256],
-    wave: [u8; 256],
-}
 
 /// A file that begins with these bytes, and has 0 after them.
 fn begun<const N: usize>(bytes: &[u8]) -> [u8; N] {
@@ -150,48 +95,4 @@ pub fn rom_set_with(pieces: &[(usize, &[u8])], tiles: &[u8; 4096], sprites: &[u8
 /// The set whose program has these bytes at these addresses.
 pub fn rom_set(pieces: &[(usize, &[u8])]) -> RomSet {
     rom_set_with(pieces, &tiles(), &sprites())
-}
-
-impl Files {
-    /// The program is LD A,42H / LD (4040H),A / HALT.
-    pub fn new() -> Files {
-        Files {
-            program: begun(&[0x3E, 0x42, 0x32, 0x40, 0x40, 0x76]),
-            tiles: tiles(),
-            sprites: sprites(),
-            colours: colours(),
-            lookup: lookup(),
-            wave: wave(),
-        }
-    }
-
-    /// The files with their names.
-    pub fn parts(&self) -> [Part<'_>; 6] {
-        [
-            Part {
-                name: "program.rom",
-                bytes: &self.program,
-            },
-            Part {
-                name: "tiles.rom",
-                bytes: &self.tiles,
-            },
-            Part {
-                name: "sprites.rom",
-                bytes: &self.sprites,
-            },
-            Part {
-                name: "colours.prom",
-                bytes: &self.colours,
-            },
-            Part {
-                name: "lookup.prom",
-                bytes: &self.lookup,
-            },
-            Part {
-                name: "wave.prom",
-                bytes: &self.wave,
-            },
-        ]
-    }
 }
