@@ -12,6 +12,7 @@ import time
 
 ROOT = pathlib.Path(__file__).resolve().parent.parent
 OUT = ROOT / "hosts/out"
+KEPT = OUT / "checked"  # what the kit's checks of the crate keep: the library for C and the module for a page rest on the same proofs
 LINE = re.compile(r"(\w+)( +staticlib)?(?: +[\w=]+)*: *(.*)")
 TOLD = 2  # seconds between two lines about what goes on
 TRUSTING = "--after-ci"  # the word that says that `rt ci` has just proved these very files
@@ -111,7 +112,8 @@ def text_of(file):
 def build(kind, file, to, is_after_ci, flags=()):
     """Builds the library as a crate of this kind, in a copy of it and of all below it, and takes the file that it leaves.
 
-    The copy's crates.txt says which kind it is, and the repository is left as it is. The flags are for the compiler.
+    The copy's crates.txt says which kind it is, and the repository is left as it is. The flags are for the compiler. What an earlier build
+    of either kind has checked, and nothing has changed since, isn't checked again.
     """
     table = crates()
     name = name_of(table)
@@ -125,7 +127,12 @@ def build(kind, file, to, is_after_ci, flags=()):
             lay_crate(crate, folder / "crates" / crate)
         if is_after_ci:
             stamp(folder)
+        built = folder / "crates" / name / "out"
+        if KEPT.is_dir():
+            shutil.copytree(KEPT, built / "incremental")
         run(lay_kit(flags, folder / "kit") if flags else "rt", folder / "crates" / name)
         OUT.mkdir(exist_ok=True)
-        shutil.copy(folder / "crates" / name / "out" / file.format(name), OUT / to)
+        shutil.copy(built / file.format(name), OUT / to)
+        shutil.rmtree(KEPT, ignore_errors=True)
+        shutil.copytree(built / "incremental", KEPT)
     print(f"{OUT / to}: {(OUT / to).stat().st_size:,} bytes", flush=True)
