@@ -1,4 +1,4 @@
-//! Tests of the assembler: rows of the language, long sources, the whole table, and memory that is refused.
+//! Tests of the assembler: rows of the language, long sources, and the whole table.
 
 mod assembled;
 mod long;

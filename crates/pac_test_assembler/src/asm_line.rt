@@ -1,5 +1,4 @@
-//! Tests of source lines: what each line is, what it places, and memory that is refused.
+//! Tests of source lines: what each line is, and what it places.
 
 mod contents;
 mod forms;
-mod memory;

@@ -1,4 +1,3 @@
-//! Tests of the lexer: what no clause says, outside rows, and memory that is refused.
+//! Tests of the lexer: what no clause says, and outside rows.
 
-mod memory;
 mod rows;

@@ -1,4 +1,4 @@
-//! Tests of programs and their listings: what no clause says, worked rows, writers that refuse and memory that is refused.
+//! Tests of programs and their listings: what no clause says, worked rows, and writers that refuse.
 
 mod faults;
 mod listings;

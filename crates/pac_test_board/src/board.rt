@@ -1,6 +1,5 @@
-//! Tests of the board: outside rows, sinks that refuse, states kept and put back, and memory that is refused.
+//! Tests of the board: outside rows, sinks that refuse, and states that are kept and put back.
 
-mod memory;
 mod pictures;
 mod rows;
 mod sinks;
@@ -31,6 +30,6 @@ fn sinks_that_refuse(rt: HostRuntime) {
 }
 
 #[test]
-fn cases_in_scarce_memory(rt: HostRuntime) {
+fn states_kept_and_put_back(rt: HostRuntime) {
     are_played(&rt, rt.alloc(), &states::CASES);
 }

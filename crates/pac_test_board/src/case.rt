@@ -92,9 +92,9 @@ pub enum Step {
     IsCopied(Pieces),
     /// From now on it is another board of its fields, and of this program, but with an interrupt requested.
     IsRequested(Pieces),
-    /// With scarce memory its state is kept and put back. That is refused more often than the first number, and less often than the second.
-    IsKept(usize, usize),
-    /// Without any memory its state is written over that of a new board, and put back.
+    /// Its state is kept, and put back after a reset.
+    IsKept,
+    /// Its state is written over that of a new board, and put back after a reset.
     IsWrittenOver,
     /// It is saved as the file of a board of such a program, made by hand, that has these pieces.
     IsSavedAs(Pieces, Pieces),

@@ -14,6 +14,4 @@ mod play;
 #[cfg(test)]
 mod rig;
 #[cfg(test)]
-mod scarce;
-#[cfg(test)]
 mod state;

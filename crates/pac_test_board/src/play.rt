@@ -5,14 +5,9 @@ use crate::looks::{
     are_at_power_on, are_same_memories, are_sounding, has_two, is_area, is_flipped,
 };
 use crate::rig::{FRAME, Pieces, Rig};
-use crate::scarce::{Attempt, refusals};
-use pac_board::{Fault, Once, Snapshot, StepKind};
-use pac_test_memory::{Answer, Hoard};
+use pac_board::{Fault, Once, StepKind};
 use std::alloc::{AllocError, Global};
 use std::process::Abort;
-
-/// The most turns of a test in scarce memory, of which none is as long.
-const TURNS: usize = 2000;
 
 impl Rig {
     /// Whether a step of a case is so.
@@ -40,7 +35,7 @@ impl Rig {
             Step::GoesBack(us) => return self.goes_back(alloc, us),
             Step::IsCopied(program) => return self.is_copied(alloc, program),
             Step::IsRequested(program) => return self.is_requested(alloc, program),
-            Step::IsKept(above, below) => return self.is_kept(alloc, above, below),
+            Step::IsKept => return self.is_kept(alloc),
             Step::IsWrittenOver => return self.is_written_over(alloc),
             Step::IsSavedAs(program, pieces) => return self.is_saved_as(alloc, program, pieces),
             Step::Saves(bytes) => return self.saves(alloc, bytes),
@@ -163,33 +158,31 @@ impl Rig {
         true
     }
 
-    /// Whether its state is kept and put back in scarce memory after so many refusals.
-    fn is_kept(&mut self, alloc: Global, above: usize, below: usize) -> bool {
-        match refusals(alloc, self, TURNS) {
-            Some(count) => above < count && count < below,
-            None => false,
+    /// Keeps its state, and puts it back after a reset; whether there was room for it.
+    fn is_kept(&mut self, alloc: Global) -> bool {
+        match self.board.snapshot(alloc) {
+            Ok(snapshot) => self.restore(&snapshot),
+            Err(_) => return false,
         }
+        true
     }
 
-    /// Whether its state is written over that of a new board while there is no memory, and put back after a reset.
+    /// Writes its state over that of a new board, and puts it back after a reset; whether there was room for that.
     fn is_written_over(&mut self, alloc: Global) -> bool {
         match Rig::new(alloc, &[]) {
-            Ok(new) => match new.board.snapshot(alloc) {
-                Ok(mut old) => self.is_written_without_memory(alloc, &mut old),
-                Err(_) => false,
-            },
+            Ok(new) => self.is_written_over_that_of(alloc, &new),
             Err(_) => false,
         }
     }
 
-    /// Whether its state is written over an old one while there is no memory, and put back after a reset.
-    fn is_written_without_memory(&mut self, alloc: Global, old: &mut Snapshot) -> bool {
-        let Ok(_hoard) = Hoard::take(alloc, 0) else {
+    /// Writes its state over that of another board, and puts it back after a reset; whether there was room for that.
+    fn is_written_over_that_of(&mut self, alloc: Global, other: &Rig) -> bool {
+        let Ok(mut old) = other.board.snapshot(alloc) else {
             return false;
         };
-        self.board.snapshot_into(old);
-        self.restore(old);
-        self.board.snapshot(alloc).is_err()
+        self.board.snapshot_into(&mut old);
+        self.restore(&old);
+        true
     }
 
     /// Whether RAM, latches and inputs are those of a board at power-on.
@@ -197,19 +190,6 @@ impl Rig {
         match Rig::new(alloc, &[]) {
             Ok(new) => are_same_memories(&self.board.fields(), &new.board.fields()),
             Err(_) => false,
-        }
-    }
-}
-
-impl Attempt for Rig {
-    /// Keeps its state, and puts it back after a reset.
-    fn attempt(&mut self, alloc: Global) -> Answer {
-        match self.board.snapshot(alloc) {
-            Ok(snapshot) => {
-                self.restore(&snapshot);
-                Answer::Right
-            }
-            Err(_) => Answer::Refused,
         }
     }
 }

@@ -6,4 +6,3 @@ mod damage;
 mod files;
 mod loading;
 mod refusals;
-mod scarce;

@@ -3,4 +3,3 @@
 mod answers;
 mod refusals;
 mod rows;
-mod scarce;

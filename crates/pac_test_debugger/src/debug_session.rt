@@ -1,6 +1,4 @@
-//! Tests of sessions: a worked one, the way back, breakpoints, a sink that refuses, and scarce memory.
+//! Tests of sessions: a worked one, the way back, breakpoints, and a sink that refuses.
 
-mod memory;
 mod moves;
 mod rows;
-mod scarce;

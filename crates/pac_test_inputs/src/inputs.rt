@@ -1,4 +1,4 @@
-//! Tests of the input scripts: what no clause says, outside rows, and memory that is refused.
+//! Tests of the input scripts: what no clause says, and outside rows.
 
 mod rows;
 mod scripts;

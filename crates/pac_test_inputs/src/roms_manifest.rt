@@ -1,7 +1,6 @@
-//! Tests of manifests and ROM sets: what no clause says, outside rows, printed faults and memory that is refused.
+//! Tests of manifests and ROM sets: what no clause says, outside rows, and printed faults.
 
 mod manifests;
-mod memory;
 mod refusals;
 mod sample;
 pub(crate) mod sets;

@@ -1,9 +1,7 @@
-//! Tests of the media files, of the samples and of the writers: outside rows, writers that take little or refuse, and
-//! memory that is refused.
+//! Tests of the media files, of the samples and of the writers: outside rows, and writers that take little or refuse.
 
 mod answers;
 mod film;
-mod memory;
 mod shown;
 mod sound;
 mod wave;

@@ -3,7 +3,6 @@
 use crate::printed::is_printed;
 use pac_asm::{AsmError, AsmFault, assemble};
 use pac_asm_program::Program;
-use pac_test_memory::Answer;
 use std::alloc::Global;
 use std::marker::Model;
 
@@ -100,22 +99,6 @@ impl Assembled {
         match self.fault() {
             Some(fault) => 1 <= fault.line && fault.line <= lines,
             None => self.is_program(),
-        }
-    }
-
-    /// Whether memory was wanted.
-    fn is_refused(&self) -> bool {
-        matches!(self.answer, Err(AsmError::Memory))
-    }
-
-    /// The answer in scarce memory, where a program is right if it is told so.
-    pub fn answer(&self, is_right: bool) -> Answer {
-        if self.is_refused() {
-            Answer::Refused
-        } else if is_right {
-            Answer::Right
-        } else {
-            Answer::Wrong
         }
     }
 }

@@ -1,8 +1,7 @@
-//! Long sources, sources of any bytes, and memory that is refused.
+//! Long sources, and sources of any bytes.
 
 use super::assembled::Assembled;
-use crate::told::{told, told_refusals};
-use pac_test_memory::{Answer, refusals};
+use crate::told::told;
 use std::alloc::{AllocError, Global};
 
 /// A line that defines a name: `L00001: NOP` and so on, from line 16,385 on `L16385 EQU 1`.
@@ -100,19 +99,4 @@ fn any_bytes_are_answered(rt: HostRuntime) {
             );
         }
     }
-}
-
-/// A source that takes memory for names, items and its ROM.
-static TAKING: &str = "A1: DEFB 1,'text',A2\nA2: DEFS 40,7\nIF 0\nA3:\nENDIF\nDEFW A1\n";
-
-/// What assembling that source comes to: its program has two symbols, and the number of A2.
-fn assembling(alloc: Global) -> Answer {
-    let made = Assembled::of(alloc, TAKING.as_bytes());
-    made.answer(made.is_of(6, 2) && made.rom().get(5) == Some(&6))
-}
-
-// With no memory, and then with a little more each time, there is no answer but want of it or the right one.
-#[test]
-fn sources_in_scarce_memory(rt: HostRuntime) {
-    told_refusals(&rt, "a source", refusals(rt.alloc(), 400, assembling), 400);
 }

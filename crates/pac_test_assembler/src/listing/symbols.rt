@@ -1,9 +1,8 @@
-//! Symbols: in order, distinct, and with memory that is refused.
+//! Symbols: in order, and distinct.
 
 use crate::told::told;
 use pac_asm_program::Symbols;
 use pac_expr::SymbolLookup as Lookup;
-use pac_test_memory::Hoard;
 use std::alloc::Global;
 use std::marker::Model;
 
@@ -110,33 +109,4 @@ fn names_keep_their_order_and_their_first_number(rt: HostRuntime) {
     for (name, step) in &STEPS {
         told(&rt, name, does(&mut table, rt.alloc(), *step));
     }
-}
-
-/// A name for which an allocator keeps no room aside.
-static LONG_NAME: [u8; 1100] = [b'A'; 1100];
-
-/// How often a definition is refused, with a block more each time; each refusal changes nothing. None where it changes something, or where
-/// no block is left.
-fn refusals(alloc: Global, table: &mut Table) -> Option<usize> {
-    let Ok(mut hoard) = Hoard::take(alloc, 40) else {
-        return None;
-    };
-    for turn in 0..40usize {
-        if table.defines(alloc, &LONG_NAME, 16, true) {
-            return Some(turn);
-        }
-        if !table.has(0) || !table.is_number(&LONG_NAME, None) || !hoard.release() {
-            return None;
-        }
-    }
-    None
-}
-
-// With no memory, and then with a little more each time, a definition is refused and changes nothing, or is taken.
-#[test]
-fn definitions_in_scarce_memory(rt: HostRuntime) {
-    let mut table = Table::new(rt.alloc());
-    let refused = refusals(rt.alloc(), &mut table);
-    told(&rt, &refused, matches!(refused, Some(1..39)));
-    told(&rt, &"the name", table.is_number(&LONG_NAME, Some(16)));
 }

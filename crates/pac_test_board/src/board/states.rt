@@ -1,4 +1,4 @@
-//! States that are kept and put back, in scarce memory too, and boards by their fields.
+//! States that are kept and put back, and boards by their fields.
 
 use super::sinks::CORNER;
 use crate::case::Number::{Drawn, Outputs, Time};
@@ -40,25 +40,25 @@ pub static CASES: [Case; 5] = [
         steps: &[AtPowerOn, IsCopied(&[(0, &CELL)])],
     },
     Case {
-        name: "a state in scarce memory",
+        name: "a state at a blank",
         program: &[],
         switches: SWITCHES,
         steps: &[
             Goes(FRAME),
             IsAt(12_672, 50_688, 0x3180),
-            IsKept(0, 1_881),
+            IsKept,
             IsAt(12_672, 50_688, 0x3180),
         ],
     },
     // the board of that program comes to picture 16, the flipped one, which is refused at the sixteenth blank
     Case {
-        name: "a state with a picture that is due, in scarce memory",
+        name: "a state with a picture that is due",
         program: &[(0, &FLIP)],
         switches: SWITCHES,
         steps: &[
             Refuses(16 * 1585),
             Fails(16 * FRAME, Fault::Refused),
-            IsKept(3, 1_500),
+            IsKept,
             IsAt(202_747, 811_009, 0),
             Has(Outputs, 16 * 1585 - 1),
             Runs(0, 0, None),
@@ -67,7 +67,7 @@ pub static CASES: [Case; 5] = [
         ],
     },
     Case {
-        name: "a state with a picture that is due, over an old one without memory",
+        name: "a state with a picture that is due, over an old one",
         program: &[(0, &FLIP)],
         switches: SWITCHES,
         steps: &[

@@ -1,9 +1,8 @@
-//! Long scripts, and scripts where memory is refused.
+//! Long scripts.
 
 use crate::told::told;
 use bitflags::Flags;
-use pac_inputs::{Inputs, Script, ScriptError, read_script};
-use pac_test_memory::{Answer, refusals};
+use pac_inputs::{Inputs, Script, read_script};
 use std::alloc::Global;
 
 /// Numbers of lines.
@@ -42,35 +41,4 @@ fn scripts_of_many_lines(rt: HostRuntime) {
     for lines in &SIZES {
         told(&rt, lines, is_idle_text(rt.alloc(), *lines));
     }
-}
-
-/// Whether it is the script that memory was wanted for, by its frames and what it holds near its end.
-fn is_right(script: &Script) -> bool {
-    script.frames() == 1500
-        && script.held(1498) == Inputs::empty()
-        && script.held(1500) == Inputs::COIN1
-}
-
-/// What reading a script comes to.
-fn reading(alloc: Global, text: &[u8]) -> Answer {
-    match read_script(alloc, text) {
-        Ok(script) if is_right(&script) => Answer::Right,
-        Err(ScriptError::Memory) => Answer::Refused,
-        _ => Answer::Wrong,
-    }
-}
-
-/// How often reading a script of 1,000 lines is refused.
-fn refused(alloc: Global) -> Option<usize> {
-    match "1 -\n2 COIN1\n".repeat(alloc, 500) {
-        Ok(lines) => refusals(alloc, 50, |alloc| reading(alloc, lines.as_bytes())),
-        Err(_) => None,
-    }
-}
-
-// With no memory, and then with a little more each time, there is no answer but want of it or the right one.
-#[test]
-fn scripts_in_scarce_memory(rt: HostRuntime) {
-    let refused = refused(rt.alloc());
-    told(&rt, &refused, matches!(refused, Some(4..49)));
 }
