@@ -3,7 +3,7 @@
 use super::answers::is_refused;
 use super::shown::colourful;
 use crate::rig::Rig;
-use crate::told::told;
+use crate::told::told_of_one;
 use pac_media::{Frames, Image};
 use pac_out::faulty::Faulty;
 use pac_picture::Picture;
@@ -104,7 +104,7 @@ fn an_image_has_a_header_and_the_colours_of_its_pixels(rt: HostRuntime) {
     let colourful = colourful();
     for most in &MOST {
         let is_so = has_both(rt.alloc(), &black, &colourful, *most);
-        told(&rt, "bytes a call", *most, is_so);
+        told_of_one(&rt, "bytes a call", *most, is_so);
     }
 }
 
@@ -195,6 +195,6 @@ fn each_refused_write_is_told_with_all_bytes_of_the_film(rt: HostRuntime) {
     let rig = Rig::new();
     for stop in &STOPS {
         let is_so = stops(rt.alloc(), rig.picture(), stop);
-        told(&rt, "refused call", stop.refusal as usize, is_so);
+        told_of_one(&rt, "refused call", stop.refusal as usize, is_so);
     }
 }

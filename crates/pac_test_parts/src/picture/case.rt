@@ -1,7 +1,7 @@
 //! Cases: what is done with a picture in turn, and what is seen of it then, as data. So a case costs no proof of its own.
 
 use crate::rig::{Area, Rig};
-use crate::told::told;
+use crate::told::told_of_one;
 use pac_picture::{Graphics, Picture};
 use pac_test_set::{colours, lookup, tiles};
 use std::process::Abort;
@@ -88,7 +88,7 @@ fn is_played(rt: &impl Abort, rig: &mut Rig, case: &Case) {
     let mut place = 0usize;
     for step in case.steps {
         place = place.saturating_add(1);
-        told(rt, case.name, place, rig.does(*step));
+        told_of_one(rt, case.name, place, rig.does(*step));
     }
 }
 

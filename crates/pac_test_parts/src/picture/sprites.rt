@@ -1,6 +1,6 @@
 //! Pixels and lines of sprites, and what their bytes say.
 
-use crate::told::{told, told_of_two};
+use crate::told::{told_of_one, told_of_two};
 use pac_sprites::{Sprite, pixel};
 
 // Sprite 1 is 0 save on these two lines.
@@ -36,7 +36,7 @@ fn is_column(rom: &[u8; 4096], x: u8) -> bool {
 fn pixels_stand_in_their_bytes(rt: HostRuntime) {
     let rom = rom();
     for x in 0..16u8 {
-        told(&rt, "column", x as usize, is_column(&rom, x));
+        told_of_one(&rt, "column", x as usize, is_column(&rom, x));
     }
 }
 

@@ -1,6 +1,6 @@
 //! Places and pixels of tiles.
 
-use crate::told::{told, told_of_two};
+use crate::told::{told_of_one, told_of_two};
 use pac_tiles::{offset, pixel};
 
 /// Columns and rows of cells, and where these stand in the RAMs.
@@ -78,6 +78,6 @@ fn is_column(rom: &[u8; 4096], x: u8) -> bool {
 fn pixels_stand_in_their_bytes(rt: HostRuntime) {
     let rom = rom();
     for x in 0..8u8 {
-        told(&rt, "column", x as usize, is_column(&rom, x));
+        told_of_one(&rt, "column", x as usize, is_column(&rom, x));
     }
 }

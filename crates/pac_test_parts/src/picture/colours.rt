@@ -1,6 +1,6 @@
 //! Colours of the colour PROM, and numbers of the lookup PROM.
 
-use crate::told::{told, told_of_two};
+use crate::told::{told_of_one, told_of_two};
 use pac_colour::{index, rgb};
 
 /// Bytes of the colour PROM, with their levels of red, green and blue.
@@ -17,7 +17,7 @@ static LEVELS: [(u8, [u8; 3]); 7] = [
 #[test]
 fn bytes_of_the_colour_prom_have_their_colours(rt: HostRuntime) {
     for (byte, levels) in &LEVELS {
-        told(&rt, "colour byte", *byte as usize, rgb(*byte) == *levels);
+        told_of_one(&rt, "colour byte", *byte as usize, rgb(*byte) == *levels);
     }
 }
 

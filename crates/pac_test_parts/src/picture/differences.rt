@@ -1,6 +1,6 @@
 //! Lists of bytes compared a vector at a time.
 
-use crate::told::{told, told_of_two};
+use crate::told::{told_of_one, told_of_two};
 use pac_picture::laws::changed;
 use std::process::Abort;
 
@@ -45,7 +45,7 @@ fn are_told_apart(rt: &impl Abort, length: usize) {
     mark(&shadow, length, &mut mask);
     let beyond = 1024usize.saturating_sub(length);
     let is_so = marks(&mask, length) == 0 && marks(&mask, 1024) == beyond;
-    told(rt, "length", length, is_so);
+    told_of_one(rt, "length", length, is_so);
     for place in 0..length {
         set(&mut shadow, place, 0x5B);
         mark(&shadow, length, &mut mask);

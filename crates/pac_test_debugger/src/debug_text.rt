@@ -1,4 +1,0 @@
-//! Tests of the debugger's command lines and texts: worked rows, and lines of any bytes.
-
-mod commands;
-mod texts;
