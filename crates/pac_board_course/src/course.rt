@@ -16,11 +16,21 @@ use std::marker::Model;
 
 /// A script that is played on a board. Frames are counted from power-on, whenever the script's first one begins. Clauses see board and
 /// script, and how many frames had gone by before.
-#[derive(Drop)]
 pub struct Course {
     board: Box<Board>,
     script: Script,
     gone: u64,
+}
+
+impl Drop for Course {
+    /// Drops each part.
+    fn drop(self) {
+        let Course {
+            board: _,
+            script: _,
+            gone: _,
+        } = self;
+    }
 }
 
 impl Model for Course {

@@ -6,7 +6,6 @@ ghost use Rattle.pac_board_course.specs.Step.{frame_ticks};
 ghost use Rattle.pac_board_course.specs.Stretches.{most_frames};
 ghost use Rattle.pac_debug_session.specs.Motions.{PlaysOn};
 ghost use Rattle.pac_board_course.specs.Course.{outcome_at};
-ghost use Rattle.pac_debug_session.specs.Playing.{course_of};
 
 use crate::session::Session;
 use pac_board_course::{Board, Course, FRAME_TICKS, Outcome, Refused, Sink, Stop};
@@ -25,25 +24,6 @@ fn outcome_on(board: &Board, stop: Option<Stop>) -> Outcome
 }
 
 impl Session {
-    /// The course of the run, from the session's index on.
-    fn into_course(self) -> Course
-        ensures { result ≡ course_of self }
-    {
-        let Session {
-            board,
-            script,
-            switches: _,
-            limit: _,
-            furthest: _,
-            breakpoints: _,
-            history: _,
-            checkpoints: _,
-            slots: _,
-            replayed: _,
-        } = self;
-        Course::taken_up(board, script, 0)
-    }
-
     /// Offers what is due, goes to the end of the run, and says what the run came to, as `finish` does, for a session that is needed no
     /// more: from the furthest index on nothing is kept to go back to.
     pub fn play_on<S: Sink>(mut self, sink: &mut S) -> Result<Outcome, Refused>

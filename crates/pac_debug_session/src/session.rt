@@ -9,12 +9,13 @@ ghost use Rattle.pac_debug_session.specs.Running.{now_at};
 ghost use Rattle.pac_debug_session.specs.Past.{told_at, told_step_count};
 ghost use Rattle.pac_debug_session.specs.Session.{IsSession, IsNew, session_at_start, IsSet, has_breakpoint, without_breakpoint, slot_count};
 ghost use Rattle.pac_debug_session.specs.Motions.{checkpoint_count, ReturnsTo, session_with_slot};
+ghost use Rattle.pac_debug_session.specs.Playing.{course_of};
 
 use crate::checkpoints::Checkpoints;
 use crate::history::History;
 use crate::kept::SlotContents;
 use arrayvec::ArrayVec;
-use pac_board_course::{Board, FRAME_TICKS, PastStep, Script, hold};
+use pac_board_course::{Board, Course, FRAME_TICKS, PastStep, Script, hold};
 use std::alloc::{AllocError, Global};
 use std::marker::Model;
 
@@ -26,7 +27,6 @@ const SLOTS: usize = 4;
 
 /// A session over the run of a script on a board. Clauses see the run, where the session is in it, its breakpoints and slots, what
 /// is due, and the counts of steps that were done.
-#[derive(Drop)]
 pub struct Session {
     pub(crate) board: Box<Board>,
     pub(crate) script: Script,
@@ -38,6 +38,24 @@ pub struct Session {
     pub(crate) checkpoints: Checkpoints,
     pub(crate) slots: Vec<SlotContents>,
     pub(crate) replayed: u32,
+}
+
+impl Drop for Session {
+    /// Drops each part.
+    fn drop(self) {
+        let Session {
+            board: _,
+            script: _,
+            switches: _,
+            limit: _,
+            furthest: _,
+            breakpoints: _,
+            history: _,
+            checkpoints: _,
+            slots: _,
+            replayed: _,
+        } = self;
+    }
 }
 
 impl Model for Session {
@@ -239,6 +257,25 @@ impl Session {
         }
         slot.kept.put_back(&mut self.board, &mut self.history);
         Ok(())
+    }
+
+    /// The course of the run, from the session's index on.
+    pub(crate) fn into_course(self) -> Course
+        ensures { result ≡ course_of self }
+    {
+        let Session {
+            board,
+            script,
+            switches: _,
+            limit: _,
+            furthest: _,
+            breakpoints: _,
+            history: _,
+            checkpoints: _,
+            slots: _,
+            replayed: _,
+        } = self;
+        Course::taken_up(board, script, 0)
     }
 }
 
