@@ -11,12 +11,15 @@ pub use rows::AT_ONCE;
 
 #[test]
 fn steps_times_and_stops(rt: HostRuntime) {
-    are_played(&rt, rt.alloc(), &rows::CASES);
+    are_played(&rt, rt.alloc(), &rows::FRAMES);
+    are_played(&rt, rt.alloc(), &rows::BLANKS);
+    are_played(&rt, rt.alloc(), &rows::TIMES);
 }
 
 #[test]
 fn pictures_of_programs(rt: HostRuntime) {
-    are_played(&rt, rt.alloc(), &pictures::CASES);
+    are_played(&rt, rt.alloc(), &pictures::CELLS);
+    are_played(&rt, rt.alloc(), &pictures::COLOURS);
 }
 
 #[test]

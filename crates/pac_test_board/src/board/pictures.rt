@@ -47,8 +47,8 @@ const INPUTS: Pieces = &[(
     ],
 )];
 
-/// Programs and their pictures.
-pub static CASES: [Case; 14] = [
+/// Cells at the edges of the picture.
+pub static CELLS: [Case; 6] = [
     // LD A,1 / LD (nn),A / HALT, each with the address of a cell, which shows the tile then
     Case {
         name: "cell (0, 0)",
@@ -140,6 +140,10 @@ pub static CASES: [Case; 14] = [
             ),
         ],
     },
+];
+
+/// Colours, tiles, sprites and what is held, as they show.
+pub static COLOURS: [Case; 8] = [
     Case {
         name: "colours of the PROM",
         program: &[],

@@ -99,8 +99,8 @@ const REPEATS: Pieces = &[
     (0x100, &[0xED, 0xB0]),
 ];
 
-/// The programs.
-pub static CASES: [Case; 18] = [
+/// Frames that pass, and boards that stop.
+pub static FRAMES: [Case; 5] = [
     // no program at all is NOPs, of four T-states each
     Case {
         name: "a frame of NOPs",
@@ -162,6 +162,10 @@ pub static CASES: [Case; 18] = [
             Halted(true),
         ],
     },
+];
+
+/// What a blank brings: interrupts, the watchdog and what the program reads of them.
+pub static BLANKS: [Case; 6] = [
     // LD A,1 / LD (5000H),A / LD SP,4FF0H / IM 1 / EI / HALT; the blank's request is accepted after the step that met it
     Case {
         name: "a blank is accepted in mode 1",
@@ -263,6 +267,10 @@ pub static CASES: [Case; 18] = [
             Reads(&[(0x4C00, 0x31), (0x4C01, 0xF0)]),
         ],
     },
+];
+
+/// Places at the ends of memory, and times by calls of many lengths.
+pub static TIMES: [Case; 7] = [
     // LD A,55H / LD SP,1 / PUSH AF / HALT: the pushes go to 0000H, which is ROM, and to FFFFH, which is the watchdog's port: no RAM
     // changes
     Case {
