@@ -430,7 +430,7 @@ class Assembly:
 
     def at_once(self, tree):
         """The value of an expression whose names have to be defined above."""
-        if not names_of(tree) <= set(self.symbols):
+        if not names_of(tree) <= self.symbols.keys():
             raise Fault("A4")
         return value_of(tree, self.symbols, self.at)
 
@@ -496,7 +496,7 @@ class Assembly:
             return
         here, size = spot
         for _, tree in line.places:
-            if not names_of(tree) <= set(self.symbols):
+            if not names_of(tree) <= self.symbols.keys():
                 raise Fault("A8")
         values = [(kind, value_of(tree, self.symbols, here)) for kind, tree in line.places]
         self.rom[here : here + size] = content(line, values, here, size)
