@@ -1,3 +1,0 @@
-//! Tests of expressions: what no clause says, and outside rows.
-
-mod rows;

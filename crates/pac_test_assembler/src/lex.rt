@@ -1,3 +1,0 @@
-//! Tests of the lexer: what no clause says, and outside rows.
-
-mod rows;
