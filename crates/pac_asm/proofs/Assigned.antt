@@ -131,7 +131,7 @@ pub record Agrees (above : Standing) (step : Option LineStep) (Fills : LineLayou
   pub added : next.places ≡ above.places ++ place ∷ []
   pub fills : Fills place
 
--- the same, for a standing that is known
+-- where the line answers a standing, that is the next one
 agrees-at : (above : Standing) (step : Option LineStep) (Fills : LineLayout → Type 0) (made next : Standing)
     → ◌≡◌ {A = Result Standing AsmCode} (Ok made) (Ok next) → Agrees above step Fills made → Agrees above step Fills next
 agrees-at above step Fills made next e h = subst (Agrees above step Fills) (same-Ok made next e) h

@@ -13,7 +13,7 @@ use Rattle.pac_asm.specs.Unclosed.{conditional_of_line, stays_open, is_never_clo
 abbrev pub shifted : ℕ → Option ℕ → Option ℕ
 shifted above found = option_map (λ more. above + more) found
 
--- the same where IFs are open already, the outermost of which stands below so many lines
+-- the first that is never closed where IFs are open already, the outermost of which stands below so many lines
 abbrev pub found : ℕ → ℕ → ℕ → List (List ℕ) → Option ℕ
 found zero outermost above below = shifted above (first_unclosed below)
 found (suc inner) outermost above below =

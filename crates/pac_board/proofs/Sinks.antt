@@ -31,7 +31,7 @@ module _ {S : Type 0} (took : S → Output → S → Type 0) where
 
 -- ---- taking some outputs, and refusing one
 
--- the same outputs, and the same that are left
+-- outputs that are cut stay cut where they, and those that are left, go by other names
 abbrev pub cut-along : {S : Type 0} {to : Giving S} {given outputs left rest : List Output} {old new : S} → given ≡ outputs → left ≡ rest
     → Cut to old outputs left new → Cut to old given rest new
 cut-along {to} {old} {new} given_is rest_is cut =

@@ -83,7 +83,8 @@ impl Board {
         self.machine.put_roms(program, raw);
     }
 
-    /// The same in a block of memory. Refused for want of memory alone; the set then comes back.
+    /// The board at power-on with this ROM set and the byte of the DIP switches, in a block of memory. Refused for want of memory alone;
+    /// the set comes back then.
     pub fn init(alloc: Global, set: RomSet, switches: u8) -> Result<Box<Board>, InitRefused>
         ensures board { IfOk result (λ board. board.value ≡ state.power_on_board set switches) }
         ensures refused { IfErr result (λ refused. refused.set ≡ set) }

@@ -26,7 +26,7 @@ impl Board {
         }
     }
 
-    /// The same in a block of memory. Refused for want of memory alone; the set then comes back.
+    /// The board that has these fields, in a block of memory, with this ROM set. Refused for want of memory alone; the set comes back then.
     pub fn of(alloc: Global, set: RomSet, fields: &Fields) -> Result<Box<Board>, InitRefused>
         requires { AreBoardFields fields.now }
         ensures board { IfOk result

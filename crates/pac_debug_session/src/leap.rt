@@ -45,7 +45,8 @@ impl Session {
         played
     }
 
-    /// The same, where what the steps give was taken before: it goes nowhere.
+    /// Does steps in one go whose outputs were taken before, so many at most; what they give goes nowhere. Answers the stop that the run
+    /// met, if any.
     fn leap_again(&mut self, most: u64) -> Option<Stop>
         requires nothing { self.old.due ≡ state.nothing_due }
         requires early { is_late self.old.setting self.old.index ≡ false }

@@ -155,7 +155,8 @@ impl Session {
         Ok(stop)
     }
 
-    /// The same, and where no breakpoint is set steps of any kind in one go.
+    /// Does steps of any kind in one go where no breakpoint is set, and else as `step_by_step`, so many at most; answers the stop that the
+    /// run met, if any.
     fn step_on<S: Sink>(&mut self, most: u64, sink: &mut S) -> Result<Option<Stop>, Refused>
         requires nothing { self.old.due ≡ state.nothing_due }
         requires early { is_late self.old.setting self.old.index ≡ false }

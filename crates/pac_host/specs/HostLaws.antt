@@ -32,7 +32,7 @@ abbrev pub AreDone : (roms : List ℕ) → List HostCall → (old new : List ℕ
 AreDone roms [] old new = new ≡ old
 AreDone roms (call ∷ calls) old new = (between : List ℕ) × IsCallDone roms call old between × AreDone roms calls between new
 
--- The same calls of one board that is kept: its steps are counted on, and nothing goes through a block.
+-- A call was done on one board that is kept: its steps are counted on, and nothing goes through a block.
 abbrev pub IsCallOfBoard : HostCall → (old new : BoardValue) → Type 0
 IsCallOfBoard (PowerOn switches) old new = new ≡ power_on_board old.set switches
 IsCallOfBoard ResetNow old new = new ≡ board_after_reset old

@@ -18,7 +18,7 @@ flat_map-split f xs i d lt =
     ∙ sym (flat_map-append f (take (i + 1) xs) (drop (i + 1) xs))
     ∙ ap (flat_map f) (take-append-drop (i + 1) xs)
 
--- the same where each piece is one element
+-- lists made of pieces of one element each
 pub map-one-more : {X Y : Type 0} (f : X → Y) (xs : List X) (i : ℕ) (d : X) → i < length xs
     → map f (take i xs) ++ f (get_or xs i d) ∷ [] ≡ map f (take (i + 1) xs)
 map-one-more f xs i d lt = sym (map_more f xs i d lt)

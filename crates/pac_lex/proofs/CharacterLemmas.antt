@@ -55,7 +55,7 @@ pub ends-unquoted : (found rest total : List ℕ) → length rest < 1 → found 
 ends-unquoted found [] total none so_far = sym (append-nil found) ∙ ap (λ (xs : List ℕ). found ++ xs) (sym unquoted-nil) ∙ so_far
 ends-unquoted found (b ∷ rest) total none so_far = absurd (omega arith)
 
--- the same steps for a count of the characters
+-- counting a text's characters: one more goes on, and at the end the count is all of them
 pub counts-on : (count total : ℕ) (rest : List ℕ) → 1 ≤ length rest → count + length (unquoted_characters rest) ≡ total
     → count + 1 + length (unquoted_characters (after_character (get_or rest 0 0) (take (length rest - 1) (drop 1 rest)))) ≡ total
 counts-on count total [] some so_far = absurd (omega arith)

@@ -123,7 +123,7 @@ impl RomSet {
         self.wave.copy_from_slice(raw.wave);
     }
 
-    /// The same set once more.
+    /// A copy of the set, by value.
     #[inline(always)]
     pub fn copied(&self) -> RomSet
         ensures { result ≡ self.now }

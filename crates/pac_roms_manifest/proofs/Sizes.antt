@@ -28,14 +28,14 @@ sized_bytes part digest (Some bytes) right =
       | inr other ↦ cc (rw other at right)
     ]
 
--- the same of a file that the manifest names, if it names one
+-- a file that the manifest names has its part's size, if nothing is wrong with it
 sized_file : (part : PartName) (files : List Part) (file digest : Option (List ℕ)) → is_none file ≡ false
     → (file >>= λ name. option_map (fault_at part) (code_of_part part digest (bytes_named files name))) ≡ None
     → length (unwrap_or (file >>= bytes_named files) []) ≡ rom_part_size part
 sized_file part files None digest named right = cc named
 sized_file part files (Some name) digest named right = sized_bytes part digest (bytes_named files name) right
 
--- the same by the entry of a part
+-- and so has the file of a part's entry
 sized_entry : (assembled : Bool) (part : PartName) (files : List Part) (entry : Option PlainEntry) → needs_table assembled part ≡ true
     → is_unnamed assembled part entry ≡ false
     → ((entry >>= λ said. said.file)

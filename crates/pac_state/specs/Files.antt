@@ -57,7 +57,7 @@ Accepts set bytes (Ok board) = record {
 }
 Accepts set bytes (Err refused) = IsFile set bytes → refused.fault ≡ NoMemory
 
--- The same where no memory is wanted: exactly the files of a set are taken.
+-- Exactly the files of a set are taken, where no memory is wanted, and the board is that of the file.
 abbrev pub AcceptsFile : Parts → List ℕ → Result BoardValue LoadFault → Type 0
 AcceptsFile set bytes (Ok board) = record {
   file : IsFile set bytes;

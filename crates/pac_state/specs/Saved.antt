@@ -123,7 +123,7 @@ LoadsBoard set bytes (Err refused) = record {
   fault : RefusesFile set bytes refused.fault;
 }
 
--- the same without a block of memory for it: the board of a file, or what is wrong with the file
+-- the board of a file, or what is wrong with the file, where the set is lent and no memory is wanted
 abbrev pub ReadsFile : Parts → List ℕ → Result BoardValue LoadFault → Type 0
 ReadsFile set bytes (Ok board) = record {
   sound : load_fault (digest_of set) bytes ≡ None;

@@ -57,7 +57,7 @@ pub fn read_file(bytes: &[u8], set: &RomSet) -> Result<Board, LoadFault>
     Ok(board)
 }
 
-/// The same in a block of memory. Refused for want of memory, too; the set then comes back.
+/// The board of a state file, as `read_file` has it, in a block of memory. Refused for want of memory, too; the set comes back then.
 pub fn load(alloc: Global, bytes: &[u8], set: RomSet) -> Result<Box<Board>, LoadRefused>
     ensures answer { saved.LoadsBoard set bytes.now (unboxed result) }
     ensures files { Accepts set bytes.now (unboxed result) }

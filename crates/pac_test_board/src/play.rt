@@ -26,7 +26,7 @@ impl Rig {
         }
     }
 
-    /// The same, of the steps that let no time go by.
+    /// Whether a step of a case is so that lets no time go by.
     fn changes(&mut self, alloc: Global, step: Step) -> bool {
         match step {
             Step::Holds(inputs) => self.board.input_set(inputs),
@@ -46,7 +46,7 @@ impl Rig {
         true
     }
 
-    /// The same, of the steps that see something.
+    /// Whether a step of a case is so that sees something.
     fn has(&self, step: Step) -> bool {
         match step {
             Step::IsAt(steps, time, pc) => self.is_at(steps, time, pc),
@@ -61,7 +61,7 @@ impl Rig {
         }
     }
 
-    /// The same, of the steps that see samples and pictures.
+    /// Whether a step of a case is so that sees samples and pictures.
     fn shows(&self, step: Step) -> bool {
         match step {
             Step::Samples(start, end, sample) => self.gave_samples(start, end, sample),

@@ -27,7 +27,7 @@ const UPRIGHT: Pieces = &[
     (0x20, &SPRITES),
 ];
 
-/// The same with LD A,1.
+/// `UPRIGHT` with LD A,1, which flips the screen.
 const FLIPPED: Pieces = &[
     (
         0,

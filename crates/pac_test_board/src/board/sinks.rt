@@ -93,7 +93,7 @@ fn not_taken_up(alloc: Global, rig: &mut Rig, whole: &mut Rig) -> u64 {
     0
 }
 
-/// The same of two new boards of a program.
+/// The first such offer of two new boards of a program.
 fn not_taken_up_by_new(alloc: Global, program: Pieces) -> Result<u64, AllocError> {
     let mut rig = Rig::of(alloc, program, SWITCHES)?;
     let mut whole = Rig::of(alloc, program, SWITCHES)?;

@@ -29,7 +29,7 @@ const CELL_FILE: Pieces = &[
     (3224 + 288 + 16, &[2; 8]),
 ];
 
-/// The same of version 1, which has no line of the picture since the last blank.
+/// `CELL_FILE` in version 1, which has no line of the picture since the last blank.
 const OLD_FILE: Pieces = &[
     (8, &[1]),
     (30, &[0x42]),

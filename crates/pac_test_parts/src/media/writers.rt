@@ -137,7 +137,7 @@ fn counts(file: &mut Counted<Faulty>) -> bool {
         && file.writer.bytes().len() == 80
 }
 
-/// The same of a new file, that takes 30 bytes a call.
+/// Whether a new file, that takes 30 bytes a call and refuses its fifth, counts over all calls.
 fn counts_over_all_calls(alloc: Global) -> bool {
     match Faulty::new(alloc, 1000, 30, 5) {
         Ok(writer) => counts(&mut Counted::new(writer)),
