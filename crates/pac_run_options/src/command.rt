@@ -1,23 +1,34 @@
 //! The command line as `clap` knows it: the subcommands, and what each takes.
 
-ghost use Rattle.std.specs.Prelude.{◌≡◌, IfOk, Ok, [], codes, false, map, true};
-ghost use Rattle.clap.specs.Simple.{new_app, new_shape};
-ghost use Rattle.clap.specs.Words.{AddsSubcommand, app_of, kind_of, rule_of};
-ghost use Rattle.clap.specs.declared.builder.command.Command.TheViews.{out-Command as fields_of};
+ghost use Rattle.std.specs.Prelude.{◌≡◌, ◌∷◌, ◌++◌, IfOk, Ok, [], codes, map, true};
+ghost use Rattle.clap.specs.Simple.{new_shape};
+ghost use Rattle.clap.specs.Words.{app_of, kind_of, rule_of};
 ghost use Rattle.pac_run_options.specs.CommandLine as line;
+ghost use Rattle.pac_run_options.specs.Rows.{told_argument};
 
 use clap::error::ErrorKind;
 use clap::{Arg, Command, Error};
 use std::alloc::{AllocError, Global};
 
+/// An argument of a subcommand: its name first, and what the help says of it last.
+#[derive(Clone, Copy)]
+enum Argument<'a> {
+    /// A word that stands by itself and has to be given; the help calls its value by the second text.
+    Place(&'a str, &'a str, &'a str),
+    /// `--name FILE`, which has to be given.
+    Required(&'a str, &'a str),
+    /// `--name FILE`, which may be given.
+    Optional(&'a str, &'a str),
+    /// `--dip N`, a byte, 201 where it isn't given.
+    Switches,
+}
+
 /// The whole command line. A subcommand is required, and there is one level of them.
 pub fn pacboard<'a>(alloc: Global) -> Result<Command<'a>, AllocError>
     ensures { IfOk result (λ command. app_of command ≡ line.pacboard) }
 {
-    let program = with_command(program(alloc), asm_command(alloc))?;
-    let program = with_command(program, run_command(alloc))?;
-    let program = with_command(program, debug_command(alloc))?;
-    with_command(program, dis_command(alloc))
+    let subcommands = subcommands(alloc)?;
+    program(alloc).subcommands(subcommands)
 }
 
 /// The program before its subcommands.
@@ -34,191 +45,204 @@ fn program<'a>(alloc: Global) -> Command<'a>
         .disable_help_subcommand(true)
 }
 
-/// A program with one more subcommand, where there was memory for that. The subcommand's own failure is passed on here, so that
-/// the caller has no two commands to drop where one fails.
-fn with_command<'a>(
-    program: Command<'a>,
-    subcommand: Result<Command<'a>, AllocError>,
-) -> Result<Command<'a>, AllocError>
-    ensures { IfOk result (λ r. (sub : _) × (subcommand.entry ≡ Ok sub) × AddsSubcommand program.entry sub r) }
+/// The subcommands, in the order of the help. A failure is handed on to the end: a way out here, with commands to drop, would cost far
+/// more to check.
+fn subcommands<'a>(alloc: Global) -> Result<Vec<Command<'a>>, AllocError>
+    ensures { IfOk result (λ commands. map app_of commands.items ≡ map line.app_of_command
+        (line.asm_command ∷ line.run_command ∷ line.debug_command ∷ line.dis_command ∷ [])) }
 {
-    program.subcommand(subcommand?)
+    let commands = with_one_more(Ok(Vec::new(alloc)), asm_command(alloc));
+    let commands = with_one_more(commands, run_command(alloc, "run"));
+    let commands = with_one_more(commands, debug_command(alloc));
+    with_one_more(commands, dis_command(alloc))
 }
 
-/// A subcommand with its description, before what it takes.
-fn command<'a>(alloc: Global, name: &'a str, about: &'a str) -> Command<'a>
-    ensures shape { app_of result ≡ new_app name.entry.now }
-    ensures local { (fields_of result).has_globals ≡ false }
+/// A list with one more item at its end, where both were made and there was memory for that. It is generic, since the parts of a type
+/// that isn't known are no part of the check.
+fn with_one_more<T: Drop>(
+    items: Result<Vec<T>, AllocError>,
+    item: Result<T, AllocError>,
+) -> Result<Vec<T>, AllocError>
+    ensures { IfOk result (λ r. (old : _) × (new : _) × (items ≡ Ok old) × (item ≡ Ok new) × (r.items ≡ old.items ++ new ∷ [])) }
 {
-    Command::new(alloc, name).about(about)
+    let mut items = items?;
+    items.push(item?)?;
+    Ok(items)
 }
 
 /// `asm SOURCE --rom FILE --listing FILE`.
 fn asm_command<'a>(alloc: Global) -> Result<Command<'a>, AllocError>
-    ensures shape { IfOk result (λ command. app_of command ≡ line.app_of_command line.asm_command) }
-    ensures local { IfOk result (λ command. (fields_of command).has_globals ≡ false) }
+    ensures { IfOk result (λ command. app_of command ≡ line.app_of_command line.asm_command) }
 {
-    let command = command(
+    subcommand(
         alloc,
         "asm",
         "Assembles a source into a ROM and its listing",
-    )
-    .arg(required_place(alloc, "source", "SOURCE", "The source"))?;
-    with_files(
-        alloc,
-        command,
+        &[],
         &[
-            ("rom", "Gets the 16,384 bytes of the ROM"),
-            ("listing", "Gets the listing"),
+            Argument::Place("source", "SOURCE", "The source"),
+            Argument::Required("rom", "Gets the 16,384 bytes of the ROM"),
+            Argument::Required("listing", "Gets the listing"),
         ],
     )
 }
 
-/// `run`: the options of a run, and the states that it begins and ends with, `[--load FILE] [--save FILE]`.
-fn run_command<'a>(alloc: Global) -> Result<Command<'a>, AllocError>
-    ensures shape { IfOk result (λ command. app_of command ≡ line.app_of_command line.run_command) }
-    ensures local { IfOk result (λ command. (fields_of command).has_globals ≡ false) }
+/// `run`, by the name that the usage gives it: the options of a run, and the states that it begins and ends with,
+/// `[--load FILE] [--save FILE]`.
+fn run_command<'a>(alloc: Global, name: &'a str) -> Result<Command<'a>, AllocError>
+    ensures { IfOk result (λ command. app_of command ≡ line.app_of_command (line.command name.entry.now line.play_rules)) }
 {
-    let command = command(
+    subcommand(
         alloc,
-        "run",
+        name,
         "Runs a ROM set by a script, and writes its pictures and its sound",
-    );
-    with_run_options(alloc, command)?
-        .arg(option(
-            alloc,
-            "load",
-            "FILE",
-            "The state file that the run begins with, in place of power-on",
-        ))?
-        .arg(option(
-            alloc,
-            "save",
-            "FILE",
-            "Gets the state of the board at the run's end",
-        ))
+        &run_options(),
+        &[
+            Argument::Optional(
+                "load",
+                "The state file that the run begins with, in place of power-on",
+            ),
+            Argument::Optional("save", "Gets the state of the board at the run's end"),
+        ],
+    )
 }
 
 /// `debug` with the options of a run and `--commands FILE`.
 fn debug_command<'a>(alloc: Global) -> Result<Command<'a>, AllocError>
-    ensures shape { IfOk result (λ command. app_of command ≡ line.app_of_command line.debug_command) }
-    ensures local { IfOk result (λ command. (fields_of command).has_globals ≡ false) }
+    ensures { IfOk result (λ command. app_of command ≡ line.app_of_command line.debug_command) }
 {
-    let command = command(
+    subcommand(
         alloc,
         "debug",
         "Runs a ROM set as run does, and does a debugger's commands on the run",
-    );
-    with_run_options(alloc, command)?.arg(required_option(
-        alloc,
-        "commands",
-        "The debugger's commands, a line each",
-    ))
-}
-
-/// A command with the options of a run added: `--set FILE --script FILE --frames FILE --wave FILE --listing FILE
-/// [--source FILE] [--dip N]`.
-fn with_run_options<'a>(alloc: Global, command: Command<'a>) -> Result<Command<'a>, AllocError>
-    ensures shape { IfOk result (λ r. app_of r ≡ line.with_rules line.run_rules (app_of command.entry)) }
-    ensures local { IfOk result (λ r. (fields_of r).has_globals ≡ (fields_of command.entry).has_globals) }
-{
-    let required = with_files(
-        alloc,
-        command,
-        &[
-            ("set", "The manifest of the ROM set"),
-            ("script", "The script of inputs"),
-            ("frames", "Gets the pictures, as PPM"),
-            ("wave", "Gets the sound, as WAV"),
-            ("listing", "Gets the listing"),
-        ],
-    )?;
-    let with_source = required.arg(option(
-        alloc,
-        "source",
-        "FILE",
-        "The source that stands for the set's program",
-    ))?;
-    with_source.arg(dip_option(alloc))
-}
-
-/// A command with options added that name a file and have to be given, each by its name and what the help says of it. They are
-/// added in a loop: a long chain of steps that may fail costs far more to check.
-fn with_files<'a>(
-    alloc: Global,
-    command: Command<'a>,
-    options: &[(&'a str, &'a str)],
-) -> Result<Command<'a>, AllocError>
-    ensures shape { IfOk result (λ r.
-        app_of r ≡ line.with_rules (map (λ o. line.required_option o.0.now) options.now) (app_of command.entry)) }
-    ensures local { IfOk result (λ r. (fields_of r).has_globals ≡ (fields_of command.entry).has_globals) }
-{
-    let mut command = command;
-    for file in options {
-        let (name, help) = *file;
-        command = command.arg(required_option(alloc, name, help))?;
-    }
-    Ok(command)
+        &run_options(),
+        &[Argument::Required("commands", "The debugger's commands, a line each")],
+    )
 }
 
 /// `dis FILE`.
 fn dis_command<'a>(alloc: Global) -> Result<Command<'a>, AllocError>
-    ensures shape { IfOk result (λ command. app_of command ≡ line.app_of_command line.dis_command) }
-    ensures local { IfOk result (λ command. (fields_of command).has_globals ≡ false) }
+    ensures { IfOk result (λ command. app_of command ≡ line.app_of_command line.dis_command) }
 {
-    command(alloc, "dis", "Disassembles a file").arg(required_place(
+    subcommand(
         alloc,
-        "file",
-        "FILE",
-        "The file, of 1 to 65,536 bytes",
-    ))
+        "dis",
+        "Disassembles a file",
+        &[],
+        &[Argument::Place("file", "FILE", "The file, of 1 to 65,536 bytes")],
+    )
 }
 
-/// A word that stands by itself, which has to be given.
-fn required_place<'a>(alloc: Global, name: &'a str, value: &'a str, help: &'a str) -> Arg<'a>
-    ensures rule { rule_of result ≡ line.required_place name.entry.now }
-    ensures local { result.global ≡ false }
+/// The options of a run: `--set FILE --script FILE --frames FILE --wave FILE --listing FILE [--source FILE] [--dip N]`.
+fn run_options<'a>() -> [Argument<'a>; 7]
+    ensures { map told_argument result ≡ line.run_rules }
 {
-    Arg::new(alloc, name)
-        .value_name(value)
-        .help(help)
-        .required(true)
+    [
+        Argument::Required("set", "The manifest of the ROM set"),
+        Argument::Required("script", "The script of inputs"),
+        Argument::Required("frames", "Gets the pictures, as PPM"),
+        Argument::Required("wave", "Gets the sound, as WAV"),
+        Argument::Required("listing", "Gets the listing"),
+        Argument::Optional("source", "The source that stands for the set's program"),
+        Argument::Switches,
+    ]
 }
 
-/// `--name FILE`, which has to be given.
-fn required_option<'a>(alloc: Global, name: &'a str, help: &'a str) -> Arg<'a>
-    ensures rule { rule_of result ≡ line.required_option name.entry.now }
-    ensures local { result.global ≡ false }
+/// A subcommand with its description, and with what it takes: what others take too, and then its own.
+fn subcommand<'a>(
+    alloc: Global,
+    name: &'a str,
+    about: &'a str,
+    shared: &[Argument<'a>],
+    own: &[Argument<'a>],
+) -> Result<Command<'a>, AllocError>
+    ensures { IfOk result (λ command. app_of command ≡ line.app_of_command
+        (line.command name.entry.now (map told_argument shared.now ++ map told_argument own.now))) }
 {
-    option(alloc, name, "FILE", help).required(true)
+    let mut arguments = Vec::new(alloc);
+    add_arguments(alloc, &mut arguments, shared)?;
+    add_arguments(alloc, &mut arguments, own)?;
+    Command::new(alloc, name).about(about).args(arguments)
 }
 
-/// `--name VALUE`, which may be given.
-fn option<'a>(alloc: Global, name: &'a str, value: &'a str, help: &'a str) -> Arg<'a>
-    ensures rule { rule_of result ≡ line.option name.entry.now }
-    ensures local { result.global ≡ false }
+/// Adds arguments by their rows.
+fn add_arguments<'a>(
+    alloc: Global,
+    arguments: &mut Vec<Arg<'a>>,
+    rows: &[Argument<'a>],
+) -> Result<(), AllocError>
+    ensures { IfOk result (λ _.
+        map rule_of arguments.new.items ≡ map rule_of arguments.old.items ++ map told_argument rows.now) }
 {
-    Arg::new(alloc, name)
-        .long(name)
-        .value_name(value)
-        .help(help)
+    for row in rows {
+        add(arguments, argument_of(alloc, *row))?;
+    }
+    Ok(())
+}
+
+/// Adds an item at the end of a list; generic for the same reason.
+fn add<T: Drop>(items: &mut Vec<T>, item: T) -> Result<(), AllocError>
+    ensures { IfOk result (λ _. items.new.items ≡ items.old.items ++ item ∷ []) }
+{
+    items.push(item)?;
+    Ok(())
+}
+
+/// An argument by its row.
+fn argument_of<'a>(alloc: Global, row: Argument<'a>) -> Arg<'a>
+    ensures { rule_of result ≡ told_argument row.entry }
+{
+    match row {
+        Argument::Place(name, value, help) => place(alloc, name, value, help, true),
+        Argument::Required(name, help) => option(alloc, name, "FILE", help, true),
+        Argument::Optional(name, help) => option(alloc, name, "FILE", help, false),
+        Argument::Switches => dip_option(alloc),
+    }
 }
 
 /// `--dip N`, a byte, 201 where it isn't given.
 fn dip_option<'a>(alloc: Global) -> Arg<'a>
-    ensures rule { rule_of result ≡ line.dip_option }
-    ensures local { result.global ≡ false }
+    ensures { rule_of result ≡ line.dip_option }
 {
-    option(alloc, "dip", "N", "The DIP switches, a byte from 0 to 255")
-        .value_parser(clap::value_parser!(u8))
-        .default_value("201")
+    option(
+        alloc,
+        "dip",
+        "N",
+        "The DIP switches, a byte from 0 to 255",
+        false,
+    )
+    .value_parser(clap::value_parser!(u8))
+    .default_value("201")
+}
+
+/// `--name VALUE`.
+fn option<'a>(
+    alloc: Global,
+    name: &'a str,
+    value: &'a str,
+    help: &'a str,
+    required: bool,
+) -> Arg<'a>
+    ensures { rule_of result ≡ record (line.option name.entry.now) { required = required } }
+{
+    place(alloc, name, value, help, required).long(name)
+}
+
+/// An argument with one value: a word that stands by itself.
+fn place<'a>(alloc: Global, name: &'a str, value: &'a str, help: &'a str, required: bool) -> Arg<'a>
+    ensures { rule_of result ≡ record (line.argument name.entry.now) { required = required } }
+{
+    Arg::new(alloc, name)
+        .value_name(value)
+        .help(help)
+        .required(required)
 }
 
 /// The error of DIP switches that are given beside a state to begin with, in the form in which `clap` tells such a conflict.
 pub fn dip_conflict(alloc: Global) -> Result<Error, AllocError>
     ensures { IfOk result (λ error. kind_of error ≡ ErrorKind.ArgumentConflict) }
 {
-    let mut command = run_command(alloc)?.bin_name("pacboard run")?;
+    let mut command = run_command(alloc, "pacboard run")?;
     command.error(
         ErrorKind::ArgumentConflict,
         "the argument '--dip <N>' cannot be used with '--load <FILE>'",

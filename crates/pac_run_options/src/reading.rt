@@ -74,10 +74,19 @@ fn request<'a>(matches: &ArgMatches<'a>) -> Option<Request<'a>>
 fn asm_files<'a>(values: &ArgMatches<'a>) -> Option<AsmFiles<'a>>
     ensures { option_map line.told_asm result ≡ line.asked_asm (rows_of (found_of values.now)) }
 {
+    let Some(source) = values.get_str("source") else {
+        return None;
+    };
+    let Some(rom) = values.get_str("rom") else {
+        return None;
+    };
+    let Some(listing) = values.get_str("listing") else {
+        return None;
+    };
     Some(AsmFiles {
-        source: values.get_str("source")?,
-        rom: values.get_str("rom")?,
-        listing: values.get_str("listing")?,
+        source,
+        rom,
+        listing,
     })
 }
 
@@ -85,8 +94,11 @@ fn asm_files<'a>(values: &ArgMatches<'a>) -> Option<AsmFiles<'a>>
 fn play_files<'a>(values: &ArgMatches<'a>) -> Option<PlayFiles<'a>>
     ensures { option_map line.told_play result ≡ line.asked_play (rows_of (found_of values.now)) }
 {
+    let Some(run) = run_files(values) else {
+        return None;
+    };
     Some(PlayFiles {
-        run: run_files(values)?,
+        run,
         load: values.get_str("load"),
         save: values.get_str("save"),
     })
@@ -96,14 +108,32 @@ fn play_files<'a>(values: &ArgMatches<'a>) -> Option<PlayFiles<'a>>
 fn run_files<'a>(values: &ArgMatches<'a>) -> Option<RunFiles<'a>>
     ensures { option_map line.told_run result ≡ line.asked_run (rows_of (found_of values.now)) }
 {
+    let Some(set) = values.get_str("set") else {
+        return None;
+    };
+    let Some(script) = values.get_str("script") else {
+        return None;
+    };
+    let Some(frames) = values.get_str("frames") else {
+        return None;
+    };
+    let Some(wave) = values.get_str("wave") else {
+        return None;
+    };
+    let Some(listing) = values.get_str("listing") else {
+        return None;
+    };
+    let Some(dip) = values.get_one::<u8>("dip") else {
+        return None;
+    };
     Some(RunFiles {
-        set: values.get_str("set")?,
-        script: values.get_str("script")?,
-        frames: values.get_str("frames")?,
-        wave: values.get_str("wave")?,
-        listing: values.get_str("listing")?,
+        set,
+        script,
+        frames,
+        wave,
+        listing,
         source: values.get_str("source"),
-        dip: values.get_one::<u8>("dip")?,
+        dip,
     })
 }
 
@@ -111,8 +141,11 @@ fn run_files<'a>(values: &ArgMatches<'a>) -> Option<RunFiles<'a>>
 fn debug_files<'a>(values: &ArgMatches<'a>) -> Option<DebugFiles<'a>>
     ensures { option_map line.told_debug result ≡ line.asked_debug (rows_of (found_of values.now)) }
 {
-    Some(DebugFiles {
-        run: run_files(values)?,
-        commands: values.get_str("commands")?,
-    })
+    let Some(run) = run_files(values) else {
+        return None;
+    };
+    let Some(commands) = values.get_str("commands") else {
+        return None;
+    };
+    Some(DebugFiles { run, commands })
 }

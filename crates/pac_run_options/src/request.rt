@@ -1,7 +1,7 @@
 //! What a command line asks for.
 
 /// What the words ask for; names of files are as they were given.
-#[derive(Clone, Copy, PartialEq, Eq)]
+#[derive(Clone, Copy)]
 pub enum Request<'a> {
     /// `asm`: a source is assembled.
     Asm(AsmFiles<'a>),
@@ -14,7 +14,7 @@ pub enum Request<'a> {
 }
 
 /// The files of `asm`.
-#[derive(Clone, Copy, PartialEq, Eq)]
+#[derive(Clone, Copy)]
 pub struct AsmFiles<'a> {
     /// The source that is read.
     pub source: &'a str,
@@ -25,7 +25,7 @@ pub struct AsmFiles<'a> {
 }
 
 /// The files of a run that it has in any case, and the switches of the board.
-#[derive(Clone, Copy, PartialEq, Eq)]
+#[derive(Clone, Copy)]
 pub struct RunFiles<'a> {
     /// The manifest of the ROM set.
     pub set: &'a str,
@@ -44,7 +44,7 @@ pub struct RunFiles<'a> {
 }
 
 /// The files of `run`: those that a run has in any case, and the states that it begins and ends with.
-#[derive(Clone, Copy, PartialEq, Eq)]
+#[derive(Clone, Copy)]
 pub struct PlayFiles<'a> {
     /// The files that a run has in any case, and the switches of the board.
     pub run: RunFiles<'a>,
@@ -55,7 +55,7 @@ pub struct PlayFiles<'a> {
 }
 
 /// The files of `debug`: those of a run, and its commands.
-#[derive(Clone, Copy, PartialEq, Eq)]
+#[derive(Clone, Copy)]
 pub struct DebugFiles<'a> {
     /// The files of the run, and the switches of the board.
     pub run: RunFiles<'a>,

@@ -8,7 +8,7 @@ returns c =
     let f = found_of c.args.values.now in
     rw (
       ← c.run_files.ensures,
-      c.in_ok-run_files.was,
+      c.in-Some.is,
       same_first f (codes "load") _ c.get_str.ensures,
       same_first f (codes "save") _ c.get_str-2.ensures,
     ) refl

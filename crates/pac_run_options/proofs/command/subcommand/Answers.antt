@@ -1,0 +1,15 @@
+use Rattle.std.proofs.Common.{◌∙◌, ap}
+use Rattle.std.proofs.lemmas.Result.{IfOk-weaker}
+use Rattle.clap.specs.Simple.{app_of_fields}
+use Rattle.pac_run_options.proofs.Commands.{both-added, with-rows}
+use Rattle.pac_run_options.proofs.command.subcommand.Goals as goal
+
+pub returns : goal.returns
+returns c =
+    let shared = c.args.shared.now in
+    let own = c.args.own.now in
+    let all = c.add_arguments-2.new.arguments.items in
+    let rules = both-added c.new-arguments.result.items c.add_arguments.new.arguments.items all shared own c.new-arguments.ensures.items
+    c.in_ok-add_arguments.ensures c.in_ok-add_arguments-2.ensures in
+    IfOk-weaker c.args-2.result _ _ (λ r h.
+    with-rows shared own all c.about.result r c.args.name.now rules (ap app_of_fields c.about.ensures ∙ c.new.ensures.app) h) c.args-2.ensures

@@ -1,0 +1,31 @@
+use Rattle.std.proofs.Common.{◌∷◌, Global, List, Ok, Vec, [], ap, map}
+use Rattle.clap.specs.Words.{App, app_of}
+use Rattle.clap.specs.declared.builder.command.Command.{Command}
+use Rattle.pac_run_options.specs.CommandLine as line
+use Rattle.pac_run_options.proofs.Commands.{one-more}
+use Rattle.pac_run_options.proofs.command.subcommands.Goals as goal
+
+abbrev items : Vec Command Global → List Command
+items v = v.items
+
+-- the subcommands so far: written out, so that none has to be found
+abbrev asm : List App
+asm = line.app_of_command line.asm_command ∷ []
+
+abbrev run : List App
+run = line.app_of_command line.asm_command ∷ line.app_of_command line.run_command ∷ []
+
+abbrev debug : List App
+debug =
+    line.app_of_command line.asm_command ∷ line.app_of_command line.run_command ∷ line.app_of_command line.debug_command ∷ []
+
+pub returns : goal.returns
+returns c =
+    let with_asm = one-more items (Ok c.new.result) c.asm_command.result c.with_one_more-commands.result [] (line.app_of_command line.asm_command)
+    c.with_one_more-commands.ensures (ap (map app_of) c.new.ensures.items) c.asm_command.ensures in
+    let with_run = one-more items c.with_one_more-commands.result c.run_command.result c.with_one_more-commands-2.result asm
+    (line.app_of_command line.run_command) c.with_one_more-commands-2.ensures with_asm c.run_command.ensures in
+    let with_debug = one-more items c.with_one_more-commands-2.result c.debug_command.result c.with_one_more-commands-3.result run
+    (line.app_of_command line.debug_command) c.with_one_more-commands-3.ensures with_run c.debug_command.ensures in
+    one-more items c.with_one_more-commands-3.result c.dis_command.result c.with_one_more.result debug (line.app_of_command line.dis_command)
+    c.with_one_more.ensures with_debug c.dis_command.ensures
