@@ -127,7 +127,8 @@ one-more {L = L} items before made after apps app joined some one = IfOk-weaker 
 
 -- subcommands added in turn to a program that has some
 pub added-commands : (apps : List App) (subs : List Command) (old new : Command) (app : App)
-    → list_all (λ below. below.top.is_plain) apps ≡ true → map app_of subs ≡ apps → app_of old ≡ app → AddsInTurn AddsSubcommand old subs new
+    → list_all (λ below. below.top.is_plain) apps ≡ true → map app_of subs ≡ apps → app_of old ≡ app
+    → AddsInTurn AddsSubcommand old subs new
     → app_of new ≡ fold (λ top below. with_subcommand top below.top) app apps
 added-commands [] [] old new app plain is before same = rw (← same) before
 added-commands [] (sub ∷ subs) old new app plain is before h = absurd (true≢false (ap (λ apps. has-some apps) is))

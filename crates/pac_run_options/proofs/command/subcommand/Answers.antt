@@ -11,5 +11,5 @@ returns c =
     let all = c.add_arguments-2.new.arguments.items in
     let rules = both-added c.new-arguments.result.items c.add_arguments.new.arguments.items all shared own c.new-arguments.ensures.items
     c.in_ok-add_arguments.ensures c.in_ok-add_arguments-2.ensures in
-    IfOk-weaker c.args-2.result _ _ (λ r h.
-    with-rows shared own all c.about.result r c.args.name.now rules (ap app_of_fields c.about.ensures ∙ c.new.ensures.app) h) c.args-2.ensures
+    let begun = ap app_of_fields c.about.ensures ∙ c.new.ensures.app in
+    IfOk-weaker c.args-2.result _ _ (λ r h. with-rows shared own all c.about.result r c.args.name.now rules begun h) c.args-2.ensures

@@ -21,11 +21,14 @@ debug =
 
 pub returns : goal.returns
 returns c =
-    let with_asm = one-more items (Ok c.new.result) c.asm_command.result c.with_one_more-commands.result [] (line.app_of_command line.asm_command)
-    c.with_one_more-commands.ensures (ap (map app_of) c.new.ensures.items) c.asm_command.ensures in
-    let with_run = one-more items c.with_one_more-commands.result c.run_command.result c.with_one_more-commands-2.result asm
-    (line.app_of_command line.run_command) c.with_one_more-commands-2.ensures with_asm c.run_command.ensures in
-    let with_debug = one-more items c.with_one_more-commands-2.result c.debug_command.result c.with_one_more-commands-3.result run
-    (line.app_of_command line.debug_command) c.with_one_more-commands-3.ensures with_run c.debug_command.ensures in
-    one-more items c.with_one_more-commands-3.result c.dis_command.result c.with_one_more.result debug (line.app_of_command line.dis_command)
+    let first = c.with_one_more-commands in
+    let second = c.with_one_more-commands-2 in
+    let third = c.with_one_more-commands-3 in
+    let with_asm = one-more items (Ok c.new.result) c.asm_command.result first.result [] (line.app_of_command line.asm_command)
+    first.ensures (ap (map app_of) c.new.ensures.items) c.asm_command.ensures in
+    let with_run = one-more items first.result c.run_command.result second.result asm (line.app_of_command line.run_command)
+    second.ensures with_asm c.run_command.ensures in
+    let with_debug = one-more items second.result c.debug_command.result third.result run (line.app_of_command line.debug_command)
+    third.ensures with_run c.debug_command.ensures in
+    one-more items third.result c.dis_command.result c.with_one_more.result debug (line.app_of_command line.dis_command)
     c.with_one_more.ensures with_debug c.dis_command.ensures
