@@ -4,7 +4,8 @@
 `run(..)` tells what has to come of a source, a manifest, a script and commands: the exit status, the line on standard error, and the
 outputs, as far as they are known without an emulator. A refused input is judged whole. A run is judged whole, but for what its pictures
 show, where the processor meets nothing but NOPs before a frame is over or before bytes that are no instruction; such are all that
-tools/hostile makes. This was written from these pages and from "The board on one page" of docs/USING.md, without a look at the program.
+tools/hostile makes, and those of no frame, which tools/sets makes. This was written from these pages and from "The board on one page" of
+docs/USING.md, without a look at the program.
 """
 import collections
 import hashlib
@@ -118,6 +119,7 @@ def fault_of_set(tables, files, has_source):
 
 # ---- Scripts
 
+# The names of inputs by their bits, those of 5000H and then those of 5040H.
 NAMES = "P1_UP P1_LEFT P1_RIGHT P1_DOWN RACK_TEST COIN1 COIN2 CREDIT P2_UP P2_LEFT P2_RIGHT P2_DOWN BOARD_TEST START1 START2 COCKTAIL"
 
 
@@ -135,9 +137,9 @@ def number_of(word, most):
     return None
 
 
-def frames_of(script):
-    """The frames of a script and None, or None and its fault."""
-    total = 0
+def stretches_of(script):
+    """What a script's lines say, each a number of frames and the names of what is held in them, and None; or None and its fault."""
+    stretches, total = [], 0
     for number, line in enumerate(judge_source.lines_of(script), 1):
         words = words_of(line)
         if not words or words[0].startswith(b"#"):
@@ -145,13 +147,32 @@ def frames_of(script):
         count = number_of(words[0], 36_000)
         if count is None:
             return None, f"refused I2 line {number}"
-        names = words[1].split(b",") if len(words) == 2 else [b""]
-        if words[1:] != [b"-"] and not all(name.decode("latin-1") in NAMES.split() for name in names):
+        names = words[1].decode("latin-1").split(",") if len(words) == 2 else [""]
+        names = [] if words[1:] == [b"-"] else names
+        if not all(name in NAMES.split() for name in names):
             return None, f"refused I1 line {number}"
         total += count
         if total > 36_000:
             return None, f"refused I3 line {number}"
-    return total, None
+        stretches.append((count, names))
+    return stretches, None
+
+
+def frames_of(stretches):
+    """How many frames the lines of a script have together."""
+    return sum(count for count, _ in stretches)
+
+
+def ports_of(stretches, frame):
+    """What is read at 5000H and at 5040H in a frame, the first of which is 1: a bit is 0 while its input is held. After the last frame
+    nothing is held."""
+    held = []
+    for count, names in stretches:
+        if 0 < frame <= count:
+            held = names
+        frame -= count
+    bits = sum(1 << bit for bit, name in enumerate(NAMES.split()) if name in held)
+    return 255 - bits % 256, 255 - bits // 256
 
 
 # ---- Sessions, over a run that is nothing but NOPs
@@ -356,10 +377,10 @@ def run(source, manifest, folder, script, commands=None, switches=201):
             return refused(fault)
         listing, rom = judge_source.listing(source, assembly), assembly.rom
     fault = fault_of_set(tables, files, source is not None)
-    frames, fault_of_script = frames_of(script)
+    stretches, fault_of_script = stretches_of(script)
     if fault or fault_of_script:
         return refused(fault or fault_of_script)
-    whole = Run(rom or b"".join(files[f"program{part}"] for part in range(1, 5)), frames, switches)
+    whole = Run(rom or b"".join(files[f"program{part}"] for part in range(1, 5)), frames_of(stretches), switches)
     text = Session(whole).text(commands) if commands is not None else ""
     pictures = b"" if whole.last < NOPS else None
     outputs = {"frames": pictures, "wave": whole.wave(), "listing": listing}
