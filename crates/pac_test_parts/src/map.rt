@@ -8,7 +8,7 @@ mod set;
 
 use pac_roms::Raw;
 
-/// The parts of a set beside its program, each of a byte of its own, as in the sample of `roms_manifest`.
+/// The parts of a set beside its program, each of a byte of its own.
 static PARTS: Raw<'static> = Raw {
     tiles: &[1; 4096],
     sprites: &[2; 4096],
