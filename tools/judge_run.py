@@ -18,6 +18,7 @@ import judge_source
 FRAME = 50_688
 NOPS = FRAME // 4
 LARGEST = 16 << 20
+DEEPEST = 20  # brackets, braces and dots in a line of a manifest that both readers of TOML take
 
 # The outputs of a run: bytes, or None where they aren't known; `outputs` is None where no file is created.
 Answer = collections.namedtuple("Answer", "status error text outputs")
@@ -51,7 +52,8 @@ def document_of(manifest):
             raise Unsure from None
         return None
     # numbers past 64 bits and very deep values are for either reader to refuse
-    if re.search(rb"[0-9a-fA-F_]{15}|[\[{.][^\n]*[\[{.][^\n]*[\[{.]", re.sub(rb'"[^"\n]*"', b'""', manifest)):
+    outside = re.sub(rb'"[^"\n]*"', b'""', manifest)
+    if re.search(rb"[0-9a-fA-F_]{15}", outside) or any(len(re.findall(rb"[\[{.]", line)) > DEEPEST for line in outside.split(b"\n")):
         raise Unsure
     return document
 
