@@ -13,18 +13,36 @@
 enum {
     FRAME = PAC_FRAME_MICROSECONDS,
     ROOM = PAC_FRAME_SAMPLES,
-    COLOURS = 24576, /* the colour PROM's place in a ROM block */
-    VERSION = 8,     /* the places of a block and of a state file, by docs/FORMATS.md */
+    TILE = 16384 + 16 * 0x42, /* the places of tile 42H, the colour PROM and the lookup PROM in a ROM block */
+    TILE_SIZE = 16,
+    COLOURS = 24576,
+    LOOKUP = 24608,
+    VERSION = 8, /* the places of a block and of a state file, by docs/FORMATS.md */
     FIRST_DIGEST = 10,
+    REGISTERS = 30,
+    SP = 50,
     PC = 52,
+    I = 54,
     FLAGS = 56, /* of which the upper four bits are unused */
     MODE = 57,
     TIME = 58,
+    STEPS = 66,
     ASKED = 74,
+    TILE_RAM = 82,
     CELL = 82 + 0x40, /* 4040H, in tile RAM */
-    READ = 2130,      /* 4C00H, the first of work RAM */
+    COLOUR_RAM = 1106,
+    READ = 2130, /* 4C00H, the first of work RAM */
+    LAST_RAM = 3153,
+    COORDINATES = 3154,
+    WAVE = 3170, /* the wave generator's registers */
+    ACCUMULATORS = 3202,
+    LATCH = 3214,
+    BLANKS = 3217,
     HELD = 3218,
+    SWITCHES = 3220,
+    DUE = 3221,
     PICTURE = 3224,
+    WIDTH = 288,
     LAST_DIGEST = 67736,
     DIGEST_SIZE = 20,
     UNTOUCHED = 0x55,
@@ -40,7 +58,7 @@ typedef struct host {
 } host;
 
 /* The first bytes of a program; the others are 0. */
-typedef uint8_t program[16];
+typedef uint8_t program[64];
 
 /* LD A,42H / LD (4040H),A / HALT */
 static const program cell = {0x3E, 0x42, 0x32, 0x40, 0x40, 0x76};
@@ -52,6 +70,16 @@ static const program vector = {0x3E, 0x05, 0xD3, 0x00, 0x3E, 0x01, 0x32, 0x00, 0
 static const program sound = {0x3E, 0x01, 0x32, 0x01, 0x50, 0x3E, 0x0F, 0x32, 0x55, 0x50, 0x76};
 /* NOP / ED 00, which is no documented instruction, and two bytes after it */
 static const program undocumented = {0x00, 0xED, 0x00, 0x12, 0x34};
+/* LD A,(nn) / LD (4C10H),A, and so on up to 4C16H, for 4000H, 4400H, 4C00H, 4FFFH, 5000H, 5040H and 5080H; and HALT */
+static const program copies = {0x3A, 0x00, 0x40, 0x32, 0x10, 0x4C, 0x3A, 0x00, 0x44, 0x32, 0x11, 0x4C, 0x3A, 0x00, 0x4C,
+                               0x32, 0x12, 0x4C, 0x3A, 0xFF, 0x4F, 0x32, 0x13, 0x4C, 0x3A, 0x00, 0x50, 0x32, 0x14, 0x4C,
+                               0x3A, 0x40, 0x50, 0x32, 0x15, 0x4C, 0x3A, 0x80, 0x50, 0x32, 0x16, 0x4C, 0x76};
+/* At 0030H: HALT. At 0026H: the word 0030H. Before it NOPs. */
+static const program handler = {[0x26] = 0x30, [0x30] = 0x76};
+/* LD (4C00H),SP / LD SP,4C40H / PUSH AF, BC, DE, HL, IX and IY / EX AF,AF' / EXX / PUSH AF, BC, DE and HL / LD A,I / LD (4C02H),A /
+ * PUSH AF / LD A,R / LD (4C03H),A / HALT */
+static const uint8_t stores[] = {0xED, 0x73, 0x00, 0x4C, 0x31, 0x40, 0x4C, 0xF5, 0xC5, 0xD5, 0xE5, 0xDD, 0xE5, 0xFD, 0xE5, 0x08, 0xD9,
+                                 0xF5, 0xC5, 0xD5, 0xE5, 0xED, 0x57, 0x32, 0x02, 0x4C, 0xF5, 0xED, 0x5F, 0x32, 0x03, 0x4C, 0x76};
 
 /* SHA-1 of the ROMs of the program `cell`. */
 static const uint8_t roms_digest[DIGEST_SIZE] = {0x59, 0x3C, 0x6F, 0x79, 0xB9, 0x2D, 0xAC, 0x5E, 0x86, 0x51,
@@ -64,6 +92,13 @@ static const uint8_t unused_bit_digest[DIGEST_SIZE] = {0x7D, 0x31, 0x50, 0xB9, 0
                                                        0xA0, 0xF0, 0xE2, 0x49, 0xB1, 0x79, 0xAE, 0xDA, 0x3C, 0xB2};
 static const uint8_t other_set_digest[DIGEST_SIZE] = {0xAB, 0xC1, 0x1A, 0x2C, 0x4B, 0x9F, 0x09, 0x09, 0x04, 0x43,
                                                       0x56, 0xE6, 0x18, 0x0E, 0x70, 0x03, 0x7C, 0x0C, 0x46, 0x5F};
+/* SHA-1 of the ROMs of `cell` whose tile 42H shows colour number 2; and of the state file of `lay_passed`, in versions 2 and 1. */
+static const uint8_t shown_roms_digest[DIGEST_SIZE] = {0xEC, 0x8C, 0x36, 0x1B, 0x08, 0x9A, 0xD4, 0x3B, 0x32, 0xC8,
+                                                       0x86, 0xCA, 0x10, 0xBF, 0x20, 0x58, 0x07, 0x7D, 0x36, 0x5B};
+static const uint8_t passed_digest[DIGEST_SIZE] = {0xB1, 0x08, 0xEE, 0x8E, 0x7C, 0xF2, 0x64, 0x62, 0xCB, 0x93,
+                                                   0xA4, 0xEF, 0xE9, 0xC3, 0x98, 0xFD, 0x98, 0xE4, 0xBC, 0x14};
+static const uint8_t old_digest[DIGEST_SIZE] = {0xA3, 0x8B, 0x59, 0x5E, 0xBF, 0x42, 0x1F, 0x31, 0x15, 0x8C,
+                                                0xCC, 0x98, 0x7D, 0xC7, 0xA5, 0x5E, 0xF4, 0xC3, 0xEC, 0x0D};
 
 static int passed, failed;
 static host one, other;
@@ -249,13 +284,20 @@ static void try_blocks(void)
         int at;
         uint8_t byte;
     } changes[] = {
-        {0, 'P' + 1},       /* another first byte */
-        {VERSION, 1},       /* version 1 */
-        {FIRST_DIGEST, 1},  /* a byte of either digest */
+        {0, 'p'},           /* another first byte, and another eighth */
+        {7, 'e'},
+        {VERSION, 1},       /* versions 1, 3 and 258 */
+        {VERSION, 3},
+        {VERSION + 1, 1},
+        {FIRST_DIGEST, 1},  /* the first and the last byte of either digest */
+        {FIRST_DIGEST + DIGEST_SIZE - 1, 1},
+        {LAST_DIGEST, 1},
         {PAC_BOARD_SIZE - 1, 1},
         {FLAGS, 16},        /* an unused bit */
         {MODE, 3},          /* a mode */
-        {LAST_DIGEST - 1, 16},  /* the last pixel's colour number */
+        {BLANKS, 16},       /* sixteen blanks */
+        {PICTURE, 16},      /* the colour numbers of the first and the last pixel */
+        {LAST_DIGEST - 1, 16},
     };
     lay(&one, cell);
     try_no_block(-1);
@@ -264,6 +306,42 @@ static void try_blocks(void)
         one.board.bytes[changes[at].at] = changes[at].byte;
         try_no_block(changes[at].at);
     }
+}
+
+/* Lays the block of power-on in which all but the first bytes and the version is 0. */
+static void lay_block(uint8_t *bytes)
+{
+    memset(bytes, 0, PAC_BOARD_SIZE);
+    memcpy(bytes, "PACSTATE\2", 9);
+}
+
+/* The block of power-on, written over other bytes, with the switches as they are set at the factory and with none on. */
+static void try_power_on(void)
+{
+    static pac_board wanted;
+    lay_block(wanted.bytes);
+    lay(&one, cell);
+    memset(&one.board, UNTOUCHED, sizeof one.board);
+    row("power-on with no switch on", pac_init(&one.board, one.roms, one.length, 0) == PAC_DONE && is_same(&one.board, &wanted));
+    row("a block with no switch on", pac_hold(&one.board, 0, 0) == PAC_DONE && is_same(&one.board, &wanted));
+    memset(&one.board, UNTOUCHED, sizeof one.board);
+    wanted.bytes[SWITCHES] = 0xC9;
+    row("the block of power-on", init(&one) == PAC_DONE && is_same(&one.board, &wanted));
+}
+
+/* The last time that a state may have is 2^52 + 22, and the most microseconds that are asked are 2^50. */
+static void try_limits(void)
+{
+    uint64_t latest = ((uint64_t)1 << 52) + 22, most = (uint64_t)1 << 50;
+    power_on(&one, cell);
+    put(&one.board, TIME, latest), put(&one.board, ASKED, most);
+    row("the latest time, and the most that is asked", pac_hold(&one.board, 0, 0) == PAC_DONE);
+    row("nothing more, at the latest time", run(&one, 0, ROOM) == PAC_DONE && one.ran.ticks == 0 && one.ran.stop == PAC_GOES);
+    row("a microsecond more, at the latest time", keeps_run(&one, 1, ROOM, PAC_TIME));
+    put(&one.board, TIME, latest + 1);
+    row("a later time", pac_hold(&one.board, 0, 0) == PAC_STATE);
+    put(&one.board, TIME, latest), put(&one.board, ASKED, most + 1);
+    row("more that is asked", pac_hold(&one.board, 0, 0) == PAC_STATE);
 }
 
 /* 2^50 - 10 microseconds were asked, and the time is that of them: 11 are too many, 10 are not. */
@@ -357,6 +435,129 @@ static void try_saved(void)
     power_on(&other, cell);
     row("a board that ran is loaded", pac_load(&other.board, other.roms, other.length, text, PAC_STATE_SIZE) == PAC_DONE);
     row("the block of a load", is_same(&other.board, &kept));
+}
+
+/* Lays the state after 2,625 microseconds of `cell`, which are 8,064 T-states, in one of the two versions, with no digest: lines 0 and 1
+ * have passed, and version 1 has none since the last blank. */
+static void lay_passed(uint8_t *bytes, uint8_t version)
+{
+    static const uint8_t processor[] = {0x06, 0x00, 0x00, 0x5D, 4}; /* PC, I, R of 2,013 fetches, and halted */
+    lay_block(bytes);
+    bytes[VERSION] = version;
+    bytes[REGISTERS] = 0x42;
+    memcpy(bytes + PC, processor, sizeof processor);
+    memcpy(bytes + TIME, "\x80\x1F", 2), memcpy(bytes + STEPS, "\xDD\x07", 2), memcpy(bytes + ASKED, "\x41\x0A", 2);
+    bytes[CELL] = 0x42, bytes[SWITCHES] = 0xC9;
+    if (version == 2)
+        memset(bytes + PICTURE + 16, 2, 8), memset(bytes + PICTURE + WIDTH + 16, 2, 8);
+}
+
+/* Writes the digests of that state as a file. */
+static void seal_passed(uint8_t *file, const uint8_t *last_digest)
+{
+    memcpy(file + FIRST_DIGEST, shown_roms_digest, DIGEST_SIZE);
+    memcpy(file + LAST_DIGEST, last_digest, DIGEST_SIZE);
+}
+
+/* A board within a frame: its block, its file, and the same of a file of version 1, whose lines are composed when it is taken. */
+static void try_passed_lines(void)
+{
+    static uint8_t file[PAC_STATE_SIZE];
+    static pac_board wanted;
+    lay_passed(wanted.bytes, 2);
+    lay(&one, cell);
+    memset(one.roms + TILE, 0xFF, TILE_SIZE), one.roms[LOOKUP + 3] = 2; /* each pixel of the tile is 3, which is looked up */
+    row("a run of two lines", init(&one) == PAC_DONE && run(&one, 2625, ROOM) == PAC_DONE);
+    row("the block after two lines", is_same(&one.board, &wanted));
+    lay_passed(file, 2), seal_passed(file, passed_digest);
+    row("a save after two lines", pac_save(&one.board, one.roms, one.length, text, PAC_STATE_SIZE) == PAC_DONE);
+    row("the file after two lines", memcmp(text, file, sizeof file) == 0);
+    lay_passed(file, 1), seal_passed(file, old_digest);
+    memset(&one.board, UNTOUCHED, sizeof one.board);
+    row("a file of version 1", pac_load(&one.board, one.roms, one.length, file, sizeof file) == PAC_DONE);
+    row("the block of a file of version 1", is_same(&one.board, &wanted));
+}
+
+/* The registers of a block are 1, 2, 3 and so on. What pushes them stands at their PC, 1817H. */
+static void try_registers(void)
+{
+    static const uint8_t pushed[] = {0x10, 0x0F, 0x0E, 0x0D, 0x0C, 0x0B, 0x0A, 0x09, 0x13, 0x14, 0x11, 0x12, 8, 7, 6, 5, 4, 3, 2, 1};
+    static const uint8_t written[] = {0x15, 0x16, 25, 26 + 23}; /* SP, I, and R after 23 fetches */
+    lay(&one, cell);
+    memcpy(one.roms + 0x1817, stores, sizeof stores);
+    row("power-on with what pushes", init(&one) == PAC_DONE);
+    for (uint8_t at = 0; at < 26; at++)
+        one.board.bytes[REGISTERS + at] = (uint8_t)(at + 1);
+    one.board.bytes[FLAGS] = 10, one.board.bytes[MODE] = 2; /* IFF2, and just after EI */
+    row("a run of registers", run(&one, 100, ROOM) == PAC_DONE);
+    row("the registers that were pushed", memcmp(one.board.bytes + READ + 0x2C, pushed, sizeof pushed) == 0);
+    row("SP, I and R", memcmp(one.board.bytes + READ, written, sizeof written) == 0);
+    row("IFF2, as LD A,I has it in P/V", (one.board.bytes[READ + 0x2A] & 4) == 4);
+    row("IFF2, halted and mode 2", has(&one.board, FLAGS, 2 + 4, 2));
+}
+
+/* The RAMs of a block, its inputs and its switches, as a program reads them. */
+static void try_memory(void)
+{
+    static const uint8_t wanted[] = {0x11, 0x22, 0x33, 0x44, 0xFE, 0xDF, 0x55};
+    power_on(&one, copies);
+    one.board.bytes[TILE_RAM] = 0x11, one.board.bytes[COLOUR_RAM] = 0x22;
+    one.board.bytes[READ] = 0x33, one.board.bytes[LAST_RAM] = 0x44;
+    one.board.bytes[HELD] = 0x01, one.board.bytes[HELD + 1] = 0x20, one.board.bytes[SWITCHES] = 0x55;
+    row("a run that copies", run(&one, 100, ROOM) == PAC_DONE);
+    row("what it has read", memcmp(one.board.bytes + READ + 0x10, wanted, sizeof wanted) == 0);
+}
+
+/* A request that stands in a block, with vector 26H, is accepted in mode 2. A reset comes with the sixteenth blank, and not with the one
+ * before it. */
+static void try_latches(void)
+{
+    static const uint8_t latches[] = {0x81, 0x26, 1}; /* latch, vector, request */
+    power_on(&one, handler);
+    memcpy(one.board.bytes + LATCH, latches, sizeof latches);
+    one.board.bytes[FLAGS] = 3, one.board.bytes[MODE] = 2, one.board.bytes[SP + 1] = 0x4D; /* both flip-flops, SP 4D00H */
+    row("an interrupt that is requested", run(&one, 10, ROOM) == PAC_DONE && has(&one.board, PC, 0x31, 0x00));
+    row("PC before it, on the stack", has(&one.board, READ + 0xFE, 0x00, 0x00) && has(&one.board, SP, 0xFE, 0x4C));
+    row("latch and vector stay, and no request", memcmp(one.board.bytes + LATCH, "\x81\x26\0", 3) == 0);
+    for (uint8_t blanks = 14; blanks <= 15; blanks++) {
+        power_on(&one, cell);
+        one.board.bytes[LATCH] = 0x81, one.board.bytes[BLANKS] = blanks;
+        row_at("a frame after blanks", blanks, run(&one, FRAME, ROOM) == PAC_DONE);
+        row_at("PC after blanks", blanks, has(&one.board, PC, blanks == 15 ? 0 : 6, 0));
+        row_at("the latch after blanks", blanks, one.board.bytes[LATCH] == (blanks == 15 ? 0 : 0x81));
+        row_at("the count of blanks", blanks, one.board.bytes[BLANKS] == (blanks == 15 ? 0 : 15));
+    }
+}
+
+/* Lays a board with coordinates, registers of the wave generator and accumulators, and this that is due. */
+static void power_on_with(host *to, const uint8_t *due)
+{
+    static const uint8_t accumulators[] = {1, 2, 3, 0, 4, 5, 6, 0, 7, 8, 9, 0};
+    power_on(to, cell);
+    to->board.bytes[COORDINATES] = 0x77, to->board.bytes[COORDINATES + 1] = 0x88;
+    to->board.bytes[WAVE + 5] = 7, to->board.bytes[WAVE + 31] = 9;
+    memcpy(to->board.bytes + ACCUMULATORS, accumulators, sizeof accumulators);
+    memcpy(to->board.bytes + DUE, due, 3);
+}
+
+/* What is due is kept in a file, and given by the next run, before any time goes by. */
+static void try_due(void)
+{
+    static const uint8_t due[][3] = {{1, 0xFE, 0xFF}, {2, 0, 0}, {3, 0xFE, 0xFF}, {0, 0, 0}};
+    for (int at = 3; at >= 0; at--) {
+        power_on_with(&one, due[at]);
+        pac_board kept = one.board;
+        row_at("a save of what is due", at, pac_save(&one.board, one.roms, one.length, text, PAC_STATE_SIZE) == PAC_DONE);
+        memset(&one.board, UNTOUCHED, sizeof one.board);
+        row_at("a load of what is due", at, pac_load(&one.board, one.roms, one.length, text, PAC_STATE_SIZE) == PAC_DONE);
+        row_at("the block of what is due", at, is_same(&one.board, &kept));
+        row_at("a run of no time", at, run(&one, 0, 1) == PAC_DONE && one.ran.ticks == 0);
+        int is_sound = due[at][0] & 1;
+        row_at("the sample that was due", at, one.ran.samples == (uint32_t)is_sound && one.samples[0] == (is_sound ? -2 : 0x5555));
+        row_at("the picture that was due", at, one.ran.pictures == due[at][0] >> 1);
+        memset(kept.bytes + DUE, 0, 3);
+        row_at("nothing is due then", at, is_same(&one.board, &kept));
+    }
 }
 
 /* A frame: LD A,n has 7 T-states, LD (nn),A 13, and each halted step 4: the first end that isn't before the frame's end. */
@@ -456,8 +657,9 @@ static void try_reset(void)
 int main(void)
 {
     try_numbers();
-    try_rom_lengths(), try_buffer_lengths(), try_blocks(), try_time(), try_room();
-    try_file(), try_refused_files(), try_saved();
+    try_rom_lengths(), try_buffer_lengths(), try_power_on(), try_blocks(), try_limits(), try_time(), try_room();
+    try_file(), try_refused_files(), try_saved(), try_passed_lines();
+    try_registers(), try_memory(), try_latches(), try_due();
     try_frame(), try_cut_time(), try_picture(), try_inputs(), try_stop(), try_vector(), try_reset();
     printf("%d passed, %d failed\n", passed, failed);
     return failed != 0;

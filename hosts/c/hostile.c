@@ -1,10 +1,11 @@
 /* Tries the library on input that no good host hands in: wrong lengths, blocks that are no board's state, too little room, too much time,
  * and 10,000 states of random bytes.
  *
- *   hostile ROMS
+ *   hostile ROMS [each]
  *
- * ROMS is made by hosts/roms.py. Each buffer ends where its page does, with a page after it that nobody may touch, and what a call only reads
- * is in pages that nobody may write: a byte too far ends the program. The last line is `N passed, M failed`; the exit status is 0 where M is 0.
+ * ROMS is made by hosts/roms.py. With `each` a state file is cut at each length, too, and has each byte set, which takes some 20 seconds.
+ * Each buffer ends where its page does, with a page after it that nobody may touch, and what a call only reads is in pages that nobody may
+ * write: a byte too far ends the program. The last line is `N passed, M failed`; the exit status is 0 where M is 0.
  */
 #define _DEFAULT_SOURCE
 #include "../pacboard.h"
@@ -26,7 +27,10 @@ enum {
     TIME = 58,
     STEPS = 66,
     ASKED = 74,
+    RAMS = 82, /* all three */
+    RAMS_SIZE = 3072,
     PICTURE = 3224,
+    WIDTH = 288,
     LAST_DIGEST = 67736,
 };
 
@@ -43,6 +47,14 @@ static void row(const char *what, int is_so)
     passed += is_so != 0, failed += is_so == 0;
     if (!is_so)
         printf("FAILED: %s\n", what);
+}
+
+/* The same of what was tried at each of some places: the one at which it failed. */
+static void row_at(const char *what, size_t at, int is_so)
+{
+    passed += is_so != 0, failed += is_so == 0;
+    if (!is_so)
+        printf("FAILED: %s, %zu\n", what, at);
 }
 
 /* So many bytes at the end of a page, with a page after it that nobody may touch. */
@@ -226,6 +238,59 @@ static void try_files(const pac_board *good)
     row("and then the file", pac_load(board, roms, PAC_ROMS_SIZE, file, sizeof file) == PAC_DONE && memcmp(board, good, sizeof *board) == 0);
 }
 
+/* Whether the file in `text` with a byte at a place is refused with this code, or taken where that byte was there. It is as before then. */
+static int is_judged(int at, uint8_t byte, uint32_t code)
+{
+    uint8_t before = text[at];
+    text[at] = byte;
+    int is_so = pac_load(board, roms, PAC_ROMS_SIZE, text, PAC_STATE_SIZE) == (before == byte ? PAC_DONE : code);
+    text[at] = before;
+    return is_so;
+}
+
+/* A file that is cut at each length. */
+static void try_each_length(const uint8_t *file)
+{
+    size_t length = 0;
+    while (length < PAC_STATE_SIZE) {
+        const uint8_t *cut = memcpy(text + PAC_STATE_SIZE - length, file, length); /* it ends with the page */
+        if (pac_load(board, roms, PAC_ROMS_SIZE, cut, length) != PAC_V3)
+            break;
+        length++;
+    }
+    row_at("a state file that is cut", length, length == PAC_STATE_SIZE);
+    memcpy(text, file, PAC_STATE_SIZE);
+}
+
+/* Whether the file is judged so with each of three bytes at a place; within the picture, first and last line apart, with one of them: the
+ * next one in the next column and in the next line. */
+static int is_judged_at(int at)
+{
+    static const uint8_t bytes[] = {0x00, 0xFF, '\n'};
+    uint32_t code = at < VERSION ? PAC_V1 : at < FIRST_DIGEST ? PAC_V2 : PAC_V5;
+    if (PICTURE + WIDTH <= at && at < LAST_DIGEST - WIDTH)
+        return is_judged(at, bytes[(at / WIDTH + at) % 3], code);
+    return is_judged(at, bytes[0], code) && is_judged(at, bytes[1], code) && is_judged(at, bytes[2], code);
+}
+
+/* A state file with no byte of 0 in the RAMs and the picture: cut at each length, with a byte more, and with each byte set. */
+static void try_each_damage(const pac_board *good)
+{
+    static uint8_t file[PAC_STATE_SIZE + 1];
+    *other = *good;
+    memset(other->bytes + RAMS, 1, RAMS_SIZE), memset(other->bytes + PICTURE, 5, LAST_DIGEST - PICTURE);
+    row("a filled state file", pac_save(other, roms, PAC_ROMS_SIZE, text, PAC_STATE_SIZE) == PAC_DONE);
+    memcpy(file, text, PAC_STATE_SIZE);
+    *board = *other = *good;
+    row("a state file with a byte more", pac_load(board, roms, PAC_ROMS_SIZE, file, sizeof file) == PAC_V3);
+    try_each_length(file);
+    row("a board that stays when no file is taken", memcmp(board, other, sizeof *board) == 0);
+    int at = 0;
+    while (at < PAC_STATE_SIZE && is_judged_at(at))
+        at++;
+    row_at("a state file with a byte that is set", (size_t)at, at == PAC_STATE_SIZE);
+}
+
 /* Makes bytes that may be a state or not. The odd ones are a good state with up to eight bits flipped; the even ones are random, and every other
  * one of these has a state's first bytes, no digests and the numbers of a picture. */
 static void make_state(int number, const pac_board *good)
@@ -250,10 +315,11 @@ static void make_state(int number, const pac_board *good)
 
 int main(int count, char **words)
 {
-    FILE *file = count == 2 ? fopen(words[1], "rb") : NULL;
+    int is_each = count == 3 && strcmp(words[2], "each") == 0;
+    FILE *file = count == 2 || is_each ? fopen(words[1], "rb") : NULL;
     static uint8_t read_roms[PAC_ROMS_SIZE + 1];
     if (file == NULL || fread(read_roms, 1, sizeof read_roms, file) != PAC_ROMS_SIZE || !pac_matches())
-        fputs("usage: hostile ROMS, which has 25,120 bytes\n", stderr), exit(2);
+        fputs("usage: hostile ROMS [each], where ROMS has 25,120 bytes\n", stderr), exit(2);
     static pac_board good;
     roms = constant(read_roms, PAC_ROMS_SIZE);
     board = guarded(sizeof *board), other = guarded(sizeof *other), rgba = guarded(PAC_RGBA_SIZE), text = guarded(PAC_STATE_SIZE);
@@ -264,6 +330,8 @@ int main(int count, char **words)
         is_done = pac_exec(&good, roms, PAC_ROMS_SIZE, PAC_FRAME_MICROSECONDS, frame, PAC_FRAME_SAMPLES + 2, &ran) == PAC_DONE;
     row("a good state is made", is_done);
     try_lengths(&good), try_blocks(&good), try_room(&good), try_time(&good), try_files(&good);
+    if (is_each)
+        try_each_damage(&good);
     int accepted = 0;
     time_t told = time(NULL);
     for (int number = 0; number < STATES; number++) {
