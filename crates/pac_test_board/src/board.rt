@@ -7,7 +7,6 @@ mod sounds;
 mod states;
 
 use crate::play::are_played;
-pub use rows::AT_ONCE;
 
 #[test]
 fn steps_times_and_stops(rt: HostRuntime) {

@@ -49,8 +49,6 @@ pub enum Number {
     R,
     /// The bits of the latch.
     Latch,
-    /// The interrupt's vector.
-    Vector,
     /// The blanks since the watchdog was kicked.
     Blanks,
     /// The outputs that its sink took.
@@ -78,8 +76,6 @@ pub enum Step {
     Accepts(u8),
     /// A step of the processor is tried, and meets this stop.
     Stops(Stop),
-    /// It is too late for a step of the processor.
-    TooLate,
     /// These inputs are held too from now on.
     Holds(Inputs),
     /// These inputs are let go.
@@ -96,12 +92,6 @@ pub enum Step {
     IsKept,
     /// Its state is written over that of a new board, and put back after a reset.
     IsWrittenOver,
-    /// It is saved as the file of a board of such a program, made by hand, that has these pieces.
-    IsSavedAs(Pieces, Pieces),
-    /// It is saved as a file with these bytes at these places.
-    Saves(&'static [(usize, u8)]),
-    /// From now on it is the board of the file that it is saved as, and of such a program.
-    IsLoaded(Pieces),
     /// It stands after so many steps and T-states, with this PC.
     IsAt(u64, u64, u16),
     /// A number that it has.
@@ -112,20 +102,14 @@ pub enum Step {
     Halted(bool),
     /// The bytes that the processor would read at these addresses.
     Reads(&'static [(u16, u8)]),
-    /// Whether an interrupt is requested.
-    Requested(bool),
     /// Its fields are those of a board at power-on, with the switches as they are set at the factory.
     AtPowerOn,
     /// RAM, latches and inputs are those of a board at power-on.
     NewMemory,
-    /// Its fields are those of the file of a board that sounds.
-    Sounds,
     /// The outputs from one index on, up to before another, are this sample.
     Samples(usize, usize, i16),
     /// The output of an index is a picture with one colour in a rectangle, and black everywhere else.
     Gave(usize, Area, [u8; 3]),
-    /// All that its sink took is the flipped picture of `FLIP`.
-    GaveFlipped,
     /// The picture as it stands has one number in a rectangle, and 0 everywhere else.
     Shows(Area, u8),
     /// The picture has these numbers in two cells beside one another, to the last line of their row.

@@ -1,4 +1,4 @@
-//! Tests of the board and of its state as a file: each module is named like the crate that it tests, but for what both use.
+//! Tests of the board and of its course: each module is named like the crate that it tests, but for what both use.
 #![tactic(auto)]
 
 #[cfg(test)]
@@ -13,5 +13,3 @@ mod looks;
 mod play;
 #[cfg(test)]
 mod rig;
-#[cfg(test)]
-mod state;

@@ -84,16 +84,6 @@ fn are_same(one: &Fields, other: &Fields) -> bool {
         && one.lines == other.lines
 }
 
-/// Whether the fields are those of the file of a board that sounds.
-pub fn are_sounding(fields: &Fields) -> bool {
-    fields.memory.coordinates[..2] == [0x77, 0x88]
-        && fields.memory.registers[5] == 7
-        && fields.memory.registers[31] == 9
-        && fields.accumulators == [0x03_0201, 0x06_0504, 0x09_0807]
-        && fields.due.sample == Some(-2)
-        && !fields.due.picture
-}
-
 /// Whether a picture has one number in a rectangle, and 0 everywhere else.
 pub fn is_area(picture: &Picture, area: Area, number: u8) -> bool {
     for y in 0..224u8 {
@@ -137,19 +127,6 @@ fn is_filled(shown: &Shown, area: Area, colour: [u8; 3]) -> bool {
         }
     }
     true
-}
-
-/// Whether all that was taken is a picture with number 1 in the flipped cell of 4040H.
-pub fn is_flipped(taken: &[Taken]) -> bool {
-    taken.len() == 1
-        && match taken.first() {
-            Some(Taken::Picture(shown)) => {
-                shown.number(264, 216) == 1
-                    && shown.number(263, 216) == 0
-                    && shown.number(271, 223) == 1
-            }
-            _ => false,
-        }
 }
 
 /// Whether one column of two pictures that were taken is the same.

@@ -1,11 +1,9 @@
 //! How cases are played: step by step, each of which is told by its case's name where it isn't so.
 
 use crate::case::{Case, Number, Step};
-use crate::looks::{
-    are_at_power_on, are_same_memories, are_sounding, has_two, is_area, is_flipped,
-};
+use crate::looks::{are_at_power_on, are_same_memories, has_two, is_area};
 use crate::rig::{FRAME, Pieces, Rig};
-use pac_board::{Fault, Once, StepKind};
+use pac_board::{Once, StepKind};
 use std::alloc::{AllocError, Global};
 use std::process::Abort;
 
@@ -21,7 +19,6 @@ impl Rig {
             Step::Steps(count) => self.steps(count),
             Step::Accepts(ticks) => self.accepts(ticks),
             Step::Stops(stop) => self.comes_to(Once::Stopped(stop)),
-            Step::TooLate => self.is_too_late(),
             _ => self.changes(alloc, step),
         }
     }
@@ -37,9 +34,6 @@ impl Rig {
             Step::IsRequested(program) => return self.is_requested(alloc, program),
             Step::IsKept => return self.is_kept(alloc),
             Step::IsWrittenOver => return self.is_written_over(alloc),
-            Step::IsSavedAs(program, pieces) => return self.is_saved_as(alloc, program, pieces),
-            Step::Saves(bytes) => return self.saves(alloc, bytes),
-            Step::IsLoaded(program) => return self.is_loaded(alloc, program),
             Step::NewMemory => return self.has_new_memory(alloc),
             _ => return self.has(step),
         }
@@ -54,9 +48,7 @@ impl Rig {
             Step::Registers(regs) => self.board.regs() == regs,
             Step::Halted(is_halted) => self.board.regs().halted == is_halted,
             Step::Reads(bytes) => self.reads(bytes),
-            Step::Requested(is_so) => self.board.fields().memory.requested == is_so,
             Step::AtPowerOn => are_at_power_on(&self.board.fields()),
-            Step::Sounds => are_sounding(&self.board.fields()),
             _ => self.shows(step),
         }
     }
@@ -66,7 +58,6 @@ impl Rig {
         match step {
             Step::Samples(start, end, sample) => self.gave_samples(start, end, sample),
             Step::Gave(index, area, colour) => self.gave(index, area, colour),
-            Step::GaveFlipped => is_flipped(self.kept.taken()),
             Step::Shows(area, number) => is_area(self.board.picture(), area, number),
             Step::ShowsTwo(first, second) => has_two(self.board.picture(), first, second),
             Step::Colour(number, colour) => {
@@ -88,7 +79,6 @@ impl Rig {
             Number::Bc => u64::from(u16::from_be_bytes([regs.b, regs.c])),
             Number::R => u64::from(regs.r),
             Number::Latch => u64::from(self.board.fields().memory.latch),
-            Number::Vector => u64::from(self.board.fields().memory.vector),
             Number::Blanks => u64::from(self.board.fields().memory.count),
             Number::Outputs => self.kept.taken().len() as u64,
             Number::Drawn => u64::from(self.board.picture().drawn()),
@@ -120,11 +110,6 @@ impl Rig {
     fn accepts(&mut self, ticks: u8) -> bool {
         let kind = StepKind::Accepted;
         self.comes_to(Once::Stepped { ticks, kind })
-    }
-
-    /// Whether it is too late for a step.
-    fn is_too_late(&mut self) -> bool {
-        matches!(self.board.step_once(&mut self.kept), Err(Fault::TooFar))
     }
 
     /// Lets so many microseconds go by and goes back to the state before them; whether it could.
@@ -195,7 +180,7 @@ impl Rig {
 }
 
 /// Says at which step of which case something isn't so: 1 is the first, and 0 what comes before or after all of them.
-pub fn told(rt: &impl Abort, case: &str, place: usize, is_so: bool) {
+fn told(rt: &impl Abort, case: &str, place: usize, is_so: bool) {
     assert!(rt; is_so, "{case}: step {place}");
 }
 
@@ -209,7 +194,7 @@ fn play(rt: &impl Abort, alloc: Global, rig: &mut Rig, name: &str, steps: &[Step
 }
 
 /// Does the steps of a case with its board, if it could be made.
-pub fn is_played(rt: &impl Abort, alloc: Global, case: &Case, made: Result<Rig, AllocError>) {
+fn is_played(rt: &impl Abort, alloc: Global, case: &Case, made: Result<Rig, AllocError>) {
     match made {
         Ok(mut rig) => play(rt, alloc, &mut rig, case.name, case.steps),
         Err(_) => told(rt, case.name, 0, false),

@@ -40,7 +40,7 @@ impl Drop for Rig {
 
 impl Rig {
     /// A board, with a sink that refuses nothing.
-    pub fn over(alloc: Global, board: Box<Board>) -> Rig {
+    fn over(alloc: Global, board: Box<Board>) -> Rig {
         let kept = Kept::new(alloc, 0);
         Rig { board, kept }
     }

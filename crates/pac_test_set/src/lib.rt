@@ -3,4 +3,4 @@
 
 mod set;
 
-pub use set::{SWITCHES, colours, lookup, rom_set, rom_set_with, sprites, tiles, wave};
+pub use set::{SWITCHES, colours, lookup, rom_set, sprites, tiles, wave};

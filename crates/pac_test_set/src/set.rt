@@ -80,19 +80,14 @@ fn program(pieces: &[(usize, &[u8])]) -> [u8; 16384] {
     rom
 }
 
-/// A set whose program has these bytes at these addresses, with these tile and sprite ROMs.
-pub fn rom_set_with(pieces: &[(usize, &[u8])], tiles: &[u8; 4096], sprites: &[u8; 4096]) -> RomSet {
+/// The set whose program has these bytes at these addresses.
+pub fn rom_set(pieces: &[(usize, &[u8])]) -> RomSet {
     let raw = Raw {
-        tiles,
-        sprites,
+        tiles: &tiles(),
+        sprites: &sprites(),
         colours: &colours(),
         lookup: &lookup(),
         wave: &wave(),
     };
     RomSet::of(&program(pieces), &raw)
-}
-
-/// The set whose program has these bytes at these addresses.
-pub fn rom_set(pieces: &[(usize, &[u8])]) -> RomSet {
-    rom_set_with(pieces, &tiles(), &sprites())
 }

@@ -11,7 +11,7 @@ use pac_board::{Alternate, Cause, Fault, Inputs, InterruptMode, Regs, Stop};
 use pac_test_set::SWITCHES;
 
 /// The stop of DEFB 0CBH,30H, which is no opcode, at the beginning.
-pub const AT_ONCE: Stop = Stop {
+const AT_ONCE: Stop = Stop {
     pc: 0,
     bytes: [0xCB, 0x30, 0, 0],
     cause: Cause::Opcode,
