@@ -22,7 +22,6 @@ enum {
     REGISTERS = 30,
     SP = 50,
     PC = 52,
-    I = 54,
     FLAGS = 56, /* of which the upper four bits are unused */
     MODE = 57,
     TIME = 58,

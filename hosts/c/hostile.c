@@ -49,7 +49,7 @@ static void row(const char *what, int is_so)
         printf("FAILED: %s\n", what);
 }
 
-/* The same of what was tried at each of some places: the one at which it failed. */
+/* Counts what was tried at each of some places, and names what failed, with the first place at which it did. */
 static void row_at(const char *what, size_t at, int is_so)
 {
     passed += is_so != 0, failed += is_so == 0;
