@@ -1,6 +1,7 @@
 //! What keeps the program from its work: the line that tells it, and the exit status.
 
 ghost use Rattle.std.specs.Prelude.{◌≡◌, ◌≤◌, Some};
+ghost use Rattle.std.specs.Fmt.{WritesOnOk};
 ghost use Rattle.pac_run_command.specs.Failures as told;
 
 use pac_asm::AsmFault;
@@ -55,6 +56,13 @@ impl fmt::Display for Target {
     }
 }
 
+/// Writes that the file of a name can't be read.
+fn put_read<W: fmt::Write>(f: &mut fmt::Formatter<W>, name: &str) -> fmt::Result
+    ensures { WritesOnOk W.write_str_gives f.old result (told.read_text name.now) f.new }
+{
+    write!(f, "read fault {}", Told { name })
+}
+
 impl fmt::Display for Failure<'_> {
     ghost use Rattle.pac_run_command.specs.Failures.{message};
 
@@ -63,7 +71,7 @@ impl fmt::Display for Failure<'_> {
     /// The line of the failure, without a line feed.
     fn fmt<W: fmt::Write>(&self, f: &mut fmt::Formatter<W>) -> fmt::Result {
         match self {
-            Failure::Read(name) => write!(f, "read fault {}", Told { name }),
+            Failure::Read(name) => put_read(f, name),
             Failure::Source(fault) => write!(f, "refused {fault}"),
             Failure::Set(fault) => write!(f, "refused {fault}"),
             Failure::Script(fault) => write!(f, "refused {fault}"),
