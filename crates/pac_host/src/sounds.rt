@@ -1,5 +1,7 @@
 //! The sink of a call for some time: a host's buffer.
 
+ghost use Rattle.pac_board.specs.Output.{Sound};
+ghost use Rattle.pac_board.specs.Sinks.{IsOffer, by};
 ghost use Rattle.pac_host.specs.Sounding.{sounding_took, sounding_refused};
 
 use pac_board::{Picture, Refused, Sink};
@@ -15,6 +17,21 @@ pub(crate) struct Sounds<'a> {
     pub pictures: u32,
 }
 
+impl Sounds<'_> {
+    /// Writes a sample after the others, where there is room.
+    #[inline]
+    fn put(&mut self, sample: i16) -> Result<(), Refused>
+        ensures { IsOffer (by sounding_took sounding_refused) self.old (Sound sample) result self.new }
+    {
+        if self.taken >= self.samples.len() {
+            return Err(Refused);
+        }
+        self.samples[self.taken] = sample;
+        self.taken += 1;
+        Ok(())
+    }
+}
+
 impl Sink for Sounds<'_> {
     ghost took = { sounding_took };
 
@@ -23,12 +40,7 @@ impl Sink for Sounds<'_> {
     /// Writes a sample after the others, where there is room.
     #[inline]
     fn sample(&mut self, sample: i16) -> Result<(), Refused> {
-        if self.taken >= self.samples.len() {
-            return Err(Refused);
-        }
-        self.samples[self.taken] = sample;
-        self.taken += 1;
-        Ok(())
+        self.put(sample)
     }
 
     /// Counts a picture, which the board keeps until the next one's first line.
