@@ -26,12 +26,12 @@ target_name (Of output) = output_name output
 target_name Rom = codes "rom"
 
 -- a file of this name can't be read
-abbrev pub read_text : (name : List ℕ) → List ℕ
-read_text name = codes "read fault " ++ told_name name
+abbrev pub read_fault_text : (name : List ℕ) → List ℕ
+read_fault_text name = codes "read fault " ++ told_name name
 
 -- the line of a failure, without its line feed
 abbrev pub message : Failure → List ℕ
-message (Read name) = read_text name.now
+message (Read name) = read_fault_text name.now
 message (Source fault) = codes "refused " ++ asm.asm_fault_text fault
 message (Set fault) = codes "refused " ++ manifest.set_fault_text fault
 message (Script fault) = codes "refused " ++ inputs.script_fault_text fault

@@ -57,8 +57,8 @@ impl fmt::Display for Target {
 }
 
 /// Writes that the file of a name can't be read.
-fn put_read<W: fmt::Write>(f: &mut fmt::Formatter<W>, name: &str) -> fmt::Result
-    ensures { WritesOnOk W.write_str_gives f.old result (told.read_text name.now) f.new }
+fn put_read_fault<W: fmt::Write>(f: &mut fmt::Formatter<W>, name: &str) -> fmt::Result
+    ensures { WritesOnOk W.write_str_gives f.old result (told.read_fault_text name.now) f.new }
 {
     write!(f, "read fault {}", Told { name })
 }
@@ -71,7 +71,7 @@ impl fmt::Display for Failure<'_> {
     /// The line of the failure, without a line feed.
     fn fmt<W: fmt::Write>(&self, f: &mut fmt::Formatter<W>) -> fmt::Result {
         match self {
-            Failure::Read(name) => put_read(f, name),
+            Failure::Read(name) => put_read_fault(f, name),
             Failure::Source(fault) => write!(f, "refused {fault}"),
             Failure::Set(fault) => write!(f, "refused {fault}"),
             Failure::Script(fault) => write!(f, "refused {fault}"),
