@@ -1,5 +1,5 @@
-"""The picture of a board's RAM, sprites and flip bit, by docs/FORMATS.md and "The board on one page" of docs/USING.md: shared by those tools
-that hold pictures against it. This was written from these pages alone, without a look at the program.
+"""The picture of a board's RAM, sprites and flip bit, by docs/FORMATS.md and "The board on one page" of docs/USING.md: tools/screens holds
+pictures against it. This was written from these pages alone, without a look at the program.
 """
 WIDTH, HEIGHT = 288, 224  # pixels
 COLUMNS, ROWS = 36, 28  # cells

@@ -3,7 +3,8 @@
  * At a call that may be refused the program forks. The child is the run in which it is refused: it goes on to its end, its status goes
  * to tools/refusals, which looks at what it left and answers; then the files are put back as they were, and the parent goes on as if
  * nothing had been. So one run tries every refusal of a kind, until there is none left. Memory that is asked for after the first byte
- * of an output is told as the status -1. Only calls from the program's own code count, not those within the C library.
+ * of an output is told as the status -1. Only calls from the program's own code count, not those within the C library. Where writes are
+ * interrupted no call is refused: each write fails with EINTR twice, and is done at the third try.
  */
 #define _GNU_SOURCE
 #include <errno.h>
@@ -17,13 +18,14 @@
 #include <sys/wait.h>
 #include <unistd.h>
 
-enum { DESCRIPTORS = 64, ONE = '1', REST = 'r', WRITE = 'w' };
+enum { DESCRIPTORS = 64, ONE = '1', REST = 'r', WRITE = 'w', INTERRUPTED = 'i', TRIES = 3 };
 
 void *__libc_malloc(size_t size);
 void *__libc_realloc(void *block, size_t size);
 
 static ElfW(Addr) first, last;    /* the program's own code */
 static int kind, talk;            /* what is refused: a call for memory, it and all after it, or a write; and to whom it is told */
+static unsigned tries;            /* how often a write was tried, where each is interrupted at first */
 static const char *output;        /* the file whose writes are refused */
 static size_t most = (size_t)-1;  /* the bytes that a write takes */
 static int refused, begun;        /* whether a call was refused, and whether an output has a byte */
@@ -80,7 +82,7 @@ static int is_scarce(void *from)
         return 0;
     if (begun)
         tell(-1);
-    return kind != WRITE && is_refused();
+    return kind != WRITE && kind != INTERRUPTED && is_refused();
 }
 
 void *malloc(size_t size)
@@ -103,6 +105,8 @@ static int is_output(int file)
 ssize_t write(int file, const void *bytes, size_t count)
 {
     begun |= file != STDERR_FILENO;
+    if (kind == INTERRUPTED && ++tries % TRIES != 0)
+        return errno = EINTR, -1;
     if (kind == WRITE && !refused && is_output(file) && is_refused())
         return errno = ENOSPC, -1;
     return syscall(SYS_write, file, bytes, count < most ? count : most);
