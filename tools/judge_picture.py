@@ -1,5 +1,6 @@
 """The picture of a board's RAM, sprites and flip bit, by docs/FORMATS.md and "The board on one page" of docs/USING.md: tools/screens holds
-pictures against it. This was written from these pages alone, without a look at the program.
+pictures against it. This was written from these pages, without a look at the program; but that the three high bits of a palette's byte
+aren't wired is from the schematics.
 """
 WIDTH, HEIGHT = 288, 224  # pixels
 COLUMNS, ROWS = 36, 28  # cells
@@ -29,7 +30,7 @@ def sprite_line(rom, code, y):
 
 
 def numbers(lookup, palette, values):
-    """The colour numbers of values in a palette; only the low five bits of its byte count."""
+    """The colour numbers of values in a palette, by the low five bits of its byte."""
     return [lookup[4 * (palette % 32) + one] % 16 for one in values]
 
 
