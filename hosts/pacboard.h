@@ -114,8 +114,9 @@ uint32_t pac_hold(pac_board *board, uint16_t set, uint16_t clear);
 /* Lets so many microseconds go by: the board runs until its time is the one that was asked in all, and at most 22 T-states longer, since an
  * instruction isn't cut. The samples, 96,000 a second, go to `samples`, which has room for `capacity` of them, and what was done to `ran`.
  * Where the board stops, the answer is PAC_DONE and `ran->stop` tells why; a further call stops at once, and gives nothing.
- * PAC_LENGTH: `length` isn't PAC_ROMS_SIZE. PAC_STATE. PAC_TIME. PAC_ROOM: of a board that was run from power-on by pac_exec alone,
- * `microseconds * 12 / 125 + 2` is always enough; that is PAC_FRAME_SAMPLES + 2 for a frame. */
+ * PAC_LENGTH: `length` isn't PAC_ROMS_SIZE. PAC_STATE. PAC_TIME. PAC_ROOM: of a board that was run from power-on by pac_exec alone and
+ * hasn't stopped, `microseconds * 12 / 125 + 2` is always enough; that is PAC_FRAME_SAMPLES + 2 for a frame. Of a board that has stopped
+ * the room for the time that it is behind is asked, too. */
 uint32_t pac_exec(pac_board *board, const uint8_t *roms, size_t length, uint32_t microseconds, int16_t *samples, size_t capacity,
                   pac_ran *ran);
 

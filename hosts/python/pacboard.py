@@ -123,7 +123,8 @@ class Board:
         done(LIBRARY.pac_hold(self.state, inputs, 0xFFFF))
 
     def run(self, microseconds, room=None):
-        """Lets so many microseconds go by: what was done, and the samples. `room` is so many samples; enough where it is left out."""
+        """Lets so many microseconds go by: what was done, and the samples. `room` is so many samples; where it is left out, enough for a
+        board that is at the time asked of it, as each is that hasn't stopped."""
         room = microseconds * 12 // 125 + 4 if room is None else room
         ran, samples = Ran(), (ctypes.c_int16 * max(room, 1))()
         done(LIBRARY.pac_exec(self.state, self.roms, len(self.roms), microseconds, samples, room, ctypes.byref(ran)))
