@@ -1,16 +1,9 @@
-//! Tests of the parts around the processor, of the bus, and of pictures, samples and media files: each module is named like the crate that
-//! it tests, but for what several of them use.
+//! Tests of what neither the built library nor the built program can show: each module is named like the crate that it tests.
 #![tactic(auto)]
 
 #[cfg(test)]
-mod map;
+mod board;
 #[cfg(test)]
-mod media;
+mod cpu;
 #[cfg(test)]
 mod picture;
-#[cfg(test)]
-mod rig;
-#[cfg(test)]
-mod set;
-#[cfg(test)]
-mod told;
