@@ -13,7 +13,7 @@ const OUTPUTS: u64 = 1585;
 /// NOPs.
 const NOPS: [u8; 19] = [0; 19];
 
-/// LD A,1 / LD (5003H),A / LD (4440H),A / HALT: a red cell of a flipped picture.
+/// LD A,1 / LD (5003H),A / LD (4440H),A / HALT: a cell of a flipped picture has another colour.
 const FLIP: [u8; 19] = [
     0x3E, 1, 0x32, 0x03, 0x50, 0x32, 0x40, 0x44, 0x76, 0, 0, 0, 0, 0, 0, 0, 0, 0, 0,
 ];
@@ -24,38 +24,54 @@ const WALK: [u8; 19] = [
     0x50, 0x76,
 ];
 
-/// A ROM set of this program, where colour 1 of all tiles is red, and waveform 2 has a step; all else is 0.
-fn set(program: &[u8; 19]) -> RomSet {
+/// The program ROM.
+fn rom(program: &[u8; 19]) -> [u8; 16384] {
     let mut rom = [0u8; 16384];
     rom[..19].copy_from_slice(program);
+    rom
+}
+
+/// The wave PROM: waveform 2 is 1 at two samples. All else is 0.
+fn wave() -> [u8; 256] {
     let mut wave = [0u8; 256];
     wave[66] = 1;
     wave[67] = 1;
+    wave
+}
+
+/// The lookup PROM: colour 1 of a tile's pixels, which all are 1, is number 1. All else is 0.
+fn lookup() -> [u8; 256] {
     let mut lookup = [0u8; 256];
     lookup[5] = 1;
-    let mut colours = [0u8; 32];
-    colours[1] = 0x07;
+    lookup
+}
+
+/// The ROM set of a program.
+fn set(program: &[u8; 19]) -> RomSet {
     let raw = Raw {
         tiles: &[0x0F; 4096],
         sprites: &[0; 4096],
-        colours: &colours,
-        lookup: &lookup,
-        wave: &wave,
+        colours: &[0; 32],
+        lookup: &lookup(),
+        wave: &wave(),
     };
-    RomSet::of(&rom, &raw)
+    RomSet::of(&rom(program), &raw)
 }
 
-/// A sink that keeps a number of what it takes, and refuses one offer.
+/// A sink that keeps numbers of what it takes, and refuses one offer. A sample is the number of its 16 bits, and a picture 65,536 and the
+/// colour number in the flipped cell.
 #[derive(Drop)]
 struct Counting {
     /// The number of the offer that is refused, counted down; 0 is none.
     refusal: u64,
     /// The outputs that were taken.
     taken: u64,
-    /// The last of them: a sample, or 65,536 and the colour number that a picture has in the flipped cell.
-    last: i64,
-    /// A number that differs where other outputs were taken, or in another order.
-    mixed: i64,
+    /// The last of them.
+    last: u64,
+    /// Their sum.
+    sum: u64,
+    /// A number that other outputs don't give, nor these in another order.
+    mixed: u64,
 }
 
 impl Model for Counting {
@@ -66,13 +82,14 @@ impl Model for Counting {
 
 impl Counting {
     /// Takes an output or refuses it.
-    fn take(&mut self, output: i64) -> Result<(), Refused> {
+    fn take(&mut self, output: u64) -> Result<(), Refused> {
         self.refusal = self.refusal.wrapping_sub(1);
         if self.refusal == 0 {
             return Err(Refused);
         }
         self.taken = self.taken.wrapping_add(1);
         self.last = output;
+        self.sum = self.sum.wrapping_add(output);
         self.mixed = self.mixed.wrapping_mul(31).wrapping_add(output);
         Ok(())
     }
@@ -85,12 +102,12 @@ impl Sink for Counting {
 
     /// Takes a sample.
     fn sample(&mut self, sample: i16) -> Result<(), Refused> {
-        self.take(i64::from(sample))
+        self.take(u64::from(sample.cast_unsigned()))
     }
 
     /// Takes a picture.
     fn picture(&mut self, picture: &Picture) -> Result<(), Refused> {
-        self.take(65_536 + i64::from(picture.row(220)[268]))
+        self.take(65_536 + u64::from(picture.row(220)[268]))
     }
 }
 
@@ -114,8 +131,8 @@ impl Drop for Rig {
     }
 }
 
-/// The steps, the time and PC of a moment.
-type At = (u64, u64, u16);
+/// A moment: the steps that were made, those that are counted, the time, PC, the outputs that were taken, the last of them, and their sum.
+type Moment = [u64; 7];
 
 /// Outputs, each of which is refused once.
 struct Case {
@@ -128,13 +145,9 @@ struct Case {
     /// The microseconds that are asked for, up to a blank.
     us: u32,
     /// When the first is refused.
-    at: At,
+    refused: Moment,
     /// When the call ends where nothing is refused.
-    end: At,
-    /// All outputs up to then.
-    outputs: u64,
-    /// The last of them.
-    last: i64,
+    end: Moment,
 }
 
 /// Boards an output of which is refused.
@@ -145,21 +158,26 @@ static CASES: [Case; 4] = [
         program: NOPS,
         refusals: (1, 2),
         us: FRAME,
-        at: (8, 32, 0x0008),
-        end: (12_672, 50_688, 0x3180),
-        outputs: OUTPUTS,
-        last: 65_536,
+        refused: [8, 8, 32, 0x0008, 0, 0, 0],
+        end: [12_672, 12_672, 50_688, 0x3180, OUTPUTS, 65_536, 65_536],
     },
-    // seven steps of 73 T-states, and then halted ones
+    // eight steps of 77 T-states, and then halted ones; the seventh step turns sound on, and meets the second sample. From that on it is -512,
+    // but -448 for the third and fourth of each 32: a hundred of 1,583
     Case {
         name: "each output of a frame",
         program: WALK,
         refusals: (1, OUTPUTS + 1),
         us: FRAME,
-        at: (4, 40, 0x000A),
-        end: (12_661, 50_689, 0x0013),
-        outputs: OUTPUTS,
-        last: 65_536,
+        refused: [4, 4, 40, 0x000A, 0, 0, 0],
+        end: [
+            12_661,
+            12_661,
+            50_689,
+            0x0013,
+            OUTPUTS,
+            65_536,
+            65_536 + 1583 * (65_536 - 512) + 100 * 64,
+        ],
     },
     // the sixteenth blank gives a sample, and then its picture, before the watchdog's reset: that picture is flipped
     Case {
@@ -167,20 +185,48 @@ static CASES: [Case; 4] = [
         program: FLIP,
         refusals: (16 * OUTPUTS - 1, 16 * OUTPUTS),
         us: 16 * FRAME,
-        at: (202_747, 811_009, 0),
-        end: (202_747, 811_009, 0),
-        outputs: 16 * OUTPUTS,
-        last: 65_537,
+        refused: [
+            202_747,
+            202_747,
+            811_009,
+            0,
+            16 * OUTPUTS - 2,
+            0,
+            15 * 65_537,
+        ],
+        end: [
+            202_747,
+            202_747,
+            811_009,
+            0,
+            16 * OUTPUTS,
+            65_537,
+            16 * 65_537,
+        ],
     },
     Case {
         name: "a picture",
         program: FLIP,
         refusals: (16 * OUTPUTS, 16 * OUTPUTS + 1),
         us: 16 * FRAME,
-        at: (202_747, 811_009, 0),
-        end: (202_747, 811_009, 0),
-        outputs: 16 * OUTPUTS,
-        last: 65_537,
+        refused: [
+            202_747,
+            202_747,
+            811_009,
+            0,
+            16 * OUTPUTS - 1,
+            0,
+            15 * 65_537,
+        ],
+        end: [
+            202_747,
+            202_747,
+            811_009,
+            0,
+            16 * OUTPUTS,
+            65_537,
+            16 * 65_537,
+        ],
     },
 ];
 
@@ -194,6 +240,7 @@ impl Rig {
                     refusal,
                     taken: 0,
                     last: 0,
+                    sum: 0,
                     mixed: 0,
                 },
             }),
@@ -201,26 +248,27 @@ impl Rig {
         }
     }
 
-    /// Whether it made so many steps, none of them twice, and stands after so many T-states, with this PC.
-    fn is_at(&self, at: At) -> bool {
-        let board = &self.board;
-        let (steps, time, pc) = at;
-        board.made() == steps
-            && board.steps() == steps
-            && board.time() == time
-            && board.regs().pc == pc
+    /// Lets so many microseconds go by; whether an output is refused then.
+    fn is_refused(&mut self, us: u32) -> bool {
+        match self.board.exec(us, &mut self.sink) {
+            Ok(_) => false,
+            Err(fault) => fault == Fault::Refused,
+        }
     }
 
-    /// Lets the time of a case go by; whether that ends with a refusal, and where that is told.
-    fn is_refused(&mut self, case: &Case, refusal: u64) -> bool {
-        match self.board.exec(case.us, &mut self.sink) {
-            Ok(_) => false,
-            Err(fault) => {
-                fault == Fault::Refused
-                    && self.sink.taken.wrapping_add(1) == refusal
-                    && (refusal != case.refusals.0 || self.is_at(case.at))
-            }
-        }
+    /// Whether it stands at a moment.
+    fn is_at(&self, moment: &Moment) -> bool {
+        let board = &self.board;
+        let sink = &self.sink;
+        [
+            board.made(),
+            board.steps(),
+            board.time(),
+            u64::from(board.regs().pc),
+            sink.taken,
+            sink.last,
+            sink.sum,
+        ] == *moment
     }
 
     /// Whether outputs are due, so that no step is made.
@@ -231,23 +279,27 @@ impl Rig {
         }
     }
 
-    /// Whether a case is at its end.
-    fn is_at_end(&self, case: &Case) -> bool {
-        self.sink.taken == case.outputs && self.sink.last == case.last && self.is_at(case.end)
+    /// Lets the time of a case go by; whether an output is refused then, and is due.
+    fn refuses(&mut self, case: &Case, refusal: u64) -> bool {
+        self.is_refused(case.us)
+            && (refusal != case.refusals.0 || self.is_at(&case.refused))
+            && self.has_due()
     }
 
     /// Lets so many microseconds go by, to the end of a case, and tells the number of all outputs; 0 where it isn't the end.
-    fn ended(&mut self, us: u32, case: &Case) -> i64 {
-        if self.board.exec(us, &mut self.sink).is_ok() && self.is_at_end(case) {
-            self.sink.mixed
-        } else {
+    fn ended(&mut self, us: u32, case: &Case) -> u64 {
+        if self.is_refused(us) || !self.is_at(&case.end) {
             0
+        } else {
+            self.sink.mixed
         }
     }
 
-    /// Comes to a refusal and, by a call for no time, to the end of a case; tells the same.
-    fn taken_up(&mut self, case: &Case, refusal: u64) -> i64 {
-        if self.is_refused(case, refusal) && self.has_due() {
+    /// Comes to a refusal, if one is asked for, and by a call for no time to the end of a case; tells the same.
+    fn played(&mut self, case: &Case, refusal: u64) -> u64 {
+        if refusal == 0 {
+            self.ended(case.us, case)
+        } else if self.refuses(case, refusal) {
             self.ended(0, case)
         } else {
             0
@@ -255,27 +307,19 @@ impl Rig {
     }
 }
 
-/// The number of all outputs of a case where nothing is refused.
-fn mixed(alloc: Global, case: &Case) -> i64 {
-    match Rig::new(alloc, &case.program, 0) {
-        Ok(mut rig) => rig.ended(case.us, case),
-        Err(_) => 0,
-    }
-}
-
-/// The number of all outputs of a case where one is refused.
-fn mixed_after(alloc: Global, case: &Case, refusal: u64) -> i64 {
+/// The number of all outputs of a case where one is refused, or none where that is 0.
+fn mixed(alloc: Global, case: &Case, refusal: u64) -> u64 {
     match Rig::new(alloc, &case.program, refusal) {
-        Ok(mut rig) => rig.taken_up(case, refusal),
+        Ok(mut rig) => rig.played(case, refusal),
         Err(_) => 0,
     }
 }
 
 /// The first output of a case whose refusal isn't taken up with the same outputs; 0 where each one is.
 fn not_taken_up(alloc: Global, case: &Case) -> u64 {
-    let mixed = mixed(alloc, case);
+    let whole = mixed(alloc, case, 0);
     for refusal in case.refusals.0..case.refusals.1 {
-        if mixed == 0 || mixed_after(alloc, case, refusal) != mixed {
+        if whole == 0 || mixed(alloc, case, refusal) != whole {
             return refusal;
         }
     }

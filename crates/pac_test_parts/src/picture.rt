@@ -48,6 +48,9 @@ static TURNS: [Turn; 5] = [
     },
 ];
 
+/// The bytes of the sprites, which are none.
+static SPRITES: [u8; 16] = [0; 16];
+
 /// Composes a picture; whether so many cells are drawn.
 fn draws(picture: &mut Picture, turn: &Turn) -> bool {
     let mut tiles = [0u8; 1024];
@@ -57,7 +60,7 @@ fn draws(picture: &mut Picture, turn: &Turn) -> bool {
     if turn.stale {
         picture.set_stale();
     }
-    let screen = Screen::new(&tiles, &colours, &[0; 16], &[0; 16], false);
+    let screen = Screen::new(&tiles, &colours, &SPRITES, &SPRITES, false);
     picture.compose(&screen);
     picture.drawn() == turn.drawn
 }
