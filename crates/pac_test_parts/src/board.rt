@@ -10,6 +10,9 @@ const FRAME: u32 = 16_500;
 /// The outputs of a frame: 1,584 samples and the picture.
 const OUTPUTS: u64 = 1585;
 
+/// The DIP switches as they are set at the factory.
+const SWITCHES: u8 = 0xC9;
+
 /// NOPs.
 const NOPS: [u8; 19] = [0; 19];
 
@@ -18,7 +21,8 @@ const FLIP: [u8; 19] = [
     0x3E, 1, 0x32, 0x03, 0x50, 0x32, 0x40, 0x44, 0x76, 0, 0, 0, 0, 0, 0, 0, 0, 0, 0,
 ];
 
-/// LD A,2 / LD (5045H),A / LD A,8 / LD (5053H),A / LD A,1 / LD (5055H),A / LD (5001H),A / HALT: a voice walks through waveform 2.
+/// LD A,2 / LD (5045H),A / LD A,8 / LD (5053H),A / LD A,1 / LD (5055H),A / LD (5001H),A / HALT: a
+/// voice walks through waveform 2, one of its samples for each output.
 const WALK: [u8; 19] = [
     0x3E, 2, 0x32, 0x45, 0x50, 0x3E, 8, 0x32, 0x53, 0x50, 0x3E, 1, 0x32, 0x55, 0x50, 0x32, 0x01,
     0x50, 0x76,
@@ -58,8 +62,8 @@ fn set(program: &[u8; 19]) -> RomSet {
     RomSet::of(&rom(program), &raw)
 }
 
-/// A sink that keeps numbers of what it takes, and refuses one offer. A sample is the number of its 16 bits, and a picture 65,536 and the
-/// colour number in the flipped cell.
+/// A sink that keeps numbers of what it takes, and refuses one offer. A sample counts as the number
+/// of its 16 bits, and a picture as 65,536 and the colour number in the flipped cell.
 #[derive(Drop)]
 struct Counting {
     /// The number of the offer that is refused, counted down; 0 is none.
@@ -70,7 +74,7 @@ struct Counting {
     last: u64,
     /// Their sum.
     sum: u64,
-    /// A number that other outputs don't give, nor these in another order.
+    /// A number that each of them goes into, and their order.
     mixed: u64,
 }
 
@@ -111,8 +115,8 @@ impl Sink for Counting {
     }
 }
 
-/// A board and its sink. Clauses see nothing of either, and it is dropped by a function of its own: so what owns one has a single value
-/// without parts for its proof to carry from step to step.
+/// A board and its sink. Clauses see nothing of either, and it is dropped by a function of its own:
+/// so what owns one has a single value without parts for its proof to carry from step to step.
 struct Rig {
     board: Box<Board>,
     sink: Counting,
@@ -131,7 +135,8 @@ impl Drop for Rig {
     }
 }
 
-/// A moment: the steps that were made, those that are counted, the time, PC, the outputs that were taken, the last of them, and their sum.
+/// A moment: the steps that the board made, those since power-on, the time and PC; the outputs that
+/// the sink took, the last of them, and their sum.
 type Moment = [u64; 7];
 
 /// Outputs, each of which is refused once.
@@ -161,8 +166,9 @@ static CASES: [Case; 4] = [
         refused: [8, 8, 32, 0x0008, 0, 0, 0],
         end: [12_672, 12_672, 50_688, 0x3180, OUTPUTS, 65_536, 65_536],
     },
-    // eight steps of 77 T-states, and then halted ones; the seventh step turns sound on, and meets the second sample. From that on it is -512,
-    // but -448 for the third and fourth of each 32: a hundred of 1,583
+    // eight steps of 77 T-states in all, and then halted ones of four. The first sample is 0; the
+    // second is met by the step that turns sound on. From there on they are -512, but -448 for the
+    // third and fourth of each 32, which are a hundred of the 1,583
     Case {
         name: "each output of a frame",
         program: WALK,
@@ -179,7 +185,8 @@ static CASES: [Case; 4] = [
             65_536 + 1583 * (65_536 - 512) + 100 * 64,
         ],
     },
-    // the sixteenth blank gives a sample, and then its picture, before the watchdog's reset: that picture is flipped
+    // the step of the sixteenth blank gives a sample and a picture, and then comes the watchdog's
+    // reset: the picture is the flipped one still
     Case {
         name: "the sample before a picture",
         program: FLIP,
@@ -231,9 +238,9 @@ static CASES: [Case; 4] = [
 ];
 
 impl Rig {
-    /// A board at power-on, with a sink that refuses the offer of this number, or none where it is 0.
+    /// A board at power-on, with a sink that refuses the offer of this number; 0 is none.
     fn new(alloc: Global, program: &[u8; 19], refusal: u64) -> Result<Rig, AllocError> {
-        match Board::init(alloc, set(program), 0xC9) {
+        match Board::init(alloc, set(program), SWITCHES) {
             Ok(board) => Ok(Rig {
                 board,
                 sink: Counting {
@@ -286,7 +293,8 @@ impl Rig {
             && self.has_due()
     }
 
-    /// Lets so many microseconds go by, to the end of a case, and tells the number of all outputs; 0 where it isn't the end.
+    /// Lets so many microseconds go by, to the end of a case, and tells the number of all outputs;
+    /// 0 where it isn't the end.
     fn ended(&mut self, us: u32, case: &Case) -> u64 {
         if self.is_refused(us) || !self.is_at(&case.end) {
             0
@@ -295,7 +303,7 @@ impl Rig {
         }
     }
 
-    /// Comes to a refusal, if one is asked for, and by a call for no time to the end of a case; tells the same.
+    /// Comes to the end of a case, after a refusal by a call for no time; tells the same.
     fn played(&mut self, case: &Case, refusal: u64) -> u64 {
         if refusal == 0 {
             self.ended(case.us, case)
@@ -315,7 +323,8 @@ fn mixed(alloc: Global, case: &Case, refusal: u64) -> u64 {
     }
 }
 
-/// The first output of a case whose refusal isn't taken up with the same outputs; 0 where each one is.
+/// The first output of a case after whose refusal the outputs aren't those of a run without one; 0
+/// where there is none.
 fn not_taken_up(alloc: Global, case: &Case) -> u64 {
     let whole = mixed(alloc, case, 0);
     for refusal in case.refusals.0..case.refusals.1 {

@@ -1,5 +1,6 @@
-//! Steps over memory and ports that are all free, by hand from UM0080: on the board each port reads FFH, only port 0 keeps what it is given,
-//! and of an address and the next one that lie over the end of memory one is a port and the other one the program ROM.
+//! Steps over memory and ports that are all free, by hand from UM0080. On the board each port gives
+//! FFH to the processor and port 0 alone takes a byte; the last address is an input's, and the first
+//! one is in the program ROM.
 
 use pac_bus::{Bus, Flat};
 use pac_cpu::{Cpu, Once, Regs};
