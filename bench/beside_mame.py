@@ -31,7 +31,11 @@ import sys
 import tempfile
 import time
 
+sys.dont_write_bytecode = True
 ROOT = os.path.dirname(os.path.dirname(os.path.realpath(__file__)))
+sys.path.insert(0, f"{ROOT}/tools")
+import judge_picture
+
 EXAMPLES = f"{ROOT}/examples"
 NAMES = ["starfall", "sunset", "welcome", "hello"]
 MAME = shutil.which("mame", path=os.environ.get("PATH", os.defpath) + ":/usr/games")
@@ -183,15 +187,10 @@ def part_of(name):
         return file.read()
 
 
-def pixels_of(byte):
-    """The values of the four pixels in a byte, from left to right."""
-    return [2 * (byte >> 7 - k & 1) + (byte >> 3 - k & 1) for k in range(4)]
-
-
 TILES, SPRITES, COLOURS, LOOKUP, WAVES = map(part_of, ["tiles.rom", "sprites.rom", "colours.prom", "lookup.prom", "wave.prom"])
 WAVEFORMS = [[byte & 15 for byte in WAVES[32 * number :][:32]] for number in range(8)]
 # The places of a row's cells in tile RAM, from column 0 to 35.
-CELLS = [[0x3C2 + row, 0x3E2 + row, *range(0x40 + 32 * row, 0x60 + 32 * row), 2 + row, 0x22 + row] for row in range(28)]
+CELLS = [[judge_picture.place(column, row) for column in range(judge_picture.COLUMNS)] for row in range(judge_picture.ROWS)]
 
 
 def weighed(byte, lowest, weights):
@@ -209,17 +208,14 @@ LIGHTS = [
 @functools.cache
 def tile_row(code, palette, y):
     """The colour numbers of a tile's row in a palette."""
-    values = pixels_of(TILES[16 * code + 8 + y]) + pixels_of(TILES[16 * code + y])
-    return bytes(LOOKUP[4 * palette + value] & 15 for value in values)
+    return bytes(judge_picture.numbers(LOOKUP, palette, judge_picture.tile_line(TILES, code, y)))
 
 
 @functools.cache
 def sprite_row(shape, palette, y):
     """The colour numbers of a sprite's row in a palette, y from its top as it shows; the shape has the code and the flips."""
-    y = 15 - y if shape & 2 else y
-    columns = (64 * (shape >> 2) + 32 * (y // 8) + start + y % 8 for start in (8, 16, 24, 0))
-    row = bytes(LOOKUP[4 * palette + value] & 15 for column in columns for value in pixels_of(SPRITES[column]))
-    return row[::-1] if shape & 1 else row
+    values = judge_picture.sprite_line(SPRITES, shape >> 2, 15 - y if shape & 2 else y)
+    return bytes(judge_picture.numbers(LOOKUP, palette, values[::-1] if shape & 1 else values))
 
 
 @functools.lru_cache(100_000)

@@ -3,11 +3,13 @@ tools/hostile.
 """
 import hashlib
 
-SIZE = 67_756
+import blocks
+
+SIZE = blocks.SIZE
 FRAME = 50_688  # T-states
 MICROSECONDS = 16_500  # of a frame, as they are asked
-DIP = 3220
-PICTURE = 3224
+DIP = blocks.FIELDS["switches"][0]
+PICTURE = blocks.PARTS["picture"][0]
 # The wave generator's registers that keep nothing.
 UNKEPT = set(range(16)) - {5, 10, 15}
 
@@ -37,21 +39,20 @@ def number(file, at, size):
 
 def is_out_of_range(file):
     """Whether a field has a value that no board has, or that is written in another way."""
-    registers = file[3170:3202]
-    time, due = number(file, 58, 8), file[3221]
+    time, due, accumulators = blocks.number(file, "time"), blocks.number(file, "due"), blocks.part(file, "accumulators")
     return (
-        file[56] > 15
-        or file[57] > 2
+        blocks.number(file, "flags") > 15
+        or blocks.number(file, "IM") > 2
         or time > (1 << 52) + 22
-        or 4 * number(file, 66, 8) > time
-        or number(file, 74, 8) > 1 << 50
-        or any(value > 15 or value and at in UNKEPT for at, value in enumerate(registers))
-        or any(number(file, at, 4) >= 1 << 20 for at in (3202, 3206, 3210))
-        or file[3216] > 1
-        or file[3217] > 15
+        or 4 * blocks.number(file, "steps") > time
+        or blocks.number(file, "asked") > 1 << 50
+        or any(value > 15 or value and at in UNKEPT for at, value in enumerate(blocks.part(file, "wave")))
+        or any(number(accumulators, at, 4) >= 1 << 20 for at in (0, 4, 8))
+        or blocks.number(file, "request") > 1
+        or blocks.number(file, "blanks") > 15
         or due > 3
-        or not due & 1 and number(file, 3222, 2) != 0
-        or max(file[PICTURE : SIZE - 20]) > 15
+        or not due & 1 and blocks.number(file, "sample") != 0
+        or max(blocks.part(file, "picture")) > 15
     )
 
 
@@ -69,8 +70,9 @@ def fault(file, digest, frames):
         return "V6"
     if is_out_of_range(file):
         return "V4"
-    if file[3221] or number(file, 58, 8) % FRAME >= 32:
+    time = blocks.number(file, "time")
+    if blocks.number(file, "due") or time % FRAME >= 32:
         return "V7"
-    if number(file, 58, 8) // FRAME * FRAME + FRAME * frames > 1 << 52 or number(file, 74, 8) + MICROSECONDS * frames > 1 << 50:
+    if time // FRAME * FRAME + FRAME * frames > 1 << 52 or blocks.number(file, "asked") + MICROSECONDS * frames > 1 << 50:
         return "V8"
     return None

@@ -155,6 +155,17 @@ struct Case {
     end: Moment,
 }
 
+/// Sixteen blanks of a flipped picture, the last of which resets the board, where nothing is refused.
+const RESET: Moment = [
+    202_747,
+    202_747,
+    811_009,
+    0,
+    16 * OUTPUTS,
+    65_537,
+    16 * 65_537,
+];
+
 /// Boards an output of which is refused.
 static CASES: [Case; 4] = [
     // NOPs are steps of four T-states, and the first sample is at 32
@@ -201,15 +212,7 @@ static CASES: [Case; 4] = [
             0,
             15 * 65_537,
         ],
-        end: [
-            202_747,
-            202_747,
-            811_009,
-            0,
-            16 * OUTPUTS,
-            65_537,
-            16 * 65_537,
-        ],
+        end: RESET,
     },
     Case {
         name: "a picture",
@@ -225,15 +228,7 @@ static CASES: [Case; 4] = [
             0,
             15 * 65_537,
         ],
-        end: [
-            202_747,
-            202_747,
-            811_009,
-            0,
-            16 * OUTPUTS,
-            65_537,
-            16 * 65_537,
-        ],
+        end: RESET,
     },
 ];
 
