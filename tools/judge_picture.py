@@ -1,6 +1,6 @@
-"""The picture of a board's RAM, sprites and flip bit, by docs/FORMATS.md and "The board on one page" of docs/USING.md: tools/screens holds
-pictures against it, and bench/beside_mame.py draws by it what MAME's board has in its RAM. This was written from these pages, without a look
-at the program; but that the three high bits of a palette's byte aren't wired is from the schematics.
+"""The picture of a board's RAM, sprites and flip bit, by docs/FORMATS.md and "The board on one page" of docs/USING.md. tools/screens holds
+pictures against it, and bench/beside_mame.py draws by its rows what MAME's board has in its RAM. This was written from these pages, without
+a look at the program; but that the three high bits of a palette's byte aren't wired is from the schematics.
 """
 WIDTH, HEIGHT = 288, 224  # pixels
 COLUMNS, ROWS = 36, 28  # cells
