@@ -1,9 +1,11 @@
 /* The proved board as a C library: Namco's Pac-Man main board, all of whose state is one block of bytes that the host owns.
+ * Made by tools/make-header from the declarations of crates/pac_host and from the definitions that their contracts cite.
  *
  * The library keeps nothing between calls, takes no memory and calls nothing of the host. So a copy of a `pac_board` is a snapshot, which may
  * be kept, compared and run again, and boards in different threads don't touch. docs/HOSTS.md goes through a host of one's own.
  *
- * Each call answers a code. 0 is 'done'. At any other code nothing is changed: neither the board nor what the host handed in to be written.
+ * Each call but pac_size answers a code. 0 is 'done'. At any other code nothing is changed: neither the board nor what the host handed in to
+ * be written.
  *
  * What is trusted, for no library can test it: that pointers aren't null (also of a buffer without a byte) and are those of this header's
  * types, that a length is that of its buffer, and that no two buffers of a call share a byte. The calls whose names end with `_checked` test
@@ -25,7 +27,7 @@ extern "C" {
 /* What a call answers. PAC_V1 to PAC_V6 are the refusals of a state file, in docs/FORMATS.md. */
 enum {
     PAC_DONE = 0,
-    PAC_LENGTH = 1, /* a length is another than the one that is told at the call */
+    PAC_LENGTH = 1, /* a length is another than the one that the call wants */
     PAC_STATE = 2,  /* the block isn't the state of a board */
     PAC_TIME = 3,   /* the microseconds that were asked of the board in all would pass 2^50 */
     PAC_ROOM = 4,   /* the buffer has less room than the samples that the call could give */
@@ -41,11 +43,11 @@ enum {
 /* Sizes in bytes, unless another unit is told. */
 enum {
     PAC_BOARD_SIZE = 67756,
-    PAC_ROMS_SIZE = 25120,  /* program 16,384, tiles 4,096, sprites 4,096, colours 32, lookup 256, wave 256, in this order: hosts/roms.py */
-    PAC_STATE_SIZE = 67756, /* a state file */
-    PAC_WIDTH = 288,        /* pixels */
-    PAC_HEIGHT = 224,       /* pixels */
-    PAC_RGBA_SIZE = 258048, /* a picture: 4 bytes a pixel */
+    PAC_ROMS_SIZE = 25120,    /* program 16,384, tiles 4,096, sprites 4,096, colours 32, lookup 256, wave 256, in this order: hosts/roms.py */
+    PAC_STATE_SIZE = 67756,   /* a state file */
+    PAC_WIDTH = 288,          /* pixels */
+    PAC_HEIGHT = 224,         /* pixels */
+    PAC_RGBA_SIZE = 258048,   /* a picture: 4 bytes a pixel */
     PAC_FRAME_MICROSECONDS = 16500,
     PAC_FRAME_SAMPLES = 1584, /* samples */
     PAC_SAMPLE_RATE = 96000,  /* samples a second */
@@ -72,10 +74,67 @@ enum {
     PAC_COCKTAIL = 32768,
 };
 
-/* A board: the text of its state file with zeros in the place of both digests. A plain value: copy it with `=` or memcpy. */
+/* A board, in a host's memory: the text of its state file with zeros in the place of both digests. A plain value, that may be copied, kept
+ * and handed in again. Any bytes may be handed in; those that are no board's state are refused. */
 typedef struct pac_board {
     uint8_t bytes[PAC_BOARD_SIZE];
 } pac_board;
+
+/* Where a board's bytes have what: numbers of several bytes have the low one first. 0 to 29 and the last 20 are no state. */
+enum {
+    PAC_AT_A = 30,
+    PAC_AT_F = 31,
+    PAC_AT_B = 32,
+    PAC_AT_C = 33,
+    PAC_AT_D = 34,
+    PAC_AT_E = 35,
+    PAC_AT_H = 36,
+    PAC_AT_L = 37,
+    PAC_AT_ALTERNATE_A = 38,
+    PAC_AT_ALTERNATE_F = 39,
+    PAC_AT_ALTERNATE_B = 40,
+    PAC_AT_ALTERNATE_C = 41,
+    PAC_AT_ALTERNATE_D = 42,
+    PAC_AT_ALTERNATE_E = 43,
+    PAC_AT_ALTERNATE_H = 44,
+    PAC_AT_ALTERNATE_L = 45,
+    PAC_AT_IX = 46,
+    PAC_AT_IY = 48,
+    PAC_AT_SP = 50,
+    PAC_AT_PC = 52,
+    PAC_AT_I = 54,
+    PAC_AT_R = 55,
+    PAC_AT_FLAGS = 56,            /* a byte of these four bits */
+    PAC_IFF1 = 1,
+    PAC_IFF2 = 2,
+    PAC_HALTED = 4,
+    PAC_AFTER_EI = 8,
+    PAC_AT_INTERRUPT_MODE = 57,   /* 0 to 2 */
+    PAC_AT_TIME = 58,             /* 8 bytes: T-states since power-on */
+    PAC_AT_STEPS = 66,            /* 8 bytes */
+    PAC_AT_ASKED = 74,            /* 8 bytes: the microseconds that were asked so far */
+    PAC_AT_TILE_RAM = 82,         /* from 4000H on */
+    PAC_TILE_RAM_SIZE = 1024,
+    PAC_AT_COLOUR_RAM = 1106,     /* from 4400H on */
+    PAC_COLOUR_RAM_SIZE = 1024,
+    PAC_AT_WORK_RAM = 2130,       /* from 4C00H on; the last 16 bytes are the sprites' shapes */
+    PAC_WORK_RAM_SIZE = 1024,
+    PAC_AT_COORDINATES = 3154,    /* the sprites' places, from 5060H on */
+    PAC_COORDINATES_SIZE = 16,
+    PAC_AT_WAVE_REGISTERS = 3170, /* from 5040H on */
+    PAC_WAVE_REGISTERS_SIZE = 32,
+    PAC_AT_ACCUMULATORS = 3202,   /* three of 4 bytes */
+    PAC_AT_LATCH = 3214,          /* bits 0 to 7: what 5000H to 5007H keep */
+    PAC_AT_VECTOR = 3215,         /* the interrupt vector */
+    PAC_AT_REQUEST = 3216,        /* 1 where an interrupt is requested, or 0 */
+    PAC_AT_WATCHDOG = 3217,       /* blanks since its last kick */
+    PAC_AT_HELD = 3218,           /* 2 bytes: the inputs that are held, PAC_P1_UP and so on */
+    PAC_AT_SWITCHES = 3220,       /* the byte of the DIP switches */
+    PAC_AT_DUE = 3221,            /* bit 0: a sample is due, bit 1: the picture; after pac_exec it's 0 */
+    PAC_AT_SAMPLE = 3222,         /* 2 bytes: the sample that is due */
+    PAC_AT_PICTURE = 3224,        /* a colour number for each pixel, row by row from the top */
+    PAC_PICTURE_SIZE = 64512,
+};
 
 /* Why the board can't go on. */
 enum {
@@ -84,19 +143,19 @@ enum {
     PAC_STOP_VECTOR = 2, /* interrupt mode 0 with a `vector` that is no RST; the processor would return to `pc` */
 };
 
-/* What a call of pac_exec did. */
+/* What a call of pac_exec did. What isn't to be told is 0. */
 typedef struct pac_ran {
     uint64_t ticks;    /* T-states that went by */
-    uint32_t samples;  /* samples that were given */
+    uint32_t samples;  /* samples that were given, at the head of the buffer */
     uint32_t pictures; /* vertical blanks that came: pictures that were finished */
-    uint32_t stop;     /* why the board stopped; PAC_GOES where it didn't, and then all below is 0 */
+    uint32_t stop;     /* why the board stopped; 0 where it didn't, and then all below is 0 */
     uint16_t pc;       /* where it stopped */
     uint8_t bytes[4];  /* the bytes from there on */
     uint8_t vector;    /* the interrupt vector where that is the reason, and else 0 */
     uint8_t zero;      /* 0 */
 } pac_ran;
 
-/* PAC_BOARD_SIZE: a host that was compiled with another header than the library is told so by `pac_matches`. */
+/* The bytes of a board's block: a host that knows another size was made for another library. */
 size_t pac_size(void);
 
 /* Makes a board at power-on, whose DIP switches give the byte `switches`. Whatever is in `board` before is not looked at.
@@ -107,21 +166,21 @@ uint32_t pac_init(pac_board *board, const uint8_t *roms, size_t length, uint8_t 
  * PAC_STATE. */
 uint32_t pac_reset(pac_board *board);
 
-/* Lets the inputs of `clear` go, and then holds those of `set`; `pac_hold(board, mask, 0xFFFF)` holds these and no other. The program sees it
- * from the next call of pac_exec on. PAC_STATE. */
+/* Lets the inputs of `clear` go, and then holds those of `set`; `pac_hold(board, mask, 0xFFFF)` holds these and no other. The program sees
+ * it from the next call of pac_exec on. PAC_STATE. */
 uint32_t pac_hold(pac_board *board, uint16_t set, uint16_t clear);
 
 /* Lets so many microseconds go by: the board runs until its time is the one that was asked in all, and at most 22 T-states longer, since an
- * instruction isn't cut. The samples, 96,000 a second, go to `samples`, which has room for `capacity` of them, and what was done to `ran`.
- * Where the board stops, the answer is PAC_DONE and `ran->stop` tells why; a further call stops at once, and gives nothing.
+ * instruction isn't cut. The samples, 96,000 a second, go to the head of `samples`, whose rest stays, and what was done to `ran`. Where the
+ * board stops, the answer is PAC_DONE and `ran->stop` tells why; a further call stops at once, and gives nothing.
  * PAC_LENGTH: `length` isn't PAC_ROMS_SIZE. PAC_STATE. PAC_TIME. PAC_ROOM: of a board that was run from power-on by pac_exec alone and
- * hasn't stopped, `microseconds * 12 / 125 + 2` is always enough; that is PAC_FRAME_SAMPLES + 2 for a frame. Of a board that has stopped
+ * hasn't stopped, room for `microseconds * 12 / 125 + 2` samples is always enough; those are 1,586 for a frame. Of a board that has stopped
  * the room for the time that it is behind is asked, too. */
 uint32_t pac_exec(pac_board *board, const uint8_t *roms, size_t length, uint32_t microseconds, int16_t *samples, size_t capacity,
                   pac_ran *ran);
 
-/* Draws the picture as it stands: after a pac_exec that ended with a blank, as one of PAC_FRAME_MICROSECONDS does from power-on, the whole
- * picture of that frame. 224 rows from the top, each of 288 pixels from the left, each the bytes red, green, blue and 255.
+/* Draws the picture as it stands: after a call of pac_exec that ended with a blank, as one for 16,500 microseconds does from power-on, the
+ * whole picture of that frame. 224 rows from the top, each of 288 pixels from the left, each the bytes red, green, blue and 255.
  * PAC_LENGTH: `length` isn't PAC_ROMS_SIZE, or `rgba_length` isn't PAC_RGBA_SIZE. PAC_STATE. */
 uint32_t pac_draw(const pac_board *board, const uint8_t *roms, size_t length, uint8_t *rgba, size_t rgba_length);
 

@@ -9,8 +9,8 @@ use pac_board::{Board, Fields};
 use pac_state::laws::{blocks_are_read_back, boards_have_states, states_have_blocks};
 use pac_state::{read_block, write_block};
 
-/// A board's state, in a host's memory: a block of plain bytes that the host may copy and keep, and hand in again. Any bytes may be
-/// handed in; those that are no board's state are refused.
+/// A board, in a host's memory: the text of its state file with zeros in the place of both digests. A plain value, that may be copied, kept
+/// and handed in again. Any bytes may be handed in; those that are no board's state are refused.
 #[repr(C)]
 #[derive(Drop)]
 pub struct PacBoard {

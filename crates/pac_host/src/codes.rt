@@ -8,15 +8,15 @@ use pac_state::LoadFault;
 /// Why a call wasn't done. Then it changed nothing.
 #[derive(Clone, Copy, PartialEq, Eq)]
 pub enum HostFault {
-    /// The ROMs, or a buffer, have another length than they need.
+    /// A length is another than the one that the call wants.
     WrongLength,
-    /// The block isn't that of a state that a board can have.
+    /// The block isn't the state of a board.
     NoBoard,
-    /// More than 2^50 microseconds would be asked of the board in all.
+    /// The microseconds that were asked of the board in all would pass 2^50.
     TooLong,
-    /// The buffer has less room than the samples that could come.
+    /// The buffer has less room than the samples that the call could give.
     NoRoom,
-    /// The file isn't a state file of these ROMs.
+    /// The file isn't a state file of these ROMs: V1 to V6, as docs/FORMATS.md says.
     NoFile(LoadFault),
 }
 

@@ -26,7 +26,7 @@ use codes::code;
 use pac_board::{Flags, Inputs};
 pub use ran::PacRan;
 
-/// The bytes of a board's block.
+/// The bytes of a board's block: a host that knows another size was made for another library.
 #[unsafe(no_mangle)]
 pub extern "C" fn pac_size() -> usize
     ensures { result ≡ file_size }
@@ -34,7 +34,8 @@ pub extern "C" fn pac_size() -> usize
     67_756
 }
 
-/// Makes the block that of a board at power-on, with these ROMs and a byte of the DIP switches.
+/// Makes a board at power-on, whose DIP switches give the byte `switches`. Whatever is in `board` before is not looked at.
+/// `WrongLength`: `roms` hasn't 25,120 bytes.
 #[unsafe(no_mangle)]
 pub extern "C" fn pac_init(board: &mut PacBoard, roms: &[u8], switches: u8) -> u32
     ensures { Answers (λ answer. host.Inits roms.now switches board.old.bytes answer board.new.bytes) result }
@@ -42,7 +43,8 @@ pub extern "C" fn pac_init(board: &mut PacBoard, roms: &[u8], switches: u8) -> u
     code(calls::init(board, roms, switches))
 }
 
-/// Resets the board as the watchdog does: latch, request, count and processor.
+/// What the watchdog does: the processor begins at 0000H again, latch, request and the watchdog's count are cleared; all else stays.
+/// `NoBoard`.
 #[unsafe(no_mangle)]
 pub extern "C" fn pac_reset(board: &mut PacBoard) -> u32
     ensures { Answers (λ answer. host.Becomes board_after_reset board.old.bytes answer board.new.bytes) result }
@@ -50,7 +52,8 @@ pub extern "C" fn pac_reset(board: &mut PacBoard) -> u32
     code(calls::reset(board))
 }
 
-/// Lets the inputs of one mask go, and holds those of another then; a bit of a mask is an input.
+/// Lets the inputs of `clear` go, and then holds those of `set`; `pac_hold(board, mask, 0xFFFF)` holds these and no other. The program sees
+/// it from the next call of `pac_exec` on. `NoBoard`.
 #[unsafe(no_mangle)]
 pub extern "C" fn pac_hold(board: &mut PacBoard, set: u16, clear: u16) -> u32
     ensures { Answers (λ answer. host.Becomes (host.board_holding set clear) board.old.bytes answer board.new.bytes) result }
@@ -60,7 +63,12 @@ pub extern "C" fn pac_hold(board: &mut PacBoard, set: u16, clear: u16) -> u32
     code(calls::hold(board, set, clear))
 }
 
-/// Lets so many microseconds go by, writes the samples that come to the head of a buffer, and tells how it went.
+/// Lets so many microseconds go by: the board runs until its time is the one that was asked in all, and at most 22 T-states longer, since
+/// an instruction isn't cut. The samples, 96,000 a second, go to the head of `samples`, whose rest stays, and what was done to `ran`.
+/// Where the board stops, the call is done and `ran.stop` tells why; a further call stops at once, and gives nothing.
+/// `WrongLength`: `roms` hasn't 25,120 bytes. `NoBoard`. `TooLong`. `NoRoom`: of a board that was run from power-on by `pac_exec` alone and
+/// hasn't stopped, room for `microseconds * 12 / 125 + 2` samples is always enough; those are 1,586 for a frame. Of a board that has stopped
+/// the room for the time that it is behind is asked, too.
 #[unsafe(no_mangle)]
 pub extern "C" fn pac_exec(
     board: &mut PacBoard,
@@ -75,7 +83,9 @@ pub extern "C" fn pac_exec(
     code(calls::exec(board, roms, microseconds, samples, ran))
 }
 
-/// Draws the picture as it stands, 258,048 bytes: red, green, blue and 255 of each pixel, line by line from the top.
+/// Draws the picture as it stands: after a call of `pac_exec` that ended with a blank, as one for 16,500 microseconds does from power-on, the
+/// whole picture of that frame. 224 rows from the top, each of 288 pixels from the left, each the bytes red, green, blue and 255.
+/// `WrongLength`: `roms` hasn't 25,120 bytes, or `rgba` hasn't 258,048 bytes. `NoBoard`.
 #[unsafe(no_mangle)]
 pub extern "C" fn pac_draw(board: &PacBoard, roms: &[u8], rgba: &mut [u8]) -> u32
     ensures { Answers (λ answer. host.Draws roms.now board.now.bytes rgba.old answer rgba.new) result }
@@ -83,7 +93,8 @@ pub extern "C" fn pac_draw(board: &PacBoard, roms: &[u8], rgba: &mut [u8]) -> u3
     code(draw::draw(board, roms, rgba))
 }
 
-/// Writes the board's state file, 67,756 bytes.
+/// Writes the board's state file, the one that `pacboard run --load` and `pac_load` take, with the digest of the ROM set in it.
+/// `WrongLength`: `roms` hasn't 25,120 bytes, or `text` hasn't 67,756 bytes. `NoBoard`.
 #[unsafe(no_mangle)]
 pub extern "C" fn pac_save(board: &PacBoard, roms: &[u8], text: &mut [u8]) -> u32
     ensures { Answers (λ answer. host.WritesFile roms.now board.now.bytes text.old answer text.new) result }
@@ -91,7 +102,8 @@ pub extern "C" fn pac_save(board: &PacBoard, roms: &[u8], text: &mut [u8]) -> u3
     code(files::save(board, roms, text))
 }
 
-/// Makes the block that of the board of a state file.
+/// Makes the board of a state file, of any length. Whatever is in `board` before is not looked at.
+/// `WrongLength`: `roms` hasn't 25,120 bytes. `NoFile`: the file is refused, docs/FORMATS.md says why; a wrong length is V3.
 #[unsafe(no_mangle)]
 pub extern "C" fn pac_load(board: &mut PacBoard, roms: &[u8], text: &[u8]) -> u32
     ensures { Answers (λ answer. host.TakesFile roms.now text.now board.old.bytes answer board.new.bytes) result }

@@ -5,23 +5,23 @@ ghost use Rattle.pac_host.specs.Codes as codes;
 
 use pac_board::{Cause, Stop};
 
-/// What a call for some time came to. What isn't to be told is 0.
+/// What a call of `pac_exec` did. What isn't to be told is 0.
 #[repr(C)]
 #[derive(Clone, Copy)]
 pub struct PacRan {
-    /// The T-states that went by.
+    /// T-states that went by.
     pub ticks: u64,
-    /// The samples at the head of the buffer.
+    /// Samples that were given, at the head of the buffer.
     pub samples: u32,
-    /// The pictures that were finished.
+    /// Vertical blanks that came: pictures that were finished.
     pub pictures: u32,
-    /// Why it ended before its time: 0 it didn't, 1 the bytes at PC are no documented instruction, 2 the interrupt vector is no RST.
+    /// Why the board stopped; 0 where it didn't, and then all below is 0.
     pub stop: u32,
-    /// Where the processor stopped.
+    /// Where it stopped.
     pub pc: u16,
-    /// The four bytes from there on.
+    /// The bytes from there on.
     pub bytes: [u8; 4],
-    /// The interrupt vector.
+    /// The interrupt vector where that is the reason, and else 0.
     pub vector: u8,
     /// 0.
     pub zero: u8,
