@@ -122,19 +122,19 @@ abbrev pub spot_of : Standing → Spot
 spot_of standing = record { at = standing.at; ifs = opens standing.conditions }
 
 -- What a line defines goes to the symbols, its place to the places, and the next line stands where the next standing has it.
-pub record Agrees (above : Standing) (step : Option LineStep) (Fills : LineLayout → Type 0) (next : Standing) : Type 0 where
+pub record Agrees (above : Standing) (step : Option LineStep) (Holds : LineLayout → Type 0) (next : Standing) : Type 0 where
   pub new : List Symbol
   pub stepped : step ≡ Some (new, spot_of next)
   pub grown : next.symbols ≡ above.symbols ++ new
   pub nested : AreNested next.conditions
   pub place : LineLayout
   pub added : next.places ≡ above.places ++ place ∷ []
-  pub fills : Fills place
+  pub fills : Holds place
 
 -- where the line answers a standing, that is the next one
-agrees-at : (above : Standing) (step : Option LineStep) (Fills : LineLayout → Type 0) (made next : Standing)
-    → ◌≡◌ {A = Result Standing AsmCode} (Ok made) (Ok next) → Agrees above step Fills made → Agrees above step Fills next
-agrees-at above step Fills made next e h = subst (Agrees above step Fills) (same-Ok made next e) h
+agrees-at : (above : Standing) (step : Option LineStep) (Holds : LineLayout → Type 0) (made next : Standing)
+    → ◌≡◌ {A = Result Standing AsmCode} (Ok made) (Ok next) → Agrees above step Holds made → Agrees above step Holds next
+agrees-at above step Holds made next e h = subst (Agrees above step Holds) (same-Ok made next e) h
 
 -- ---- entries
 

@@ -159,7 +159,7 @@ abbrev pub is_if : Statement → Bool
 is_if nothing = false
 is_if (origin place) = false
 is_if (equate number) = false
-is_if (bytes parts_at_commas) = false
+is_if (bytes parts) = false
 is_if (words numbers) = false
 is_if (space size fill) = false
 is_if (condition test) = true
@@ -237,7 +237,7 @@ no-label (condition test) e h = cc
 no-label nothing e h = cc
 no-label (origin place) e h = cc
 no-label (equate number) e h = cc
-no-label (bytes parts_at_commas) e h = cc
+no-label (bytes parts) e h = cc
 no-label (words numbers) e h = cc
 no-label (space size fill) e h = cc
 no-label otherwise e h = cc
@@ -306,9 +306,9 @@ formed-is (Some found) form e = let same : found ≡ form = cc in ap Some same
 line-by : (line : List ℕ) (answer : Result (List Lexeme) LexFault) (form : Form) → tokens_of line ≡ answer → form_in answer ≡ Ok form
     → is_if form.statement ≡ true → conditional_of_line line ≡ Some If
 line-by line (Ok tokens) form is e h =
-    let begins = begins-if tokens form (formed-is (form_of tokens) form e) h in
-    let word = first-is-word line begins.first begins.more (is ∙ ap (λ (xs : List Lexeme). Ok xs) begins.are) begins.named in
-    ap conditional_of_directive (ap directive_of (sym word) ∙ begins.word)
+    let begun = begins-if tokens form (formed-is (form_of tokens) form e) h in
+    let word = first-is-word line begun.first begun.more (is ∙ ap (λ (xs : List Lexeme). Ok xs) begun.are) begun.named in
+    ap conditional_of_directive (ap directive_of (sym word) ∙ begun.word)
 line-by line (Err fault) form is e h = absurd cc
 
 -- a line whose form is an IF begins with that word

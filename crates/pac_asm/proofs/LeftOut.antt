@@ -129,9 +129,9 @@ grows : (symbols : List Symbol) (number : ℕ) (filled : List Line) (texts : Lis
     → phase2 symbols number filled texts places ≡ Ok out → Grows filled out
 unfolding phase2
 grows symbols number filled [] places out e = stays filled out e
-grows symbols number filled (text ∷ texts) [] out e = stays filled out e
-grows symbols number filled (text ∷ texts) (place ∷ places) out e =
-    then-ok (λ (out : List Line). Grows filled out) (result_of_line number (line_at_place symbols text place)) _
+grows symbols number filled (top ∷ texts) [] out e = stays filled out e
+grows symbols number filled (top ∷ texts) (place ∷ places) out e =
+    then-ok (λ (out : List Line). Grows filled out) (result_of_line number (line_at_place symbols top place)) _
     (λ here y e1 e2.
     let rest : Grows (filled ++ here ∷ []) y = grows symbols (number + 1) (filled ++ here ∷ []) texts places y e2 in
     record { more = here ∷ rest.more; grown = rest.grown ∙ append_assoc filled (here ∷ []) rest.more }) out e
@@ -148,10 +148,10 @@ entry symbols number filled [] below line [] more out fit e =
     ap (slice_get out) at ∙ ap (λ (lines : List Line). slice_get lines (length filled))
     (rest.grown ∙ append_assoc filled (entries.Skipped ∷ []) rest.more) ∙ slice_get-after filled entries.Skipped rest.more
 entry symbols number filled [] below line (place ∷ before) more out fit e = absurd fit
-entry symbols number filled (text ∷ texts) below line [] more out fit e = absurd fit
-entry symbols number filled (text ∷ texts) below line (place ∷ before) more out fit e =
+entry symbols number filled (top ∷ texts) below line [] more out fit e = absurd fit
+entry symbols number filled (top ∷ texts) below line (place ∷ before) more out fit e =
     then-ok (λ (out : List Line). slice_get out (length filled + suc (length texts)) ≡ Some entries.Skipped)
-    (result_of_line number (line_at_place symbols text place)) _
+    (result_of_line number (line_at_place symbols top place)) _
     (λ here y e1 e2.
     let at : length filled + suc (length texts) ≡ length (filled ++ here ∷ []) + length texts =
     omega (arith, length-append filled (here ∷ [])) in

@@ -11,7 +11,7 @@ use Rattle.pac_asm.specs.Unclosed.{conditional_of_line, stays_open, is_never_clo
 
 -- the first that is never closed below so many lines
 abbrev pub shifted : ℕ → Option ℕ → Option ℕ
-shifted above found = option_map (λ more. above + more) found
+shifted above answer = option_map (λ more. above + more) answer
 
 -- the first that is never closed where IFs are open already, the outermost of which stands below so many lines
 abbrev pub found : ℕ → ℕ → ℕ → List (List ℕ) → Option ℕ

@@ -161,9 +161,9 @@ group-expression first rest t opened closed is =
 
 -- ---- operands by their expression
 
-between-parts : (b : Bool) (front inner : List Lexeme) → (if b then Some front else None) ≡ Some inner → (b ≡ true) × (front ≡ inner)
-between-parts true front inner is = (refl, cc)
-between-parts false front inner is = absurd (cc)
+between-parts : (b : Bool) (before inner : List Lexeme) → (if b then Some before else None) ≡ Some inner → (b ≡ true) × (before ≡ inner)
+between-parts true before inner is = (refl, cc)
+between-parts false before inner is = absurd (cc)
 
 pub memory-found : (tokens inner : List Lexeme) (t : Tree) → inside_parentheses tokens ≡ Some inner → expression_in inner ≡ Some t →
     expression_operand tokens ≡ Some (Memory t)

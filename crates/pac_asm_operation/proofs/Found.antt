@@ -208,7 +208,7 @@ chosen-is word rows family size next operands are named =
     ap (λ (o : Option ℕ). instruction_at (parts_as (unwrap_or o 0) next operands (row_at n)) n) (named k d below))))
   where
     instruction_at : Instruction → ℕ → Instruction
-    instruction_at parts_at_commas n = record parts_at_commas { row = n }
+    instruction_at parts n = record parts { row = n }
 
 pub instruction-placed : (names : List ℕ → Option ℤ) (here : ℕ) (word rows : List ℕ) (family size : ℕ)
     (first second : Option (Operand Place))

@@ -30,7 +30,7 @@ with_tree (Value tokens) = Value (tree_of_tokens tokens)
 
 -- the operation that is kept
 abbrev pub seen_operation : KeptOperation → Operation
-seen_operation kept_operation = record { word = kept_operation.word; operands = map with_tree kept_operation.operands }
+seen_operation kept = record { word = kept.word; operands = map with_tree kept.operands }
 
 -- the tokens of an operand without where they lie in memory
 abbrev pub without_place : Operand (Bor (List Token)) → Operand (List Lexeme)

@@ -104,7 +104,7 @@ operand_before _ _ = None
 
 abbrev pub operands_of_parts : List (List Lexeme) → Option (List (Operand Tree))
 operands_of_parts [] = Some []
-operands_of_parts (part ∷ parts_at_commas) = operand_before (operand_of part) (operands_of_parts parts_at_commas)
+operands_of_parts (part ∷ parts) = operand_before (operand_of part) (operands_of_parts parts)
 
 -- the parts of what follows a comma, if there is one
 abbrev pub parts_after : Option (Bor (List Token)) → List (List Lexeme)

@@ -201,10 +201,10 @@ holds_displacement immediate.DisplacementByte n = is_in_interval (negsuc 127) (p
 holds_displacement _ n = int_eq n (pos 0)
 
 abbrev pub holds : Pattern → Instruction → Bool
-holds pattern parts_at_commas =
-    lists pattern.first parts_at_commas.p && lists pattern.second parts_at_commas.q
-    && nat_lt parts_at_commas.word (word_limit pattern.immediate) &&
-    holds_displacement pattern.immediate parts_at_commas.disp
+holds pattern parts =
+    lists pattern.first parts.p && lists pattern.second parts.q
+    && nat_lt parts.word (word_limit pattern.immediate) &&
+    holds_displacement pattern.immediate parts.disp
 
 -- whether operands fit a row of this size with their numbers, where the next instruction stands at this address
 abbrev pub suits_as : ℕ → ℕ → ℕ → List (Operand ℤ) → Row → Bool

@@ -64,7 +64,7 @@ vector-viewed start (Vector byte ∷ older) = refl
 vector-viewed start (Write to byte ∷ older) = vector-written (view_after_entries start older) to byte ∙ vector-viewed start older
 vector-viewed start (entry ∷ older) = vector-viewed start older
 
-both-nor : (history_request taken : Bool) → (history_request && not taken) ≡ cond taken false history_request
+both-nor : (requested taken : Bool) → (requested && not taken) ≡ cond taken false requested
 both-nor true true = refl
 both-nor true false = refl
 both-nor false true = refl

@@ -34,8 +34,8 @@ cell-set cells other cell byte lt = grind (arith, nat_tests, get_or-set_at, get_
 module _ (part : View → List ℕ) (here : ℕ → BusPlace → Bool) (holds : ℕ → ℕ → ℕ)
     (write : (view : View) (place : BusPlace) (byte cell : ℕ) → cell < length (part view)
     → slice_index (part (view_after_write view place byte)) cell ≡ cond (here cell place) (holds cell byte) (slice_index (part view) cell))
-    (apart : (view : View) (history_inputs : ℕ) (latched : Latched) →
-    part (record view { held = history_inputs; latched = latched }) ≡ part view) where
+    (apart : (view : View) (inputs : ℕ) (latched : Latched) →
+    part (record view { held = inputs; latched = latched }) ≡ part view) where
   decided : (place : Bool) (byte : ℕ) (older : Option ℕ) (first cell : ℕ)
       → cond place (holds cell byte) (holds cell (unwrap_or older first)) ≡ holds cell (unwrap_or (cond place (Some byte) older) first)
   decided true byte older first cell = refl
@@ -49,11 +49,11 @@ module _ (part : View → List ℕ) (here : ℕ → BusPlace → Bool) (holds : 
         ≡ holds cell (unwrap_or (last_written (here cell) entries) (slice_index (part start) cell))
 
     -- entries that leave the part as it is
-    left : (older : List Entry) (history_inputs : ℕ) (latched : Latched) → Answers older
-        → slice_index (part (record (view_after_entries start older) { held = history_inputs; latched = latched })) cell
+    left : (older : List Entry) (inputs : ℕ) (latched : Latched) → Answers older
+        → slice_index (part (record (view_after_entries start older) { held = inputs; latched = latched })) cell
         ≡ holds cell (unwrap_or (last_written (here cell) older) (slice_index (part start) cell))
-    left older history_inputs latched before =
-        ap (λ cells. slice_index cells cell) (apart (view_after_entries start older) history_inputs latched) ∙ before
+    left older inputs latched before =
+        ap (λ cells. slice_index cells cell) (apart (view_after_entries start older) inputs latched) ∙ before
 
     cell-viewed : (entries : List Entry) → Answers entries
     cell-viewed [] = first
@@ -129,31 +129,31 @@ register-written view _ byte register lt = refl
 pub tile-viewed : (start : View) (entries : List Entry) (cell : ℕ) → IsWellFormed start → cell < ram_size
     → slice_index (view_after_entries start entries).tile cell ≡ tile_at start entries cell
 tile-viewed start entries cell well lt =
-    cell-viewed (λ view. view.tile) is_tile whole tile-written (λ view history_inputs latched. refl) start cell refl
+    cell-viewed (λ view. view.tile) is_tile whole tile-written (λ view inputs latched. refl) start cell refl
     (λ older. let e = (view-of-well-formed start older well).tile in omega arith) entries
 
 pub colour-viewed : (start : View) (entries : List Entry) (cell : ℕ) → IsWellFormed start → cell < ram_size
     → slice_index (view_after_entries start entries).colour cell ≡ colour_at start entries cell
 colour-viewed start entries cell well lt =
-    cell-viewed (λ view. view.colour) is_colour whole colour-written (λ view history_inputs latched. refl) start cell refl
+    cell-viewed (λ view. view.colour) is_colour whole colour-written (λ view inputs latched. refl) start cell refl
     (λ older. let e = (view-of-well-formed start older well).colour in omega arith) entries
 
 pub work-viewed : (start : View) (entries : List Entry) (cell : ℕ) → IsWellFormed start → cell < ram_size
     → slice_index (view_after_entries start entries).work cell ≡ work_at start entries cell
 work-viewed start entries cell well lt =
-    cell-viewed (λ view. view.work) is_work whole work-written (λ view history_inputs latched. refl) start cell refl
+    cell-viewed (λ view. view.work) is_work whole work-written (λ view inputs latched. refl) start cell refl
     (λ older. let e = (view-of-well-formed start older well).work in omega arith) entries
 
 pub coordinate-viewed : (start : View) (entries : List Entry) (place : ℕ) → IsWellFormed start → place < coordinates_size
     → slice_index (view_after_entries start entries).coordinates place ≡ coordinate_at start entries place
 coordinate-viewed start entries place well lt =
-    cell-viewed (λ view. view.coordinates) is_coordinate whole coordinate-written (λ view history_inputs latched. refl) start place refl
+    cell-viewed (λ view. view.coordinates) is_coordinate whole coordinate-written (λ view inputs latched. refl) start place refl
     (λ older. let e = (view-of-well-formed start older well).coordinates in omega arith) entries
 
 pub register-viewed : (start : View) (entries : List Entry) (register : ℕ) → IsWellFormed start → register < registers_size
     → slice_index (view_after_entries start entries).registers register ≡ register_at start entries register
 register-viewed start entries register well lt =
-    cell-viewed (λ view. view.registers) is_wave_register kept_nibble register-written (λ view history_inputs latched. refl) start register
+    cell-viewed (λ view. view.registers) is_wave_register kept_nibble register-written (λ view inputs latched. refl) start register
     (sym (well.nibbles register)) (λ older. let e = (view-of-well-formed start older well).registers in omega arith) entries
 
 written-held : (view : View) (place : BusPlace) (byte : ℕ) → (view_after_write view place byte).held ≡ view.held

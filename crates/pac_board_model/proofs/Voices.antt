@@ -12,13 +12,13 @@ use Rattle.pac_board_model.specs.Shown.{history_growth, accumulator_at, accumula
 use Rattle.pac_board_model.proofs.Memories.{registers-kept, sound-kept}
 
 -- a voice after a sample
-after-voice : (history_registers : List ℕ) (on : Bool) (all : Accumulators) (voice : Voice)
-    → accumulator (accumulators_after history_registers on all) voice
-    ≡ cond on ((accumulator all voice + frequency history_registers voice) % 2 ^ 20) (accumulator all voice)
-after-voice history_registers true all First = refl
-after-voice history_registers true all Second = refl
-after-voice history_registers true all Third = refl
-after-voice history_registers false all voice = refl
+after-voice : (registers : List ℕ) (on : Bool) (all : Accumulators) (voice : Voice)
+    → accumulator (accumulators_after registers on all) voice
+    ≡ cond on ((accumulator all voice + frequency registers voice) % 2 ^ 20) (accumulator all voice)
+after-voice registers true all First = refl
+after-voice registers true all Second = refl
+after-voice registers true all Third = refl
+after-voice registers false all voice = refl
 
 within : (all : Accumulators) (voice : Voice) → Fit20Bits all → accumulator all voice < 2 ^ 20
 within all First fit = fit.first
@@ -26,10 +26,10 @@ within all Second fit = fit.second
 within all Third fit = fit.third
 
 -- one sample more
-one-more : (on : Bool) (now start grown frequency : ℕ) → now ≡ (start + grown) % 2 ^ 20
-    → cond on ((now + frequency) % 2 ^ 20) now ≡ (start + (grown + cond on frequency 0)) % 2 ^ 20
-one-more true now start grown frequency same = omega arith
-one-more false now start grown frequency same = omega arith
+one-more : (on : Bool) (now start grown added : ℕ) → now ≡ (start + grown) % 2 ^ 20
+    → cond on ((now + added) % 2 ^ 20) now ≡ (start + (grown + cond on added 0)) % 2 ^ 20
+one-more true now start grown added same = omega arith
+one-more false now start grown added same = omega arith
 
 pub voice-viewed : (set : Parts) (start : BoardView) (entries : List Entry) (voice : Voice) → IsBoard start
     → accumulator (board_after_entries set start entries).accumulators voice ≡ accumulator_at start entries voice

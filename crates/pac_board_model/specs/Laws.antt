@@ -33,55 +33,55 @@ use Rattle.pac_board_model.specs.Trace.{Play, by_history, by_view, run_at, trace
 -- The view that a history leaves answers each read as the history does.
 abbrev pub ViewAnswers : Type 0
 ViewAnswers =
-    (set : Parts) (power_on_moment : BoardView) (entries : List Entry) (address : ℕ) → IsBoard power_on_moment
-    → read set.program power_on_moment.memory entries address
-    ≡ read_of set.program (board_after_entries set power_on_moment entries).memory address
+    (set : Parts) (start : BoardView) (entries : List Entry) (address : ℕ) → IsBoard start
+    → read set.program start.memory entries address
+    ≡ read_of set.program (board_after_entries set start entries).memory address
 
 -- The view tells all that a step, a sample or a picture asks as the history does.
-pub record TellsHistory (set : Parts) (power_on_moment : BoardView) (entries : List Entry) : Type 0 where
+pub record TellsHistory (set : Parts) (start : BoardView) (entries : List Entry) : Type 0 where
   pub tile : (cell : ℕ) → cell < ram_size
-      → slice_index (board_after_entries set power_on_moment entries).memory.tile cell ≡ tile_at power_on_moment.memory entries cell
+      → slice_index (board_after_entries set start entries).memory.tile cell ≡ tile_at start.memory entries cell
   pub colour : (cell : ℕ) → cell < ram_size
-      → slice_index (board_after_entries set power_on_moment entries).memory.colour cell ≡ colour_at power_on_moment.memory entries cell
+      → slice_index (board_after_entries set start entries).memory.colour cell ≡ colour_at start.memory entries cell
   pub work : (cell : ℕ) → cell < ram_size
-      → slice_index (board_after_entries set power_on_moment entries).memory.work cell ≡ work_at power_on_moment.memory entries cell
-  pub attributes : view.sprite_attributes (board_after_entries set power_on_moment entries).memory
-      ≡ history_attributes power_on_moment.memory entries
-  pub coordinates : (board_after_entries set power_on_moment entries).memory.coordinates
-      ≡ history_coordinates power_on_moment.memory entries
-  pub registers : (board_after_entries set power_on_moment entries).memory.registers ≡ history_registers power_on_moment.memory entries
-  pub held : (board_after_entries set power_on_moment entries).memory.held ≡ history_inputs power_on_moment.memory entries
-  pub bits : (place : ℕ) → is_latch_bit_set (board_after_entries set power_on_moment entries).memory.latched place
-      ≡ bit_at power_on_moment.memory entries place
-  pub vector : (board_after_entries set power_on_moment entries).memory.latched.vector ≡ history_vector power_on_moment.memory entries
-  pub request : interrupt_request (board_after_entries set power_on_moment entries).memory.latched
-      ≡ history_request power_on_moment.memory entries
+      → slice_index (board_after_entries set start entries).memory.work cell ≡ work_at start.memory entries cell
+  pub attributes : view.sprite_attributes (board_after_entries set start entries).memory
+      ≡ history_attributes start.memory entries
+  pub coordinates : (board_after_entries set start entries).memory.coordinates
+      ≡ history_coordinates start.memory entries
+  pub registers : (board_after_entries set start entries).memory.registers ≡ history_registers start.memory entries
+  pub held : (board_after_entries set start entries).memory.held ≡ history_inputs start.memory entries
+  pub bits : (place : ℕ) → is_latch_bit_set (board_after_entries set start entries).memory.latched place
+      ≡ bit_at start.memory entries place
+  pub vector : (board_after_entries set start entries).memory.latched.vector ≡ history_vector start.memory entries
+  pub request : interrupt_request (board_after_entries set start entries).memory.latched
+      ≡ history_request start.memory entries
   pub count :
-      (board_after_entries set power_on_moment entries).memory.latched.count
-      ≡ min watchdog_limit (blanks_since power_on_moment.memory.latched.count entries)
-  pub due : latch.is_watchdog_due (board_after_entries set power_on_moment entries).memory.latched
-      ≡ is_reset_due power_on_moment.memory entries
-  pub accumulators : (board_after_entries set power_on_moment entries).accumulators ≡ accumulators_at power_on_moment entries
-  pub lines : (board_after_entries set power_on_moment entries).lines ≡ lines_at set power_on_moment entries
+      (board_after_entries set start entries).memory.latched.count
+      ≡ min watchdog_limit (blanks_since start.memory.latched.count entries)
+  pub due : latch.is_watchdog_due (board_after_entries set start entries).memory.latched
+      ≡ is_reset_due start.memory entries
+  pub accumulators : (board_after_entries set start entries).accumulators ≡ accumulators_at start entries
+  pub lines : (board_after_entries set start entries).lines ≡ lines_at set start entries
 
 abbrev pub ViewTells : Type 0
-ViewTells = (set : Parts) (power_on_moment : BoardView) (entries : List Entry) → IsBoard power_on_moment →
-    TellsHistory set power_on_moment entries
+ViewTells = (set : Parts) (start : BoardView) (entries : List Entry) → IsBoard start →
+    TellsHistory set start entries
 
 -- A step told by the source's items and the history, seen as the board keeps it, is the step told by the bytes and the view: the
 -- same instruction, time and outputs. So is a step of a run with a script.
-pub record StepAgrees (set : Parts) (items : List Item) (power_on_moment : BoardView) (now : Moment (List Entry)) : Type 0 where
+pub record StepAgrees (set : Parts) (items : List Item) (start : BoardView) (now : Moment (List Entry)) : Type 0 where
   pub alone :
-      next_view (board_after_entries set power_on_moment) (step (by_history set items power_on_moment) now)
-      ≡ step (by_view set) (moment_view (board_after_entries set power_on_moment) now)
-  pub with_script : (history_inputs : ℕ → ℕ)
-      → next_view (board_after_entries set power_on_moment) (play_step (by_history set items power_on_moment) history_inputs now)
-      ≡ play_step (by_view set) history_inputs (moment_view (board_after_entries set power_on_moment) now)
+      next_view (board_after_entries set start) (step (by_history set items start) now)
+      ≡ step (by_view set) (moment_view (board_after_entries set start) now)
+  pub with_script : (inputs : ℕ → ℕ)
+      → next_view (board_after_entries set start) (play_step (by_history set items start) inputs now)
+      ≡ play_step (by_view set) inputs (moment_view (board_after_entries set start) now)
 
 abbrev pub StepsAgree : Type 0
 StepsAgree =
-    (set : Parts) (items : List Item) (power_on_moment : BoardView) (now : Moment (List Entry)) → IsWhole set → AllLie set.program items
-    → IsBoard power_on_moment → StepAgrees set items power_on_moment now
+    (set : Parts) (items : List Item) (start : BoardView) (now : Moment (List Entry)) → IsWhole set → AllLie set.program items
+    → IsBoard start → StepAgrees set items start now
 
 -- A run told by the source's items and the history is the run told by the bytes and the view, at each index.
 abbrev pub RunsAgree : Type 0
@@ -95,19 +95,19 @@ RunsAgree =
 -- as the board keeps it, is what they make of the view.
 abbrev pub HostsAgree : Type 0
 HostsAgree =
-    (set : Parts) (items : List Item) (power_on_moment : BoardView) (host : Host (List Entry)) (acts : List Act) → IsWhole set
-    → AllLie set.program items → IsBoard power_on_moment
-    → host_view (board_after_entries set power_on_moment) (after_acts (account_by_history set items power_on_moment) host acts)
-    ≡ after_acts (account_by_view set) (host_view (board_after_entries set power_on_moment) host) acts
+    (set : Parts) (items : List Item) (start : BoardView) (host : Host (List Entry)) (acts : List Act) → IsWhole set
+    → AllLie set.program items → IsBoard start
+    → host_view (board_after_entries set start) (after_acts (account_by_history set items start) host acts)
+    ≡ after_acts (account_by_view set) (host_view (board_after_entries set start) host) acts
 
 -- ---- what a run gives out
 
 -- A run's outputs are those of its history: each sample and each picture of the entries before it.
 abbrev pub OutputsAreOfTheHistory : Type 0
 OutputsAreOfTheHistory =
-    (set : Parts) (items : List Item) (power_on_moment : BoardView) (index : ℕ) (play : Play)
-    → let run = run_at (by_history set items power_on_moment) play [] index in
-    run.outputs ≡ history_outputs set power_on_moment run.now.board
+    (set : Parts) (items : List Item) (start : BoardView) (index : ℕ) (play : Play)
+    → let run = run_at (by_history set items start) play [] index in
+    run.outputs ≡ history_outputs set start run.now.board
 
 -- A run has a sample for each 32 T-states, 1,584 a frame, and a picture for each frame.
 pub record AreTimed (set : Parts) (items : List Item) (switches index : ℕ) (play : Play) : Type 0 where
@@ -150,12 +150,12 @@ LinesHaveNoOtherMoments Board =
     → ((frame y : ℕ) → 1 ≤ frame → y < height → moment ≢ line_moment frame y) → line_event ask moment met ≡ met
 
 -- the entries among which a line of a frame was composed, and that the picture has this line
-pub record IsComposed (set : Parts) (power_on_moment : BoardView) (frame y : ℕ) (entries : List Entry) : Type 0 where
+pub record IsComposed (set : Parts) (start : BoardView) (frame y : ℕ) (entries : List Entry) : Type 0 where
   pub after : List Entry
   pub before : List Entry
   pub among : entries ≡ after ++ Line frame y ∷ before
-  pub line : slice_index_or (lines_at set power_on_moment entries) y []
-      ≡ picture_line (video_roms set) (memory_at power_on_moment.memory before) y
+  pub line : slice_index_or (lines_at set start entries) y []
+      ≡ picture_line (video_roms set) (memory_at start.memory before) y
 
 -- Each frame's picture is, line by line, that of the entries before the line's own.
 abbrev pub PicturesAreLineExact : Type 0
@@ -175,23 +175,23 @@ pub record IsLineInTime (from to frame y : ℕ) (older : List Entry) : Type 0 wh
   pub sample : older ≡ Sample (line_moment frame y / sample_ticks) ∷ before
 
 -- In a board's history lines were composed at their own moments from a time on, and its pictures show them so.
-pub record HasLinesInTime (set : Parts) (power_on_moment : BoardView) (from : ℕ) (now : Moment (List Entry)) : Type 0 where
+pub record HasLinesInTime (set : Parts) (start : BoardView) (from : ℕ) (now : Moment (List Entry)) : Type 0 where
   -- lines were composed at their own moments and at no others
   pub in_time : (frame y : ℕ) (later older : List Entry) → now.board ≡ later ++ Line frame y ∷ older →
       IsLineInTime from now.time frame y older
   -- the picture that a frame's blank shows has each line of this frame whose moment came after that time
   pub shown : (frame y : ℕ) (later older : List Entry) → now.board ≡ later ++ Blank frame ∷ older → y < height
-      → from < line_moment frame y → IsComposed set power_on_moment frame y older
+      → from < line_moment frame y → IsComposed set start frame y older
   -- the picture as it stands has each line of the last frame in which the line's moment has come
   pub standing : (frame y : ℕ) → 1 ≤ frame → y < height → from < line_moment frame y → line_moment frame y ≤ now.time
-      → now.time < line_moment (frame + 1) y → IsComposed set power_on_moment frame y now.board
+      → now.time < line_moment (frame + 1) y → IsComposed set start frame y now.board
 
 -- Whatever a host does from any moment on, the history has its lines in time from then on.
 abbrev pub HostsAreLineExact : Type 0
 HostsAreLineExact =
-    (set : Parts) (items : List Item) (power_on_moment : BoardView) (regs : Regs) (time steps : ℕ) (acts : List Act)
-    → HasLinesInTime set power_on_moment time
-    (after_acts (account_by_history set items power_on_moment)
+    (set : Parts) (items : List Item) (start : BoardView) (regs : Regs) (time steps : ℕ) (acts : List Act)
+    → HasLinesInTime set start time
+    (after_acts (account_by_history set items start)
     (host_at (record { regs = regs; board = []; time = time; steps = steps })) acts).now
 
 -- ---- steps and walks
@@ -204,8 +204,8 @@ IsTimely now (Ends stop) = Unit {0}
 
 abbrev pub StepsAreTimely : Type 0 → Type 0
 StepsAreTimely Board =
-    (ask : Questions Board) (history_inputs : ℕ → ℕ) (now : Moment Board)
-    → IsTimely now (step ask now) × IsTimely now (play_step ask history_inputs now)
+    (ask : Questions Board) (inputs : ℕ → ℕ) (now : Moment Board)
+    → IsTimely now (step ask now) × IsTimely now (play_step ask inputs now)
 
 -- A run of as many steps as its frames can have has ended, and indices at which it has ended have one state.
 abbrev pub RunsEnd : Type 0 → Type 0
@@ -268,23 +268,23 @@ WalksAreTimed Board = (ask : Questions Board) (limit tries : ℕ) (from : Moment
 -- A frame that is played after others: a walk to its end, after which the next one's inputs are held. A stop ends it, and the
 -- run stays there.
 abbrev pub with_frame : {Board : Type 0} → Questions Board → (ℕ → ℕ) → Walk Board → Walk Board → Option Stop → Walk Board
-with_frame ask history_inputs before frame None =
-    record { now = moment_with_inputs ask history_inputs frame.now; outputs = before.outputs ++ frame.outputs; stop = None }
-with_frame ask history_inputs before frame (Some stop) =
+with_frame ask inputs before frame None =
+    record { now = moment_with_inputs ask inputs frame.now; outputs = before.outputs ++ frame.outputs; stop = None }
+with_frame ask inputs before frame (Some stop) =
     record { now = frame.now; outputs = before.outputs ++ frame.outputs; stop = Some stop }
 
 abbrev pub next_frame : {Board : Type 0} → Questions Board → (ℕ → ℕ) → ℕ → Walk Board → Option Stop → Walk Board
-next_frame ask history_inputs frame before None =
-    let walked = walk_to (step ask) (frame_ticks * frame) before.now in with_frame ask history_inputs before walked walked.stop
-next_frame ask history_inputs frame before (Some stop) = before
+next_frame ask inputs frame before None =
+    let walked = walk_to (step ask) (frame_ticks * frame) before.now in with_frame ask inputs before walked walked.stop
+next_frame ask inputs frame before (Some stop) = before
 
 abbrev pub by_frames : {Board : Type 0} → Questions Board → (ℕ → ℕ) → Board → (frames : ℕ) → Walk Board
-by_frames ask history_inputs board zero = walk_at_start (power_on_moment (ask.put board (Hold (history_inputs 1))))
-by_frames ask history_inputs board (suc frames) =
-    let before = by_frames ask history_inputs board frames in next_frame ask history_inputs (suc frames) before before.stop
+by_frames ask inputs board zero = walk_at_start (power_on_moment (ask.put board (Hold (inputs 1))))
+by_frames ask inputs board (suc frames) =
+    let before = by_frames ask inputs board frames in next_frame ask inputs (suc frames) before before.stop
 
 -- A run is its frames, one played after another.
 abbrev pub RunsGoByFrames : Type 0 → Type 0
 RunsGoByFrames Board =
-    (ask : Questions Board) (history_inputs : ℕ → ℕ) (board : Board) (frames : ℕ)
-    → by_frames ask history_inputs board frames ≡ trace ask (record { frames = frames; held = history_inputs }) board
+    (ask : Questions Board) (inputs : ℕ → ℕ) (board : Board) (frames : ℕ)
+    → by_frames ask inputs board frames ≡ trace ask (record { frames = frames; held = inputs }) board

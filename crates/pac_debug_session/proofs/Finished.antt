@@ -63,7 +63,7 @@ module _ {S : Type 0} (to : Giving S) (old : SessionValue) (sink between : S)
       let gone = subst (λ (s : SessionValue). HasTravelled to.took s ToEnd between why new later) mid_is travelled in
       let setting = ap (λ (s : SessionValue). s.setting) gone.session in
       let over : not (goes_at old.setting new.index) ≡ true = sym (rests-at-end begun-again old.index new.index) ∙ gone.rest.here in
-      let there = furthest-there new facts (ap (λ (run : Setting). not (goes_at run new.index)) setting ∙ over) in
+      let there = furthest-there new facts (ap (λ (kept : Setting). not (goes_at kept new.index)) setting ∙ over) in
       let by = rests-there mid new mid.index new.index why travelled.session travelled.why_is in
       let whole = whole-there new mid.index why facts by in
       let given : (run old.setting new.furthest).outputs ≡ (whole_run old.setting).outputs
@@ -78,7 +78,7 @@ module _ {S : Type 0} (to : Giving S) (old : SessionValue) (sink between : S)
           none_before = λ earlier from less.
               sym (rests-at-end begun-again old.index earlier) ∙ gone.rest.none_before earlier from less;
         };
-        outcome_is = ended ∙ ap (λ (run : Setting). outcome_at (whole_run run).now (whole_run run).stop) setting;
+        outcome_is = ended ∙ ap (λ (kept : Setting). outcome_at (whole_run kept).now (whole_run kept).stop) setting;
         session = gone.session;
         sink_is =
             subst (λ xs. TookAll to.took sink (session_due_outputs old ++ xs) later) rest_is

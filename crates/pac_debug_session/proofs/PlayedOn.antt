@@ -52,7 +52,7 @@ module _ (s : SessionValue) (opened : IsOpen s.setting s.index) where
 
   walked-same : (tries : ℕ) → way_walked course tries ≡ walk next (limit s.setting) here.now tries
   walked-same tries =
-      ap (λ limit. walk (next_in course) limit here.now tries) limits
+      ap (λ end. walk (next_in course) end here.now tries) limits
       ∙ walk-same (next_in course) next (limit s.setting) steps-same here.now tries
 
   -- up to a later index, and to the end
@@ -64,7 +64,7 @@ module _ (s : SessionValue) (opened : IsOpen s.setting s.index) where
   pub run-on : after_here (way_on course) ≡ whole_run s.setting
   run-on =
       ap after_here
-      (ap (λ limit. walk_to (next_in course) limit here.now) limits
+      (ap (λ end. walk_to (next_in course) end here.now) limits
       ∙ walk-same (next_in course) next (limit s.setting) steps-same here.now (limit s.setting))
       ∙ goes-on next (limit s.setting) (timely s.setting) (start s.setting) s.index
       ∙ (runs-end (by_view s.setting.set) (play_of s.setting.script) (power_on_board_view s.setting.switches) (limit s.setting)).1
@@ -134,20 +134,20 @@ module _ {S : Type 0} (to : Giving S) (old : SessionValue) (facts : IsSession ol
 
   -- an output was refused, after one step at least
   held-there : (after : CourseValue) (later : S) (steps : ℕ)
-      → (held : IsCourseHeldUp to (course_of at_furthest) between_sinks after later) → held.steps ≡ steps
+      → (stopped : IsCourseHeldUp to (course_of at_furthest) between_sinks after later) → stopped.steps ≡ steps
       → (left : SessionValue) × IsFinishRefused to old sink left later
-  held-there after later zero held count = cut-something held.cut (ap (λ n. (way_walked (course_of at_furthest) n).outputs) count)
-  held-there after later (suc more) held count =
+  held-there after later zero stopped count = cut-something stopped.cut (ap (λ n. (way_walked (course_of at_furthest) n).outputs) count)
+  held-there after later (suc more) stopped count =
       let last : ℕ = old.furthest + more in
       let index : ℕ = old.furthest + suc more in
       let next : index ≡ suc last = omega arith in
       let walked = way_walked (course_of at_furthest) (suc more) in
       let at : after.board.state.now ≡ now_at old.setting index
-      = ap (λ (course : CourseValue). course.board.state.now) held.course
+      = ap (λ (course : CourseValue). course.board.state.now) stopped.course
       ∙ ap (λ n. (way_walked (course_of at_furthest) n).now) count
       ∙ ap (λ (w : Walk BoardView). w.now) (run-walked at_furthest opened-there (suc more)) in
-      let set : after.board.set ≡ old.setting.set = ap (λ (course : CourseValue). course.board.set) held.course in
-      let all = held.all_steps in
+      let set : after.board.set ≡ old.setting.set = ap (λ (course : CourseValue). course.board.set) stopped.course in
+      let all = stopped.all_steps in
       let first = opened-there.steps in
       let here = ap (λ (m : Moment BoardView). m.steps) at in
       let there = ap (λ n. (now_at old.setting n).steps) next in
@@ -158,7 +158,7 @@ module _ {S : Type 0} (to : Giving S) (old : SessionValue) (facts : IsSession ol
       ∙ ap (λ (m : Moment BoardView). due_outputs_in old.setting.set m.board after.board.state.due) at in
       let given = given-walked at_furthest opened-there (suc more) ∙ ap (λ n. (way_walked (course_of at_furthest) n).outputs) (sym count) in
       let most =
-      subst (λ outputs. IsPrefix outputs held.cut.taken) (sym (given-walked at_furthest opened-there more)) (held.of_last more count) in (
+      subst (λ outputs. IsPrefix outputs stopped.cut.taken) (sym (given-walked at_furthest opened-there more)) (stopped.of_last more count) in (
         left,
         record {
           last = last;
@@ -166,14 +166,14 @@ module _ {S : Type 0} (to : Giving S) (old : SessionValue) (facts : IsSession ol
           fresh = omega arith;
           restless = λ earlier from less. goes-if-counted old.setting last counted earlier less;
           session = refl;
-          cut = cut-after due sink between_sinks later before (cut-along given still held.cut);
-          of_last = prefix-after due (outputs_between old.setting old.furthest last) held.cut.taken most;
+          cut = cut-after due sink between_sinks later before (cut-along given still stopped.cut);
+          of_last = prefix-after due (outputs_between old.setting old.furthest last) stopped.cut.taken most;
         },
       )
 
   pub held-up : (from after : CourseValue) (later : S) → from ≡ course_of at_furthest
       → IsCourseHeldUp to from between_sinks after later
       → (left : SessionValue) × IsFinishRefused to old sink left later
-  held-up from after later begins held =
-      let told = subst (λ course. IsCourseHeldUp to course between_sinks after later) begins held in
+  held-up from after later begins stopped =
+      let told = subst (λ course. IsCourseHeldUp to course between_sinks after later) begins stopped in
       held-there after later told.steps told refl

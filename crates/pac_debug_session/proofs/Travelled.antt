@@ -218,7 +218,7 @@ module _ {S : Type 0} (to : Giving S) (old : SessionValue) (motion : Motion) (si
           let after : s.index ≤ earlier = grind (arith, nat_tests) in
           let setting = ap (λ (t : SessionValue). t.setting) under.session in
           let goes : goes_at old.setting earlier ≡ true
-          = ap (λ run. goes_at run earlier) (sym setting) ∙ alike.goes earlier after less in
+          = ap (λ given. goes_at given earlier) (sym setting) ∙ alike.goes earlier after less in
           goes-past old motion old.index earlier
           (unmet-within s last earlier under.session (met-there s s.index false under.session unmet) under.after alike few after less) goes
 
@@ -241,7 +241,7 @@ module _ {S : Type 0} (to : Giving S) (old : SessionValue) (motion : Motion) (si
             (between-joined old.setting old.furthest s.furthest new.furthest (omega arith) (omega arith))
             (took-both to.took (outputs_between old.setting old.furthest s.furthest) (outputs_between old.setting s.furthest new.furthest)
             sink taker later under.sink_is
-            (subst (λ run. TookAll to.took taker (outputs_between run s.furthest new.furthest) later) setting one.sink_is));
+            (subst (λ given. TookAll to.took taker (outputs_between given s.furthest new.furthest) later) setting one.sink_is));
       }
 
   -- it rests where it is
@@ -258,7 +258,7 @@ module _ {S : Type 0} (to : Giving S) (old : SessionValue) (motion : Motion) (si
       → HasTravelled to.took old motion sink AtEnd s taker
   underway-late s taker under late =
       let setting = ap (λ (t : SessionValue). t.setting) under.session in
-      let over : is_late old.setting s.index ≡ true = ap (λ run. is_late run s.index) (sym setting) ∙ late in
+      let over : is_late old.setting s.index ≡ true = ap (λ given. is_late given s.index) (sym setting) ∙ late in
       underway-rests s taker AtEnd under (rests-late old motion old.index s.index over) over
 
   pub underway-met : (s : SessionValue) (taker : S) → IsUnderway s taker → is_late s.setting s.index ≡ false
@@ -266,7 +266,7 @@ module _ {S : Type 0} (to : Giving S) (old : SessionValue) (motion : Motion) (si
       → HasTravelled to.took old motion sink (motion_ending motion (breaks_at s s.index)) s taker
   underway-met s taker under early met =
       let setting = ap (λ (t : SessionValue). t.setting) under.session in
-      let open_yet : is_late old.setting s.index ≡ false = ap (λ run. is_late run s.index) (sym setting) ∙ early in
+      let open_yet : is_late old.setting s.index ≡ false = ap (λ given. is_late given s.index) (sym setting) ∙ early in
       let there = met-there s s.index true under.session met in
       let same : breaks_at s s.index ≡ breaks_at old s.index
       = ap (λ (t : SessionValue). breaks_at t s.index) under.session in
@@ -279,8 +279,8 @@ module _ {S : Type 0} (to : Giving S) (old : SessionValue) (motion : Motion) (si
       → HasTravelled to.took old motion sink (AtStop stop) new later
   underway-stopped s new taker later stop under early unmet stopped =
       let setting = ap (λ (t : SessionValue). t.setting) under.session in
-      let open_yet : is_late old.setting s.index ≡ false = ap (λ run. is_late run s.index) (sym setting) ∙ early in
-      let met : stop_at old.setting s.index ≡ Some stop = ap (λ run. stop_at run s.index) (sym setting) ∙ stopped.stop_is in
+      let open_yet : is_late old.setting s.index ≡ false = ap (λ given. is_late given s.index) (sym setting) ∙ early in
+      let met : stop_at old.setting s.index ≡ Some stop = ap (λ given. stop_at given s.index) (sym setting) ∙ stopped.stop_is in
       let done =
       underway-rests s taker (AtStop stop) under (rests-stopped old motion old.index s.index stop open_yet met)
       (record { early = open_yet; unmet = met-there s s.index false under.session unmet; stop_is = met }) in
@@ -301,10 +301,10 @@ module _ {S : Type 0} (to : Giving S) (old : SessionValue) (motion : Motion) (si
       let second : new.furthest ≡ max old.furthest (step.last + 1) = ap (λ (t : SessionValue). t.furthest) session in
       let fresh = step.fresh in
       let before = outputs_between old.setting old.furthest s.furthest in
-      let more = cut-along (ap (λ run. outputs_between run s.furthest new.furthest) (sym setting)) refl step.cut in
+      let more = cut-along (ap (λ given. outputs_between given s.furthest new.furthest) (sym setting)) refl step.cut in
       let far : new.furthest ≡ new.index = omega arith in
       let from_there : IsPrefix (outputs_between old.setting s.furthest step.last) step.cut.taken
-      = subst (λ run. IsPrefix (outputs_between run s.furthest step.last) step.cut.taken) setting step.of_last in
+      = subst (λ given. IsPrefix (outputs_between given s.furthest step.last) step.cut.taken) setting step.of_last in
       record {
         last = step.last;
         index = index;
@@ -353,17 +353,17 @@ module _ {S : Type 0} (to : Giving S) (old : SessionValue) (motion : Motion) (si
       let index : new.index ≡ one.last + 1 = ap (λ (t : SessionValue). t.index) one.session in
       let along = one.unmet.after in
       let next : s.index + suc (one.last - s.index) ≡ one.last + 1 = omega arith in
-      let open_yet : is_late old.setting s.index ≡ false = ap (λ run. is_late run s.index) (sym setting) ∙ early in
+      let open_yet : is_late old.setting s.index ≡ false = ap (λ given. is_late given s.index) (sym setting) ∙ early in
       let before = early-time old.setting s.index open_yet in
-      let seen = subst (λ (run : Setting). MeetNothing run s.breakpoints s.index one.last) setting one.unmet in
+      let seen = subst (λ (given : Setting). MeetNothing given s.breakpoints s.index one.last) setting one.unmet in
       let longer = times-grow old.setting s.index (suc (one.last - s.index)) (open-so-far s taker facts under)
       (λ earlier after less. seen.goes earlier after (omega arith)) in
       let falls : limit old.setting - (now_at old.setting (s.index + suc (one.last - s.index))).time
       < limit old.setting - (now_at old.setting s.index).time
       = omega arith in
-      subst (λ (run : Setting). limit new.setting - (now_at new.setting new.index).time < limit run - (now_at run s.index).time)
+      subst (λ (given : Setting). limit new.setting - (now_at new.setting new.index).time < limit given - (now_at given s.index).time)
       (sym setting)
-      (subst (λ (run : Setting). limit run - (now_at run new.index).time < limit old.setting - (now_at old.setting s.index).time)
+      (subst (λ (given : Setting). limit given - (now_at given new.index).time < limit old.setting - (now_at old.setting s.index).time)
       (sym (same ∙ setting))
       (subst (λ n. limit old.setting - (now_at old.setting n).time < limit old.setting - (now_at old.setting s.index).time)
       (next ∙ sym index) falls))

@@ -96,14 +96,14 @@ length-number-le at i (kind.Mode number) = omega arith
 
 -- the most bytes that an entry of a list has, where some have none
 abbrev longest : {A : Type 0} → (A → ℕ) → List (Option A) → ℕ
-longest field_size [] = 0
-longest field_size (entry ∷ entries) = max (option_map_or field_size entry 0) (longest field_size entries)
+longest size_of [] = 0
+longest size_of (entry ∷ entries) = max (option_map_or size_of entry 0) (longest size_of entries)
 
-entry-le : {A : Type 0} (field_size : A → ℕ) (entries : List (Option A)) (k : ℕ) →
-    option_map_or field_size (get_or entries k None) 0 ≤ longest field_size entries
-entry-le field_size [] k = omega arith
-entry-le field_size (entry ∷ entries) zero = omega arith
-entry-le field_size (entry ∷ entries) (suc k) = omega (arith, entry-le field_size entries k)
+entry-le : {A : Type 0} (size_of : A → ℕ) (entries : List (Option A)) (k : ℕ) →
+    option_map_or size_of (get_or entries k None) 0 ≤ longest size_of entries
+entry-le size_of [] k = omega arith
+entry-le size_of (entry ∷ entries) zero = omega arith
+entry-le size_of (entry ∷ entries) (suc k) = omega (arith, entry-le size_of entries k)
 
 abbrev name_length : Name → ℕ
 name_length name = length (text_of_name name)
@@ -308,8 +308,8 @@ text-shown at i is =
     omega (arith, length-append (operation_text i) (marked_operands blank_code (operand_texts at i)), operation-named i is)
 
 -- after the name of the operation there is room for the operands
-pub operands-fit : (at : ℕ) (i : Instruction) (text_of_name : List ℕ) → IsInstruction i → length text_of_name ≡ length (operation_text i) →
-    length text_of_name + length (marked_operands blank_code (operand_texts at i)) ≤ 16
+pub operands-fit : (at : ℕ) (i : Instruction) (text : List ℕ) → IsInstruction i → length text ≡ length (operation_text i) →
+    length text + length (marked_operands blank_code (operand_texts at i)) ≤ 16
 unfolding instruction_text
-operands-fit at i text_of_name is same =
+operands-fit at i text is same =
     omega (arith, length-append (operation_text i) (marked_operands blank_code (operand_texts at i)), text-fits at i is, same)

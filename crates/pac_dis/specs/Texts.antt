@@ -92,13 +92,13 @@ size_at bytes = option_map_or (λ instruction. length (code instruction)) (front
 abbrev pub BeginsWith : Instruction → List ℕ → Type 0
 BeginsWith instruction bytes = IsInstruction instruction × Begins (code instruction) bytes
 
-pub record Disassembles (at : ℕ) (bytes text_of_name : List ℕ) (size : ℕ) : Type 0 where
+pub record Disassembles (at : ℕ) (bytes text : List ℕ) (size : ℕ) : Type 0 where
   pub found :
       (instruction : Instruction) → BeginsWith instruction bytes →
-      (text_of_name ≡ instruction_text at instruction) × (size ≡ length (code instruction))
+      (text ≡ instruction_text at instruction) × (size ≡ length (code instruction))
   pub alone :
       ((instruction : Instruction) → BeginsWith instruction bytes → ⊥) →
-      (text_of_name ≡ data_text (slice_index bytes 0)) × (size ≡ 1)
+      (text ≡ data_text (slice_index bytes 0)) × (size ≡ 1)
 
 -- the most bytes that a text has, as `LD (IX+05H),0FFH` does
 abbrev pub longest_text : ℕ

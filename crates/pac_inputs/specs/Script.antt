@@ -86,12 +86,12 @@ script_of text = script_from_line 1 [] (lines text)
 
 -- What was returned is what reading gives, unless memory ran out.
 abbrev pub ScriptFails : ScriptError → ScriptOrFault → Type 0
-ScriptFails errors.Memory script_from_line = Unit {0}
-ScriptFails (errors.Fault fault) script_from_line = script_from_line ≡ Err fault
+ScriptFails errors.Memory defined = Unit {0}
+ScriptFails (errors.Fault fault) defined = defined ≡ Err fault
 
 abbrev pub ScriptGives : Result (List Stretch) ScriptError → ScriptOrFault → Type 0
-ScriptGives (Ok lines) script_from_line = script_from_line ≡ Ok lines
-ScriptGives (Err e) script_from_line = ScriptFails e script_from_line
+ScriptGives (Ok lines) defined = defined ≡ Ok lines
+ScriptGives (Err e) defined = ScriptFails e defined
 
 -- ---- scripts and faults, as what holds of the lines
 

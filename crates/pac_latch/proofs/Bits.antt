@@ -17,22 +17,22 @@ pub listed-of_list : (bits : List Bool) → length bits ≡ 8 → latch_bits (la
 listed-of_list bits long = ext_get_or false _ _ (rw long refl) (λ place below. listed-at bits place below)
 
 -- what a written bit leaves in the bit of a place
-after_bit-at : (latched : Latched) (place : ℕ) (bit : Bool) (other : ℕ) →
-    is_latch_bit_set (latched_after_bit latched place bit) other
-    ≡ get_or (set (latch_bits latched.bits) (latch_place place) bit) (latch_place other) false
-after_bit-at latched place bit other =
+after_bit-at : (latched : Latched) (place : ℕ) (is_set : Bool) (other : ℕ) →
+    is_latch_bit_set (latched_after_bit latched place is_set) other
+    ≡ get_or (set (latch_bits latched.bits) (latch_place place) is_set) (latch_place other) false
+after_bit-at latched place is_set other =
     ap (λ (bits : List Bool). get_or bits (latch_place other) false)
-    (listed-of_list (set (latch_bits latched.bits) (latch_place place) bit) (rw length-set refl))
+    (listed-of_list (set (latch_bits latched.bits) (latch_place place) is_set) (rw length-set refl))
 
 -- it is the bit of its place, and the others stay
-pub is_set-written : (latched : Latched) (place : ℕ) (bit : Bool) → is_latch_bit_set (latched_after_bit latched place bit) place ≡ bit
-is_set-written latched place bit =
+pub is_set-written : (latched : Latched) (place : ℕ) (is_set : Bool) → is_latch_bit_set (latched_after_bit latched place is_set) place ≡ is_set
+is_set-written latched place is_set =
     let inside : latch_place place < length (latch_bits latched.bits) = omega arith in
-    after_bit-at latched place bit place ∙ rw get_or-set_same refl
+    after_bit-at latched place is_set place ∙ rw get_or-set_same refl
 
-pub is_set-others : (latched : Latched) (place : ℕ) (bit : Bool) (other : ℕ) → latch_place other ≢ latch_place place →
-    is_latch_bit_set (latched_after_bit latched place bit) other ≡ is_latch_bit_set latched other
-is_set-others latched place bit other apart = after_bit-at latched place bit other ∙ rw get_or-set_other refl
+pub is_set-others : (latched : Latched) (place : ℕ) (is_set : Bool) (other : ℕ) → latch_place other ≢ latch_place place →
+    is_latch_bit_set (latched_after_bit latched place is_set) other ≡ is_latch_bit_set latched other
+is_set-others latched place is_set other apart = after_bit-at latched place is_set other ∙ rw get_or-set_other refl
 
 -- the bit of a place of the number that binary digits make is the digit there
 digit-lowest : (lowest : Bool) (more : ℕ) → ((binary_digit lowest + 2 * more) / 1 % 2 == 1) ≡ lowest

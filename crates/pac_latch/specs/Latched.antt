@@ -63,11 +63,11 @@ is_latch_bit_set latched place = slice_index_or (latch_bits latched.bits) (latch
 
 -- the number that binary digits make, the lowest one first
 abbrev pub binary_digit : Bool → ℕ
-binary_digit bit = if bit then 1 else 0
+binary_digit is_set = if is_set then 1 else 0
 
 abbrev pub binary_number : List Bool → ℕ
 binary_number [] = 0
-binary_number (bit ∷ more) = binary_digit bit + 2 * binary_number more
+binary_number (is_set ∷ more) = binary_digit is_set + 2 * binary_number more
 
 -- the latch as one byte, and the latch of a byte
 abbrev pub byte_of_latch : Bits → ℕ
@@ -95,14 +95,14 @@ interrupt_request latched = if latched.request then Some latched.vector else Non
 
 -- whether a bit that is written takes the request back: a 0 in interrupt enable does
 abbrev pub withdraws : ℕ → Bool → Bool
-withdraws place bit = latch_place place == 0 && not bit
+withdraws place is_set = latch_place place == 0 && not is_set
 
 -- after a bit of the latch is written
 abbrev pub latched_after_bit : Latched → ℕ → Bool → Latched
-latched_after_bit latched place bit =
+latched_after_bit latched place is_set =
     record latched {
-      bits = latch_of_bits (slice_set (latch_bits latched.bits) (latch_place place) bit);
-      request = latched.request && not (withdraws place bit);
+      bits = latch_of_bits (slice_set (latch_bits latched.bits) (latch_place place) is_set);
+      request = latched.request && not (withdraws place is_set);
     }
 
 -- after the vector is set

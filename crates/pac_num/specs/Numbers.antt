@@ -8,10 +8,10 @@ bit n k = n / 2 ^ k % 2
 
 -- the low and the high byte of a word, and the word that two bytes make
 abbrev pub low_byte : ℕ → ℕ
-low_byte word = word % 256
+low_byte value = value % 256
 
 abbrev pub high_byte : ℕ → ℕ
-high_byte word = word / 256
+high_byte value = value / 256
 
 abbrev pub word : ℕ → ℕ → ℕ
 word low high = low + 256 * high

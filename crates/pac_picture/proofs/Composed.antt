@@ -21,42 +21,42 @@ use Rattle.pac_picture.proofs.Painted.{painted, painted-first}
 use Rattle.pac_picture.proofs.Layers.{dot-drawn}
 
 -- the dots of a painted line
-dots-are : (roms : VideoRoms) (memory : VideoMemory) (source : ℕ) (laid painted : List ℕ) →
+dots-are : (roms : VideoRoms) (memory : VideoMemory) (source : ℕ) (laid row : List ℕ) →
     laid ≡ tabulate 288 (λ x. kept_dot roms (drawn_from memory (source / 8)) x source) →
-    ((x : ℕ) → x < 288 → slice_index painted x
+    ((x : ℕ) → x < 288 → slice_index row x
     ≡ unwrap_or (find is_opaque (tabulate 8 (λ k. sprite_dot roms (sprite_at memory k) x source))) (slice_index laid x)) →
-    (x : ℕ) → x < 288 → get_or painted x 0 ≡ dot roms memory x source
+    (x : ℕ) → x < 288 → get_or row x 0 ≡ dot roms memory x source
 unfolding dot
-dots-are roms memory source laid painted is painted_number x across =
+dots-are roms memory source laid row is number_is x across =
     let below : slice_index laid x ≡ tile_dot roms memory x source =
     rw is (get_or-tabulate 288 (λ (x : ℕ). kept_dot roms (drawn_from memory (source / 8)) x source) x 0 across ∙
     dot-drawn roms memory x source across) in
-    rw below at (painted_number x across)
+    rw below at (number_is x across)
 
 -- a line turned, or left
-turned : (roms : VideoRoms) (memory : VideoMemory) (y : ℕ) (flip : Bool) (painted shown : List ℕ) → length painted ≡ 288 →
-    ((x : ℕ) → x < 288 → get_or painted x 0 ≡ dot roms memory x (if flip then 223 - y else y)) →
-    shown ≡ (if flip then reverse painted else painted) →
+turned : (roms : VideoRoms) (memory : VideoMemory) (y : ℕ) (flip : Bool) (row shown : List ℕ) → length row ≡ 288 →
+    ((x : ℕ) → x < 288 → get_or row x 0 ≡ dot roms memory x (if flip then 223 - y else y)) →
+    shown ≡ (if flip then reverse row else row) →
     shown ≡ tabulate 288 (λ x. if flip then dot roms memory (287 - x) (223 - y) else dot roms memory x y)
-turned roms memory y true painted shown long dots is =
-    let wide : length shown ≡ 288 = rw is (length-reverse painted ∙ long) in
+turned roms memory y true row shown long dots is =
+    let wide : length shown ≡ 288 = rw is (length-reverse row ∙ long) in
     tabulate-is shown 288 (λ (x : ℕ). dot roms memory (287 - x) (223 - y)) 0 wide
     (λ x across.
-    let inside : x < length painted = omega (arith, across, long) in
+    let inside : x < length row = omega (arith, across, long) in
     let other : 287 - x < 288 = omega arith in
-    let place : length painted - 1 - x ≡ 287 - x = rw long refl in
-    rw (is, get_or-reverse painted x 0 inside, place) (dots (287 - x) other))
-turned roms memory y false painted shown long dots is =
+    let place : length row - 1 - x ≡ 287 - x = rw long refl in
+    rw (is, get_or-reverse row x 0 inside, place) (dots (287 - x) other))
+turned roms memory y false row shown long dots is =
     tabulate-is shown 288 (λ (x : ℕ). dot roms memory x y) 0 (rw is long) (λ x across. rw is (dots x across))
 
-pub line-is : (roms : VideoRoms) (memory : VideoMemory) (y : ℕ) (laid painted shown : List ℕ) →
+pub line-is : (roms : VideoRoms) (memory : VideoMemory) (y : ℕ) (laid row shown : List ℕ) →
     laid ≡ tabulate 288 (λ x. kept_dot roms (drawn_from memory (source_of memory y / 8)) x (source_of memory y)) →
-    ((x : ℕ) → x < 288 → slice_index painted x
+    ((x : ℕ) → x < 288 → slice_index row x
     ≡ unwrap_or (find is_opaque (tabulate 8 (λ k. sprite_dot roms (sprite_at memory k) x (source_of memory y)))) (slice_index laid x)) →
-    length painted ≡ 288 → shown ≡ (if memory.flip then reverse painted else painted) → shown ≡ picture_line roms memory y
+    length row ≡ 288 → shown ≡ (if memory.flip then reverse row else row) → shown ≡ picture_line roms memory y
 unfolding picture_line
-line-is roms memory y laid painted shown is painted_number long turn =
-    turned roms memory y memory.flip painted shown long (dots-are roms memory (source_of memory y) laid painted is painted_number) turn
+line-is roms memory y laid row shown is number_is long turn =
+    turned roms memory y memory.flip row shown long (dots-are roms memory (source_of memory y) laid row is number_is) turn
 
 -- colour numbers are below 16
 tile-below : (roms : VideoRoms) (memory : VideoMemory) (x y : ℕ) → tile_dot roms memory x y < 16

@@ -93,45 +93,45 @@ pub record Writers (F W L R : Type 0) : Type 1 where
 -- ---- a film that is held up: frames and wave, which are written side by side as the run gives pictures and samples
 
 -- The frames' writer refused within an image, after all those before it; the wave's has the sound till then, unless it refused too.
-pub record StopsAtImage {F W : Type 0} (frames : Writing F) (wave : Writing W) (total_frames : ℕ) (taken : List Output) (image : Image)
+pub record StopsAtImage {F W : Type 0} (frames : Writing F) (wave : Writing W) (most : ℕ) (taken : List Output) (image : Image)
     (count : ℕ)
     : Type 0 where
   pub film : StopsInText frames (text.images_text (taken ++ Show image ∷ [])) count
   pub images : file_count (length (text.images_text taken)) ≤ count
-  pub sound : TookOrRefused wave (text.wave_so_far total_frames taken)
+  pub sound : TookOrRefused wave (text.wave_so_far most taken)
 
 -- Frames and wave of a run of so many frames took these outputs, and one of the two refused then: the frames' at the next picture; the
 -- wave's at the next sample, or at what waited before it; or after all outputs at the zeros, or at what waited before them.
-abbrev pub StopsAt : {F W : Type 0} → Writing F → Writing W → (total_frames : ℕ) → (taken left : List Output) → Which → ℕ → Type 0
-StopsAt frames wave total_frames taken (Show image ∷ more) Frames count = StopsAtImage frames wave total_frames taken image count
-StopsAt frames wave total_frames taken (Sound sample ∷ more) Wave count =
-    TakesText frames (text.images_text taken) × StopsInText wave (text.wave_so_far total_frames (taken ++ Sound sample ∷ [])) count
-StopsAt frames wave total_frames taken [] Wave count = TakesText frames (text.images_text taken)
-    × StopsInText wave (text.wave_file_text total_frames taken) count
-StopsAt frames wave total_frames taken left other count = ⊥
+abbrev pub StopsAt : {F W : Type 0} → Writing F → Writing W → (most : ℕ) → (taken left : List Output) → Which → ℕ → Type 0
+StopsAt frames wave most taken (Show image ∷ more) Frames count = StopsAtImage frames wave most taken image count
+StopsAt frames wave most taken (Sound sample ∷ more) Wave count =
+    TakesText frames (text.images_text taken) × StopsInText wave (text.wave_so_far most (taken ++ Sound sample ∷ [])) count
+StopsAt frames wave most taken [] Wave count = TakesText frames (text.images_text taken)
+    × StopsInText wave (text.wave_file_text most taken) count
+StopsAt frames wave most taken left other count = ⊥
 
 -- Of all outputs of a run frames and wave took these first ones and no more.
-pub record IsFilmHeldUp {F W : Type 0} (frames : Writing F) (wave : Writing W) (total_frames : ℕ) (outputs : List Output) (output : Which)
+pub record IsFilmHeldUp {F W : Type 0} (frames : Writing F) (wave : Writing W) (most : ℕ) (outputs : List Output) (output : Which)
     (count : ℕ)
     : Type 0 where
   pub taken : List Output
   pub left : List Output
   pub parts : outputs ≡ taken ++ left
-  pub stops : StopsAt frames wave total_frames taken left output count
+  pub stops : StopsAt frames wave most taken left output count
 
 -- so many bytes of all images were taken
-pub record FramesStop {F W : Type 0} (frames : Writing F) (wave : Writing W) (total_frames : ℕ) (outputs : List Output) (count : ℕ) : Type
+pub record FramesStop {F W : Type 0} (frames : Writing F) (wave : Writing W) (most : ℕ) (outputs : List Output) (count : ℕ) : Type
     0 where
   pub frames_stop : StopsInText frames (text.images_text outputs) count
-  pub held_up : IsFilmHeldUp frames wave total_frames outputs Frames count
+  pub held_up : IsFilmHeldUp frames wave most outputs Frames count
 
 -- So many bytes of the whole wave file were taken. Its header is written before the first image: where that is refused nothing is
 -- written to the frames.
-pub record WaveStops {F W : Type 0} (frames : Writing F) (wave : Writing W) (total_frames : ℕ) (outputs : List Output) (count : ℕ) : Type
+pub record WaveStops {F W : Type 0} (frames : Writing F) (wave : Writing W) (most : ℕ) (outputs : List Output) (count : ℕ) : Type
     0 where
-  pub wave_stops : StopsInText wave (text.wave_file_text total_frames outputs) count
+  pub wave_stops : StopsInText wave (text.wave_file_text most outputs) count
   pub header_first : count < header_size → IsUnwritten frames
-  pub held_up : header_size ≤ count → IsFilmHeldUp frames wave total_frames outputs Wave count
+  pub held_up : header_size ≤ count → IsFilmHeldUp frames wave most outputs Wave count
 
 -- ---- the run, by its answer
 

@@ -192,8 +192,8 @@ has_conflict rows = is_given (codes "load") rows && is_given (codes "dip") rows
 
 -- the kinds of error of a subcommand with the values of its words, where `clap` finds none
 abbrev pub conflict_of : Option (Text × List Row) → Kinds
-conflict_of command =
-    if option_map_or (λ p. bytes_eq p.0 (codes "run") && has_conflict p.1) command false then ArgumentConflict ∷ [] else []
+conflict_of chosen =
+    if option_map_or (λ p. bytes_eq p.0 (codes "run") && has_conflict p.1) chosen false then ArgumentConflict ∷ [] else []
 
 -- the kinds of error that a command line may have, by its words, the program's name first: those of `clap`, and then that one
 unfoldable pub faults_of : List Text → Kinds

@@ -103,7 +103,7 @@ memory-again : (version : ℕ) (digest bytes : List ℕ) (state : BoardState) �
     → state.now.board.memory.held < 2 ^ 16 → memory_of (controls_in bytes) bytes ≡ state.now.board.memory
 unfolding control_bytes
 memory-again version digest bytes state pieces held =
-    ap (λ (control_bytes : List ℕ). memory_of control_bytes bytes) pieces.controls
+    ap (λ (three : List ℕ). memory_of three bytes) pieces.controls
     ∙ same-view (from_le_bytes-to_le_bytes_2 state.now.board.memory.held held) pieces.tile pieces.colour pieces.work
     pieces.coordinates pieces.registers (bits_of-byte_of state.now.board.memory.latched.bits)
     (digit-again state.now.board.memory.latched.request)
@@ -121,18 +121,18 @@ sample-again (Some sample) fits =
 abbrev waiting : Option ℤ → Bool → Due
 waiting sample picture = record { sample = sample; picture = picture }
 
-due-again : (due_bytes : Due) → FitsSample due_bytes.sample → due_of (text.due_bytes due_bytes) ≡ due_bytes
+due-again : (due : Due) → FitsSample due.sample → due_of (text.due_bytes due) ≡ due
 unfolding text.due_bytes
-due-again due_bytes fits =
-    let bits = bits_of-byte_of (low_bits (is_some due_bytes.sample) due_bytes.picture false false) in
-    let first : is_bit_set (slice_index (text.due_bytes due_bytes) 0) 0 ≡ is_some due_bytes.sample =
+due-again due fits =
+    let bits = bits_of-byte_of (low_bits (is_some due.sample) due.picture false false) in
+    let first : is_bit_set (slice_index (text.due_bytes due) 0) 0 ≡ is_some due.sample =
     ap (λ (bits : Bits). bits.interrupt_enable) bits in
-    let second : is_bit_set (slice_index (text.due_bytes due_bytes) 0) 1 ≡ due_bytes.picture =
+    let second : is_bit_set (slice_index (text.due_bytes due) 0) 1 ≡ due.picture =
     ap (λ (bits : Bits). bits.sound_enable) bits in
-    let sample : due_sample (is_bit_set (slice_index (text.due_bytes due_bytes) 0) 0) (saved_word_at 1 (text.due_bytes due_bytes))
-    ≡ due_bytes.sample =
-    ap (λ is_due. due_sample is_due (saved_word_at 1 (text.due_bytes due_bytes))) first ∙ sample-again due_bytes.sample fits in
-    ap (λ sample. waiting sample (is_bit_set (slice_index (text.due_bytes due_bytes) 0) 1)) sample ∙ ap (waiting due_bytes.sample) second
+    let sample : due_sample (is_bit_set (slice_index (text.due_bytes due) 0) 0) (saved_word_at 1 (text.due_bytes due))
+    ≡ due.sample =
+    ap (λ is_due. due_sample is_due (saved_word_at 1 (text.due_bytes due))) first ∙ sample-again due.sample fits in
+    ap (λ sample. waiting sample (is_bit_set (slice_index (text.due_bytes due) 0) 1)) sample ∙ ap (waiting due.sample) second
 
 -- ---- the whole
 

@@ -113,8 +113,8 @@ word-below at bytes fits =
     omega (arith, first, second)
 
 fits-sample : (is_due : Bool) (word : ℕ) → word < 2 ^ 16 → FitsSample (due_sample is_due word)
-fits-sample true word below = sfits_to_z {w = w16} {n = word} (record { fits = below })
-fits-sample false word below = tt
+fits-sample true word within = sfits_to_z {w = w16} {n = word} (record { fits = within })
+fits-sample false word within = tt
 
 pub sizes : (bytes : List ℕ) → length bytes ≡ file_size → IsStateInRange (state_in bytes) → IsWellFormed (state_in bytes).now.board.memory
 sizes bytes size range = record {
@@ -124,7 +124,7 @@ sizes bytes size range = record {
   coordinates = length-part 3154 16 bytes (omega (arith, size));
   registers = length-part 3170 32 bytes (omega (arith, size));
   nibbles = range.registers;
-  count = let below = range.count in omega (arith, below);
+  count = let within = range.count in omega (arith, within);
 }
 
 is-state : (bytes : List ℕ) → AreBytes bytes → length bytes ≡ file_size → IsStateInRange (state_in bytes) → IsState (state_in bytes)
@@ -176,7 +176,7 @@ no-memory set bytes Size text misses = absurd misses
 no-memory set bytes Damaged text misses = absurd misses
 no-memory set bytes OtherSet text misses = absurd misses
 
-never-memory : (magic version size seal set : Bool) → (if magic then Some NoState else if version then Some OtherVersion
+never-memory : (marked version size seal set : Bool) → (if marked then Some NoState else if version then Some OtherVersion
     else if size then Some Size else if seal then Some Damaged else if set then Some OtherSet else None) ≢ Some NoMemory
 never-memory true version size seal set = λ (told : _ ≡ _). cc
 never-memory false true size seal set = λ (told : _ ≡ _). cc

@@ -27,26 +27,26 @@ use Rattle.pac_state.proofs.Written.{HasPieces, front-pieces, part-at, length-fr
 block-pieces : (state : BoardState) → IsWellFormed state.now.board.memory
     → HasPieces written_version no_digest state (block_text state)
 unfolding block_text
-block-pieces state sizes =
+block-pieces state formed =
     subst (HasPieces written_version no_digest state)
     (sym (append_assoc (file_front written_version no_digest state) (joined_pieces state.now.board.lines) no_digest))
-    (front-pieces written_version no_digest state (joined_pieces state.now.board.lines ++ no_digest) refl sizes)
+    (front-pieces written_version no_digest state (joined_pieces state.now.board.lines ++ no_digest) refl formed)
 
 block-end : (state : BoardState) → IsWellFormed state.now.board.memory → IsPicture state.now.board.lines
     → bytes_at_place 67736 20 (block_text state) ≡ no_digest
 unfolding block_text
-block-end state sizes picture =
-    part-at 67736 20 (body written_version no_digest state) no_digest [] (length-body written_version no_digest state refl sizes
+block-end state formed picture =
+    part-at 67736 20 (body written_version no_digest state) no_digest [] (length-body written_version no_digest state refl formed
     picture) refl
 
 block-picture : (state : BoardState) → IsWellFormed state.now.board.memory → IsPicture state.now.board.lines
     → bytes_at_place 3224 64512 (block_text state) ≡ joined_pieces state.now.board.lines
 unfolding block_text
-block-picture state sizes picture =
+block-picture state formed picture =
     ap (bytes_at_place 3224 64512)
     (append_assoc (file_front written_version no_digest state) (joined_pieces state.now.board.lines) no_digest)
     ∙ part-at 3224 64512 (file_front written_version no_digest state) (joined_pieces state.now.board.lines) no_digest
-    (length-front written_version no_digest state refl sizes) (length-lines state.now.board.lines picture)
+    (length-front written_version no_digest state refl formed) (length-lines state.now.board.lines picture)
 
 pub block-again : (state : BoardState) → IsState state → state_in (block_text state) ≡ state
 block-again state is =

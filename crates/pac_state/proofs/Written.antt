@@ -32,8 +32,8 @@ abbrev widths : List (List ℕ) → List ℕ
 widths [] = []
 widths (piece ∷ more) = length piece ∷ widths more
 
-cut-joined : (before : List ℕ) (pieces : List (List ℕ)) (after : List ℕ)
-    → cut (length before) (widths pieces) (before ++ (joined_pieces pieces ++ after)) ≡ pieces
+cut-joined : (before : List ℕ) (parts : List (List ℕ)) (after : List ℕ)
+    → cut (length before) (widths parts) (before ++ (joined_pieces parts ++ after)) ≡ parts
 unfolding cut
 cut-joined before [] after = refl
 cut-joined before (piece ∷ more) after =
@@ -49,7 +49,7 @@ cut-joined before (piece ∷ more) after =
     ∙ (ap (cut (length (before ++ piece)) (widths more)) (one ∙ other) ∙ cut-joined (before ++ piece) more after) in
     rw (first, rest) refl
 
-length-joined : (pieces : List (List ℕ)) → length (joined_pieces pieces) ≡ total (widths pieces)
+length-joined : (parts : List (List ℕ)) → length (joined_pieces parts) ≡ total (widths parts)
 unfolding total
 length-joined [] = refl
 length-joined (piece ∷ more) =
@@ -98,13 +98,13 @@ pub record HasPieces (number : ℕ) (of_set : List ℕ) (state : BoardState) (by
 front-cut : (version : ℕ) (digest : List ℕ) (state : BoardState) (after : List ℕ) → length digest ≡ 20 → IsWellFormed state.now.board.memory
     → cut 0 places (file_front version digest state ++ after) ≡ pieces version digest state
 front-cut version digest state after long sizes =
-    subst (λ (widths : List ℕ). cut 0 widths (file_front version digest state ++ after) ≡ pieces version digest state)
+    subst (λ (lengths : List ℕ). cut 0 lengths (file_front version digest state ++ after) ≡ pieces version digest state)
     (widths-are version digest state long sizes)
     (subst (λ (text : List ℕ). cut 0 (widths (pieces version digest state)) (text ++ after) ≡ pieces version digest state)
     (joined-pieces version digest state) (cut-joined [] (pieces version digest state) after))
 
 nth : (n : ℕ) {one other : List (List ℕ)} → one ≡ other → get_or one n [] ≡ get_or other n []
-nth n same = ap (λ (pieces : List (List ℕ)). get_or pieces n []) same
+nth n same = ap (λ (parts : List (List ℕ)). get_or parts n []) same
 
 pub front-pieces : (version : ℕ) (digest : List ℕ) (state : BoardState) (after : List ℕ) → length digest ≡ 20 →
     IsWellFormed state.now.board.memory

@@ -14,7 +14,7 @@ use Rattle.pac_board.specs.State.{BoardState}
 
 -- so many bytes from a place on
 abbrev pub bytes_at_place : ℕ → ℕ → List ℕ → List ℕ
-bytes_at_place at width bytes = take width (drop at bytes)
+bytes_at_place at size bytes = take size (drop at bytes)
 
 -- numbers of 2, 4 and 8 bytes at a place
 abbrev pub saved_word_at : ℕ → List ℕ → ℕ

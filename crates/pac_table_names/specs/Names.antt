@@ -24,7 +24,7 @@ use Rattle.pac_table.specs.Table.{table}
 
 -- whether a word is a name, in either case
 abbrev pub is_written : List ℕ → List ℕ → Bool
-is_written word text_of_name = str_eq_ignore_ascii_case word text_of_name
+is_written word text = str_eq_ignore_ascii_case word text
 
 -- the names of the eight operations with A and an operand, and those of the seven shifts, by the value of the first field
 abbrev pub alu_names : List (Option (List ℕ))
@@ -39,7 +39,7 @@ shift_names =
 
 -- the one name of an operation whose first field tells no name
 abbrev pub single_name : List ℕ → List (Option (List ℕ))
-single_name text_of_name = Some text_of_name ∷ []
+single_name text = Some text ∷ []
 
 -- the names of an operation: a family's by the value of its first field, and the one name of each other
 abbrev pub names_of : Mnemonic → List (Option (List ℕ))
@@ -108,7 +108,7 @@ operation_name mnemonic value = get_or (names_of mnemonic) (if is_family mnemoni
 -- whether a word is the name that stands at a value
 abbrev pub is_name_at : List ℕ → Option (List ℕ) → Bool
 is_name_at word None = false
-is_name_at word (Some text_of_name) = is_written word text_of_name
+is_name_at word (Some text) = is_written word text
 
 -- the value for which an operation has this word as its name, if it has: 0 where it is no family
 abbrev pub value_named : Mnemonic → List ℕ → Option ℕ

@@ -40,7 +40,7 @@ word_from n name =
 
 abbrev pub words_from : ℕ → List (List ℕ) → List Word
 words_from n [] = []
-words_from n (name ∷ operation_names) = word_from n name ∷ words_from (n + length (rows_named name)) operation_names
+words_from n (name ∷ names) = word_from n name ∷ words_from (n + length (rows_named name)) names
 
 unfoldable pub word_list : List Word
 word_list = words_from 0 operation_names

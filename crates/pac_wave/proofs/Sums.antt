@@ -7,8 +7,8 @@ use Rattle.pac_wave.specs.Wave.{Accumulators, Fit20Bits, accumulator, frequency,
 use Rattle.pac_wave.specs.Sums.{Tick, accumulators_after_ticks, frequency_sum, AccumulatorsAreSums}
 
 -- one sample more
-grown-sum : (start frequency rest : ℕ) → ((start + frequency) % 2 ^ 20 + rest) % 2 ^ 20 ≡ (start + (frequency + rest)) % 2 ^ 20
-grown-sum start frequency rest = omega arith
+grown-sum : (start added rest : ℕ) → ((start + added) % 2 ^ 20 + rest) % 2 ^ 20 ≡ (start + (added + rest)) % 2 ^ 20
+grown-sum start added rest = omega arith
 
 after-voice : (registers : List ℕ) (all : Accumulators) (voice : Voice) →
     accumulator (accumulators_after registers true all) voice ≡ (accumulator all voice + frequency registers voice) % 2 ^ 20

@@ -73,16 +73,16 @@ accumulators_of_list all = record { first = slice_index all 0; second = slice_in
 -- the sample that an accumulator points to in its waveform: the wave PROM has eight waveforms of 32 samples, of
 -- four bits each
 abbrev pub waveform_sample : List ℕ → ℕ → ℕ → ℕ
-waveform_sample prom waveform accumulator = slice_index prom (32 * waveform + accumulator / 32768) % 16
+waveform_sample prom number position = slice_index prom (32 * number + position / 32768) % 16
 
 -- a sample about its middle, at a volume
 abbrev pub amplified_sample : ℕ → ℕ → ℤ
-amplified_sample sample volume = (pos sample -ℤ pos 8) *ℤ pos volume
+amplified_sample sample loudness = (pos sample -ℤ pos 8) *ℤ pos loudness
 
 -- what a voice puts into the sound
 abbrev pub level : List ℕ → List ℕ → Voice → ℕ → ℤ
-level prom registers voice accumulator =
-    amplified_sample (waveform_sample prom (waveform registers voice) accumulator) (volume registers voice)
+level prom registers voice position =
+    amplified_sample (waveform_sample prom (waveform registers voice) position) (volume registers voice)
 
 -- three voices together: 64 times their sum
 abbrev pub mixed_voices : ℤ → ℤ → ℤ → ℤ
@@ -101,7 +101,7 @@ sound_sample prom registers all on =
 
 -- an accumulator grows by its voice's frequency, in 20 bits
 abbrev pub grown_accumulator : List ℕ → Voice → ℕ → ℕ
-grown_accumulator registers voice accumulator = (accumulator + frequency registers voice) % accumulator_range
+grown_accumulator registers voice position = (position + frequency registers voice) % accumulator_range
 
 -- the accumulators after a sample: they stay while sound is off
 abbrev pub accumulators_after : List ℕ → Bool → Accumulators → Accumulators
