@@ -23,9 +23,9 @@ use Rattle.pac_table_names.specs.declared.writing.Writing.{Writing}
 use Rattle.pac_table_names.specs.declared.writing.Writing.TheVariants.{Nothing, Named, AlternateAf, AtName, FirstField, SecondField}
 use Rattle.pac_table_names.specs.declared.writing.Writing.TheVariants.{Indexed, Number, AtNumber}
 use Rattle.pac_table.specs.declared.table.Row.{Row}
-use Rattle.pac_table_names.specs.Names.{names_of, operation_name, text_of_name, names_in, name_at, writing_of, has_accumulator}
+use Rattle.pac_table_names.specs.Names.{text_of_name, names_in, name_at, writing_of, has_accumulator}
 use Rattle.pac_table_names.specs.Names.{present_shape, listed_shapes}
-use Rattle.pac_table.specs.Forms.{is_family}
+use Rattle.pac_table.specs.Mnemonics.{is_family, names_of, operation_name}
 use Rattle.pac_table.specs.declared.patterns.Field.TheVariants as field
 use Rattle.pac_table.specs.Patterns.{lists, field_size, IsDisplacement, IsSignedByte}
 use Rattle.pac_table.specs.Table.{table}

@@ -10,7 +10,8 @@ use Rattle.pac_table_names.specs.declared.writing.NumberKind.TheVariants as kind
 use Rattle.pac_table_names.specs.declared.writing.Writing.{Writing}
 use Rattle.pac_table_names.specs.declared.writing.Writing.TheVariants.{Nothing, Named, AlternateAf, AtName, FirstField, SecondField}
 use Rattle.pac_table_names.specs.declared.writing.Writing.TheVariants.{Indexed, Number, AtNumber}
-use Rattle.pac_table_names.specs.Names.{operation_name, text_of_name, name_at, writing_of, written_operands}
+use Rattle.pac_table.specs.Mnemonics.{operation_name}
+use Rattle.pac_table_names.specs.Names.{text_of_name, name_at, writing_of, written_operands}
 use Rattle.pac_table.specs.Instructions.{Instruction, IsInstruction, operands_of, code}
 use Rattle.pac_num.specs.Numbers.{wrapped_address, displaced_address}
 use Rattle.pac_code.specs.Codes.{Begins}

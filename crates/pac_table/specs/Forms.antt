@@ -8,11 +8,10 @@ use Rattle.pac_table.specs.declared.patterns.Field.TheVariants as field
 use Rattle.pac_table.specs.declared.patterns.Immediate.{Immediate}
 use Rattle.pac_table.specs.declared.patterns.Immediate.TheVariants as immediate
 use Rattle.pac_table.specs.declared.patterns.Pattern.{Pattern}
-use Rattle.pac_table.specs.declared.operands.Mnemonic.{Mnemonic}
-use Rattle.pac_table.specs.declared.operands.Mnemonic.TheVariants as mnemonic
 use Rattle.pac_table.specs.declared.operands.Shape.{Shape}
 use Rattle.pac_table.specs.declared.operands.Shape.TheVariants as shape
 use Rattle.pac_table.specs.declared.table.Row.{Row}
+use Rattle.pac_table.specs.Mnemonics.{is_family}
 use Rattle.pac_table.specs.Instructions.{row_count, row_at}
 
 abbrev pub is_register : Field → Bool
@@ -114,12 +113,6 @@ fits_code pattern shape.RelativeCondition = is_relative_condition pattern.first
 fits_code pattern shape.BitNumber = is_bit_number pattern.first
 fits_code pattern shape.RestartAddress = is_restart_place pattern.first
 fits_code pattern _ = true
-
--- whether a mnemonic is that of a family, whose names the first field tells
-abbrev pub is_family : Mnemonic → Bool
-is_family mnemonic.Alu = true
-is_family mnemonic.Shift = true
-is_family _ = false
 
 -- whether an operand fills the first field, the second, n or nn, or e or d
 abbrev pub fills_first : Shape → Bool

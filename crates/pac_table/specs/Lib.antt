@@ -1,4 +1,6 @@
 pub mod Patterns
+pub mod Mnemonics
+pub mod Notation
 pub mod Table
 pub mod Instructions
 pub mod Pages

@@ -1,7 +1,7 @@
 //! What an instruction looks like in source: its mnemonic and the shapes of its operands.
 
 ghost use Rattle.std.specs.Prelude.{◌≡◌};
-ghost use Rattle.pac_table.specs.Forms.{is_family};
+ghost use Rattle.pac_table.specs.Mnemonics.{is_family};
 
 /// The name of an operation (UM0080). `Alu` and `Shift` are families: the first field of the code
 /// tells the name.

@@ -7,7 +7,7 @@ use Rattle.pac_table.specs.declared.operands.Mnemonic.TheVariants as mnemonic
 use Rattle.pac_table.specs.declared.table.Row.{Row}
 use Rattle.pac_table.specs.Table.{table}
 use Rattle.pac_table.specs.Instructions.{row_at}
-use Rattle.pac_table.specs.Forms.{is_family}
+use Rattle.pac_table.specs.Mnemonics.{is_family}
 use Rattle.pac_table_names.specs.Names.{value_named}
 
 -- the numbers of the rows, counted from n, that have this name

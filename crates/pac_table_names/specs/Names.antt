@@ -19,91 +19,12 @@ use Rattle.pac_table_names.specs.declared.writing.Writing.{Writing}
 use Rattle.pac_table_names.specs.declared.writing.Writing.TheVariants.{Nothing, Named, AlternateAf, AtName, FirstField, SecondField}
 use Rattle.pac_table_names.specs.declared.writing.Writing.TheVariants.{Indexed}
 use Rattle.pac_table_names.specs.declared.writing.Writing.TheVariants.{Number, AtNumber}
-use Rattle.pac_table.specs.Forms.{is_family}
+use Rattle.pac_table.specs.Mnemonics.{names_of}
 use Rattle.pac_table.specs.Table.{table}
 
 -- whether a word is a name, in either case
 abbrev pub is_written : List ℕ → List ℕ → Bool
 is_written word text = str_eq_ignore_ascii_case word text
-
--- the names of the eight operations with A and an operand, and those of the seven shifts, by the value of the first field
-abbrev pub alu_names : List (Option (List ℕ))
-alu_names =
-    Some (codes "ADD") ∷ Some (codes "ADC") ∷ Some (codes "SUB") ∷ Some (codes "SBC") ∷
-    Some (codes "AND") ∷ Some (codes "XOR") ∷ Some (codes "OR") ∷ Some (codes "CP") ∷ []
-
-abbrev pub shift_names : List (Option (List ℕ))
-shift_names =
-    Some (codes "RLC") ∷ Some (codes "RRC") ∷ Some (codes "RL") ∷ Some (codes "RR") ∷
-    Some (codes "SLA") ∷ Some (codes "SRA") ∷ None ∷ Some (codes "SRL") ∷ []
-
--- the one name of an operation whose first field tells no name
-abbrev pub single_name : List ℕ → List (Option (List ℕ))
-single_name text = Some text ∷ []
-
--- the names of an operation: a family's by the value of its first field, and the one name of each other
-abbrev pub names_of : Mnemonic → List (Option (List ℕ))
-names_of mnemonic.Adc = single_name (codes "ADC")
-names_of mnemonic.Add = single_name (codes "ADD")
-names_of mnemonic.Alu = alu_names
-names_of mnemonic.Bit = single_name (codes "BIT")
-names_of mnemonic.Call = single_name (codes "CALL")
-names_of mnemonic.Ccf = single_name (codes "CCF")
-names_of mnemonic.Cpd = single_name (codes "CPD")
-names_of mnemonic.Cpdr = single_name (codes "CPDR")
-names_of mnemonic.Cpi = single_name (codes "CPI")
-names_of mnemonic.Cpir = single_name (codes "CPIR")
-names_of mnemonic.Cpl = single_name (codes "CPL")
-names_of mnemonic.Daa = single_name (codes "DAA")
-names_of mnemonic.Dec = single_name (codes "DEC")
-names_of mnemonic.Di = single_name (codes "DI")
-names_of mnemonic.Djnz = single_name (codes "DJNZ")
-names_of mnemonic.Ei = single_name (codes "EI")
-names_of mnemonic.Ex = single_name (codes "EX")
-names_of mnemonic.Exx = single_name (codes "EXX")
-names_of mnemonic.Halt = single_name (codes "HALT")
-names_of mnemonic.Im = single_name (codes "IM")
-names_of mnemonic.In = single_name (codes "IN")
-names_of mnemonic.Inc = single_name (codes "INC")
-names_of mnemonic.Ind = single_name (codes "IND")
-names_of mnemonic.Indr = single_name (codes "INDR")
-names_of mnemonic.Ini = single_name (codes "INI")
-names_of mnemonic.Inir = single_name (codes "INIR")
-names_of mnemonic.Jp = single_name (codes "JP")
-names_of mnemonic.Jr = single_name (codes "JR")
-names_of mnemonic.Ld = single_name (codes "LD")
-names_of mnemonic.Ldd = single_name (codes "LDD")
-names_of mnemonic.Lddr = single_name (codes "LDDR")
-names_of mnemonic.Ldi = single_name (codes "LDI")
-names_of mnemonic.Ldir = single_name (codes "LDIR")
-names_of mnemonic.Neg = single_name (codes "NEG")
-names_of mnemonic.Nop = single_name (codes "NOP")
-names_of mnemonic.Otdr = single_name (codes "OTDR")
-names_of mnemonic.Otir = single_name (codes "OTIR")
-names_of mnemonic.Out = single_name (codes "OUT")
-names_of mnemonic.Outd = single_name (codes "OUTD")
-names_of mnemonic.Outi = single_name (codes "OUTI")
-names_of mnemonic.Pop = single_name (codes "POP")
-names_of mnemonic.Push = single_name (codes "PUSH")
-names_of mnemonic.Res = single_name (codes "RES")
-names_of mnemonic.Ret = single_name (codes "RET")
-names_of mnemonic.Reti = single_name (codes "RETI")
-names_of mnemonic.Retn = single_name (codes "RETN")
-names_of mnemonic.Rla = single_name (codes "RLA")
-names_of mnemonic.Rlca = single_name (codes "RLCA")
-names_of mnemonic.Rld = single_name (codes "RLD")
-names_of mnemonic.Rra = single_name (codes "RRA")
-names_of mnemonic.Rrca = single_name (codes "RRCA")
-names_of mnemonic.Rrd = single_name (codes "RRD")
-names_of mnemonic.Rst = single_name (codes "RST")
-names_of mnemonic.Sbc = single_name (codes "SBC")
-names_of mnemonic.Scf = single_name (codes "SCF")
-names_of mnemonic.Set = single_name (codes "SET")
-names_of mnemonic.Shift = shift_names
-
--- the name of an operation whose first field holds this value
-abbrev pub operation_name : Mnemonic → ℕ → Option (List ℕ)
-operation_name mnemonic value = get_or (names_of mnemonic) (if is_family mnemonic then value else 0) None
 
 -- whether a word is the name that stands at a value
 abbrev pub is_name_at : List ℕ → Option (List ℕ) → Bool

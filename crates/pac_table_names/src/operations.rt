@@ -2,7 +2,7 @@
 
 ghost use Rattle.std.specs.Prelude.{◌≡◌};
 ghost use Rattle.std.specs.Option.{option_copied};
-ghost use Rattle.pac_table_names.specs.Names.{operation_name};
+ghost use Rattle.pac_table.specs.Mnemonics.{operation_name};
 
 use pac_table::Mnemonic;
 

@@ -1,0 +1,133 @@
+-- To be believed: the notation of the instruction table, which is the manual's (Zilog Z80 CPU User Manual UM0080, "Z80 Instruction
+-- Description"): how a form in source and a code in letters are read.
+use Prim.Native.String.{String}
+use Rattle.std.specs.Prelude.{ℕ, ◌+◌, ◌*◌, ◌==◌, ◌||◌, Bool, not, nat_eq, if◌then◌else◌, codes, bytes_eq}
+use Rattle.std.specs.Prelude.{List, [], ◌∷◌, ◌++◌, map, fold, filter, find, take, drop, get_or}
+use Rattle.std.specs.Prelude.{Option, unwrap_or, option_map, option_to_list}
+use Rattle.std.specs.List.{before_first, after_first}
+use Rattle.std.specs.Str.{byte}
+use Rattle.pac_table.specs.declared.patterns.Page.{Page}
+use Rattle.pac_table.specs.declared.patterns.Page.TheVariants.{Fd, FdCb}
+use Rattle.pac_table.specs.declared.patterns.Field.{Field}
+use Rattle.pac_table.specs.declared.patterns.Field.TheVariants as field
+use Rattle.pac_table.specs.declared.patterns.Immediate.{Immediate}
+use Rattle.pac_table.specs.declared.patterns.Immediate.TheVariants as immediate
+use Rattle.pac_table.specs.declared.patterns.Pattern.{Pattern}
+use Rattle.pac_table.specs.declared.operands.Mnemonic.{Mnemonic}
+use Rattle.pac_table.specs.declared.operands.Mnemonic.TheVariants.{Alu, Shift, Nop}
+use Rattle.pac_table.specs.declared.operands.Shape.{Shape}
+use Rattle.pac_table.specs.declared.operands.Shape.TheVariants as shape
+use Rattle.pac_table.specs.declared.operands.Operands.{Operands}
+use Rattle.pac_table.specs.declared.effects.Effect.{Effect}
+use Rattle.pac_table.specs.declared.table.Row.{Row}
+use Rattle.pac_table.specs.Patterns.{is_displacement_first}
+use Rattle.pac_table.specs.Mnemonics.{mnemonics, operation_name}
+
+-- what a word stands for in a list of words
+abbrev pub stands_for : {A : Type 0} → List (List ℕ × A) → List ℕ → Option A
+stands_for words word = option_map (λ entry. entry.1) (find (λ entry. bytes_eq word entry.0) words)
+
+-- a code: the opcode byte in eight bits and letters, and what follows it
+abbrev pub fixed_bits : List ℕ → ℕ
+fixed_bits code = fold (λ bits character. 2 * bits + (if character == byte "1" then 1 else 0)) 0 (take 8 code)
+
+-- the letters that bits 5 to 3 may have, and those of bits 2 to 0
+abbrev pub high_fields : List (List ℕ × Field)
+high_fields =
+    (codes "rrr", field.RegisterHigh) ∷ (codes "dd", field.Pair) ∷ (codes "ss", field.Pair) ∷ (codes "qq", field.StackPair) ∷
+    (codes "pp", field.IndexPair) ∷ (codes "ccc", field.Condition) ∷ (codes "jj", field.RelativeCondition) ∷
+    (codes "bbb", field.BitNumber) ∷ (codes "ttt", field.RestartPlace) ∷ (codes "ooo", field.AluOperation) ∷
+    (codes "kkk", field.ShiftOperation) ∷ []
+
+abbrev pub low_fields : List (List ℕ × Field)
+low_fields = (codes "rrr", field.RegisterLow) ∷ (codes "sss", field.RegisterLow) ∷ []
+
+abbrev pub letters_among : List ℕ → List ℕ
+letters_among bits = filter (λ character. not (character == byte "0" || character == byte "1")) bits
+
+abbrev pub fields_read : List ℕ → List Field
+fields_read code =
+    option_to_list (stands_for high_fields (letters_among (take 3 (drop 2 code)))) ++
+    option_to_list (stands_for low_fields (letters_among (take 3 (drop 5 code))))
+
+-- what follows the opcode byte; after DD CB and FD CB d stands before it, and isn't written
+abbrev pub immediates : List (List ℕ × Immediate)
+immediates =
+    (codes " n", immediate.Byte) ∷ (codes " nn", immediate.Word) ∷ (codes " e", immediate.Relative) ∷
+    (codes " d", immediate.Displacement) ∷ (codes " d n", immediate.DisplacementByte) ∷ []
+
+abbrev pub immediate_read : Page → List ℕ → Immediate
+immediate_read page code =
+    if is_displacement_first page then immediate.Displacement else unwrap_or (stands_for immediates (drop 8 code)) immediate.Absent
+
+abbrev pub pattern_read : Page → List ℕ → Pattern
+pattern_read page code =
+    record {
+      page = page;
+      opcode = fixed_bits code;
+      first = get_or (fields_read code) 0 field.Absent;
+      second = get_or (fields_read code) 1 field.Absent;
+      immediate = immediate_read page code;
+    }
+
+-- whether a word of a form is an operation's: its name, and of a family `alu` or `shift`
+abbrev pub is_called : List ℕ → Mnemonic → Bool
+is_called word Alu = bytes_eq word (codes "alu")
+is_called word Shift = bytes_eq word (codes "shift")
+is_called word mnemonic = bytes_eq word (unwrap_or (operation_name mnemonic 0) [])
+
+-- the operands of a form: r is the register in the code's first field, s the one in its second
+abbrev pub operands : List (List ℕ × Shape)
+operands =
+    (codes "A", shape.Accumulator) ∷ (codes "r", shape.FirstRegister) ∷ (codes "s", shape.SecondRegister) ∷
+    (codes "I", shape.InterruptRegister) ∷ (codes "R", shape.RefreshRegister) ∷
+    (codes "n", shape.Byte) ∷ (codes "nn", shape.Word) ∷ (codes "(n)", shape.AtByte) ∷ (codes "(nn)", shape.AtWord) ∷
+    (codes "(BC)", shape.AtBc) ∷ (codes "(DE)", shape.AtDe) ∷ (codes "(HL)", shape.AtHl) ∷ (codes "(SP)", shape.AtSp) ∷
+    (codes "(C)", shape.AtC) ∷ (codes "DE", shape.De) ∷ (codes "HL", shape.Hl) ∷ (codes "SP", shape.Sp) ∷
+    (codes "AF", shape.Af) ∷ (codes "AF'", shape.AlternateAf) ∷
+    (codes "dd", shape.Pair) ∷ (codes "ss", shape.Pair) ∷ (codes "qq", shape.StackPair) ∷
+    (codes "e", shape.Relative) ∷ (codes "cc", shape.Condition) ∷ (codes "jj", shape.RelativeCondition) ∷
+    (codes "b", shape.BitNumber) ∷ (codes "p", shape.RestartAddress) ∷
+    (codes "0", shape.ModeZero) ∷ (codes "1", shape.ModeOne) ∷ (codes "2", shape.ModeTwo) ∷ []
+
+-- those with IX; after FD they are those with IY
+abbrev pub ix_operands : List (List ℕ × Shape)
+ix_operands =
+    (codes "IX", shape.Ix) ∷ (codes "(IX)", shape.AtIx) ∷ (codes "(IX+d)", shape.IndexedIx) ∷ (codes "pp", shape.PairWithIx) ∷ []
+
+abbrev pub iy_operands : List (List ℕ × Shape)
+iy_operands =
+    (codes "IX", shape.Iy) ∷ (codes "(IX)", shape.AtIy) ∷ (codes "(IX+d)", shape.IndexedIy) ∷ (codes "pp", shape.PairWithIy) ∷ []
+
+abbrev pub index_operands : Page → List (List ℕ × Shape)
+index_operands Fd = iy_operands
+index_operands FdCb = iy_operands
+index_operands _ = ix_operands
+
+abbrev pub shape_read : Page → List ℕ → Shape
+shape_read page word = unwrap_or (stands_for (operands ++ index_operands page) word) shape.Absent
+
+-- a form: the operation, and after a blank its operands, parted by a comma
+abbrev pub form_read : Page → List ℕ → Operands
+form_read page form =
+    let written = after_first (nat_eq (byte " ")) form in
+    record {
+      mnemonic = unwrap_or (find (is_called (before_first (nat_eq (byte " ")) form)) mnemonics) Nop;
+      first = shape_read page (before_first (nat_eq (byte ",")) written);
+      second = shape_read page (after_first (nat_eq (byte ",")) written);
+    }
+
+-- a row: its form, its code, its time where it is taken or repeats, its other time, and what it does in its group
+abbrev pub row : {Does : Type 0} → String → String → ℕ → ℕ → Does → Page → (Does → Effect) → Row
+row form code ticks ticks_other does page group =
+    record {
+      pattern = pattern_read page (codes code);
+      operands = form_read page (codes form);
+      ticks = ticks;
+      ticks_other = ticks_other;
+      effect = group does;
+    }
+
+-- the rows of a group of the manual on a page
+abbrev pub group_on : {Does : Type 0} → Page → (Does → Effect) → List (Page → (Does → Effect) → Row) → List Row
+group_on page group rows = map (λ some. some page group) rows
