@@ -1,7 +1,7 @@
 #!/usr/bin/env python3
-"""Plays the examples on MAME's Pac-Man board, and compares pictures and sound with those of `pacboard run`.
+"""Plays the examples on MAME's Pac-Man board, and compares what its bus writes show and sound with the outputs of `pacboard run`.
 
-    bench/beside_mame.py [PROGRAM] [NAME ..]
+    bench/beside_mame.py [--pictures] [PROGRAM] [NAME ..]
 
 PROGRAM, a word with a slash in it, is crates/pacboard/out/pacboard where none is given, which `./run-example --proved` builds. NAME is
 starfall, sunset, welcome or hello, and all four where none is given. It needs MAME, on the PATH or in /usr/games: Debian's package
@@ -12,6 +12,10 @@ the memory map and the interrupts. Its Lua notes each byte that the processor wr
 instruction began, and answers what the script of the example holds where an input is read. What the board draws and sounds of these
 writes is worked out here, by the pages in docs/ alone: a line of the picture at each line's moment, a sample each 32 T-states. MAME's
 own picture and sound aren't looked at. Not followed are a reset by the watchdog, and programs that run outside of 0000H to 3FFFH.
+
+With --pictures MAME's own pictures are looked at, and nothing else. A frame passes where MAME's picture is what its writes show by the pages
+with MAME's four rules in place of ours (`Board.drawn_by_mame`); how many differ from those of `pacboard run` is printed. A fifth program is
+played then, bench/edges.asm, whose sprites go over each edge, upright and flipped.
 
 One thing of MAME's is put right. It counts time in whole attoseconds, rounded down for its screen and for its processor, so that its
 frame is 50,688 attoseconds shorter than 50,688 of its T-states, and its processor does only whole T-states up to a blank. So where a
@@ -38,6 +42,7 @@ import judge_picture
 
 EXAMPLES = f"{ROOT}/examples"
 NAMES = ["starfall", "sunset", "welcome", "hello"]
+EDGES = "edges"  # in the folder of this script
 MAME = shutil.which("mame", path=os.environ.get("PATH", os.defpath) + ":/usr/games")
 
 # The files of MAME's set: ours for the sockets of tiles, sprites, colours, lookup and waves, and a quarter of the program each. The
@@ -111,12 +116,23 @@ writes = bus:install_write_tap(0x4000, 0xffff, "writes", function(address, data,
     log:write(string.pack("<I8I2B", began(), address, data))
 end)
 """
+# What it does besides where MAME's pictures are wanted: each is written down as it is done.
+PICTURES = """
+local pictures = assert(io.open(%(pictures)r, "wb"))
+local screen = manager.machine.screens[":screen"]
+emu.register_frame_done(function() pictures:write((screen:pixels())) end)
+"""
+
+
+def path_of(name, kind):
+    """A file of a program."""
+    return f"{ROOT}/bench/{name}.{kind}" if name == EDGES else f"{EXAMPLES}/{name}.{kind}"
 
 
 def script_of(name):
     """The script of an example: for how many frames which bytes the two input ports give."""
     parts = []
-    with open(f"{EXAMPLES}/{name}.script") as file:
+    with open(path_of(name, "script")) as file:
         for line in file:
             words = line.split()
             if words and not words[0].startswith("#"):
@@ -129,9 +145,9 @@ def script_of(name):
 def run_ours(program, name, folder):
     """Has `pacboard` assemble and play an example: its program ROM, its frames and its wave, the files' bytes."""
     at = lambda kind: f"{folder}/{name}.{kind}"
-    source = f"{EXAMPLES}/{name}.asm"
+    source = path_of(name, "asm")
     subprocess.run([program, "asm", source, "--rom", at("rom"), "--listing", at("txt")], check=True)
-    words = [program, "run", "--set", f"{EXAMPLES}/set.toml", "--source", source, "--script", f"{EXAMPLES}/{name}.script"]
+    words = [program, "run", "--set", f"{EXAMPLES}/set.toml", "--source", source, "--script", path_of(name, "script")]
     words += ["--frames", at("ppm"), "--wave", at("wav"), "--listing", at("txt")]
     subprocess.run(words, check=True, stdout=subprocess.DEVNULL)
     files = []
@@ -141,7 +157,7 @@ def run_ours(program, name, folder):
     return files
 
 
-def run_mame(name, rom, script, folder):
+def run_mame(name, rom, script, folder, has_pictures=False):
     """Has MAME play a program ROM: all writes, in order, as the T-state at which their instruction began, address and byte."""
     room = f"{folder}/{name}"
     os.makedirs(f"{room}/roms/pacman")
@@ -150,11 +166,12 @@ def run_mame(name, rom, script, folder):
     for at, file in enumerate(QUARTERS):
         with open(f"{room}/roms/pacman/{file}", "wb") as quarter:
             quarter.write(rom[4096 * at : 4096 * (at + 1)])
-    frames = sum(part[0] for part in script)
+    frames = sum(part[0] for part in script) + has_pictures
     log = f"{room}/writes"
     held = ", ".join("{%d, %d, %d}" % part for part in script)
     with open(f"{room}/taps.lua", "w") as file:
         file.write(LUA % dict(log=log, held=held, frame=FRAME, second=SECOND, last=frames * FRAME + LINE, switches=SWITCHES))
+        file.write(PICTURES % dict(pictures=f"{room}/pictures") if has_pictures else "")
     words = [MAME, "pacman", "-rompath", f"{room}/roms", "-autoboot_script", f"{room}/taps.lua", "-autoboot_delay", "0"]
     words += ["-video", "none", "-sound", "none", "-nothrottle", "-skip_gameinfo", "-noreadconfig", "-homepath", room]
     words += ["-cfg_directory", room, "-nvram_directory", room, "-seconds_to_run", str(frames * FRAME // SECOND + 2)]
@@ -288,6 +305,24 @@ class Board:
         codes, palettes = bytes(ram[cell] for cell in cells), bytes(ram[0x400 + cell] for cell in cells)
         return line_of(codes, palettes, y % 8, tuple(sprites))
 
+    def drawn_by_mame(self):
+        """The lines of the picture that MAME draws at a blank, of all that was written till then: the flip turns the cells and leaves the
+        sprites, of which the first three are a row lower, and each is there a second time, 256 pixels to the left."""
+        lines = []
+        for y in range(HEIGHT):
+            of_cells = HEIGHT - 1 - y if self.latch[3] else y
+            cells, ram = CELLS[of_cells // 8], self.ram
+            line = line_of(bytes(ram[cell] for cell in cells), bytes(ram[0x400 + cell] for cell in cells), of_cells % 8, ())
+            line = bytearray(line[::-1] if self.latch[3] else line)
+            for at in range(14, -1, -2):
+                row = y - self.places[at] + 31 - (at < 6)
+                for left in (272 - self.places[at + 1], 16 - self.places[at + 1]) if 0 <= row < 16 else ():
+                    for x, number in enumerate(sprite_row(ram[0xFF0 + at], ram[0xFF1 + at] & 31, row), left):
+                        if number and 16 <= x < WIDTH - 16:
+                            line[x] = number
+            lines.append(bytes(line))
+        return lines
+
 
 def image_of(lines):
     """The file of a picture's lines of colour numbers."""
@@ -321,6 +356,40 @@ def different_pixels(image, other):
     return sum(image[at : at + 3] != other[at : at + 3] for at in range(len(HEAD), IMAGE, 3))
 
 
+def of_mame(pixels):
+    """The file of a picture that MAME gives in words of blue, green, red and another byte."""
+    rows = bytearray(3 * WIDTH * HEIGHT)
+    for channel in range(3):
+        rows[channel::3] = pixels[2 - channel :: 4]
+    return HEAD + bytes(rows)
+
+
+def compare_pictures(program, name, folder):
+    """Looks at MAME's own pictures of an example: how many are what MAME's rules make of its writes, and how many aren't."""
+    print(f"{name}: pacboard plays", flush=True)
+    rom, ours, _ = run_ours(program, name, folder)
+    script = script_of(name)
+    writes = [write for write in run_mame(name, rom, script, folder, True) if write[1]]
+    board, at, alike, others, different, told = Board(), 0, 0, 0, 0, time.monotonic()
+    with open(f"{folder}/{name}/pictures", "rb") as file:
+        file.read(4 * WIDTH * HEIGHT)  # (what the screen has before the first blank)
+        for frame in range(sum(part[0] for part in script)):
+            while at < len(writes) and writes[at][0] < FRAME * (frame + 1):
+                board.write(*writes[at][1:])
+                at += 1
+            image = of_mame(file.read(4 * WIDTH * HEIGHT))
+            is_alike = image == image_of(board.drawn_by_mame())
+            alike, others = alike + is_alike, others + (not is_alike)
+            different += image != ours[frame * IMAGE : (frame + 1) * IMAGE]
+            if not is_alike:
+                print(f"FAILED: {name}, frame {frame + 1}: MAME's picture isn't what its rules make of its writes", flush=True)
+            if time.monotonic() - told > 1:
+                told = time.monotonic()
+                print(f"{name}: looked at {frame + 1} frames", flush=True)
+    print(f"{name}: MAME's own pictures differ from ours in {different} of {alike + others} frames", flush=True)
+    return alike, others
+
+
 def compare(program, name, folder):
     """Plays an example on both boards, and tells what differs: how many of its frames are alike, and how many aren't."""
     print(f"{name}: pacboard plays", flush=True)
@@ -351,15 +420,17 @@ def compare(program, name, folder):
 
 def main():
     """Compares the examples that the words name."""
-    words = sys.argv[1:]
+    words = [word for word in sys.argv[1:] if word != "--pictures"]
     if "--help" in words:
         print(__doc__.strip())
         return 0
     program = os.path.realpath(next((word for word in words if "/" in word), f"{ROOT}/crates/pacboard/out/pacboard"))
-    names = [word for word in words if "/" not in word] or NAMES
+    has_pictures = words != sys.argv[1:]
+    known = [*NAMES, EDGES] if has_pictures else NAMES
+    names = [word for word in words if "/" not in word] or known
     wrong = None
-    if not set(names) <= set(NAMES):
-        wrong = f"the names are {', '.join(NAMES)}"
+    if not set(names) <= set(known):
+        wrong = f"the names are {', '.join(known)}"
     elif not os.access(program, os.X_OK):
         wrong = f"{program} isn't there; ./run-example --proved builds it"
     elif not MAME:
@@ -370,7 +441,7 @@ def main():
     passed, failed = 0, 0
     with tempfile.TemporaryDirectory() as folder:
         for name in names:
-            alike, others = compare(program, name, folder)
+            alike, others = (compare_pictures if has_pictures else compare)(program, name, folder)
             passed, failed = passed + alike, failed + others
     print(f"{passed} passed, {failed} failed")
     return 1 if failed else 0
