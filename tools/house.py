@@ -20,7 +20,7 @@ ITEM = re.compile(r"( *)(?:pub(?:\([a-z]+\))? )?(?:unsafe )?(struct|enum|trait|t
 IMPL = re.compile(r"( *)impl\b(?:<.*?>)? (?:(\w+)(?:<.*>)? for )?&?(?:mut )?(\w+)")
 FUNCTION = re.compile(r'( *)((?:pub(?:\([a-z]+\))? )?)(?:const )?(?:unsafe )?(?:extern "C" )?fn (\w+)')
 CLAUSE = re.compile(r"\b(requires|ensures)\b *(?:\*? *)?([\w-]*) *\{|\bghost ([\w-]+)(:| =) *\{")
-IMPL_MEMBER = re.compile(r"⟦<(.*?)>⟧", re.S)
+IMPL_MEMBER = re.compile(r"⟦<(.*?)>⟧\.([\w-]+)", re.S)
 KIT = "kit"
 
 
@@ -343,10 +343,10 @@ class House:
         plain = CLAUSE.split(header)[0]
         found = dict.fromkeys(self.clause_citations(source, header, bound))
         found.update(dict.fromkeys(self.types_in(plain, source)))
-        for named in IMPL_MEMBER.findall(header):
+        for named, member in IMPL_MEMBER.findall(header):
             found.update(dict.fromkeys(self.types_in(named, source)))
             for impl in self.impls(named):
-                found.update(dict.fromkeys(self.clause_citations(impl, ghosts_of(impl), frozenset())))
+                found.update(dict.fromkeys(self.clause_citations(impl, member_of(impl, member), frozenset())))
         return list(found)
 
     def impls(self, named: str) -> list[Source]:
@@ -413,9 +413,11 @@ def clauses_of(text: str) -> Iterator[tuple[str, str]]:
         at = end
 
 
-def ghosts_of(source: Source) -> str:
-    """The ghost members of an impl, without the clauses of its functions."""
-    return "\n".join(f"ghost {name} = {{{clause}}}" for name, clause in clauses_of(source.text()) if re.search(rf"ghost {name} =", source.text()))
+def member_of(source: Source, member: str) -> str:
+    """A ghost member of an impl."""
+    text = source.text()
+    is_there = re.search(rf"\bghost {member} =", text)
+    return "\n".join(f"ghost {name} = {{{clause}}}" for name, clause in clauses_of(text) if is_there and name == member)
 
 
 def without_ghosts(text: str) -> str:
