@@ -2,7 +2,7 @@
 
 ghost use Rattle.std.specs.Prelude.{◌≡◌, ◌+ℤ◌, ◌-ℤ◌, pos};
 ghost use Rattle.pac_alu.specs.Flags.{IsCarry, overflows};
-ghost use Rattle.pac_alu.specs.Arithmetic.{sum_of, difference_of, logic_of, field_operation, arithmetic_of, increment_of};
+ghost use Rattle.pac_alu.specs.Arithmetic.{sum_flags, sum_of, difference_flags, difference_of, logic_of, field_operation, arithmetic_of, increment_of};
 ghost use Rattle.pac_alu.specs.Arithmetic.{decrement_of, negation_of, complement_of, decimal_of};
 ghost use Rattle.pac_alu.specs.Arithmetic.{corrects_low, corrects_high, adjusted_of, adjusted_half_carry};
 ghost use Rattle.pac_num.specs.Numbers.{signed_of_byte};
@@ -73,25 +73,50 @@ fn difference_overflows(a: u8, operand: u8, carry: u8) -> bool
     lifted + 128 < taken || taken + 127 < lifted
 }
 
-/// ADD and ADC.
+/// The flags of ADD and ADC.
 #[inline(always)]
-#[tactic(auto, unfolding(crate::specs::Arithmetic::sum_of))]
-fn sum(a: u8, operand: u8, carry: u8, f: u8) -> ByteResult
-    ensures { result ≡ sum_of a operand carry f }
+fn sum_flags(a: u8, operand: u8, carry: u8) -> Flags
+    ensures { result ≡ sum_flags a operand carry }
 {
     let whole = a as u16 + operand as u16 + carry as u16;
     let value = (whole % 256) as u8;
-    let flags = Flags {
+    Flags {
         sign: 128 <= value,
         zero: value == 0,
         half_carry: 15 < a as u16 % 16 + operand as u16 % 16 + carry as u16,
         parity_overflow: sum_overflows(a, operand, carry),
         subtract: false,
         carry: 255 < whole,
-    };
+    }
+}
+
+/// ADD and ADC.
+#[inline(always)]
+#[tactic(auto, unfolding(crate::specs::Arithmetic::sum_of))]
+fn sum(a: u8, operand: u8, carry: u8, f: u8) -> ByteResult
+    ensures { result ≡ sum_of a operand carry f }
+{
     ByteResult {
-        value,
-        f: flags.byte(f),
+        value: ((a as u16 + operand as u16 + carry as u16) % 256) as u8,
+        f: sum_flags(a, operand, carry).byte(f),
+    }
+}
+
+/// The flags of SUB and SBC.
+#[inline(always)]
+pub(crate) fn difference_flags(a: u8, operand: u8, carry: u8) -> Flags
+    requires { IsCarry carry }
+    ensures { result ≡ difference_flags a operand carry }
+{
+    let taken = operand as u16 + carry as u16;
+    let value = ((256 + a as u16 - taken) % 256) as u8;
+    Flags {
+        sign: 128 <= value,
+        zero: value == 0,
+        half_carry: a % 16 < operand % 16 + carry,
+        parity_overflow: difference_overflows(a, operand, carry),
+        subtract: true,
+        carry: (a as u16) < taken,
     }
 }
 
@@ -103,18 +128,9 @@ fn difference(a: u8, operand: u8, carry: u8, f: u8) -> ByteResult
     ensures { result ≡ difference_of a operand carry f }
 {
     let taken = operand as u16 + carry as u16;
-    let value = ((256 + a as u16 - taken) % 256) as u8;
-    let flags = Flags {
-        sign: 128 <= value,
-        zero: value == 0,
-        half_carry: a % 16 < operand % 16 + carry,
-        parity_overflow: difference_overflows(a, operand, carry),
-        subtract: true,
-        carry: (a as u16) < taken,
-    };
     ByteResult {
-        value,
-        f: flags.byte(f),
+        value: ((256 + a as u16 - taken) % 256) as u8,
+        f: difference_flags(a, operand, carry).byte(f),
     }
 }
 
@@ -157,17 +173,12 @@ pub fn arithmetic(operation: ByteOperation, a: u8, operand: u8, f: u8) -> ByteRe
 pub fn increment(byte: u8, f: u8) -> ByteResult
     ensures { result ≡ increment_of byte f }
 {
-    let value = ((byte as u16 + 1) % 256) as u8;
     let flags = Flags {
-        sign: 128 <= value,
-        zero: value == 0,
-        half_carry: 15 < byte % 16 + 1,
-        parity_overflow: byte == 127,
-        subtract: false,
         carry: Flags::of(f).carry,
+        ..sum_flags(byte, 1, 0)
     };
     ByteResult {
-        value,
+        value: ((byte as u16 + 1) % 256) as u8,
         f: flags.byte(f),
     }
 }
@@ -178,17 +189,12 @@ pub fn increment(byte: u8, f: u8) -> ByteResult
 pub fn decrement(byte: u8, f: u8) -> ByteResult
     ensures { result ≡ decrement_of byte f }
 {
-    let value = ((byte as u16 + 255) % 256) as u8;
     let flags = Flags {
-        sign: 128 <= value,
-        zero: value == 0,
-        half_carry: byte % 16 < 1,
-        parity_overflow: byte == 128,
-        subtract: true,
         carry: Flags::of(f).carry,
+        ..difference_flags(byte, 1, 0)
     };
     ByteResult {
-        value,
+        value: ((byte as u16 + 255) % 256) as u8,
         f: flags.byte(f),
     }
 }
@@ -199,19 +205,7 @@ pub fn decrement(byte: u8, f: u8) -> ByteResult
 pub fn negate(a: u8, f: u8) -> ByteResult
     ensures { result ≡ negation_of a f }
 {
-    let value = ((256 - a as u16) % 256) as u8;
-    let flags = Flags {
-        sign: 128 <= value,
-        zero: value == 0,
-        half_carry: 0 < a % 16,
-        parity_overflow: a == 128,
-        subtract: true,
-        carry: a != 0,
-    };
-    ByteResult {
-        value,
-        f: flags.byte(f),
-    }
+    difference(0, a, 0, f)
 }
 
 /// A and F after CPL.

@@ -3,6 +3,7 @@
 ghost use Rattle.std.specs.Prelude.{◌≡◌};
 ghost use Rattle.pac_alu.specs.Transfer.{input_flags_of, control_load_flags_of, copy_flags_of, search_flags_of, port_flags_of};
 
+use crate::bytes::difference_flags;
 use crate::flag_byte::{Flags, parity_flags};
 
 /// F after IN r,(C) read this byte.
@@ -52,14 +53,10 @@ pub fn copy_flags(count: u16, f: u8) -> u8
 pub fn search_flags(a: u8, byte: u8, count: u16, f: u8) -> u8
     ensures { result ≡ search_flags_of a byte count f }
 {
-    let value = ((256 + a as u16 - byte as u16) % 256) as u8;
     let flags = Flags {
-        sign: 128 <= value,
-        zero: value == 0,
-        half_carry: a % 16 < byte % 16,
         parity_overflow: count != 0,
-        subtract: true,
-        ..Flags::of(f)
+        carry: Flags::of(f).carry,
+        ..difference_flags(a, byte, 0)
     };
     flags.byte(f)
 }

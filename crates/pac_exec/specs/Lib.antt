@@ -13,7 +13,6 @@ pub mod BitOperations
 pub mod Jumps
 pub mod Calls
 pub mod Ports
-pub mod SpecialLoads
 pub mod Blocks
 pub mod Effect
 pub use Rattle.pac_table.specs.declared.effects.InterruptMode

@@ -1,6 +1,6 @@
 //! Single bits of registers and cells (UM0080, "Bit Set, Reset, and Test Group").
 
-ghost use Rattle.pac_exec.specs.BitOperations.{bit_operation_effect, test_bit_transition, reset_bit_transition, set_bit_transition};
+ghost use Rattle.pac_exec.specs.BitOperations.{bit_operation_effect};
 ghost use Rattle.pac_exec.specs.Transition.{DoesTransition, DoesInRegisters};
 
 use crate::places::{get, put_byte};
@@ -9,8 +9,9 @@ use pac_bus::Bus;
 use pac_table::{BitOperation, BytePlace, Instr};
 
 /// BIT.
+#[tactic(auto, unfolding(crate::specs::BitOperations::bit_operation_effect))]
 fn test_bit<B: Bus>(place: BytePlace, instr: &Instr, regs: &mut Regs, bus: &B) -> u8
-    ensures { DoesInRegisters (test_bit_transition place instr.now regs.old (B.byte_at bus.now)) regs.new result }
+    ensures { DoesInRegisters (bit_operation_effect (BitOperation.Test place) instr.now regs.old (B.byte_at bus.now)) regs.new result }
 {
     let byte = get(place, instr, regs, bus);
     regs.f = pac_alu::test_bit(byte, instr.p(), regs.f);
@@ -18,16 +19,20 @@ fn test_bit<B: Bus>(place: BytePlace, instr: &Instr, regs: &mut Regs, bus: &B) -
 }
 
 /// RES.
+#[tactic(auto, unfolding(crate::specs::BitOperations::bit_operation_effect))]
 fn reset_bit<B: Bus>(place: BytePlace, instr: &Instr, regs: &mut Regs, bus: &mut B) -> u8
-    ensures { DoesTransition B.after (reset_bit_transition place instr.now regs.old (B.byte_at bus.old)) bus.old regs.new bus.new result }
+    ensures { DoesTransition B.after (bit_operation_effect (BitOperation.Reset place) instr.now regs.old (B.byte_at bus.old)) bus.old
+        regs.new bus.new result }
 {
     let byte = pac_alu::reset_bit(get(place, instr, regs, bus), instr.p());
     put_byte(place, byte, instr, regs, bus)
 }
 
 /// SET.
+#[tactic(auto, unfolding(crate::specs::BitOperations::bit_operation_effect))]
 fn set_bit<B: Bus>(place: BytePlace, instr: &Instr, regs: &mut Regs, bus: &mut B) -> u8
-    ensures { DoesTransition B.after (set_bit_transition place instr.now regs.old (B.byte_at bus.old)) bus.old regs.new bus.new result }
+    ensures { DoesTransition B.after (bit_operation_effect (BitOperation.Set place) instr.now regs.old (B.byte_at bus.old)) bus.old
+        regs.new bus.new result }
 {
     let byte = pac_alu::set_bit(get(place, instr, regs, bus), instr.p());
     put_byte(place, byte, instr, regs, bus)

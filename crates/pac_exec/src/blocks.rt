@@ -1,6 +1,8 @@
 //! Block instructions, one byte at a time (UM0080, "Exchange, Block Transfer, and Search Group" and "Input and Output Group").
 
-ghost use Rattle.std.specs.Prelude.{◌≡◌, []};
+ghost use Rattle.std.specs.Prelude.{◌≡◌, [], ◌∷◌};
+ghost use Rattle.pac_bus.specs.Action.{Write, Output};
+ghost use Rattle.pac_exec.specs.Registers.{hl};
 ghost use Rattle.pac_exec.specs.Blocks as blocks;
 ghost use Rattle.pac_exec.specs.Blocks.{DoesIteration};
 ghost use Rattle.pac_exec.specs.Transition.{DoesTransition};
@@ -63,7 +65,8 @@ fn count_byte(direction: Direction, regs: &mut Regs) -> bool
 
 /// One byte of INI or IND; whether another one follows where the instruction repeats.
 fn take_in<B: Bus>(direction: Direction, regs: &mut Regs, bus: &mut B) -> bool
-    ensures { DoesIteration B.after (blocks.input_iteration direction regs.old (B.input_at bus.old)) bus.old regs.new bus.new result }
+    ensures { DoesIteration B.after (blocks.port_iteration direction (Write (hl regs.old) (B.input_at bus.old regs.old.c) ∷ []) regs.old)
+        bus.old regs.new bus.new result }
 {
     bus.write(regs.hl(), bus.input(regs.c));
     count_byte(direction, regs)
@@ -71,7 +74,8 @@ fn take_in<B: Bus>(direction: Direction, regs: &mut Regs, bus: &mut B) -> bool
 
 /// One byte of OUTI or OUTD; whether another one follows where the instruction repeats.
 fn give_out<B: Bus>(direction: Direction, regs: &mut Regs, bus: &mut B) -> bool
-    ensures { DoesIteration B.after (blocks.output_iteration direction regs.old (B.byte_at bus.old)) bus.old regs.new bus.new result }
+    ensures { DoesIteration B.after (blocks.port_iteration direction (Output regs.old.c (B.byte_at bus.old (hl regs.old)) ∷ []) regs.old)
+        bus.old regs.new bus.new result }
 {
     bus.output(regs.c, bus.read(regs.hl()));
     count_byte(direction, regs)

@@ -1,7 +1,9 @@
 //! Arithmetic of 8 bits and of the carry (UM0080, "8-Bit Arithmetic Group" and "General-Purpose Arithmetic and CPU Control Groups").
 
-ghost use Rattle.pac_exec.specs.ByteArithmetic.{byte_arithmetic_effect, outcome_in_accumulator, outcome_in_place, alu_transition, increment_transition, decrement_transition, decimal_adjust_transition, complement_transition, negate_transition, set_carry_transition, complement_carry_transition};
-ghost use Rattle.pac_exec.specs.Transition.{DoesTransition, DoesInRegisters};
+ghost use Rattle.pac_table.specs.Instructions.{ticks_of};
+ghost use Rattle.pac_alu.specs.Arithmetic.{decimal_of, complement_of, negation_of, carry_set_of, carry_flipped_of};
+ghost use Rattle.pac_exec.specs.ByteArithmetic.{byte_arithmetic_effect, outcome_in_accumulator, outcome_in_place};
+ghost use Rattle.pac_exec.specs.Transition.{DoesTransition, DoesInRegisters, registers_alone};
 
 use crate::places::{get, put};
 use crate::regs::Regs;
@@ -37,8 +39,9 @@ pub fn put_in_place<B: Bus>(
 
 /// ADD, ADC, SUB, SBC, AND, XOR, OR and CP.
 #[inline(always)]
+#[tactic(auto, unfolding(crate::specs::ByteArithmetic::byte_arithmetic_effect))]
 fn alu<B: Bus>(place: BytePlace, instr: &Instr, regs: &mut Regs, bus: &B) -> u8
-    ensures { DoesInRegisters (alu_transition place instr.now regs.old (B.byte_at bus.now)) regs.new result }
+    ensures { DoesInRegisters (byte_arithmetic_effect (ByteArithmetic.Alu place) instr.now regs.old (B.byte_at bus.now)) regs.new result }
 {
     let operand = get(place, instr, regs, bus);
     let operation = ByteOperation::from_field(instr.p());
@@ -48,8 +51,10 @@ fn alu<B: Bus>(place: BytePlace, instr: &Instr, regs: &mut Regs, bus: &B) -> u8
 
 /// INC of a byte.
 #[inline(always)]
+#[tactic(auto, unfolding(crate::specs::ByteArithmetic::byte_arithmetic_effect))]
 fn increment<B: Bus>(place: BytePlace, instr: &Instr, regs: &mut Regs, bus: &mut B) -> u8
-    ensures { DoesTransition B.after (increment_transition place instr.now regs.old (B.byte_at bus.old)) bus.old regs.new bus.new result }
+    ensures { DoesTransition B.after (byte_arithmetic_effect (ByteArithmetic.Increment place) instr.now regs.old (B.byte_at bus.old))
+        bus.old regs.new bus.new result }
 {
     let outcome = pac_alu::increment(get(place, instr, regs, bus), regs.f);
     put_in_place(outcome, place, instr, regs, bus)
@@ -57,8 +62,10 @@ fn increment<B: Bus>(place: BytePlace, instr: &Instr, regs: &mut Regs, bus: &mut
 
 /// DEC of a byte.
 #[inline(always)]
+#[tactic(auto, unfolding(crate::specs::ByteArithmetic::byte_arithmetic_effect))]
 fn decrement<B: Bus>(place: BytePlace, instr: &Instr, regs: &mut Regs, bus: &mut B) -> u8
-    ensures { DoesTransition B.after (decrement_transition place instr.now regs.old (B.byte_at bus.old)) bus.old regs.new bus.new result }
+    ensures { DoesTransition B.after (byte_arithmetic_effect (ByteArithmetic.Decrement place) instr.now regs.old (B.byte_at bus.old))
+        bus.old regs.new bus.new result }
 {
     let outcome = pac_alu::decrement(get(place, instr, regs, bus), regs.f);
     put_in_place(outcome, place, instr, regs, bus)
@@ -67,7 +74,7 @@ fn decrement<B: Bus>(place: BytePlace, instr: &Instr, regs: &mut Regs, bus: &mut
 /// DAA.
 #[inline(always)]
 fn decimal_adjust(instr: &Instr, regs: &mut Regs) -> u8
-    ensures { DoesInRegisters (decimal_adjust_transition instr.now regs.old) regs.new result }
+    ensures { DoesInRegisters (outcome_in_accumulator (decimal_of regs.old.a regs.old.f) instr.now regs.old) regs.new result }
 {
     let outcome = pac_alu::decimal_adjust(regs.a, regs.f);
     put_in_accumulator(outcome, instr, regs)
@@ -76,7 +83,7 @@ fn decimal_adjust(instr: &Instr, regs: &mut Regs) -> u8
 /// CPL.
 #[inline(always)]
 fn complement(instr: &Instr, regs: &mut Regs) -> u8
-    ensures { DoesInRegisters (complement_transition instr.now regs.old) regs.new result }
+    ensures { DoesInRegisters (outcome_in_accumulator (complement_of regs.old.a regs.old.f) instr.now regs.old) regs.new result }
 {
     let outcome = pac_alu::complement(regs.a, regs.f);
     put_in_accumulator(outcome, instr, regs)
@@ -85,7 +92,7 @@ fn complement(instr: &Instr, regs: &mut Regs) -> u8
 /// NEG.
 #[inline(always)]
 fn negate(instr: &Instr, regs: &mut Regs) -> u8
-    ensures { DoesInRegisters (negate_transition instr.now regs.old) regs.new result }
+    ensures { DoesInRegisters (outcome_in_accumulator (negation_of regs.old.a regs.old.f) instr.now regs.old) regs.new result }
 {
     let outcome = pac_alu::negate(regs.a, regs.f);
     put_in_accumulator(outcome, instr, regs)
@@ -94,7 +101,7 @@ fn negate(instr: &Instr, regs: &mut Regs) -> u8
 /// SCF.
 #[inline(always)]
 fn set_carry(instr: &Instr, regs: &mut Regs) -> u8
-    ensures { DoesInRegisters (set_carry_transition instr.now regs.old) regs.new result }
+    ensures { DoesInRegisters (registers_alone (record regs.old { f = carry_set_of regs.old.f }) (ticks_of instr.now)) regs.new result }
 {
     regs.f = pac_alu::set_carry(regs.f);
     instr.ticks()
@@ -103,7 +110,7 @@ fn set_carry(instr: &Instr, regs: &mut Regs) -> u8
 /// CCF.
 #[inline(always)]
 fn complement_carry(instr: &Instr, regs: &mut Regs) -> u8
-    ensures { DoesInRegisters (complement_carry_transition instr.now regs.old) regs.new result }
+    ensures { DoesInRegisters (registers_alone (record regs.old { f = carry_flipped_of regs.old.f }) (ticks_of instr.now)) regs.new result }
 {
     regs.f = pac_alu::complement_carry(regs.f);
     instr.ticks()

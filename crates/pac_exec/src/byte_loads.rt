@@ -1,8 +1,9 @@
 //! Loads of bytes, those between A and the registers I and R among them (UM0080, "8-Bit Load Group").
 
-ghost use Rattle.pac_exec.specs.ByteLoads.{byte_load_effect, load_transition};
-ghost use Rattle.pac_exec.specs.SpecialLoads.{load_from_special_transition, load_special_transition};
-ghost use Rattle.pac_exec.specs.Transition.{DoesTransition, DoesInRegisters};
+ghost use Rattle.pac_table.specs.Instructions.{ticks_of};
+ghost use Rattle.pac_alu.specs.Transfer.{control_load_flags_of};
+ghost use Rattle.pac_exec.specs.ByteLoads.{byte_load_effect, special_value, with_special};
+ghost use Rattle.pac_exec.specs.Transition.{DoesTransition, DoesInRegisters, registers_alone};
 
 use crate::places::{get, put_byte};
 use crate::regs::Regs;
@@ -11,6 +12,7 @@ use pac_table::{ByteLoad, BytePlace, Instr, Special};
 
 /// LD of a byte; its time in T-states.
 #[inline(always)]
+#[tactic(auto, unfolding(crate::specs::ByteLoads::byte_load_effect))]
 pub fn load<B: Bus>(
     to: BytePlace,
     from: BytePlace,
@@ -18,7 +20,8 @@ pub fn load<B: Bus>(
     regs: &mut Regs,
     bus: &mut B,
 ) -> u8
-    ensures { DoesTransition B.after (load_transition to from instr.now regs.old (B.byte_at bus.old)) bus.old regs.new bus.new result }
+    ensures { DoesTransition B.after (byte_load_effect (ByteLoad.Load to from) instr.now regs.old (B.byte_at bus.old)) bus.old regs.new
+        bus.new result }
 {
     let byte = get(from, instr, regs, bus);
     put_byte(to, byte, instr, regs, bus)
@@ -26,7 +29,11 @@ pub fn load<B: Bus>(
 
 /// LD A,I and LD A,R; R has counted the instruction's own fetches.
 fn load_from_special(special: Special, instr: &Instr, regs: &mut Regs) -> u8
-    ensures { DoesInRegisters (load_from_special_transition special instr.now regs.old) regs.new result }
+    ensures { DoesInRegisters (registers_alone (record regs.old {
+      a = special_value special regs.old;
+      f = control_load_flags_of
+          (special_value special regs.old) regs.old.iff2 regs.old.f;
+    }) (ticks_of instr.now)) regs.new result }
 {
     regs.a = match special {
         Special::Interrupt => regs.i,
@@ -38,7 +45,7 @@ fn load_from_special(special: Special, instr: &Instr, regs: &mut Regs) -> u8
 
 /// LD I,A and LD R,A, which sets all eight bits of R.
 fn load_special(special: Special, instr: &Instr, regs: &mut Regs) -> u8
-    ensures { DoesInRegisters (load_special_transition special instr.now regs.old) regs.new result }
+    ensures { DoesInRegisters (registers_alone (with_special special regs.old regs.old.a) (ticks_of instr.now)) regs.new result }
 {
     match special {
         Special::Interrupt => regs.i = regs.a,

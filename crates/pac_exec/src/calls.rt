@@ -1,6 +1,7 @@
 //! Calls and returns (UM0080, "Call and Return Group"). PC stands after the code. The time is the shorter one where a condition isn't met.
 
-ghost use Rattle.pac_exec.specs.Calls.{call_effect, call_to_address, call_transition, call_if_transition, restart_transition, return_transition, return_if_transition, return_from_non_maskable_transition};
+ghost use Rattle.std.specs.Prelude.{◌*◌};
+ghost use Rattle.pac_exec.specs.Calls.{call_effect, call_to_address, return_transition};
 ghost use Rattle.pac_exec.specs.Transition.{DoesTransition, DoesInRegisters};
 
 use crate::jumps::meets_condition;
@@ -22,15 +23,16 @@ fn call_address<B: Bus>(address: u16, instr: &Instr, regs: &mut Regs, bus: &mut 
 /// CALL nn.
 #[inline(always)]
 fn call<B: Bus>(instr: &Instr, regs: &mut Regs, bus: &mut B) -> u8
-    ensures { DoesTransition B.after (call_transition instr.now regs.old) bus.old regs.new bus.new result }
+    ensures { DoesTransition B.after (call_to_address instr.now.word instr.now regs.old) bus.old regs.new bus.new result }
 {
     call_address(instr.word(), instr, regs, bus)
 }
 
 /// CALL cc,nn.
 #[inline(always)]
+#[tactic(auto, unfolding(crate::specs::Calls::call_effect))]
 fn call_if<B: Bus>(instr: &Instr, regs: &mut Regs, bus: &mut B) -> u8
-    ensures { DoesTransition B.after (call_if_transition instr.now regs.old) bus.old regs.new bus.new result }
+    ensures { DoesTransition B.after (call_effect Call.If instr.now regs.old (B.byte_at bus.old)) bus.old regs.new bus.new result }
 {
     if meets_condition(instr, regs) {
         call(instr, regs, bus)
@@ -42,7 +44,7 @@ fn call_if<B: Bus>(instr: &Instr, regs: &mut Regs, bus: &mut B) -> u8
 /// RST p.
 #[inline(always)]
 fn restart<B: Bus>(instr: &Instr, regs: &mut Regs, bus: &mut B) -> u8
-    ensures { DoesTransition B.after (restart_transition instr.now regs.old) bus.old regs.new bus.new result }
+    ensures { DoesTransition B.after (call_to_address (8 * instr.now.p) instr.now regs.old) bus.old regs.new bus.new result }
 {
     call_address(8 * instr.p() as u16, instr, regs, bus)
 }
@@ -58,8 +60,9 @@ fn return_to_caller<B: Bus>(instr: &Instr, regs: &mut Regs, bus: &B) -> u8
 
 /// RET cc.
 #[inline(always)]
+#[tactic(auto, unfolding(crate::specs::Calls::call_effect))]
 fn return_if<B: Bus>(instr: &Instr, regs: &mut Regs, bus: &B) -> u8
-    ensures { DoesInRegisters (return_if_transition instr.now regs.old (B.byte_at bus.now)) regs.new result }
+    ensures { DoesInRegisters (call_effect Call.ReturnIf instr.now regs.old (B.byte_at bus.now)) regs.new result }
 {
     if meets_condition(instr, regs) {
         return_to_caller(instr, regs, bus)
@@ -70,8 +73,9 @@ fn return_if<B: Bus>(instr: &Instr, regs: &mut Regs, bus: &B) -> u8
 
 /// RETN: IFF1 becomes IFF2.
 #[inline(always)]
+#[tactic(auto, unfolding(crate::specs::Calls::call_effect))]
 fn return_from_non_maskable<B: Bus>(instr: &Instr, regs: &mut Regs, bus: &B) -> u8
-    ensures { DoesInRegisters (return_from_non_maskable_transition instr.now regs.old (B.byte_at bus.now)) regs.new result }
+    ensures { DoesInRegisters (call_effect Call.ReturnFromNonMaskable instr.now regs.old (B.byte_at bus.now)) regs.new result }
 {
     regs.iff1 = regs.iff2;
     return_to_caller(instr, regs, bus)

@@ -1,14 +1,15 @@
 //! The processor's states (UM0080, "General-Purpose Arithmetic and CPU Control Groups").
 
-ghost use Rattle.pac_exec.specs.Control.{control_effect, halt_transition, disable_interrupts_transition, enable_interrupts_transition, set_interrupt_mode_transition};
-ghost use Rattle.pac_exec.specs.Transition.{DoesInRegisters};
+ghost use Rattle.pac_table.specs.Instructions.{ticks_of};
+ghost use Rattle.pac_exec.specs.Control.{control_effect, controlled_regs};
+ghost use Rattle.pac_exec.specs.Transition.{DoesInRegisters, registers_alone};
 
 use crate::regs::Regs;
 use pac_table::{Control, Instr, InterruptMode};
 
 /// HALT.
 fn halt(instr: &Instr, regs: &mut Regs) -> u8
-    ensures { DoesInRegisters (halt_transition instr.now regs.old) regs.new result }
+    ensures { DoesInRegisters (registers_alone (controlled_regs Control.Halt regs.old) (ticks_of instr.now)) regs.new result }
 {
     regs.halted = true;
     instr.ticks()
@@ -16,7 +17,7 @@ fn halt(instr: &Instr, regs: &mut Regs) -> u8
 
 /// DI.
 fn disable_interrupts(instr: &Instr, regs: &mut Regs) -> u8
-    ensures { DoesInRegisters (disable_interrupts_transition instr.now regs.old) regs.new result }
+    ensures { DoesInRegisters (registers_alone (controlled_regs Control.DisableInterrupts regs.old) (ticks_of instr.now)) regs.new result }
 {
     regs.iff1 = false;
     regs.iff2 = false;
@@ -25,7 +26,7 @@ fn disable_interrupts(instr: &Instr, regs: &mut Regs) -> u8
 
 /// EI.
 fn enable_interrupts(instr: &Instr, regs: &mut Regs) -> u8
-    ensures { DoesInRegisters (enable_interrupts_transition instr.now regs.old) regs.new result }
+    ensures { DoesInRegisters (registers_alone (controlled_regs Control.EnableInterrupts regs.old) (ticks_of instr.now)) regs.new result }
 {
     regs.iff1 = true;
     regs.iff2 = true;
@@ -35,7 +36,8 @@ fn enable_interrupts(instr: &Instr, regs: &mut Regs) -> u8
 
 /// IM.
 fn set_interrupt_mode(mode: InterruptMode, instr: &Instr, regs: &mut Regs) -> u8
-    ensures { DoesInRegisters (set_interrupt_mode_transition mode instr.now regs.old) regs.new result }
+    ensures { DoesInRegisters (registers_alone (controlled_regs (Control.SetInterruptMode mode) regs.old) (ticks_of instr.now)) regs.new
+        result }
 {
     regs.mode = mode;
     instr.ticks()

@@ -1,7 +1,9 @@
 //! The exchanges (UM0080, "Exchange, Block Transfer, and Search Group").
 
-ghost use Rattle.pac_exec.specs.Exchanges.{exchange_effect, exchange_de_hl_transition, exchange_af_transition, exchange_banks_transition, exchange_stack_top_transition};
-ghost use Rattle.pac_exec.specs.Transition.{DoesTransition, DoesInRegisters};
+ghost use Rattle.pac_table.specs.Instructions.{ticks_of};
+ghost use Rattle.pac_exec.specs.Registers.{with_other_af, with_other_bank};
+ghost use Rattle.pac_exec.specs.Exchanges.{exchange_effect};
+ghost use Rattle.pac_exec.specs.Transition.{DoesTransition, DoesInRegisters, registers_alone};
 
 use crate::pairs::{get_pair, read_word, set_pair};
 use crate::regs::Regs;
@@ -12,7 +14,8 @@ use std::mem::swap;
 
 /// EX DE,HL.
 fn exchange_de_hl(instr: &Instr, regs: &mut Regs) -> u8
-    ensures { DoesInRegisters (exchange_de_hl_transition instr.now regs.old) regs.new result }
+    ensures { DoesInRegisters (registers_alone (record regs.old { d = regs.old.h; e = regs.old.l; h = regs.old.d; l = regs.old.e })
+        (ticks_of instr.now)) regs.new result }
 {
     swap(&mut regs.d, &mut regs.h);
     swap(&mut regs.e, &mut regs.l);
@@ -21,7 +24,7 @@ fn exchange_de_hl(instr: &Instr, regs: &mut Regs) -> u8
 
 /// EX AF,AF'.
 fn exchange_af(instr: &Instr, regs: &mut Regs) -> u8
-    ensures { DoesInRegisters (exchange_af_transition instr.now regs.old) regs.new result }
+    ensures { DoesInRegisters (registers_alone (with_other_af regs.old) (ticks_of instr.now)) regs.new result }
 {
     regs.exchange_af();
     instr.ticks()
@@ -29,15 +32,17 @@ fn exchange_af(instr: &Instr, regs: &mut Regs) -> u8
 
 /// EXX.
 fn exchange_banks(instr: &Instr, regs: &mut Regs) -> u8
-    ensures { DoesInRegisters (exchange_banks_transition instr.now regs.old) regs.new result }
+    ensures { DoesInRegisters (registers_alone (with_other_bank regs.old) (ticks_of instr.now)) regs.new result }
 {
     regs.exchange_bank();
     instr.ticks()
 }
 
 /// EX (SP),HL.
+#[tactic(auto, unfolding(crate::specs::Exchanges::exchange_effect))]
 fn exchange_stack_top<B: Bus>(pair: Pair, instr: &Instr, regs: &mut Regs, bus: &mut B) -> u8
-    ensures { DoesTransition B.after (exchange_stack_top_transition pair instr.now regs.old (B.byte_at bus.old)) bus.old regs.new bus.new
+    ensures { DoesTransition B.after (exchange_effect (Exchange.StackTop pair) instr.now regs.old (B.byte_at bus.old)) bus.old regs.new
+        bus.new
         result }
 {
     let top = read_word(regs.sp, bus);

@@ -2,7 +2,7 @@
 
 ghost use Rattle.std.specs.Prelude.{◌≡◌};
 ghost use Rattle.pac_alu.specs.Flags.{field_condition, is_met};
-ghost use Rattle.pac_exec.specs.Jumps.{jump_effect, jump_transition, jump_if_transition, jump_to_pair_transition, jump_relative_transition, jump_relative_if_transition, decrement_and_jump_transition};
+ghost use Rattle.pac_exec.specs.Jumps.{jump_effect, jump_transition, jump_relative_transition};
 ghost use Rattle.pac_exec.specs.Transition.{DoesInRegisters};
 
 use crate::pairs::get_pair;
@@ -30,8 +30,9 @@ fn jump(instr: &Instr, regs: &mut Regs) -> u8
 
 /// JP cc,nn.
 #[inline(always)]
+#[tactic(auto, unfolding(crate::specs::Jumps::jump_effect))]
 fn jump_if(instr: &Instr, regs: &mut Regs) -> u8
-    ensures { DoesInRegisters (jump_if_transition instr.now regs.old) regs.new result }
+    ensures { DoesInRegisters (jump_effect Jump.If instr.now regs.old) regs.new result }
 {
     if meets_condition(instr, regs) {
         jump(instr, regs)
@@ -42,8 +43,9 @@ fn jump_if(instr: &Instr, regs: &mut Regs) -> u8
 
 /// JP (HL).
 #[inline(always)]
+#[tactic(auto, unfolding(crate::specs::Jumps::jump_effect))]
 fn jump_to_pair(pair: Pair, instr: &Instr, regs: &mut Regs) -> u8
-    ensures { DoesInRegisters (jump_to_pair_transition pair instr.now regs.old) regs.new result }
+    ensures { DoesInRegisters (jump_effect (Jump.ToPair pair) instr.now regs.old) regs.new result }
 {
     regs.pc = get_pair(pair, instr, regs);
     instr.ticks()
@@ -60,8 +62,9 @@ fn jump_relative(instr: &Instr, regs: &mut Regs) -> u8
 
 /// JR cc,e.
 #[inline(always)]
+#[tactic(auto, unfolding(crate::specs::Jumps::jump_effect))]
 fn jump_relative_if(instr: &Instr, regs: &mut Regs) -> u8
-    ensures { DoesInRegisters (jump_relative_if_transition instr.now regs.old) regs.new result }
+    ensures { DoesInRegisters (jump_effect Jump.RelativeIf instr.now regs.old) regs.new result }
 {
     if meets_condition(instr, regs) {
         jump_relative(instr, regs)
@@ -72,8 +75,9 @@ fn jump_relative_if(instr: &Instr, regs: &mut Regs) -> u8
 
 /// DJNZ e.
 #[inline(always)]
+#[tactic(auto, unfolding(crate::specs::Jumps::jump_effect))]
 fn decrement_and_jump(instr: &Instr, regs: &mut Regs) -> u8
-    ensures { DoesInRegisters (decrement_and_jump_transition instr.now regs.old) regs.new result }
+    ensures { DoesInRegisters (jump_effect Jump.DecrementAndJump instr.now regs.old) regs.new result }
 {
     regs.b = b_left(regs);
     if regs.b != 0 {

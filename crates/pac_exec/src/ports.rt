@@ -1,6 +1,6 @@
 //! Input and output (UM0080, "Input and Output Group"), without the block instructions.
 
-ghost use Rattle.pac_exec.specs.Ports.{port_effect, input_byte_transition, output_byte_transition, input_transition, output_transition};
+ghost use Rattle.pac_exec.specs.Ports.{port_effect};
 ghost use Rattle.pac_exec.specs.Transition.{DoesTransition, DoesInRegisters};
 
 use crate::regs::Regs;
@@ -9,24 +9,27 @@ use pac_num::low_byte;
 use pac_table::{Instr, Port};
 
 /// IN A,(n).
+#[tactic(auto, unfolding(crate::specs::Ports::port_effect))]
 fn input_byte<B: Bus>(instr: &Instr, regs: &mut Regs, bus: &B) -> u8
-    ensures { DoesInRegisters (input_byte_transition instr.now regs.old (B.input_at bus.now)) regs.new result }
+    ensures { DoesInRegisters (port_effect Port.InputByte instr.now regs.old (B.input_at bus.now)) regs.new result }
 {
     regs.a = bus.input(low_byte(instr.word()));
     instr.ticks()
 }
 
 /// OUT (n),A.
+#[tactic(auto, unfolding(crate::specs::Ports::port_effect))]
 fn output_byte<B: Bus>(instr: &Instr, regs: &Regs, bus: &mut B) -> u8
-    ensures { DoesTransition B.after (output_byte_transition instr.now regs.now) bus.old regs.now bus.new result }
+    ensures { DoesTransition B.after (port_effect Port.OutputByte instr.now regs.now (B.input_at bus.old)) bus.old regs.now bus.new result }
 {
     bus.output(low_byte(instr.word()), regs.a);
     instr.ticks()
 }
 
 /// IN r,(C).
+#[tactic(auto, unfolding(crate::specs::Ports::port_effect))]
 fn input<B: Bus>(instr: &Instr, regs: &mut Regs, bus: &B) -> u8
-    ensures { DoesInRegisters (input_transition instr.now regs.old (B.input_at bus.now)) regs.new result }
+    ensures { DoesInRegisters (port_effect Port.Input instr.now regs.old (B.input_at bus.now)) regs.new result }
 {
     let byte = bus.input(regs.c);
     regs.set_register(instr.p(), byte);
@@ -35,8 +38,9 @@ fn input<B: Bus>(instr: &Instr, regs: &mut Regs, bus: &B) -> u8
 }
 
 /// OUT (C),r.
+#[tactic(auto, unfolding(crate::specs::Ports::port_effect))]
 fn output<B: Bus>(instr: &Instr, regs: &Regs, bus: &mut B) -> u8
-    ensures { DoesTransition B.after (output_transition instr.now regs.now) bus.old regs.now bus.new result }
+    ensures { DoesTransition B.after (port_effect Port.Output instr.now regs.now (B.input_at bus.old)) bus.old regs.now bus.new result }
 {
     bus.output(regs.c, regs.register(instr.p()));
     instr.ticks()

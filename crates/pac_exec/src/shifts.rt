@@ -1,7 +1,9 @@
 //! Rotations and shifts (UM0080, "Rotate and Shift Group").
 
 ghost use Rattle.std.specs.Prelude.{◌≡◌};
-ghost use Rattle.pac_exec.specs.Shifts.{rotate_and_shift_effect, named_after, rotate_accumulator_transition, shift_transition, in_digits, rotate_digit_left_transition, rotate_digit_right_transition};
+ghost use Rattle.pac_alu.specs.Rotate.{accumulator_rotation_of};
+ghost use Rattle.pac_exec.specs.ByteArithmetic.{outcome_in_accumulator};
+ghost use Rattle.pac_exec.specs.Shifts.{rotate_and_shift_effect, named_after, in_digits};
 ghost use Rattle.pac_exec.specs.Transition.{DoesTransition, DoesInRegisters};
 
 use crate::byte_arithmetic::{put_in_accumulator, put_in_place};
@@ -25,15 +27,18 @@ fn shift_of_rotation(rotation: Rotation) -> Shift
 
 /// RLCA, RRCA, RLA and RRA.
 fn rotate_accumulator(rotation: Rotation, instr: &Instr, regs: &mut Regs) -> u8
-    ensures { DoesInRegisters (rotate_accumulator_transition rotation instr.now regs.old) regs.new result }
+    ensures { DoesInRegisters (outcome_in_accumulator (accumulator_rotation_of (named_after rotation) regs.old.a regs.old.f) instr.now
+        regs.old) regs.new result }
 {
     let outcome = pac_alu::rotate_accumulator(shift_of_rotation(rotation), regs.a, regs.f);
     put_in_accumulator(outcome, instr, regs)
 }
 
 /// RLC, RRC, RL, RR, SLA, SRA and SRL.
+#[tactic(auto, unfolding(crate::specs::Shifts::rotate_and_shift_effect))]
 fn shift<B: Bus>(place: BytePlace, instr: &Instr, regs: &mut Regs, bus: &mut B) -> u8
-    ensures { DoesTransition B.after (shift_transition place instr.now regs.old (B.byte_at bus.old)) bus.old regs.new bus.new result }
+    ensures { DoesTransition B.after (rotate_and_shift_effect (RotateAndShift.Shift place) instr.now regs.old (B.byte_at bus.old)) bus.old
+        regs.new bus.new result }
 {
     let byte = get(place, instr, regs, bus);
     let outcome = pac_alu::shift_byte(Shift::from_field(instr.p()), byte, regs.f);
@@ -51,16 +56,20 @@ fn put_digits<B: Bus>(digits: Digits, instr: &Instr, regs: &mut Regs, bus: &mut 
 }
 
 /// RLD.
+#[tactic(auto, unfolding(crate::specs::Shifts::rotate_and_shift_effect))]
 fn rotate_digit_left<B: Bus>(instr: &Instr, regs: &mut Regs, bus: &mut B) -> u8
-    ensures { DoesTransition B.after (rotate_digit_left_transition instr.now regs.old (B.byte_at bus.old)) bus.old regs.new bus.new result }
+    ensures { DoesTransition B.after (rotate_and_shift_effect RotateAndShift.RotateDigitLeft instr.now regs.old (B.byte_at bus.old))
+        bus.old regs.new bus.new result }
 {
     let digits = pac_alu::rotate_digits_left(regs.a, bus.read(regs.hl()), regs.f);
     put_digits(digits, instr, regs, bus)
 }
 
 /// RRD.
+#[tactic(auto, unfolding(crate::specs::Shifts::rotate_and_shift_effect))]
 fn rotate_digit_right<B: Bus>(instr: &Instr, regs: &mut Regs, bus: &mut B) -> u8
-    ensures { DoesTransition B.after (rotate_digit_right_transition instr.now regs.old (B.byte_at bus.old)) bus.old regs.new bus.new
+    ensures { DoesTransition B.after (rotate_and_shift_effect RotateAndShift.RotateDigitRight instr.now regs.old (B.byte_at bus.old))
+        bus.old regs.new bus.new
         result }
 {
     let digits = pac_alu::rotate_digits_right(regs.a, bus.read(regs.hl()), regs.f);

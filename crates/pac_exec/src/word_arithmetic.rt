@@ -1,7 +1,7 @@
 //! Arithmetic of 16 bits (UM0080, "16-Bit Arithmetic Group").
 
 ghost use Rattle.std.specs.Prelude.{◌≡◌};
-ghost use Rattle.pac_exec.specs.WordArithmetic.{word_arithmetic_effect, addend, outcome_in_pair, add_pair_transition, add_pair_with_carry_transition, subtract_pair_with_carry_transition, increment_pair_transition, decrement_pair_transition};
+ghost use Rattle.pac_exec.specs.WordArithmetic.{word_arithmetic_effect, addend, outcome_in_pair};
 ghost use Rattle.pac_exec.specs.Transition.{DoesInRegisters};
 
 use crate::pairs::{get_pair, set_pair};
@@ -33,8 +33,9 @@ fn put_in_pair(outcome: WordOutcome, pair: Pair, instr: &Instr, regs: &mut Regs)
 
 /// ADD HL,ss and ADD IX,pp.
 #[inline(always)]
+#[tactic(auto, unfolding(crate::specs::WordArithmetic::word_arithmetic_effect))]
 fn add_pair(pair: Pair, instr: &Instr, regs: &mut Regs) -> u8
-    ensures { DoesInRegisters (add_pair_transition pair instr.now regs.old) regs.new result }
+    ensures { DoesInRegisters (word_arithmetic_effect (WordArithmetic.AddPair pair) instr.now regs.old) regs.new result }
 {
     let word = get_pair(pair, instr, regs);
     let sum = pac_alu::add_words(word, addend_of(pair, instr, regs), regs.f);
@@ -43,8 +44,9 @@ fn add_pair(pair: Pair, instr: &Instr, regs: &mut Regs) -> u8
 
 /// ADC HL,ss.
 #[inline(always)]
+#[tactic(auto, unfolding(crate::specs::WordArithmetic::word_arithmetic_effect))]
 fn add_pair_with_carry(instr: &Instr, regs: &mut Regs) -> u8
-    ensures { DoesInRegisters (add_pair_with_carry_transition instr.now regs.old) regs.new result }
+    ensures { DoesInRegisters (word_arithmetic_effect WordArithmetic.AddPairWithCarry instr.now regs.old) regs.new result }
 {
     let sum = pac_alu::add_words_with_carry(regs.hl(), regs.pair(instr.p()), regs.f);
     put_in_pair(sum, Pair::Hl, instr, regs)
@@ -52,8 +54,9 @@ fn add_pair_with_carry(instr: &Instr, regs: &mut Regs) -> u8
 
 /// SBC HL,ss.
 #[inline(always)]
+#[tactic(auto, unfolding(crate::specs::WordArithmetic::word_arithmetic_effect))]
 fn subtract_pair_with_carry(instr: &Instr, regs: &mut Regs) -> u8
-    ensures { DoesInRegisters (subtract_pair_with_carry_transition instr.now regs.old) regs.new result }
+    ensures { DoesInRegisters (word_arithmetic_effect WordArithmetic.SubtractPairWithCarry instr.now regs.old) regs.new result }
 {
     let difference = pac_alu::subtract_words_with_carry(regs.hl(), regs.pair(instr.p()), regs.f);
     put_in_pair(difference, Pair::Hl, instr, regs)
@@ -61,8 +64,9 @@ fn subtract_pair_with_carry(instr: &Instr, regs: &mut Regs) -> u8
 
 /// INC of a pair.
 #[inline(always)]
+#[tactic(auto, unfolding(crate::specs::WordArithmetic::word_arithmetic_effect))]
 fn increment_pair(pair: Pair, instr: &Instr, regs: &mut Regs) -> u8
-    ensures { DoesInRegisters (increment_pair_transition pair instr.now regs.old) regs.new result }
+    ensures { DoesInRegisters (word_arithmetic_effect (WordArithmetic.IncrementPair pair) instr.now regs.old) regs.new result }
 {
     let word = pac_alu::increment_word(get_pair(pair, instr, regs));
     set_pair(pair, word, instr, regs);
@@ -71,8 +75,9 @@ fn increment_pair(pair: Pair, instr: &Instr, regs: &mut Regs) -> u8
 
 /// DEC of a pair.
 #[inline(always)]
+#[tactic(auto, unfolding(crate::specs::WordArithmetic::word_arithmetic_effect))]
 fn decrement_pair(pair: Pair, instr: &Instr, regs: &mut Regs) -> u8
-    ensures { DoesInRegisters (decrement_pair_transition pair instr.now regs.old) regs.new result }
+    ensures { DoesInRegisters (word_arithmetic_effect (WordArithmetic.DecrementPair pair) instr.now regs.old) regs.new result }
 {
     let word = pac_alu::decrement_word(get_pair(pair, instr, regs));
     set_pair(pair, word, instr, regs);

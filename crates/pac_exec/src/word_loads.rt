@@ -1,7 +1,9 @@
 //! Loads of 16 bits, the stack's among them (UM0080, "16-Bit Load Group").
 
-ghost use Rattle.pac_exec.specs.WordLoads.{word_load_effect, load_pair_transition, load_pair_from_memory_transition, store_pair_transition, load_stack_pointer_transition, push_transition, pop_transition};
-ghost use Rattle.pac_exec.specs.Transition.{DoesTransition, DoesInRegisters};
+ghost use Rattle.pac_table.specs.Instructions.{ticks_of};
+ghost use Rattle.pac_exec.specs.Pairs.{pair_value, with_pair};
+ghost use Rattle.pac_exec.specs.WordLoads.{word_load_effect};
+ghost use Rattle.pac_exec.specs.Transition.{DoesTransition, DoesInRegisters, registers_alone};
 
 use crate::pairs::{
     get_pair, get_stack_pair, pop_word, push_word, read_word, set_pair, set_stack_pair,
@@ -14,7 +16,7 @@ use pac_table::{Instr, Pair, WordLoad};
 /// LD dd,nn.
 #[inline(always)]
 fn load_pair(pair: Pair, instr: &Instr, regs: &mut Regs) -> u8
-    ensures { DoesInRegisters (load_pair_transition pair instr.now regs.old) regs.new result }
+    ensures { DoesInRegisters (registers_alone (with_pair pair instr.now regs.old instr.now.word) (ticks_of instr.now)) regs.new result }
 {
     set_pair(pair, instr.word(), instr, regs);
     instr.ticks()
@@ -22,8 +24,9 @@ fn load_pair(pair: Pair, instr: &Instr, regs: &mut Regs) -> u8
 
 /// LD dd,(nn).
 #[inline(always)]
+#[tactic(auto, unfolding(crate::specs::WordLoads::word_load_effect))]
 fn load_pair_from_memory<B: Bus>(pair: Pair, instr: &Instr, regs: &mut Regs, bus: &B) -> u8
-    ensures { DoesInRegisters (load_pair_from_memory_transition pair instr.now regs.old (B.byte_at bus.now)) regs.new result }
+    ensures { DoesInRegisters (word_load_effect (WordLoad.LoadPairFromMemory pair) instr.now regs.old (B.byte_at bus.now)) regs.new result }
 {
     set_pair(pair, read_word(instr.word(), bus), instr, regs);
     instr.ticks()
@@ -31,8 +34,10 @@ fn load_pair_from_memory<B: Bus>(pair: Pair, instr: &Instr, regs: &mut Regs, bus
 
 /// LD (nn),dd.
 #[inline(always)]
+#[tactic(auto, unfolding(crate::specs::WordLoads::word_load_effect))]
 fn store_pair<B: Bus>(pair: Pair, instr: &Instr, regs: &Regs, bus: &mut B) -> u8
-    ensures { DoesTransition B.after (store_pair_transition pair instr.now regs.now) bus.old regs.now bus.new result }
+    ensures { DoesTransition B.after (word_load_effect (WordLoad.StorePair pair) instr.now regs.now (B.byte_at bus.old)) bus.old regs.now
+        bus.new result }
 {
     let word = get_pair(pair, instr, regs);
     bus.write(instr.word(), low_byte(word));
@@ -43,7 +48,8 @@ fn store_pair<B: Bus>(pair: Pair, instr: &Instr, regs: &Regs, bus: &mut B) -> u8
 /// LD SP,HL.
 #[inline(always)]
 fn load_stack_pointer(pair: Pair, instr: &Instr, regs: &mut Regs) -> u8
-    ensures { DoesInRegisters (load_stack_pointer_transition pair instr.now regs.old) regs.new result }
+    ensures { DoesInRegisters (registers_alone (record regs.old { sp = pair_value pair instr.now regs.old }) (ticks_of instr.now))
+        regs.new result }
 {
     regs.sp = get_pair(pair, instr, regs);
     instr.ticks()
@@ -51,8 +57,10 @@ fn load_stack_pointer(pair: Pair, instr: &Instr, regs: &mut Regs) -> u8
 
 /// PUSH.
 #[inline(always)]
+#[tactic(auto, unfolding(crate::specs::WordLoads::word_load_effect))]
 fn push<B: Bus>(pair: Pair, instr: &Instr, regs: &mut Regs, bus: &mut B) -> u8
-    ensures { DoesTransition B.after (push_transition pair instr.now regs.old) bus.old regs.new bus.new result }
+    ensures { DoesTransition B.after (word_load_effect (WordLoad.Push pair) instr.now regs.old (B.byte_at bus.old)) bus.old regs.new
+        bus.new result }
 {
     push_word(get_stack_pair(pair, instr, regs), regs, bus);
     instr.ticks()
@@ -60,8 +68,9 @@ fn push<B: Bus>(pair: Pair, instr: &Instr, regs: &mut Regs, bus: &mut B) -> u8
 
 /// POP.
 #[inline(always)]
+#[tactic(auto, unfolding(crate::specs::WordLoads::word_load_effect))]
 fn pop<B: Bus>(pair: Pair, instr: &Instr, regs: &mut Regs, bus: &B) -> u8
-    ensures { DoesInRegisters (pop_transition pair instr.now regs.old (B.byte_at bus.now)) regs.new result }
+    ensures { DoesInRegisters (word_load_effect (WordLoad.Pop pair) instr.now regs.old (B.byte_at bus.now)) regs.new result }
 {
     set_stack_pair(pair, pop_word(regs, bus), instr, regs);
     instr.ticks()
