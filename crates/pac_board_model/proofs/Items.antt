@@ -12,7 +12,7 @@ use Rattle.std.specs.Option.{option_or}
 use Rattle.pac_cpu.specs.Instructions.{Instruction, IsInstruction, code, decoded_instruction}
 use Rattle.pac_cpu.specs.Encoding.{DecodesPrefix}
 use Rattle.pac_cpu.specs.PlacedItems.{Item, Content, Code, Data, IsValid, bytes_in, instruction_in, instruction_at, Lies, AllLie}
-use Rattle.pac_cpu.specs.Step.{four_bytes}
+use Rattle.pac_cpu.specs.Reads.{four_from}
 use Rattle.pac_map.specs.declared.bus_table.BusPlace.{BusPlace}
 use Rattle.pac_map.specs.declared.bus_table.BusPlace.TheVariants.{Program, Tile, Colour, Work, Nothing, Inputs0, Inputs1, Switches, Kick}
 use Rattle.pac_map.specs.Place.{read_place, read_port, ram_place}
@@ -57,7 +57,7 @@ program-first program view at lt =
 
 below-four : (byte_at : ℕ → ℕ) (at : ℕ) (expected : ℕ → ℕ) (n : ℕ) → n ≤ 4 → (0 < n → byte_at at ≡ expected 0)
     → ((k : ℕ) → suc k < n → byte_at ((at + suc k) % 65536) ≡ expected (suc k))
-    → (k : ℕ) → k < n → slice_index (four_bytes byte_at at) k ≡ expected k
+    → (k : ℕ) → k < n → slice_index (four_from byte_at at) k ≡ expected k
 below-four byte_at at expected n le first later zero lt = first lt
 below-four byte_at at expected n le first later (suc zero) lt = later 0 lt
 below-four byte_at at expected n le first later (suc (suc zero)) lt = later 1 lt
@@ -66,7 +66,7 @@ below-four byte_at at expected n le first later (suc (suc (suc (suc k)))) lt = a
 
 -- the four bytes that a view reads from an address on
 abbrev bytes_at : List ℕ → View → ℕ → List ℕ
-bytes_at program view at = four_bytes (λ byte. read_of program view byte) at
+bytes_at program view at = four_from (λ byte. read_of program view byte) at
 
 -- the four bytes at an item begin with its code
 code-first : (program : List ℕ) (view : View) (cell at : ℕ) (codes : List ℕ) → length program ≡ program_size → length codes ≤ 4
@@ -169,7 +169,7 @@ module _ (again : DecodesPrefix) (short : (instruction : Instruction) → IsInst
         put = λ entries entry. refl;
         read = λ entries at. view-answers set start entries at fit;
         instruction = λ entries at.
-            ap (λ byte_at. option_or (item_in items (read_place at)) (decoded_instruction (four_bytes byte_at at)))
+            ap (λ byte_at. option_or (item_in items (read_place at)) (decoded_instruction (four_from byte_at at)))
             (λ i. λ byte. view-answers set start entries byte fit i)
             ∙ instruction-agrees set.program (board_after_entries set start entries).memory items at whole.program lie;
         request = λ entries. sym (tells entries).request;

@@ -7,4 +7,5 @@ pub use Rattle.pac_table.specs.declared.effects.InterruptMode.TheVariants as Int
 pub use Rattle.pac_code.specs.Codes as Encoding
 pub use Rattle.pac_code.specs.Items as PlacedItems
 pub use Rattle.pac_bus.specs.Action
+pub use Rattle.pac_bus.specs.Reads
 pub use Rattle.pac_exec.specs.declared.regs.Regs
