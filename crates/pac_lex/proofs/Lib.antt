@@ -11,4 +11,5 @@ pub mod TextLaws
 pub mod TokenLaws
 pub mod LineLaws
 pub mod AnswerLaws
+pub mod ReadingLaws
 mod FirstPlace

@@ -6,3 +6,4 @@ pub mod Words
 pub mod Codes
 pub mod Tokens
 pub mod Scan
+pub mod OneReading

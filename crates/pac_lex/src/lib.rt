@@ -3,6 +3,7 @@
 
 mod bytes;
 mod fault;
+pub mod laws;
 mod line;
 mod number;
 mod quote;
