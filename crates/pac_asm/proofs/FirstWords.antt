@@ -19,7 +19,7 @@ use Rattle.pac_lex.specs.Words.{first_word}
 use Rattle.pac_lex.specs.Scan.{FoundToken, one_byte_token, numeral_token, name_token_at, number_token_at, quoted_token, text_token_at}
 use Rattle.pac_lex.specs.Scan.{token_at, token_before, cut_token, scan}
 use Rattle.pac_lex.specs.Scan.{tokens_of}
-use Rattle.pac_lex.specs.Scan as scanning
+use Rattle.pac_lex.specs.Results.{◌>>=◌}
 use Rattle.pac_lex.proofs.ScanLemmas.{scan-end, scan-comment, gap-skipped}
 use Rattle.pac_expr.specs.Trees.{Tree}
 use Rattle.pac_table_names.specs.Names.{name_of}
@@ -116,7 +116,7 @@ first-of token t (Ok tokens) ts e = cc
 first-of token t (Err fault) ts e = absurd cc
 
 found-first : (all : List ℕ) (found : FoundToken) (more : TokenKind × ℕ → Result (List Lexeme) LexFault) (t : Lexeme) (ts : List Lexeme)
-    → IsNameOf all found → scanning.◌>>=◌ found (λ it. token_before (cut_token it.0 it.1 all) (more it)) ≡ Ok (t ∷ ts) → t.kind ≡ kinds.Name
+    → IsNameOf all found → (found >>= λ it. token_before (cut_token it.0 it.1 all) (more it)) ≡ Ok (t ∷ ts) → t.kind ≡ kinds.Name
     → t.text ≡ take_while is_name_byte all
 found-first all (Ok it) more t ts h e named =
     let same : cut_token it.0 it.1 all ≡ t = first-of (cut_token it.0 it.1 all) t (more it) ts e in
@@ -125,7 +125,7 @@ found-first all (Ok it) more t ts h e named =
 found-first all (Err fault) more t ts h e named = absurd cc
 
 scan-is : (b : ℕ) (run : List ℕ) → is_blank b ≡ false → is_comment_start b ≡ false
-    → scan 0 (b ∷ run) ≡ scanning.◌>>=◌ (token_at (b ∷ run)) (λ it. token_before (cut_token it.0 it.1 (b ∷ run)) (scan (it.1 - 1) run))
+    → scan 0 (b ∷ run) ≡ (token_at (b ∷ run) >>= λ it. token_before (cut_token it.0 it.1 (b ∷ run)) (scan (it.1 - 1) run))
 unfolding scan
 scan-is b run e f = rw (e, f) refl
 

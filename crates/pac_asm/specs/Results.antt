@@ -1,13 +1,8 @@
 -- To be believed: what a step of assembling gives: what comes next, or what is wrong.
 use Rattle.std.specs.Prelude.{ℕ, Result, Ok, Err}
+pub use Rattle.pac_lex.specs.Results.{◌>>=◌}
 use Rattle.pac_asm.specs.declared.fault.AsmCode.{AsmCode}
 use Rattle.pac_asm.specs.declared.fault.AsmFault.{AsmFault}
-
--- one step after another, up to the first that something is wrong with
-infixl 10 ◌>>=◌
-abbrev pub ◌>>=◌ : {E A B : Type 0} → Result A E → (A → Result B E) → Result B E
-(Ok x) >>= f = f x
-(Err e) >>= f = Err e
 
 -- the step of the line with this number
 abbrev pub result_of_line : {A : Type 0} → ℕ → Result A AsmCode → Result A AsmFault

@@ -3,6 +3,7 @@
 use Rattle.std.specs.Prelude.{◌≡◌, ℕ, ◌+◌, Bool, false, ◌==◌, List, [], ◌∷◌, ◌++◌, ◌⊎◌, ◌<◌, ◌≤◌, length}
 use Rattle.std.specs.Prelude.{Option, Some, None, Result, Ok, Err, nat_lt, if◌then◌else◌}
 use Rattle.std.specs.Str.Lines.{lines}
+use Rattle.pac_lex.specs.Results.{◌>>=◌}
 use Rattle.pac_lex.specs.Words.{words_of_line}
 use Rattle.pac_inputs.specs.declared.fault.ScriptCode.{ScriptCode}
 use Rattle.pac_inputs.specs.declared.fault.ScriptCode.TheVariants.{Names, Count, Length}
@@ -68,11 +69,6 @@ ScriptOrFault = Result (List Stretch) ScriptFault
 abbrev pub with_line_number : ℕ → StretchesOrCode → ScriptOrFault
 with_line_number number (Ok lines) = Ok lines
 with_line_number number (Err code) = Err (record { code = code; line = number })
-
-infixl 10 ◌>>=◌
-abbrev pub ◌>>=◌ : ScriptOrFault → (List Stretch → ScriptOrFault) → ScriptOrFault
-(Ok lines) >>= f = f lines
-(Err fault) >>= f = Err fault
 
 -- What the lines from this number on, and those before them, say together; or the first fault.
 unfoldable pub script_from_line : ℕ → List Stretch → List (List ℕ) → ScriptOrFault

@@ -4,6 +4,7 @@ pub mod Numbers
 pub mod Texts
 pub mod Words
 pub mod Codes
+pub mod Results
 pub mod Tokens
 pub mod Scan
 pub mod OneReading

@@ -11,13 +11,9 @@ use Rattle.pac_lex.specs.declared.fault.LexError.{LexError}
 use Rattle.pac_lex.specs.declared.fault.LexError.TheVariants as errors
 use Rattle.pac_lex.specs.Bytes.{is_blank, is_comment_start, is_quote, is_name_start, is_name_byte, is_printable}
 use Rattle.pac_lex.specs.Numbers.{numeral}
+use Rattle.pac_lex.specs.Results.{◌>>=◌}
 use Rattle.pac_lex.specs.Texts.{closing_length}
 use Rattle.pac_lex.specs.Tokens.{Lexeme, one_byte_kind, is_af, begins, most_line_bytes}
-
-infixl 10 ◌>>=◌
-abbrev pub ◌>>=◌ : {A B : Type 0} → Result A LexFault → (A → Result B LexFault) → Result B LexFault
-(Ok x) >>= f = f x
-(Err fault) >>= f = Err fault
 
 -- What a function returned, seen by view, is what reading gives, unless memory ran out.
 abbrev pub LexingFails : {Y : Type 0} → LexError → Result Y LexFault → Type 0

@@ -16,7 +16,8 @@ use Rattle.pac_run.specs.declared.fault.RunFault.{RunFault}
 use Rattle.pac_run.specs.declared.fault.RunFault.TheVariants as fault
 use Rattle.pac_run.specs.declared.inputs.RunInputs.{RunInputs}
 use Rattle.pac_board_course.specs.declared.outcome.Outcome.{Outcome}
-use Rattle.pac_run.specs.Plan.{Plan, ◌>>=◌, plan_of, program_in, source_in, program_told}
+use Rattle.pac_asm.specs.Results.{◌>>=◌}
+use Rattle.pac_run.specs.Plan.{Plan, plan_of, program_in, source_in, program_told}
 use Rattle.pac_run.specs.Plan.{set_in, set_told, script_told}
 use Rattle.pac_run.specs.Recorded.{FilmStops, WritesRun}
 use Rattle.pac_run.specs.Resumes.{IsSaveCutAt, Resumes, contents_from, state_text}

@@ -2,6 +2,7 @@
 use Rattle.std.specs.Prelude.{◌≡◌, ℕ, List, [], Option, None, Some, option_map, Result, Ok, Err}
 use Rattle.pac_asm.specs.PlacedItems.{Item, AllLie}
 use Rattle.pac_asm.specs.Programs.{program_of}
+use Rattle.pac_asm.specs.Results.{◌>>=◌}
 use Rattle.pac_asm.specs.declared.fault.AsmFault.{AsmFault}
 use Rattle.pac_board_course.specs.Script.{script_of}
 use Rattle.pac_board_course.specs.Stretch.{Stretch}
@@ -27,12 +28,6 @@ pub record Plan : Type 0 where
   pub set : Parts
   pub script : List Stretch
   pub listing : List ℕ
-
--- the first of two questions that is refused, or the answer to both
-infixl 10 ◌>>=◌
-abbrev pub ◌>>=◌ : {A B : Type 0} → Result A RunFault → (A → Result B RunFault) → Result B RunFault
-(Ok value) >>= next = next value
-(Err fault) >>= next = Err fault
 
 -- the program of a source, where there is one
 abbrev pub program_told : Result Assembled AsmFault → Result (Option Assembled) RunFault
