@@ -75,7 +75,7 @@ tree_onward None ms = None
 tree_onward (Some state) [] = finished_tree state
 tree_onward (Some state) (m ∷ ms) = tree_onward (state_after_mark state m) ms
 
--- The tree that the tokens spell, if they spell one: the law says which.
+-- The tree that the tokens spell, if they spell one. Determined by pac_expr::trees_are_spelled.
 unfoldable pub tree_of : List Mark → Option Tree
 tree_of ms = tree_onward (Some (needs [])) ms
 

@@ -1,11 +1,11 @@
 -- To be believed: what a manifest says (this profile): a TOML document with a table for each part.
 use Rattle.std.specs.Prelude.{ℕ, List, [], ◌∷◌, codes, if◌then◌else◌}
-use Rattle.std.specs.Prelude.{Option, Some, None, option_map, option_and_then, Result, Ok, Err, slice_get}
+use Rattle.std.specs.Prelude.{Option, Some, None, option_map, option_and_then, ok_or, Result, slice_get}
+use Rattle.std.specs.Result.{result_ok}
 use Rattle.std.specs.Str.{is_utf8}
 use Rattle.toml.specs.Data.{Data, array, no_items, item, Members, as_str, as_table, get_member}
 use Rattle.toml.specs.Parse.{parse_document}
 use Rattle.hex.specs.Hex.{decode_sized}
-use Rattle.hex.specs.declared.error.FromHexError.{FromHexError}
 use Rattle.pac_roms_manifest.specs.Entries.{PlainEntry}
 use Rattle.pac_roms_manifest.specs.Parts.{part_name_text}
 use Rattle.pac_roms_manifest.specs.declared.fault.ManifestCode.TheVariants as code
@@ -26,13 +26,9 @@ abbrev pub optional : {A : Type 0} → (Data → Option A) → Option Data → O
 optional form None = Some None
 optional form (Some value) = option_map Some (form value)
 
-abbrev pub value_if_ok : {A : Type 0} → Result A FromHexError → Option A
-value_if_ok (Ok value) = Some value
-value_if_ok (Err fault) = None
-
 -- a digest: a text of 40 hexadecimal digits, in either case
 abbrev pub digest_form : Data → Option (List ℕ)
-digest_form value = as_str value >>= λ digits. value_if_ok (decode_sized digits 20)
+digest_form value = as_str value >>= λ digits. result_ok (decode_sized digits 20)
 
 -- the table of a part
 abbrev pub entry_form : Data → Option PlainEntry
@@ -90,13 +86,9 @@ document_table text = if is_utf8 text then parse_document text else None
 abbrev pub no_manifest : SetFault
 no_manifest = record { code = code.Manifest; part = None }
 
-abbrev pub or_no_manifest : Option Manifest → Result Manifest SetFault
-or_no_manifest None = Err no_manifest
-or_no_manifest (Some manifest) = Ok manifest
-
 -- the manifest that a text is, or M1
 unfoldable pub manifest_of : List ℕ → Result Manifest SetFault
-manifest_of text = or_no_manifest (document_table text >>= manifest_form)
+manifest_of text = ok_or (document_table text >>= manifest_form) no_manifest
 
 -- ---- what a manifest says of a part
 
