@@ -21,7 +21,7 @@ pub(crate) fn lay_out(alloc: Global, source: &[u8]) -> Result<Standing, AsmError
     ensures { AssemblyGives result (phase1 1 first_standing (lines source.now)) }
 {
     let unclosed = first_unclosed(source);
-    let mut standing = Standing::start(alloc)?;
+    let mut standing = Standing::start(alloc, source)?;
     let mut rest = source;
     let mut above: u32 = 0;
     while let Some((line, below)) = first_line(rest) {

@@ -50,13 +50,13 @@ impl Model for Standing {
 }
 
 impl Standing {
-    /// What stands before the first line: address 0, no name and no open IF.
-    pub(crate) fn start(alloc: Global) -> Result<Standing, AllocError>
+    /// What stands before the first line of a source: address 0, no name and no open IF.
+    pub(crate) fn start(alloc: Global, source: &[u8]) -> Result<Standing, AllocError>
         ensures { IfOk result (λ standing. standing ≡ above.first_standing) }
     {
         Ok(Standing {
             at: 0,
-            symbols: Symbols::new(alloc),
+            symbols: Symbols::new(alloc, source),
             layout: Layout::new(alloc)?,
             conditions: Conditions::new(),
         })

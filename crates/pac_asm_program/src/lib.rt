@@ -5,6 +5,7 @@ mod content;
 mod line;
 mod program;
 mod rom;
+mod seeded;
 mod symbols;
 
 pub use content::{Bytes, Content};

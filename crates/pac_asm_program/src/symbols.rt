@@ -3,13 +3,14 @@
 ghost use Rattle.std.specs.Prelude.{◌≡◌, [], length, ◌==◌, slice_get, is_none, option_map, IfOk, OnErr};
 ghost use Rattle.pac_asm_program.specs.Names.{number_of_symbol, with_symbol, AreDistinct};
 
+use crate::seeded::Seeded;
 use indexmap::IndexMap;
 use std::alloc::{AllocError, Global};
 use std::marker::Model;
 
 /// Names that stand for numbers, in the order in which they were defined. Small and capital letters differ.
 pub struct Symbols {
-    names: IndexMap<Vec<u8>, i32>,
+    names: IndexMap<Vec<u8>, i32, Seeded>,
 }
 
 impl Drop for Symbols {
@@ -29,12 +30,12 @@ impl Model for Symbols {
 }
 
 impl Symbols {
-    /// No symbols.
-    pub fn new(alloc: Global) -> Symbols
+    /// No symbols yet of a source, whose bytes decide how the names are hashed.
+    pub fn new(alloc: Global, source: &[u8]) -> Symbols
         ensures { result ≡ [] }
     {
         Symbols {
-            names: IndexMap::new(alloc),
+            names: IndexMap::with_hasher(alloc, Seeded::of(source)),
         }
     }
 
