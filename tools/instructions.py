@@ -129,10 +129,15 @@ def by_code():
     return found
 
 
-def form_at(codes, code):
-    """The form with which bytes begin, or None where they are no documented instruction."""
+def place_of(code):
+    """The page and the opcode byte with which bytes begin, or None where they end before it."""
     prefix = {0xCB: "Cb", 0xED: "Ed", 0xDD: "Dd", 0xFD: "Fd"}.get(code[0])
     if prefix in ("Dd", "Fd") and len(code) > 3 and code[1] == 0xCB:
-        return codes.get((f"{prefix}Cb", code[3]))
+        return f"{prefix}Cb", code[3]
     place = 1 if prefix else 0
-    return codes.get((prefix or "Plain", code[place])) if len(code) > place else None
+    return (prefix or "Plain", code[place]) if len(code) > place else None
+
+
+def form_at(codes, code):
+    """The form with which bytes begin, or None where they are no documented instruction."""
+    return codes.get(place_of(code))
