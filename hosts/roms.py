@@ -33,7 +33,7 @@ def tables_of(text, has_program):
     """The tables of the parts that a manifest names, in the order of the block, each with its size."""
     try:
         manifest = tomllib.loads(text.decode())
-    except ValueError:
+    except (ValueError, RecursionError):  # (tomllib goes down with each bracket)
         raise Refused("refused M1") from None
     quarters = manifest.get("program")
     if quarters is not None and (not isinstance(quarters, list) or len(quarters) != 4):
@@ -52,12 +52,18 @@ def tables_of(text, has_program):
     return {name: (tables[name], size) for name, size in sizes.items()}
 
 
+def beginning(path, size):
+    """The first bytes of a file, so many at most."""
+    with open(path, "rb") as file:
+        return file.read(size)
+
+
 def part_of(folder, name, table, size):
     """The bytes of a part, which are looked at."""
     file = table["file"]
-    if not file or file.startswith("/") or ".." in file.split("/") or not (folder / file).is_file():
+    if not file or "\0" in file or file.startswith("/") or ".." in file.split("/") or not (folder / file).is_file():
         raise OSError(f"there is no file {file!r} in the manifest's folder")
-    part = (folder / file).read_bytes()
+    part = beginning(folder / file, size + 1)
     if len(part) != size:
         raise Refused(f"refused M3 {name}")
     if hashlib.sha1(part).hexdigest() != table.get("sha1", hashlib.sha1(part).hexdigest()).lower():
@@ -82,7 +88,7 @@ def main():
     parser.add_argument("-o", dest="output", metavar="FILE", type=pathlib.Path, required=True)
     words = parser.parse_args()
     try:
-        program = words.program.read_bytes() if words.program else None
+        program = beginning(words.program, 4 * QUARTER + 1) if words.program else None
         words.output.write_bytes(block_of(words.manifest, program))
     except OSError as error:
         print(f"roms.py: {error}", file=sys.stderr)

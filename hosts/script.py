@@ -27,6 +27,12 @@ def mask_of(names):
     return None if None in masks else sum(set(masks))
 
 
+def count_of(word):
+    """The number that a word of digits stands for, however many there are; 0 where it isn't one, and where it has more than six."""
+    digits = word.lstrip("0")
+    return int(digits) if re.fullmatch("[0-9]{1,6}", digits, re.ASCII) else 0
+
+
 def frames_of(text):
     """The mask of each frame of a script's text."""
     frames = []
@@ -34,12 +40,13 @@ def frames_of(text):
         words = [word for word in re.split("[ \t]+", line.removesuffix("\r")) if word]
         if not words or words[0].startswith("#"):
             continue
-        if not re.fullmatch("[0-9]+", words[0], re.ASCII) or not 1 <= int(words[0].lstrip("0")[:6] or "0") <= LONGEST:
+        count = count_of(words[0])
+        if not 1 <= count <= LONGEST:
             raise Refused(f"refused I2 line {number}")
         mask = mask_of(words[1]) if len(words) == 2 else None
         if mask is None:
             raise Refused(f"refused I1 line {number}")
-        frames += [mask] * int(words[0])
+        frames += [mask] * count
         if len(frames) > LONGEST:
             raise Refused(f"refused I3 line {number}")
     return frames

@@ -3,7 +3,8 @@
 
     hosts/python/film.py ROMS HELD FRAMES.ppm WAVE.wav
 
-ROMS is made by hosts/roms.py, and HELD, which has two bytes for each frame, by hosts/script.py.
+ROMS is made by hosts/roms.py, and HELD, which has two bytes for each frame, by hosts/script.py. The exit status is 0, 2 for other words,
+3 where a file can't be read or written, 4 where an input is refused, and 5 where the board stopped.
 """
 import array
 import struct
@@ -11,7 +12,11 @@ import sys
 
 sys.dont_write_bytecode = True
 
-import pacboard
+try:
+    import pacboard
+except OSError as error:
+    print(f"film.py: {error}", file=sys.stderr)
+    sys.exit(3)
 
 HEAD = b"P6\n%d %d\n255\n" % (pacboard.WIDTH, pacboard.HEIGHT)
 
@@ -38,7 +43,7 @@ def main(words):
     with open(words[0], "rb") as file:
         board = pacboard.Board(file.read())
     with open(words[1], "rb") as file:
-        held = array.array("H", file.read())
+        held = pacboard.held_of(file.read())
     ran = pacboard.Ran()
     with open(words[2], "wb") as frames, open(words[3], "wb") as wave:
         wave.write(wave_head(pacboard.FRAME_SAMPLES * len(held)))
@@ -57,4 +62,4 @@ def main(words):
 
 
 if __name__ == "__main__":
-    sys.exit(main(sys.argv[1:]))
+    sys.exit(pacboard.status_of("film.py", main, sys.argv[1:]))

@@ -8,9 +8,13 @@ library is newer; a line on standard error says so. $PAC_HOST names another shar
     ran, samples = board.run(FRAME_MICROSECONDS) # an array of 16 bit samples
     rgba = board.draw()                          # 288 by 224 pixels, four bytes each
     kept = board.block                           # all of its state, 67,756 bytes; board.block = kept goes back
+
+C takes what it is handed for what it wants: of a number that is too great it would use the low bits alone. So each number is looked at here
+first, and one that is out of range raises ValueError; bytes are those of a buffer, and nothing else is taken for them.
 """
 import array
 import ctypes
+import operator
 import os
 import pathlib
 import subprocess
@@ -58,17 +62,18 @@ def shared_object():
     if not shared.exists() or shared.stat().st_mtime < archive.stat().st_mtime:
         words = ["cc", "-shared", "-o", shared, "-Wl,--whole-archive", archive, "-Wl,--no-whole-archive"]
         print("pacboard.py:", *words, file=sys.stderr)
-        subprocess.run(words, check=True)
+        if subprocess.run(words, check=False).returncode:
+            raise OSError(f"{shared} isn't made: cc refuses the library")
     return os.fspath(shared)
 
 
 def library():
     """The library, whose board has the size that this file knows."""
-    found = ctypes.CDLL(shared_object())
+    file = shared_object()
+    found = ctypes.CDLL(file)
     size, text, written = ctypes.c_size_t, ctypes.c_char_p, ctypes.c_void_p
-    found.pac_size.restype = size
-    found.pac_size.argtypes = []
     arguments = {
+        "pac_size": (),
         "pac_init": (written, text, size, ctypes.c_uint8),
         "pac_reset": (written,),
         "pac_hold": (written, ctypes.c_uint16, ctypes.c_uint16),
@@ -78,8 +83,10 @@ def library():
         "pac_load": (written, text, size, text, size),
     }
     for name, kinds in arguments.items():
-        call = getattr(found, name)
-        call.restype, call.argtypes = ctypes.c_uint32, kinds
+        call = getattr(found, name, None)
+        if call is None:
+            raise OSError(f"{file} isn't the board's library: it has no {name}")
+        call.restype, call.argtypes = ctypes.c_uint32 if kinds else size, kinds
     if found.pac_size() != BOARD_SIZE:
         raise OSError(f"the library's board has {found.pac_size()} bytes, and this file's {BOARD_SIZE}")
     return found
@@ -88,10 +95,43 @@ def library():
 LIBRARY = library()
 
 
+def number(what, value, bits):
+    """A whole number that so many bits hold; what it is, where it isn't one."""
+    found = operator.index(value)
+    if not 0 <= found < 1 << bits:
+        raise ValueError(f"{what}: {found} isn't a number from 0 to {(1 << bits) - 1}")
+    return found
+
+
+def bytes_of(buffer):
+    """The bytes of a buffer. `bytes` would take a number for a count of zeros, and a list for bytes."""
+    return bytes(memoryview(buffer))
+
+
 def done(code):
     """Passes a code of 0, and raises what another one means."""
     if code:
         raise Refused(code)
+
+
+def held_of(content):
+    """What is held in each frame, of the bytes of a file that hosts/script.py makes."""
+    if len(content) % 2 != 0:
+        raise ValueError(f"what is held in each frame has two bytes a frame, and not {len(content)} in all")
+    return [low | high << 8 for low, high in zip(content[::2], content[1::2])]
+
+
+def status_of(name, main, words):
+    """The exit status of a host's main function, which tells what it can't do in one line: 3 where a file can't be read or written, 4 where
+    the library or this file refuses what it is handed."""
+    try:
+        return main(words)
+    except OSError as error:
+        status, told = 3, error
+    except (Refused, ValueError) as error:
+        status, told = 4, error
+    print(f"{name}: {told}", file=sys.stderr)
+    return status
 
 
 class Board:
@@ -99,8 +139,8 @@ class Board:
 
     def __init__(self, roms, switches=SWITCHES):
         """A board at power-on."""
-        self.roms, self.state = bytes(roms), ctypes.create_string_buffer(BOARD_SIZE)
-        done(LIBRARY.pac_init(self.state, self.roms, len(self.roms), switches))
+        self.roms, self.state = bytes_of(roms), ctypes.create_string_buffer(BOARD_SIZE)
+        done(LIBRARY.pac_init(self.state, self.roms, len(self.roms), number("switches", switches, 8)))
 
     @property
     def block(self):
@@ -110,9 +150,10 @@ class Board:
     @block.setter
     def block(self, kept):
         """Goes back to a snapshot. Whether it is one, the next call tells."""
-        if len(kept) != BOARD_SIZE:
+        content = bytes_of(kept)
+        if len(content) != BOARD_SIZE:
             raise Refused(1)
-        ctypes.memmove(self.state, bytes(kept), BOARD_SIZE)
+        ctypes.memmove(self.state, content, BOARD_SIZE)
 
     def reset(self):
         """Does what the watchdog does."""
@@ -120,14 +161,15 @@ class Board:
 
     def hold(self, inputs):
         """Holds these inputs, and lets all others go."""
-        done(LIBRARY.pac_hold(self.state, inputs, 0xFFFF))
+        done(LIBRARY.pac_hold(self.state, number("inputs", inputs, 16), 0xFFFF))
 
     def run(self, microseconds, room=None):
         """Lets so many microseconds go by: what was done, and the samples. `room` is so many samples; where it is left out, enough for a
         board that is at the time asked of it, as each is that hasn't stopped."""
-        room = microseconds * 12 // 125 + 4 if room is None else room
+        asked = number("microseconds", microseconds, 32)
+        room = asked * 12 // 125 + 4 if room is None else number("room", room, 32)
         ran, samples = Ran(), (ctypes.c_int16 * max(room, 1))()
-        done(LIBRARY.pac_exec(self.state, self.roms, len(self.roms), microseconds, samples, room, ctypes.byref(ran)))
+        done(LIBRARY.pac_exec(self.state, self.roms, len(self.roms), asked, samples, room, ctypes.byref(ran)))
         return ran, array.array("h", samples[: ran.samples])
 
     def draw(self):
@@ -144,4 +186,5 @@ class Board:
 
     def load(self, text):
         """Becomes the board of a state file."""
-        done(LIBRARY.pac_load(self.state, self.roms, len(self.roms), bytes(text), len(text)))
+        content = bytes_of(text)
+        done(LIBRARY.pac_load(self.state, self.roms, len(self.roms), content, len(content)))

@@ -5,15 +5,18 @@
 
 A copy of the board's block is all that a way back needs. From each second that was kept the rest is played again with the same inputs, and
 held against the first time: each sample, each picture and the block at the end. Then the last second is played with nothing held. A line
-tells of each way back; the exit status is 1 where one differs.
+tells of each way back; the exit status is 1 where one differs, 2 for other words, 3 where a file can't be read, and 4 where an input is refused.
 """
-import array
 import hashlib
 import sys
 
 sys.dont_write_bytecode = True
 
-import pacboard
+try:
+    import pacboard
+except OSError as error:
+    print(f"rewind.py: {error}", file=sys.stderr)
+    sys.exit(3)
 
 SECOND = 61  # frames, a little more than a second
 
@@ -36,7 +39,9 @@ def main(words):
     with open(words[0], "rb") as file:
         board = pacboard.Board(file.read())
     with open(words[1], "rb") as file:
-        held = array.array("H", file.read())
+        held = pacboard.held_of(file.read())
+    if not held:
+        raise ValueError("there is no frame to go back to")
     kept, sums = {}, []
     for at in range(0, len(held), SECOND):
         kept[at] = board.block
@@ -55,4 +60,4 @@ def main(words):
 
 
 if __name__ == "__main__":
-    sys.exit(main(sys.argv[1:]))
+    sys.exit(pacboard.status_of("rewind.py", main, sys.argv[1:]))

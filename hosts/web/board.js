@@ -31,6 +31,22 @@ export class Refused extends Error {
     }
 }
 
+// A call of the module has ended in a trap, as where it was handed a place outside its memory. It may have left memory and stack as no call
+// leaves them, so its board can't be used any more.
+export class Trapped extends Error {
+    constructor(cause) {
+        super(`the module has trapped (${cause.message}): make a new board`, { cause });
+    }
+}
+
+// A whole number that so many bits hold: the module would take its low bits alone, and what is none for 0.
+function number(what, value, bits) {
+    if (!Number.isInteger(value) || value < 0 || value >= 2 ** bits) {
+        throw new RangeError(`${what}: ${value} isn't a whole number from 0 to ${2 ** bits - 1}`);
+    }
+    return value;
+}
+
 // Whether a module can run here: it has vectors.
 export function canRun(module) {
     return WebAssembly.validate(module);
@@ -46,11 +62,12 @@ export class Board {
 
     constructor(calls, roms, switches = SWITCHES) {
         this.calls = calls;
+        this.trap = null;
         this.place(Number(calls.__heap_base.value));
         if (calls.pac_size() !== BigInt(SIZES.board)) throw new Error("the module's board has another size");
         if (roms.length !== SIZES.roms) throw new Refused(1);
         this.bytes('roms').set(roms);
-        this.done(calls.pac_init(this.at.board, ...this.part('roms'), switches));
+        this.call('pac_init', this.at.board, ...this.part('roms'), number('switches', switches, 8));
     }
 
     // Places the buffers, each at a multiple of 8.
@@ -74,36 +91,52 @@ export class Board {
         return [this.at[name], BigInt(SIZES[name])];
     }
 
-    // Passes a code of 0, and throws what another one means.
-    done(code) {
+    // Passes where no call has ended in a trap yet.
+    intact() {
+        if (this.trap !== null) throw new Trapped(this.trap);
+    }
+
+    // Makes a call: passes a code of 0, and throws what another one means.
+    call(name, ...words) {
+        this.intact();
+        let code;
+        try {
+            code = this.calls[name](...words);
+        } catch (error) {
+            if (!(error instanceof WebAssembly.RuntimeError || error instanceof RangeError)) throw error;
+            this.trap = error; // (a RangeError where the stack is full)
+            this.intact();
+        }
         if (code !== 0) throw new Refused(code);
     }
 
     // All of the board's state: a snapshot.
     get block() {
+        this.intact();
         return this.bytes('board').slice();
     }
 
     // Goes back to a snapshot. Whether it is one, the next call tells.
     set block(kept) {
+        this.intact();
         if (kept.length !== SIZES.board) throw new Refused(1);
         this.bytes('board').set(kept);
     }
 
     // Does what the watchdog does.
     reset() {
-        this.done(this.calls.pac_reset(this.at.board));
+        this.call('pac_reset', this.at.board);
     }
 
     // Holds these inputs, and lets all others go.
     hold(inputs) {
-        this.done(this.calls.pac_hold(this.at.board, inputs, 0xffff));
+        this.call('pac_hold', this.at.board, number('inputs', inputs, 16), 0xffff);
     }
 
     // Lets so many microseconds go by, 100,000 at most: what was done, and the samples.
     run(microseconds) {
         const { board, samples, ran } = this.at;
-        this.done(this.calls.pac_exec(board, ...this.part('roms'), microseconds, samples, BigInt(ROOM), ran));
+        this.call('pac_exec', board, ...this.part('roms'), number('microseconds', microseconds, 32), samples, BigInt(ROOM), ran);
         const told = new DataView(this.calls.memory.buffer, Number(ran), SIZES.ran);
         const [given, pictures, stop] = [8, 12, 16].map((at) => told.getUint32(at, true));
         return {
@@ -114,13 +147,13 @@ export class Board {
 
     // The picture as it stands: red, green, blue and 255 for each pixel, row by row. The next call of `draw` writes over it.
     draw() {
-        this.done(this.calls.pac_draw(this.at.board, ...this.part('roms'), ...this.part('rgba')));
+        this.call('pac_draw', this.at.board, ...this.part('roms'), ...this.part('rgba'));
         return new Uint8ClampedArray(this.calls.memory.buffer, Number(this.at.rgba), SIZES.rgba);
     }
 
     // The board's state file.
     save() {
-        this.done(this.calls.pac_save(this.at.board, ...this.part('roms'), ...this.part('text')));
+        this.call('pac_save', this.at.board, ...this.part('roms'), ...this.part('text'));
         return this.bytes('text').slice();
     }
 
@@ -128,6 +161,6 @@ export class Board {
     load(text) {
         if (text.length > SIZES.text) throw new Refused(13);
         this.bytes('text').set(text);
-        this.done(this.calls.pac_load(this.at.board, ...this.part('roms'), this.at.text, BigInt(text.length)));
+        this.call('pac_load', this.at.board, ...this.part('roms'), this.at.text, BigInt(text.length));
     }
 }

@@ -5,7 +5,7 @@ import { readFile } from 'node:fs/promises';
 import path from 'node:path';
 import { fileURLToPath } from 'node:url';
 import { Browser, programOf, serve } from './browser.mjs';
-import { Board, FRAME_MICROSECONDS, FRAME_SAMPLES, HEIGHT, INPUTS, SAMPLE_RATE, SWITCHES, WIDTH } from './board.js';
+import { Board, FRAME_MICROSECONDS, FRAME_SAMPLES, HEIGHT, INPUTS, SAMPLE_RATE, SWITCHES, Trapped, WIDTH } from './board.js';
 
 const HERE = path.dirname(fileURLToPath(import.meta.url));
 const FOLDER = path.resolve(process.argv[2]);
@@ -32,6 +32,15 @@ function codeOf(call) {
     } catch (error) {
         if (error.code === undefined) throw error;
         return error.code;
+    }
+}
+
+// The error that a call throws; nothing where it throws none.
+function thrown(call) {
+    try {
+        call();
+    } catch (error) {
+        return error;
     }
 }
 
@@ -113,6 +122,26 @@ async function refusals(module) {
     row('node: a state file that is cut', codeOf(() => board.load(file.slice(0, 1000))) === 13);
 }
 
+// What is refused before it crosses to the module, and what is told once a call has ended in a trap.
+async function guards(module) {
+    const roms = await readFile(path.join(FOLDER, 'starfall.roms'));
+    const board = await Board.powerOn(module, roms), kept = board.block, text = board.save();
+    const numbers = [-1, 2 ** 32, 0.5, NaN, undefined, '1'];
+    row('node: no other number than a whole one that fits', numbers.every((number) =>
+        thrown(() => board.run(number)) instanceof RangeError && thrown(() => board.hold(number)) instanceof RangeError));
+    row('node: no mask of more than 16 inputs', thrown(() => board.hold(0x10000)) instanceof RangeError);
+    row('node: and nothing is changed', Buffer.from(board.block).equals(kept));
+    const place = board.at.board;
+    board.at.board = 1n << 31n;
+    row('node: a place outside the memory is told as a trap', thrown(() => board.hold(0)) instanceof Trapped);
+    board.at.board = place;
+    const calls = [() => board.hold(0), () => board.run(1), () => board.draw(), () => board.save(), () => board.load(text), () => board.reset(),
+        () => board.block, () => { board.block = kept; }];
+    row('node: and so is each use of the board after it', calls.every((call) => thrown(call) instanceof Trapped));
+    const other = await Board.powerOn(module, roms);
+    row('node: another board goes on', thrown(() => other.hold(0)) === undefined);
+}
+
 // The picture of a frame of starfall.
 async function pictureOf(module, frame) {
     const board = await Board.powerOn(module, await readFile(path.join(FOLDER, 'starfall.roms')));
@@ -176,6 +205,7 @@ const module = await readFile(path.join(FOLDER, 'pac_host.wasm'));
 const text = await readFile(path.join(HERE, '../../examples/outputs.sha1'), 'utf8');
 const sums = Object.fromEntries(text.trim().split('\n').map((line) => line.split('  ').reverse()));
 await refusals(module);
+await guards(module);
 for (const name of new Set(Object.keys(sums).map((file) => path.dirname(file)))) await film(module, name, sums);
 const program = programOf(['chromium', 'chromium-browser', 'google-chrome']);
 if (program === undefined) console.log("page: left out, since Chromium isn't there");
