@@ -26,6 +26,7 @@ enum way {
     BEGINS_AGAIN,                  /* where a write is interrupted */
     FALLS_WITHOUT_MEMORY,          /* by a signal */
     ASKS_FOR_MEMORY_LATE,          /* after the first byte of an output */
+    KEEPS_ITS_MEMORY,              /* to the end */
     TELLS_INTO_AN_OUTPUT,          /* what is for standard error, where that is closed */
 };
 
@@ -117,10 +118,33 @@ static void begin(void)
         close(socket(AF_INET, SOCK_STREAM, 0));
 }
 
+/* Writes the outputs of a source that is read, with a buffer of SIZE bytes. */
+static int assemble(const char *source, long length, char *code, int rom, char **words)
+{
+    memset(code, 0, SIZE);
+    memcpy(code, CELL, sizeof CELL - 1);
+    if (rom < 0 && (rom = create(words[4])) < 0)
+        return has_fault("rom", 0);
+    int listing = create(words[6]);
+    if (listing < 0)
+        return has_fault("listing", 0);
+    if (length >= (long)sizeof REFUSED - 1 && memcmp(source, REFUSED, sizeof REFUSED - 1) == 0)
+        return told("refused A1 L2 line 1\n", 1);
+    int status = put(rom, "rom", code, SIZE);
+    if (WAY == ASKS_FOR_MEMORY_LATE && (code = realloc(code, 2 * SIZE)) == NULL)
+        return told("out of memory\n", 4);
+    if (status == 0 || WAY == GOES_ON_AFTER_A_REFUSED_WRITE) {
+        int other = put(listing, "listing", LISTING, sizeof LISTING - 1);
+        status = status == 0 ? other : status;
+    }
+    close(rom), close(listing);
+    return status;
+}
+
 int main(int count, char **words)
 {
     static char source[MOST];
-    int rom = -1, listing = -1, status;
+    int rom = -1;
     if (count != 7 || strcmp(words[1], "asm") != 0)
         return 2;
     keep_streams();
@@ -133,21 +157,8 @@ int main(int count, char **words)
     char *code = malloc(SIZE);
     if (code == NULL && WAY != FALLS_WITHOUT_MEMORY)
         return told("out of memory\n", 4);
-    memset(code, 0, SIZE);
-    memcpy(code, CELL, sizeof CELL - 1);
-    if (rom < 0 && (rom = create(words[4])) < 0)
-        return has_fault("rom", 0);
-    if ((listing = create(words[6])) < 0)
-        return has_fault("listing", 0);
-    if (length >= (long)sizeof REFUSED - 1 && memcmp(source, REFUSED, sizeof REFUSED - 1) == 0)
-        return told("refused A1 L2 line 1\n", 1);
-    status = put(rom, "rom", code, SIZE);
-    if (WAY == ASKS_FOR_MEMORY_LATE && realloc(code, 2 * SIZE) == NULL)
-        return told("out of memory\n", 4);
-    if (status == 0 || WAY == GOES_ON_AFTER_A_REFUSED_WRITE) {
-        int other = put(listing, "listing", LISTING, sizeof LISTING - 1);
-        status = status == 0 ? other : status;
-    }
-    close(rom), close(listing);
+    int status = assemble(source, length, code, rom, words);
+    if (WAY != KEEPS_ITS_MEMORY && WAY != ASKS_FOR_MEMORY_LATE)
+        free(code);
     return status;
 }

@@ -3,25 +3,32 @@
  * At a call that may be refused the program forks. The child is the run in which it is refused: it goes on to its end, its status goes
  * to tools/refusals, which looks at what it left and answers; then the files are put back as they were, and the parent goes on as if
  * nothing had been. So one run tries every refusal of a kind, until there is none left. Memory that is asked for after the first byte
- * of an output is told as the status -1. Only calls from the program's own code count, not those within the C library. Where writes are
- * interrupted no call is refused: each write fails with EINTR twice, and is done at the third try.
+ * of an output is told as the status -1, and blocks that are still out at a run's end as -2. Only calls from the program's own code count,
+ * not those within the C library. Where writes are interrupted no call is refused: each write fails with EINTR twice, and is done at the third
+ * try. Where growth is refused, every call for memory is, whoever makes it, from the first byte of an output on, and the kernel gives the
+ * process no more: brk, mmap and mremap fail.
  */
 #define _GNU_SOURCE
 #include <errno.h>
+#include <linux/filter.h>
+#include <linux/seccomp.h>
 #include <link.h>
+#include <stddef.h>
 #include <stdlib.h>
 #include <string.h>
 #include <sys/auxv.h>
+#include <sys/prctl.h>
 #include <sys/socket.h>
 #include <sys/stat.h>
 #include <sys/syscall.h>
 #include <sys/wait.h>
 #include <unistd.h>
 
-enum { DESCRIPTORS = 64, ONE = '1', REST = 'r', WRITE = 'w', INTERRUPTED = 'i', TRIES = 3 };
+enum { DESCRIPTORS = 64, ONE = '1', REST = 'r', WRITE = 'w', INTERRUPTED = 'i', GROWTH = 'g', TRIES = 3, LATE = -1, OUT = -2 };
 
 void *__libc_malloc(size_t size);
 void *__libc_realloc(void *block, size_t size);
+void __libc_free(void *block);
 
 static ElfW(Addr) first, last;    /* the program's own code */
 static int kind, talk;            /* what is refused: a call for memory, it and all after it, or a write; and to whom it is told */
@@ -29,6 +36,7 @@ static unsigned tries;            /* how often a write was tried, where each is 
 static const char *output;        /* the file whose writes are refused */
 static size_t most = (size_t)-1;  /* the bytes that a write takes */
 static int refused, begun;        /* whether a call was refused, and whether an output has a byte */
+static long blocks;               /* how many blocks the program has been given and hasn't given back */
 
 __attribute__((constructor)) static void prepare(void)
 {
@@ -75,24 +83,64 @@ static int is_refused(void)
     return 0;
 }
 
+/* Whether a call comes from the program's own code. */
+static int is_own(void *from)
+{
+    return (ElfW(Addr))from >= first && (ElfW(Addr))from < last;
+}
+
 /* Whether a call for memory from this place is refused. */
 static int is_scarce(void *from)
 {
-    if ((ElfW(Addr))from < first || (ElfW(Addr))from >= last)
+    if (kind == GROWTH)
+        return begun;
+    if (!is_own(from))
         return 0;
     if (begun)
-        tell(-1);
+        tell(LATE);
     return kind != WRITE && kind != INTERRUPTED && is_refused();
 }
 
 void *malloc(size_t size)
 {
-    return is_scarce(__builtin_return_address(0)) ? (errno = ENOMEM, NULL) : __libc_malloc(size);
+    void *from = __builtin_return_address(0), *block = is_scarce(from) ? NULL : __libc_malloc(size);
+    blocks += block && is_own(from);
+    return block ? block : (errno = ENOMEM, NULL);
 }
 
 void *realloc(void *block, size_t size)
 {
-    return is_scarce(__builtin_return_address(0)) ? (errno = ENOMEM, NULL) : __libc_realloc(block, size);
+    void *from = __builtin_return_address(0), *moved = is_scarce(from) ? NULL : __libc_realloc(block, size);
+    blocks += moved && !block && is_own(from);
+    return moved ? moved : (errno = ENOMEM, NULL);
+}
+
+void free(void *block)
+{
+    blocks -= block && is_own(__builtin_return_address(0));
+    __libc_free(block);
+}
+
+/* Tells blocks that are out where the program ends. */
+__attribute__((destructor)) static void finish(void)
+{
+    if (blocks != 0)
+        tell(OUT);
+}
+
+/* Has the kernel give this process no more memory. */
+static void grow_no_more(void)
+{
+    static const int calls[] = {SYS_brk, SYS_mmap, SYS_mremap};
+    enum { CALLS = sizeof calls / sizeof *calls };
+    struct sock_filter rules[CALLS + 3] = {BPF_STMT(BPF_LD | BPF_W | BPF_ABS, offsetof(struct seccomp_data, nr))};
+    for (int at = 0; at < CALLS; at++)
+        rules[at + 1] = (struct sock_filter)BPF_JUMP(BPF_JMP | BPF_JEQ | BPF_K, calls[at], CALLS - at, 0);
+    rules[CALLS + 1] = (struct sock_filter)BPF_STMT(BPF_RET | BPF_K, SECCOMP_RET_ALLOW);
+    rules[CALLS + 2] = (struct sock_filter)BPF_STMT(BPF_RET | BPF_K, SECCOMP_RET_ERRNO | ENOMEM);
+    struct sock_fprog filter = {CALLS + 3, rules};
+    if (prctl(PR_SET_NO_NEW_PRIVS, 1, 0, 0, 0) != 0 || prctl(PR_SET_SECCOMP, SECCOMP_MODE_FILTER, &filter) != 0)
+        _exit(122);
 }
 
 /* Whether a descriptor is that of the output whose writes are refused. */
@@ -104,6 +152,8 @@ static int is_output(int file)
 
 ssize_t write(int file, const void *bytes, size_t count)
 {
+    if (kind == GROWTH && !begun && file != STDERR_FILENO)
+        grow_no_more();
     begun |= file != STDERR_FILENO;
     if (kind == INTERRUPTED && ++tries % TRIES != 0)
         return errno = EINTR, -1;

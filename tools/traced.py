@@ -2,9 +2,9 @@
 import errno
 import os
 import pathlib
-import shlex
 import subprocess
 from dataclasses import dataclass
+from typing import Any
 
 FAILED = 125  # the exit status where a program can't be traced
 SOURCE = pathlib.Path(__file__).resolve().parent / "traced.c"
@@ -60,9 +60,23 @@ def how_refused(count: int, error: int) -> list[str]:
     return ["-r", f"{count}:{error}"]
 
 
-def run(tracer: str, list_path: str, how: list[str], words: list[str], **more) -> tuple[int, list[Call]]:
-    """Runs a program under the tracer: its exit status, 128 and the signal where one ended it, and its calls."""
-    status = subprocess.run([tracer, list_path, *how, *words], check=False, **more).returncode
-    if status == FAILED:
-        raise OSError(f"{shlex.join(map(str, words))} can't be traced")
-    return status, calls_of(list_path)
+def run(tracer: str, list_path: str, how: list[str], words: list, **more: Any) -> tuple[subprocess.CompletedProcess, list[Call]]:
+    """Runs a program under the tracer: what it comes to, with the status 128 and the signal where one ended it, and its calls."""
+    done = subprocess.run([tracer, list_path, *how, *words], check=False, **more)
+    if done.returncode == FAILED:
+        raise OSError(f"{words[0]} can't be traced")
+    return done, calls_of(list_path)
+
+
+def opened_and_closed(calls: list[Call]) -> list[str]:
+    """The files that are opened, or would be, each after a +, and those that are closed, each after a -, in their order."""
+    names: dict[int, str] = {}
+    lines = []
+    for call in calls:
+        if call.path is not None:
+            lines.append("+" + os.path.normpath(call.path))
+            if call.answer is not None and call.answer >= 0:
+                names[call.answer] = os.path.normpath(call.path)
+        elif call.name == "close" and call.file in names:
+            lines.append("-" + names.pop(call.file))
+    return lines
