@@ -1,8 +1,5 @@
 -- To be believed: the law that one answer is right for each line, and which: so a reader takes what is read from the relations of
 -- Tokens.antt and from how a text is written, and needn't know how Scan.antt and Texts.antt find it.
--- Stands for: tokens_of by IsReading (law EachLineHasOneReading)
--- Stands for: characters_of by quoted_text (law TextsHaveTheirCharacters)
--- Stands for: one_character by quoted_text (law TextsHaveTheirCharacters)
 use Rattle.std.specs.Prelude.{◌≡◌, ◌↔◌, ℕ, List, [], ◌∷◌, Some, Result, Ok, Err}
 use Rattle.pac_lex.specs.declared.fault.LexFault.{LexFault}
 use Rattle.pac_lex.specs.Texts.{quoted_text, characters_of, one_character}

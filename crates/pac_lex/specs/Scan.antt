@@ -87,6 +87,6 @@ scan zero (b ∷ bytes) =
     else (if is_comment_start b then Ok []
     else (token_at (b ∷ bytes) >>= λ found. token_before (cut_token found.0 found.1 (b ∷ bytes)) (scan (found.1 - 1) bytes)))
 
--- the tokens of a line
+-- The tokens of a line. Determined by pac_lex::laws::each_line_has_one_reading.
 unfoldable pub tokens_of : List ℕ → Result (List Lexeme) LexFault
 tokens_of line = if nat_lt most_line_bytes (length line) then Err LongLine else scan 0 line

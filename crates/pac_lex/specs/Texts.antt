@@ -35,11 +35,12 @@ unquoted_characters [] = []
 unquoted_characters (b ∷ []) = b ∷ []
 unquoted_characters (b ∷ c ∷ bytes) = b ∷ (if is_quote b && is_quote c then unquoted_characters bytes else unquoted_characters (c ∷ bytes))
 
--- the characters of a text, which stands here with its quotes: those between them, each doubled quote as one
+-- The characters of a text, which stands here with its quotes: those between them, each doubled quote as one. Determined by
+-- pac_lex::laws::texts_have_their_characters.
 abbrev pub characters_of : List ℕ → List ℕ
 characters_of text = unquoted_characters (inside_quotes text)
 
--- the character of a text of one
+-- The character of a text of one. Determined by pac_lex::laws::texts_have_their_characters.
 abbrev pub one_character : List ℕ → Option ℕ
 one_character (a ∷ c ∷ z ∷ []) = if is_quote a && not (is_quote c) && is_quote z then Some c else None
 one_character (a ∷ b ∷ c ∷ z ∷ []) = if is_quote a && is_quote b && is_quote c && is_quote z then Some 39 else None
