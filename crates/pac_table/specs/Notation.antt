@@ -91,18 +91,14 @@ operands =
     (codes "0", shape.ModeZero) ∷ (codes "1", shape.ModeOne) ∷ (codes "2", shape.ModeTwo) ∷ []
 
 -- those with IX; after FD they are those with IY
-abbrev pub ix_operands : List (List ℕ × Shape)
-ix_operands =
-    (codes "IX", shape.Ix) ∷ (codes "(IX)", shape.AtIx) ∷ (codes "(IX+d)", shape.IndexedIx) ∷ (codes "pp", shape.PairWithIx) ∷ []
-
-abbrev pub iy_operands : List (List ℕ × Shape)
-iy_operands =
-    (codes "IX", shape.Iy) ∷ (codes "(IX)", shape.AtIy) ∷ (codes "(IX+d)", shape.IndexedIy) ∷ (codes "pp", shape.PairWithIy) ∷ []
+abbrev pub words_with_ix : (register cell indexed pair : Shape) → List (List ℕ × Shape)
+words_with_ix register cell indexed pair =
+    (codes "IX", register) ∷ (codes "(IX)", cell) ∷ (codes "(IX+d)", indexed) ∷ (codes "pp", pair) ∷ []
 
 abbrev pub index_operands : Page → List (List ℕ × Shape)
-index_operands Fd = iy_operands
-index_operands FdCb = iy_operands
-index_operands _ = ix_operands
+index_operands Fd = words_with_ix shape.Iy shape.AtIy shape.IndexedIy shape.PairWithIy
+index_operands FdCb = words_with_ix shape.Iy shape.AtIy shape.IndexedIy shape.PairWithIy
+index_operands _ = words_with_ix shape.Ix shape.AtIx shape.IndexedIx shape.PairWithIx
 
 abbrev pub shape_read : Page → List ℕ → Shape
 shape_read page word = unwrap_or (stands_for (operands ++ index_operands page) word) shape.Absent
