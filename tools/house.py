@@ -58,7 +58,7 @@ class Scope:
         return frozenset(part for name in self.names if "◌" in name for part in antt.parts_of(name))
 
 
-@dataclasses.dataclass
+@dataclasses.dataclass(eq=False)
 class Source:
     """An item of a source: a type, a trait, an impl or a function; its lines from its comment on, and its file's ghost imports."""
 
@@ -300,10 +300,8 @@ class House:
 
     def model(self, source: Source) -> Source | None:
         """A type's `impl Model`."""
-        return next(
-            (it for it in self.sources if it.kind == "impl" and it.of_trait == "Model" and it.name == source.name and it.crate == source.crate),
-            None,
-        )
+        impls = (it for it in self.sources if it.kind == "impl" and it.of_trait == "Model")
+        return next((it for it in impls if (it.crate, it.name) == (source.crate, source.name)), None)
 
     def types_in(self, text: str, source: Source) -> list[Ref]:
         """The types and traits of our sources that a text of a source names."""
@@ -487,6 +485,3 @@ def sources_of(root: pathlib.Path, crate: str) -> Iterator[Source]:
                 found = Source("fn", function[3], crate, path, start, at, end, lines, "", block, is_public)
             if found:
                 yield found
-
-
-Source.__hash__ = lambda self: hash((self.path, self.head))  # type: ignore[method-assign,assignment]
