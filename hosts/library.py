@@ -71,10 +71,11 @@ def stamp(folder):
             (built / "stamp").write_text(crate.stamp())
 
 
-def lay_kit(flags, to):
+def lay_kit(flags, to, kept):
     """Lays a copy of the kit into a folder, its files by links, whose C compiler gets these flags too, and answers the copy's `rt`.
 
-    The copy proves the same, and hands the compiler the same program; the flags say which instructions of the processor it may use.
+    The copy proves the same, and hands the compiler the same program, as LLVM's bitcode, which is kept in a file; the flags say which
+    instructions of the processor it may use.
     """
     kit = pathlib.Path(shutil.which("rt")).resolve().parent.parent
     compiler = "toolchain/bin/clang"
@@ -85,7 +86,8 @@ def lay_kit(flags, to):
             shutil.copy(file, to / name)  # (they look for the rest beside themselves)
         elif str(name) not in ("bin", "toolchain", "toolchain/bin", compiler):
             (to / name).symlink_to(file)
-    (to / compiler).write_text(f'#!/bin/sh\nexec {shlex.quote(str(kit / compiler))} "$@" {shlex.join(flags)}\n')
+    keep = f"[ ! -f module.bc ] || cp module.bc {shlex.quote(str(kept))}"
+    (to / compiler).write_text(f'#!/bin/sh\n{keep}\nexec {shlex.quote(str(kit / compiler))} "$@" {shlex.join(flags)}\n')
     (to / compiler).chmod(0o755)
     return to / "bin/rt"
 
@@ -113,7 +115,8 @@ def build(kind, file, to, is_after_ci, flags=()):
     """Builds the library as a crate of this kind, in a copy of it and of all below it, and takes the file that it leaves.
 
     The copy's crates.txt says which kind it is, and the repository is left as it is. The flags are for the compiler. What an earlier build
-    of either kind has checked, and nothing has changed since, isn't checked again.
+    of either kind has checked, and nothing has changed since, isn't checked again. Beside the file, with the end .bc, stands the bitcode
+    of which the compiler made it.
     """
     table = crates()
     name = name_of(table)
@@ -130,8 +133,8 @@ def build(kind, file, to, is_after_ci, flags=()):
         built = folder / "crates" / name / "out"
         if KEPT.is_dir():
             shutil.copytree(KEPT, built / "incremental")
-        run(lay_kit(flags, folder / "kit") if flags else "rt", folder / "crates" / name)
         OUT.mkdir(exist_ok=True)
+        run(lay_kit(flags, folder / "kit", (OUT / to).with_suffix(".bc")), folder / "crates" / name)
         shutil.copy(built / file.format(name), OUT / to)
         shutil.rmtree(KEPT, ignore_errors=True)
         shutil.copytree(built / "incremental", KEPT)
