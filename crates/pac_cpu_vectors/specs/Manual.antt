@@ -131,8 +131,8 @@ pushed sp word = Write ((sp + 65535) % 65536) (word / 256) ∷ Write ((sp + 6553
 
 -- an acceptance, where interrupts are enabled and the last step wasn't EI: PC goes to the stack and becomes an address, which memory can be
 -- asked for then; IFF1 and IFF2 are reset, HALT ends, and R counts one fetch
-abbrev pub Accepts : InterruptMode → (vector ticks : ℕ) → (Regs → (ℕ → ℕ) → ℕ) → Type 0
-Accepts mode vector ticks address = (surroundings : Surroundings) (found : Regs) →
+abbrev pub AcceptsRequest : InterruptMode → (vector ticks : ℕ) → (Regs → (ℕ → ℕ) → ℕ) → Type 0
+AcceptsRequest mode vector ticks address = (surroundings : Surroundings) (found : Regs) →
     let regs = record found { mode = mode; iff1 = true; after_ei = false } in
     let push = pushed regs.sp regs.pc in
     let left = record regs {
@@ -148,17 +148,17 @@ Accepts mode vector ticks address = (surroundings : Surroundings) (found : Regs)
 -- mode 1: a call of 38H, whatever the vector. Mode 2: a call of where the word at 256 * I + vector points
 abbrev pub AcceptsInModes : Type 0
 AcceptsInModes = (vector : ℕ)
-    → Accepts One vector 13 (λ regs read. 0x38)
-    × Accepts Two vector 19
+    → AcceptsRequest One vector 13 (λ regs read. 0x38)
+    × AcceptsRequest Two vector 19
     (λ regs read. read (256 * regs.i + vector) + 256 * read ((256 * regs.i + vector + 1) % 65536))
 
 -- mode 0: the vector is the code of an RST, which is done
 abbrev pub AcceptsRestarts : Type 0
 AcceptsRestarts =
-    Accepts Zero 0xC7 13 (λ regs read. 0x00) × Accepts Zero 0xCF 13 (λ regs read. 0x08)
-    × Accepts Zero 0xD7 13 (λ regs read. 0x10) × Accepts Zero 0xDF 13 (λ regs read. 0x18)
-    × Accepts Zero 0xE7 13 (λ regs read. 0x20) × Accepts Zero 0xEF 13 (λ regs read. 0x28)
-    × Accepts Zero 0xF7 13 (λ regs read. 0x30) × Accepts Zero 0xFF 13 (λ regs read. 0x38)
+    AcceptsRequest Zero 0xC7 13 (λ regs read. 0x00) × AcceptsRequest Zero 0xCF 13 (λ regs read. 0x08)
+    × AcceptsRequest Zero 0xD7 13 (λ regs read. 0x10) × AcceptsRequest Zero 0xDF 13 (λ regs read. 0x18)
+    × AcceptsRequest Zero 0xE7 13 (λ regs read. 0x20) × AcceptsRequest Zero 0xEF 13 (λ regs read. 0x28)
+    × AcceptsRequest Zero 0xF7 13 (λ regs read. 0x30) × AcceptsRequest Zero 0xFF 13 (λ regs read. 0x38)
 
 -- and no other byte is one
 abbrev pub restart_codes : List ℕ
