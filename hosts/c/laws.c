@@ -1,0 +1,109 @@
+/* Reads bytes as a program and a list of calls, makes them on a board, and ends with a trap where a law of the library doesn't hold: what
+ * tools/fuzz has libFuzzer look for.
+ *
+ * The first byte is the length of the program that follows, and stands at 0 of its ROM; the next is the byte of the DIP switches. Then each three
+ * bytes are a call, and a number for it, the low byte first. The laws:
+ *
+ * - cut time is whole time: two calls for a part each give the samples of one call for both, and the same block;
+ * - a board that is saved and loaded is the same board, but for what is held, which a file doesn't keep;
+ * - a copy goes on as the board does, and draws the same picture;
+ * - a call that is refused changes neither the block nor a buffer.
+ */
+#include "../pacboard.h"
+
+#include <stdlib.h>
+#include <string.h>
+
+enum { MOST = 20000, ROOM = MOST * 12 / 125 + 2, CALLS = 24, HELD = 3218 };
+
+static uint8_t roms[PAC_ROMS_SIZE];
+
+/* Ends where a law doesn't hold. */
+static void holds(int is_so)
+{
+    if (!is_so)
+        __builtin_trap();
+}
+
+/* Whether two boards are the same. */
+static int same(const pac_board *one, const pac_board *other)
+{
+    return memcmp(one, other, sizeof *one) == 0;
+}
+
+/* Lets a board and a copy of it run for as long, the copy in two parts; the samples and the blocks have to be the same. */
+static void run(pac_board *board, uint32_t microseconds)
+{
+    static int16_t whole[ROOM], parts[2 * ROOM];
+    pac_board copy = *board, before = *board;
+    pac_ran ran = {0}, first = {0}, second = {0};
+    uint32_t cut = microseconds / 3;
+    uint32_t code = pac_exec(board, roms, sizeof roms, microseconds, whole, ROOM, &ran);
+    if (code != PAC_DONE) {
+        holds(same(board, &before) && ran.ticks == 0 && ran.samples == 0);
+        return;
+    }
+    holds(pac_exec(&copy, roms, sizeof roms, cut, parts, ROOM, &first) == PAC_DONE);
+    code = pac_exec(&copy, roms, sizeof roms, microseconds - cut, parts + first.samples, ROOM, &second);
+    if (code == PAC_ROOM && first.stop != PAC_GOES)
+        return; /* (a board that has stopped asks for the room of the time that it is behind) */
+    holds(code == PAC_DONE && same(board, &copy));
+    holds(ran.samples == first.samples + second.samples && memcmp(whole, parts, ran.samples * sizeof *whole) == 0);
+    holds(ran.ticks == first.ticks + second.ticks && ran.pictures == first.pictures + second.pictures && ran.stop == second.stop);
+}
+
+/* Saves a board, and loads it into another. */
+static void save_and_load(pac_board *board)
+{
+    static uint8_t text[PAC_STATE_SIZE];
+    pac_board other;
+    memset(&other, 0xA5, sizeof other);
+    uint32_t code = pac_save(board, roms, sizeof roms, text, sizeof text);
+    if (code != PAC_DONE)
+        return;
+    holds(pac_load(&other, roms, sizeof roms, text, sizeof text) == PAC_DONE);
+    holds(same(board, &other));
+    text[100] ^= 1;
+    pac_board kept = other;
+    holds(pac_load(&other, roms, sizeof roms, text, sizeof text) == PAC_V5 && same(&other, &kept));
+}
+
+/* Draws a board twice. */
+static void draw(const pac_board *board)
+{
+    static uint8_t one[PAC_RGBA_SIZE], other[PAC_RGBA_SIZE];
+    pac_board copy = *board;
+    uint32_t code = pac_draw(board, roms, sizeof roms, one, sizeof one);
+    holds(pac_draw(&copy, roms, sizeof roms, other, sizeof other) == code && same(board, &copy));
+    holds(code != PAC_DONE || memcmp(one, other, sizeof one) == 0);
+}
+
+/* Makes a call. */
+static void call(pac_board *board, uint8_t which, uint16_t number)
+{
+    pac_board before = *board;
+    switch (which % 8) {
+    case 0: case 1: case 2: run(board, number % MOST); break;
+    case 3: holds(pac_hold(board, number, 0xFFFF) == PAC_DONE || same(board, &before)); break;
+    case 4: holds(pac_reset(board) == PAC_DONE || same(board, &before)); break;
+    case 5: save_and_load(board); break;
+    case 6: draw(board); break;
+    case 7: board->bytes[(number * 67u) % sizeof board->bytes] ^= which; break; /* what no host does */
+    }
+}
+
+int LLVMFuzzerTestOneInput(const uint8_t *data, size_t size)
+{
+    static pac_board board;
+    if (size < 2 || size < 2u + data[0])
+        return 0;
+    for (size_t at = 0; at < sizeof roms; at++)
+        roms[at] = at < PAC_ROMS_SIZE - 8736u ? 0 : (uint8_t)(at * 37 % 16); /* (a program of NOPs, tiles and colours of some kind) */
+    memcpy(roms, data + 2, data[0]);
+    if (pac_init(&board, roms, sizeof roms, data[1]) != PAC_DONE)
+        __builtin_trap();
+    size_t at = 2u + data[0];
+    for (int calls = 0; calls < CALLS && at + 3 <= size; calls++, at += 3)
+        call(&board, data[at], (uint16_t)(data[at + 1] | data[at + 2] << 8));
+    return 0;
+}
