@@ -158,7 +158,7 @@ known-of digest bytes none =
 
 -- ---- the answer
 
-text-board : (set : Parts) (bytes : List ℕ) (file : IsFile set bytes)
+pub text-board : (set : Parts) (bytes : List ℕ) (file : IsFile set bytes)
     → upgraded_board (version_in bytes) (record { set = set; state = state_in bytes; made = 0 }) ≡ board_of_file set file
 text-board set bytes file =
     let version : version_in bytes ≡ file.version =
@@ -214,3 +214,13 @@ accepts set bytes fits (Err fault) answers = λ (file : IsFile set bytes).
     let memory : fault ≡ NoMemory =
     ⊎_elim (λ told. let no : ⊥ = cc in absurd no) (λ (rest : _ × _). no-memory set bytes fault text rest.1) answers.refuses in
     answers.of_file memory
+
+-- and a file's board is what is read
+pub reads : (set : Parts) (bytes : List ℕ) (board : BoardValue) → AcceptsFile set bytes (Ok board) → ReadsFile set bytes (Ok board)
+reads set bytes board accepted =
+    let file = accepted.file in
+    record {
+      sound = ap (load_fault (digest_of set)) file.text ∙ text-sound file.version set file.state file.known file.is_state;
+      text = subst IsText (sym file.text) (text-is-text file.version set file.state file.is_state);
+      board = accepted.board file ∙ sym (text-board set bytes file);
+    }

@@ -6,3 +6,4 @@ pub mod Reading
 pub mod Saved
 pub mod Saves
 pub mod Text
+pub mod Ties

@@ -1,0 +1,11 @@
+use Rattle.std.proofs.Common.{Ok, Err}
+use Rattle.pac_state.proofs.Files.{accepts, reads}
+use Rattle.pac_state.proofs.laws.reading_is_accepting.Goals as goal
+
+pub returns : goal.returns
+returns c set bytes fits =
+    record {
+      accepted = λ board. accepts set bytes fits (Ok board);
+      read = reads set bytes;
+      refused = λ fault. accepts set bytes fits (Err fault);
+    }
