@@ -185,7 +185,7 @@ module _ {S : Type 0} (to : Giving S) where
 
 -- ---- one after another
 
-further-on : (old mid new : SessionValue) → IsFurther old mid → IsFurther mid new → IsFurther old new
+pub further-on : (old mid new : SessionValue) → IsFurther old mid → IsFurther mid new → IsFurther old new
 further-on old mid new first second =
     record { setting = second.setting ∙ first.setting; furthest = omega (arith, first.furthest, second.furthest) }
 
@@ -255,7 +255,7 @@ module _ {S : Type 0} (to : Giving S) where
   -- ---- lines
 
   module _ {W : Type 0} (wrote : W → List ℕ → W → Type 0) (balked : W → W → Type 0) where
-    line-given : {A : Type 0} (found : Option (Result Command NoCommand)) (result : Result A CommandFault) (old new : Scene S W)
+    pub line-given : {A : Type 0} (found : Option (Result Command NoCommand)) (result : Result A CommandFault) (old new : Scene S W)
         → Asks to wrote balked found old result new → LinesGive to old.session old.sink result new.session new.sink
     line-given None (Ok done) old new skipped =
         subst (λ (s : SessionValue). GaveAll to.took old.session old.sink s new.sink) (sym skipped.0)

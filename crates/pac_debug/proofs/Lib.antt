@@ -6,3 +6,5 @@ pub mod ToTheEnd
 pub mod Sole
 pub mod Resting
 pub mod HeldUp
+pub mod GoingOn
+pub mod StepsMade

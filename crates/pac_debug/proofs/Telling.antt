@@ -78,13 +78,13 @@ module _ {S W : Type 0} (to : Giving S) (wrote : W → List ℕ → W → Type 0
   takes-same : (old new : Counted W) → new ≡ old → Takes wrote old [] new
   takes-same old new same = subst (λ (file : Counted W). Takes wrote old [] file) (sym same) (takes-nothing old)
 
-  record LineTold (found : Option (Result Command NoCommand)) (old new : Scene S W) : Type 0 where
+  pub record LineTold (found : Option (Result Command NoCommand)) (old new : Scene S W) : Type 0 where
     pub text : List ℕ
     pub tells : TellsOfCommand found old.session text new.session
     pub takes : Takes wrote old.text text new.text
     pub later : old.text.failed ≡ true → found ≡ None
 
-  line-told : {A : Type 0} (done : A) (found : Option (Result Command NoCommand)) (old new : Scene S W)
+  pub line-told : {A : Type 0} (done : A) (found : Option (Result Command NoCommand)) (old new : Scene S W)
       → Asks {A = A} to wrote balked found old (Ok done) new → LineTold found old new
   line-told done None old new skipped =
       record { text = []; tells = (refl, skipped.0); takes = takes-same old.text new.text skipped.2; later = λ failed. refl }
@@ -137,7 +137,7 @@ module _ {S W : Type 0} (to : Giving S) (wrote : W → List ℕ → W → Type 0
     pub refusal : RefusedAt to after mid.session mid.sink new.session new.sink
     pub text : new.text ≡ mid.text
 
-  line-refused : (found : Option (Result Command NoCommand)) (old new : Scene S W)
+  pub line-refused : (found : Option (Result Command NoCommand)) (old new : Scene S W)
       → Asks {A = Unit {0}} to wrote balked found old (Err faults.Refused) new
       → RefusedOf to found old.session old.sink new.session new.sink × (new.text ≡ old.text)
   line-refused None old new skipped = absurd skipped
@@ -185,7 +185,7 @@ module _ {S W : Type 0} (to : Giving S) (wrote : W → List ℕ → W → Type 0
     pub obeyed : ObeysLines to wrote balked before old (Ok tt) mid
     pub here : LineUntold (command_of line) mid fault new
 
-  line-untold : (found : Option (Result Command NoCommand)) (fault : WriteFault) (old new : Scene S W)
+  pub line-untold : (found : Option (Result Command NoCommand)) (fault : WriteFault) (old new : Scene S W)
       → Asks {A = Unit {0}} to wrote balked found old (Err (faults.Text fault)) new → LineUntold found old fault new
   line-untold None fault old new skipped = absurd skipped
   line-untold (Some asked) fault old new answered =

@@ -2,6 +2,8 @@ pub mod Answers
 pub mod Obeying
 pub mod Watched
 pub mod Laws
+pub mod GoingOn
+pub mod StepsMade
 pub use Rattle.pac_debug_session.specs.Motions
 pub use Rattle.pac_debug_session.specs.Outcome
 pub use Rattle.pac_debug_session.specs.Running

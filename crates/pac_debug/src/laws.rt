@@ -1,6 +1,12 @@
-//! Laws of what a session tells.
+//! Laws of what a session tells, gives and does.
 
+ghost use Rattle.pac_board.specs.Sinks.{by};
+ghost use Rattle.pac_debug.specs.GoingOn.{LinesGoOn};
 ghost use Rattle.pac_debug.specs.Laws.{TellsOneThing, AllLinesTell};
+ghost use Rattle.pac_debug.specs.StepsMade.{LinesMakeNoMore, SessionsMakeNoMore};
+
+use pac_board::Sink;
+use pac_out::Out;
 
 /// Lines, and where a session stands before them, determine what is told and where they leave the session.
 pub fn one_thing_is_told()
@@ -10,4 +16,19 @@ pub fn one_thing_is_told()
 /// All lines tell something: each motion comes to rest, and each other command is answered.
 pub fn something_is_told()
     ensures { AllLinesTell }
+{}
+
+/// Lines go on after one that wasn't answered: whatever each asks, and whichever of them the sink or the text refuses.
+pub fn lines_go_on<S: Sink, W: Out>()
+    ensures { LinesGoOn (by S.took S.refused) W.took W.refused }
+{}
+
+/// The board makes the steps of the run, and no more of them once more than the lines ask for that go back.
+pub fn lines_make_no_more<S: Sink, W: Out>()
+    ensures { LinesMakeNoMore (by S.took S.refused) W.took W.refused }
+{}
+
+/// So it is over a whole session, with the way to the run's end.
+pub fn sessions_make_no_more<S: Sink, W: Out>()
+    ensures { SessionsMakeNoMore (by S.took S.refused) W.took W.refused }
 {}

@@ -412,6 +412,24 @@ whole-stopped s stop facts early met =
       stop_is = ap (λ (w : Walk BoardView). w.stop) (sym whole) ∙ stopped;
     }
 
+-- so it is at the first index at which the run goes no further
+module _ (setting : Setting) (index : ℕ) (goes : (earlier : ℕ) → earlier < index → goes_at setting earlier ≡ true) where
+  whole-by : (late : Bool) (found : Option Stop) → is_late setting index ≡ late → stop_at setting index ≡ found
+      → not (not late && is_none found) ≡ true → (whole_run setting).now ≡ now_at setting index
+  whole-by true found late met over =
+      let past : limit setting ≤ (now_at setting index).time = grind (arith, nat_tests) in
+      ap (λ (w : Walk BoardView). w.now) (sym (whole-at setting index (late-has-ended (limit setting) (run setting index) past)))
+  whole-by false (Some stop) late met over =
+      let step = next-index setting index (open-up-to setting index goes).open_yet late in
+      let after = after-stop (run setting index) (next_at setting index) stop met in
+      let stopped : (run setting (suc index)).stop ≡ Some stop = ap (λ (w : Walk BoardView). w.stop) step ∙ after.2 in
+      let whole = whole-at setting (suc index) (stopped-has-ended (limit setting) (run setting (suc index)) stop stopped) in
+      ap (λ (w : Walk BoardView). w.now) (sym whole ∙ step) ∙ after.0
+  whole-by false None late met over = not-both (sym over)
+
+  pub whole-at-end : not (goes_at setting index) ≡ true → (whole_run setting).now ≡ now_at setting index
+  whole-at-end over = whole-by (is_late setting index) (stop_at setting index) refl refl over
+
 -- the end as a motion to it finds it
 pub whole-there : (s : SessionValue) (from : ℕ) (why : MotionEnd) → IsSession s → RestsBy s ToEnd from s.index why
     → IsWhole s s.index (stop_of why)

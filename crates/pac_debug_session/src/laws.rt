@@ -1,6 +1,16 @@
-//! Laws of what a session gives.
+//! Laws of what a session is, and gives.
 
 ghost use Rattle.pac_debug_session.specs.Laws.{AllIsGiven, EachIsGivenOnce};
+ghost use Rattle.pac_debug_session.specs.Session.{IsSession};
+
+use crate::session::Session;
+
+/// What holds of every session.
+pub fn sessions_are_right(session: &Session)
+    ensures { IsSession session.now }
+{
+    session.facts();
+}
 
 /// From the first index on, all of a run's outputs are given.
 pub fn all_is_given()

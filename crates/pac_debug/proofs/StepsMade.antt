@@ -1,0 +1,444 @@
+-- The steps that a session's board makes: no more than lead to the furthest index, and those that lines have it make once more.
+use Rattle.std.proofs.Common.{◌≡◌, ℕ, zero, suc, ◌+◌, ◌-◌, ◌%◌, ◌^◌, ◌<◌, ◌≤◌, max, min, nat_lt, Bool, true, false, not, ◌||◌, get_or, set}
+use Rattle.std.proofs.Common.{Option, None, Some, Result, Ok, Err, List, [], ◌∷◌, ◌++◌, refl, sym, ap, subst, ◌∙◌, arith}
+use Rattle.std.proofs.lemmas.Bool.Decides.{nat_tests}
+use mathlib.Core.Logic.{inl, inr}
+use Rattle.pac_board.specs.Sinks.{Giving}
+use Rattle.pac_board.specs.Step.{Moment}
+use Rattle.pac_board.specs.BoardView.{BoardView}
+use Rattle.pac_board.proofs.Walks.{not-both}
+use Rattle.pac_debug_text.specs.declared.command.Command.{Command}
+use Rattle.pac_debug_text.specs.declared.command.Command.TheVariants as commands
+use Rattle.pac_debug_text.specs.declared.command.NoCommand.{NoCommand}
+use Rattle.pac_debug_text.specs.declared.place.Ending.TheVariants as endings
+use Rattle.pac_debug_text.specs.declared.refusal.Refusal.TheVariants as refusals
+use Rattle.pac_debug_text.specs.Commands.{command_of}
+use Rattle.pac_debug_text.specs.Slots.{slot_index}
+use Rattle.pac_debug_session.specs.declared.motion.Motion.{Motion}
+use Rattle.pac_debug_session.specs.Motions.{has_met, rests, session_with_slot}
+use Rattle.pac_debug_session.specs.Outcome.{Outcome}
+use Rattle.pac_debug_session.specs.Running.{goes_at, whole_run}
+use Rattle.pac_debug_session.specs.Session.{AreSeen, IsSeen, IsSession, SessionValue, has_breakpoint}
+use Rattle.pac_debug_session.proofs.Ends.{run-ends}
+use Rattle.pac_debug_session.proofs.Indices.{open-up-to}
+use Rattle.pac_debug_session.proofs.Steppings.{all-seen-later}
+use Rattle.pac_debug_session.proofs.Travelled.{whole-at-end}
+use Rattle.pac_debug.specs.declared.answer.Answer.{Answer}
+use Rattle.pac_debug.specs.declared.answer.Answer.TheVariants as answers
+use Rattle.pac_debug.specs.declared.line.CommandFault.{CommandFault}
+use Rattle.pac_debug.specs.declared.line.CommandFault.TheVariants as faults
+use Rattle.pac_debug.specs.GoingOn.{LineAnswer, IsHeldUpAt, LeavesLine, LeavesEach}
+use Rattle.pac_debug.specs.Obeying.{AnswersBack, AnswersReturn, SetsBreakpoint, Stays, IsCommandPerformed, IsCommandObeyed, kept_at}
+use Rattle.pac_debug.specs.Obeying.{Scene, motion_of, session_without_due}
+use Rattle.pac_debug.specs.StepsMade.{steps_again, all_steps_again, MakesNoMore, LinesMakeNoMore, SessionsMakeNoMore}
+use Rattle.pac_debug.specs.Watched.{takes_all, TellsOfCommand, TellsAll, RefusedAt, WatchesSession}
+use Rattle.pac_debug.proofs.GoingOn.{comes-to, held-at}
+
+-- ---- where a session stands
+
+-- of what holds of every session, what is about its indices
+record Stands (s : SessionValue) : Type 0 where
+  pub within : s.index ≤ s.furthest
+  pub goes : (earlier : ℕ) → earlier < s.furthest → goes_at s.setting earlier ≡ true
+  pub seen : AreSeen s.furthest s.slots
+
+-- from one moment to a later one, for which a line may be the cause of so many steps that are made once more
+record Makes (again : ℕ → ℕ) (old new : SessionValue) : Type 0 where
+  pub stands : Stands new
+  pub setting : new.setting ≡ old.setting
+  pub further : old.furthest ≤ new.furthest
+  pub made : (furthest : ℕ) → new.furthest ≤ furthest → new.made + old.index ≤ old.made + new.index + again furthest
+
+-- the same run, indices and slots, and no step
+record IsUnmoved (old new : SessionValue) : Type 0 where
+  pub setting : new.setting ≡ old.setting
+  pub index : new.index ≡ old.index
+  pub furthest : new.furthest ≡ old.furthest
+  pub slots : new.slots ≡ old.slots
+  pub made : new.made ≡ old.made
+
+stands-there : (old new : SessionValue) → Stands old → new.setting ≡ old.setting → new.furthest ≡ old.furthest
+    → new.index ≤ old.furthest → AreSeen old.furthest new.slots → Stands new
+stands-there old new stands setting furthest within seen =
+    record {
+      within = omega (arith, within, furthest);
+      goes = λ earlier less.
+          ap (λ run. goes_at run earlier) setting ∙ stands.goes earlier (omega (arith, less, furthest));
+      seen = subst (λ n. AreSeen n new.slots) (sym furthest) seen;
+    }
+
+unmoved : (again : ℕ → ℕ) (old new : SessionValue) → Stands old → IsUnmoved old new → Makes again old new
+unmoved again old new stands same =
+    let index = same.index in
+    let within = stands.within in
+    let far = same.furthest in
+    let made = same.made in
+    record {
+      stands =
+          stands-there old new stands same.setting far (omega (arith, index, within))
+          (subst (AreSeen old.furthest) (sym same.slots) stands.seen);
+      setting = same.setting;
+      further = omega (arith, far);
+      made = λ furthest most. omega (arith, index, made);
+    }
+
+-- along an equation
+like : (old new other : SessionValue) → new ≡ other → IsUnmoved old other → IsUnmoved old new
+like old new other is same = subst (IsUnmoved old) (sym is) same
+
+unchanged : (s : SessionValue) → IsUnmoved s s
+unchanged s = record { setting = refl; index = refl; furthest = refl; slots = refl; made = refl }
+
+-- ---- onwards
+
+going : (met goes : Bool) → (met || not goes) ≡ false → goes ≡ true
+going true goes e = not-both e
+going false true e = refl
+going false false e = not-both e
+
+-- where a motion doesn't rest the run goes on
+unrested : (s : SessionValue) (motion : Motion) (from index : ℕ) → rests s motion from index ≡ false → goes_at s.setting index ≡ true
+unrested s motion from index e = going (has_met s motion from index) (goes_at s.setting index) e
+
+module _ (again : ℕ → ℕ) (old new : SessionValue) (stands : Stands old) (after : old.index ≤ new.index)
+    (setting : new.setting ≡ old.setting) (far : new.furthest ≡ max old.furthest new.index) (slots : new.slots ≡ old.slots)
+    (counted : new.made ≡ min (2 ^ 64 - 1) (old.made + (new.index - old.index)))
+    (goes : (earlier : ℕ) → old.index ≤ earlier → earlier < new.index → goes_at old.setting earlier ≡ true)
+  where
+    goes-before : (earlier : ℕ) → earlier < new.furthest → (b : Bool) → nat_lt earlier old.furthest ≡ b
+        → goes_at old.setting earlier ≡ true
+    goes-before earlier less true e = stands.goes earlier (grind (arith, nat_tests))
+    goes-before earlier less false e =
+        let past : old.furthest ≤ earlier = grind (arith, nat_tests) in
+        let within = stands.within in
+        goes earlier (omega (arith, past, within)) (omega (arith, past, less, far))
+
+    onwards : Makes again old new
+    onwards =
+        record {
+          stands = record {
+            within = omega (arith, far);
+            goes = λ earlier less.
+                ap (λ run. goes_at run earlier) setting ∙ goes-before earlier less (nat_lt earlier old.furthest) refl;
+            seen =
+                subst (AreSeen new.furthest) (sym slots)
+                (all-seen-later old.furthest new.furthest old.slots (omega (arith, far)) stands.seen);
+          };
+          setting = setting;
+          further = omega (arith, far);
+          made = λ furthest most. omega (arith, counted, after);
+        }
+
+-- ---- commands that don't move on
+
+abbrev none : ℕ → ℕ
+none furthest = 0
+
+went-back : (old : SessionValue) (count : ℕ) (answer : Answer) (new : SessionValue) → Stands old → AnswersBack old count answer new
+    → Makes (λ furthest. count + 4095) old new
+went-back old count (answers.Moved endings.Back) new stands went =
+    let is = went.session in
+    let index : new.index ≡ old.index - count = ap (λ (s : SessionValue). s.index) is in
+    let made : new.made ≡ min (2 ^ 64 - 1) (old.made + (old.index - count) % 4096) = ap (λ (s : SessionValue). s.made) is in
+    let far : new.furthest ≡ old.furthest = ap (λ (s : SessionValue). s.furthest) is in
+    let within = stands.within in
+    let enough = went.enough in
+    record {
+      stands =
+          stands-there old new stands (ap (λ (s : SessionValue). s.setting) is) far (omega (arith, index, within))
+          (subst (AreSeen old.furthest) (sym (ap (λ (s : SessionValue). s.slots) is)) stands.seen);
+      setting = ap (λ (s : SessionValue). s.setting) is;
+      further = omega (arith, far);
+      made = λ furthest most. omega (arith, index, made, enough);
+    }
+went-back old count (answers.Refused (refusals.TooFarBack oldest)) new stands went =
+    unmoved _ old new stands (like old new old went.session (unchanged old))
+went-back old count other new stands went = absurd went
+
+-- what a slot keeps was seen
+seen-at : (furthest : ℕ) (slots : List (Option ℕ)) (place : ℕ) → AreSeen furthest slots → IsSeen furthest (get_or slots place None)
+seen-at furthest [] place all = tt
+seen-at furthest (first ∷ more) zero all = all.0
+seen-at furthest (first ∷ more) (suc place) all = seen-at furthest more place all.1
+
+seen-with : (furthest : ℕ) (slots : List (Option ℕ)) (place : ℕ) (mark : Option ℕ) → AreSeen furthest slots → IsSeen furthest mark
+    → AreSeen furthest (set slots place mark)
+seen-with furthest [] place mark all one = tt
+seen-with furthest (first ∷ more) zero mark all one = (one, all.1)
+seen-with furthest (first ∷ more) (suc place) mark all one = (all.0, seen-with furthest more place mark all.1 one)
+
+returned : (old : SessionValue) (kept : Option ℕ) (answer : Answer) (new : SessionValue) → Stands old → IsSeen old.furthest kept
+    → AnswersReturn old kept answer new → Makes (λ furthest. furthest) old new
+returned old (Some index) answer new stands seen came =
+    let is = came.1 in
+    let there : new.index ≡ index = ap (λ (s : SessionValue). s.index) is in
+    let made : new.made ≡ old.made = ap (λ (s : SessionValue). s.made) is in
+    let far : new.furthest ≡ old.furthest = ap (λ (s : SessionValue). s.furthest) is in
+    let within = stands.within in
+    record {
+      stands =
+          stands-there old new stands (ap (λ (s : SessionValue). s.setting) is) far (omega (arith, there, seen))
+          (subst (AreSeen old.furthest) (sym (ap (λ (s : SessionValue). s.slots) is)) stands.seen);
+      setting = ap (λ (s : SessionValue). s.setting) is;
+      further = omega (arith, far);
+      made = λ furthest most. omega (arith, there, made, within, far, most);
+    }
+returned old None answer new stands seen came = unmoved _ old new stands (like old new old came.1 (unchanged old))
+
+kept-there : (old new : SessionValue) (slot : ℕ) → Stands old → new ≡ session_with_slot old slot → Makes none old new
+kept-there old new slot stands is =
+    let within = stands.within in
+    subst (Makes none old) (sym is)
+    (record {
+      stands = record {
+        within = within;
+        goes = stands.goes;
+        seen = seen-with old.furthest old.slots slot (Some old.index) stands.seen within;
+      };
+      setting = refl;
+      further = omega arith;
+      made = λ furthest most. omega arith;
+    })
+
+set-there : (again : ℕ → ℕ) (old : SessionValue) (address : ℕ) (is_set : Bool) (answer : Answer) (new : SessionValue)
+    → Stands old → SetsBreakpoint old address is_set answer new → Makes again old new
+set-there again old address true answer new stands done = unmoved again old new stands (like old new old done.1 (unchanged old))
+set-there again old address false answers.Done new stands done =
+    unmoved again old new stands
+    (like old new _ done.1 (record { setting = refl; index = refl; furthest = refl; slots = refl; made = refl }))
+set-there again old address false (answers.Refused refusals.NoRoom) new stands done =
+    unmoved again old new stands (like old new old done.1 (unchanged old))
+set-there again old address false other new stands done = absurd done
+
+abbrev again-of : Command → ℕ → ℕ
+again-of command furthest = steps_again furthest (Some (Ok command))
+
+stays : (old : SessionValue) (command : Command) (answer : Answer) (new : SessionValue) → Stands old → Stays old command answer new
+    → Makes (again-of command) old new
+stays old (commands.Back count) answer new stands done = went-back old count answer new stands done
+stays old (commands.Return slot) answer new stands done =
+    returned old (kept_at old (slot_index slot)) answer new stands (seen-at old.furthest old.slots (slot_index slot) stands.seen) done
+stays old (commands.Keep slot) answer new stands done = kept-there old new (slot_index slot) stands done.1
+stays old (commands.Break at) answer new stands done = set-there _ old at (has_breakpoint old at) answer new stands done
+stays old (commands.Unbreak at) answer new stands done =
+    unmoved _ old new stands
+    (like old new _ done.1 (record { setting = refl; index = refl; furthest = refl; slots = refl; made = refl }))
+stays old commands.Regs answer new stands done = unmoved _ old new stands (like old new old done.1 (unchanged old))
+stays old (commands.Mem at count) answer new stands done = unmoved _ old new stands (like old new old done.1 (unchanged old))
+stays old (commands.Dis at count) answer new stands done = unmoved _ old new stands (like old new old done.1 (unchanged old))
+stays old (commands.History count) answer new stands done = unmoved _ old new stands (like old new old done.1 (unchanged old))
+stays old other answer new stands done = absurd done
+
+-- ---- a line
+
+performed : (old : SessionValue) (command : Command) (found : Option Motion) (answer : Answer) (new : SessionValue) → Stands old
+    → IsCommandPerformed takes_all old command found tt answer new tt → Makes (again-of command) old new
+performed old command (Some motion) answer new stands moved =
+    let gone = moved.travelled in
+    let is = gone.session in
+    onwards (again-of command) old new stands gone.rest.after (ap (λ (s : SessionValue). s.setting) is)
+    (ap (λ (s : SessionValue). s.furthest) is) (ap (λ (s : SessionValue). s.slots) is) (ap (λ (s : SessionValue). s.made) is)
+    (λ earlier from less. unrested old motion old.index earlier (gone.rest.none_before earlier from less))
+performed old command None answer new stands done = stays old command answer new stands done.0
+
+-- what is due has no part in it
+apart : (again : ℕ → ℕ) (old new : SessionValue) → Makes again (session_without_due old) new → Makes again old new
+apart again old new makes = record { stands = makes.stands; setting = makes.setting; further = makes.further; made = makes.made }
+
+obeyed : (old : SessionValue) (asked : Result Command NoCommand) (answer : Answer) (new : SessionValue) → Stands old
+    → IsCommandObeyed takes_all (session_without_due old) asked tt answer new tt
+    → Makes (λ furthest. steps_again furthest (Some asked)) old new
+obeyed old (Ok command) answer new stands done =
+    apart _ old new
+    (performed (session_without_due old) command (motion_of command) answer new
+    (record { within = stands.within; goes = stands.goes; seen = stands.seen }) done)
+obeyed old (Err reason) answer new stands done =
+    unmoved _ old new stands
+    (like old new _ done.1 (record { setting = refl; index = refl; furthest = refl; slots = refl; made = refl }))
+
+told : (found : Option (Result Command NoCommand)) (old : SessionValue) (text : List ℕ) (new : SessionValue) → Stands old
+    → TellsOfCommand found old text new → Makes (λ furthest. steps_again furthest found) old new
+told None old text new stands tells = unmoved _ old new stands (like old new old tells.1 (unchanged old))
+told (Some asked) old text new stands tells = obeyed old asked tells.answer new stands tells.obeyed
+
+held-up : (found : Option (Result Command NoCommand)) (old new : SessionValue) → Stands old → IsHeldUpAt found old new
+    → Makes (λ furthest. steps_again furthest found) old new
+held-up None old new stands held = absurd held
+held-up (Some asked) old new stands (inl held) =
+    unmoved _ old new stands
+    (like old new _ held.session (record { setting = refl; index = refl; furthest = refl; slots = refl; made = refl }))
+held-up (Some asked) old new stands (inr held) =
+    let is = held.session in
+    let most : new.furthest ≡ max old.furthest new.index = ap (λ (s : SessionValue). s.furthest) is in
+    let within = stands.within in
+    onwards _ old new stands (omega (arith, held.index, held.fresh, within)) (ap (λ (s : SessionValue). s.setting) is) most
+    (ap (λ (s : SessionValue). s.slots) is) (ap (λ (s : SessionValue). s.made) is)
+    (λ earlier from less.
+    unrested old held.motion old.index earlier (held.restless earlier from (omega (arith, held.index, less))))
+
+line-makes : (line : List ℕ) (answer : LineAnswer) (old : SessionValue) (text : List ℕ) (new : SessionValue) → Stands old
+    → LeavesLine line answer old text new → Makes (λ furthest. steps_again furthest (command_of line)) old new
+line-makes line (Ok done) old text new stands leaves = told (command_of line) old text new stands leaves
+line-makes line (Err (faults.Text fault)) old text new stands leaves = told (command_of line) old text new stands leaves
+line-makes line (Err faults.Refused) old text new stands leaves = held-up (command_of line) old new stands leaves.0
+
+-- ---- lines
+
+-- one after another
+makes-on : (again more : ℕ → ℕ) (old mid new : SessionValue) → Makes again old mid → Makes more mid new
+    → Makes (λ furthest. again furthest + more furthest) old new
+makes-on again more old mid new first rest =
+    record {
+      stands = rest.stands;
+      setting = rest.setting ∙ first.setting;
+      further = let one = first.further in let other = rest.further in omega (arith, one, other);
+      made = λ furthest most.
+          let far = rest.further in
+          let one = first.made furthest (omega (arith, far, most)) in
+          let other = rest.made furthest most in
+          omega (arith, one, other);
+    }
+
+lines-make : (lines : List (List ℕ)) (answers : List LineAnswer) (old : SessionValue) (texts : List (List ℕ)) (new : SessionValue)
+    → Stands old → LeavesEach lines answers old texts new → Makes (λ furthest. all_steps_again furthest lines) old new
+lines-make [] [] old [] new stands leaves = unmoved _ old new stands (like old new old leaves (unchanged old))
+lines-make (line ∷ lines) (answer ∷ answers) old (text ∷ texts) new stands leaves =
+    let first = line-makes line answer old text leaves.between stands leaves.before in
+    let rest = lines-make lines answers leaves.between texts new first.stands leaves.after in
+    makes-on (λ furthest. steps_again furthest (command_of line)) (λ furthest. all_steps_again furthest lines) old leaves.between new first
+    rest
+lines-make [] (answer ∷ answers) old texts new stands leaves = absurd leaves
+lines-make [] [] old (text ∷ texts) new stands leaves = absurd leaves
+lines-make (line ∷ lines) [] old texts new stands leaves = absurd leaves
+lines-make (line ∷ lines) (answer ∷ answers) old [] new stands leaves = absurd leaves
+
+unended : (goes : Bool) → not goes ≡ false → goes ≡ true
+unended true e = refl
+unended false e = not-both e
+
+-- up to the furthest index the trace goes on
+within-trace : (s : SessionValue) → Stands s → s.furthest ≤ (whole_run s.setting).now.steps
+within-trace s stands =
+    let end = run-ends s.setting s.furthest stands.goes in
+    let goes : (earlier : ℕ) → earlier < end.0 → goes_at s.setting earlier ≡ true
+    = λ earlier less. before end.0 earlier less end.1.none_before (nat_lt earlier s.furthest) refl in
+    let whole = whole-at-end s.setting end.0 goes end.1.here in
+    let steps = ap (λ (now : Moment BoardView). now.steps) whole ∙ (open-up-to s.setting end.0 goes).steps in
+    let after = end.1.after in
+    omega (arith, steps, after)
+  where
+    before : (end earlier : ℕ) → earlier < end
+        → ((index : ℕ) → s.furthest ≤ index → index < end → not (goes_at s.setting index) ≡ false) → (b : Bool)
+        → nat_lt earlier s.furthest ≡ b → goes_at s.setting earlier ≡ true
+    before end earlier less met true e = stands.goes earlier (grind (arith, nat_tests))
+    before end earlier less met false e =
+        unended (goes_at s.setting earlier) (met earlier (grind (arith, nat_tests)) less)
+
+-- so it is in all
+no-more : (lines : List (List ℕ)) (old new : SessionValue) → IsSession old → Makes (λ furthest. all_steps_again furthest lines) old new
+    → MakesNoMore lines old new
+no-more lines old new facts makes =
+    let made = makes.made new.furthest (omega arith) in
+    let within = makes.stands.within in
+    let first = facts.within in
+    let further = makes.further in
+    record {
+      made = omega (arith, made, within, first, further);
+      of_the_trace = subst (λ run. new.furthest ≤ (whole_run run).now.steps) makes.setting (within-trace new makes.stands);
+    }
+
+standing : (s : SessionValue) → IsSession s → Stands s
+standing s facts = record { within = facts.within; goes = facts.goes; seen = facts.seen }
+
+pub lines-make-no-more : {S W : Type 0} (to : Giving S) (wrote : W → List ℕ → W → Type 0) (balked : W → W → Type 0)
+    → LinesMakeNoMore to wrote balked
+lines-make-no-more to wrote balked lines answers old new facts all =
+    let came = comes-to to wrote balked lines answers old new all in
+    no-more lines old.session new.session facts
+    (lines-make lines answers old.session came.texts new.session (standing old.session facts) came.left)
+
+-- ---- a whole session
+
+-- no more than this
+makes-within : (again most : ℕ → ℕ) (old new : SessionValue) → ((furthest : ℕ) → again furthest ≤ most furthest) → Makes again old new
+    → Makes most old new
+makes-within again most old new less makes =
+    record {
+      stands = makes.stands;
+      setting = makes.setting;
+      further = makes.further;
+      made = λ furthest within.
+          let made = makes.made furthest within in
+          let few = less furthest in
+          omega (arith, made, few);
+    }
+
+again-joined : (furthest : ℕ) (lines more : List (List ℕ))
+    → all_steps_again furthest (lines ++ more) ≡ all_steps_again furthest lines + all_steps_again furthest more
+again-joined furthest [] more = omega arith
+again-joined furthest (line ∷ lines) more = let rest = again-joined furthest lines more in omega (arith, rest)
+
+tells-make : (lines : List (List ℕ)) (old : SessionValue) (text : List ℕ) (new : SessionValue) → Stands old → TellsAll lines old text new
+    → Makes (λ furthest. all_steps_again furthest lines) old new
+tells-make [] old text new stands tells = unmoved _ old new stands (like old new old tells.1 (unchanged old))
+tells-make (line ∷ lines) old text new stands tells =
+    let first = told (command_of line) old tells.text_before tells.between stands tells.before in
+    let rest = tells-make lines tells.between tells.text_after new first.stands tells.after in
+    makes-on (λ furthest. steps_again furthest (command_of line)) (λ furthest. all_steps_again furthest lines) old tells.between new first
+    rest
+
+module _ {S : Type 0} (to : Giving S) where
+  -- where the sink refused: at a line, or on the way to the end
+  refused-makes : (lines : List (List ℕ)) (old : SessionValue) (sink : S) (new : SessionValue) (later : S) → Stands old
+      → RefusedAt to lines old sink new later → Makes (λ furthest. all_steps_again furthest lines) old new
+  refused-makes [] old sink new later stands (inl refusal) =
+      unmoved _ old new stands
+      (like old new _ refusal.session (record { setting = refl; index = refl; furthest = refl; slots = refl; made = refl }))
+  refused-makes [] old sink new later stands (inr gone) =
+      let is = gone.session in
+      let within = stands.within in
+      onwards _ old new stands (omega (arith, gone.index, gone.fresh, within)) (ap (λ (s : SessionValue). s.setting) is)
+      (ap (λ (s : SessionValue). s.furthest) is) (ap (λ (s : SessionValue). s.slots) is) (ap (λ (s : SessionValue). s.made) is)
+      (λ earlier from less. gone.restless earlier from (omega (arith, gone.index, less)))
+  refused-makes (line ∷ lines) old sink new later stands refusal =
+      makes-within (λ furthest. steps_again furthest (command_of line)) (λ furthest. all_steps_again furthest (line ∷ lines)) old new
+      (λ furthest. omega arith)
+      (held-up (command_of line) old new stands (held-at to (command_of line) old sink new later refusal))
+
+  module _ {W : Type 0} (wrote : W → List ℕ → W → Type 0) (balked : W → W → Type 0) where
+    watched-makes : (lines : List (List ℕ)) (old : Scene S W) (result : Result Outcome CommandFault) (new : Scene S W) → Stands old.session
+        → WatchesSession to wrote balked lines old result new
+        → Makes (λ furthest. all_steps_again furthest lines) old.session new.session
+    watched-makes lines old (Ok outcome) new stands watched =
+        let first = tells-make lines old.session watched.told watched.between stands watched.lines in
+        let is = watched.session in
+        let rest = onwards none watched.between new.session first.stands watched.rest.after (ap (λ (s : SessionValue). s.setting) is)
+        (ap (λ (s : SessionValue). s.furthest) is) (ap (λ (s : SessionValue). s.slots) is) (ap (λ (s : SessionValue). s.made) is)
+        (λ earlier from less.
+        ap (λ run. goes_at run earlier) first.setting
+        ∙ unended (goes_at old.session.setting earlier) (watched.rest.none_before earlier from less)) in
+        makes-within _ (λ furthest. all_steps_again furthest lines) old.session new.session (λ furthest. omega arith)
+        (makes-on (λ furthest. all_steps_again furthest lines) none old.session watched.between new.session first rest)
+    watched-makes lines old (Err faults.Refused) new stands watched =
+        let first = tells-make watched.before old.session watched.told watched.between stands watched.lines in
+        let rest = refused-makes watched.after watched.between watched.sink_between new.session new.sink first.stands watched.refusal in
+        makes-within _ (λ furthest. all_steps_again furthest lines) old.session new.session
+        (λ furthest.
+        let sum = ap (all_steps_again furthest) watched.parts ∙ again-joined furthest watched.before watched.after in omega (arith, sum))
+        (makes-on (λ furthest. all_steps_again furthest watched.before) (λ furthest. all_steps_again furthest watched.after) old.session
+        watched.between new.session first rest)
+    watched-makes lines old (Err (faults.Text fault)) new stands watched =
+        let first = tells-make watched.before old.session watched.told watched.between stands watched.lines in
+        let rest = told (command_of watched.line) watched.between watched.more new.session first.stands watched.tells in
+        makes-within _ (λ furthest. all_steps_again furthest lines) old.session new.session
+        (λ furthest.
+        let sum = ap (all_steps_again furthest) watched.parts ∙ again-joined furthest watched.before (watched.line ∷ watched.after) in
+        omega (arith, sum))
+        (makes-on (λ furthest. all_steps_again furthest watched.before) (λ furthest. steps_again furthest (command_of watched.line))
+        old.session watched.between new.session first rest)
+
+pub sessions-make-no-more : {S W : Type 0} (to : Giving S) (wrote : W → List ℕ → W → Type 0) (balked : W → W → Type 0)
+    → SessionsMakeNoMore to wrote balked
+sessions-make-no-more to wrote balked lines old result new facts watched =
+    no-more lines old.session new.session facts
+    (watched-makes to wrote balked lines old result new (standing old.session facts) watched)
