@@ -1,13 +1,15 @@
 -- Block instructions as one equation each.
-use Rattle.std.proofs.Common.{◌≡◌, ◌+◌, ◌%◌, Bool, true, false, List, Some, refl, ap}
+use Rattle.std.proofs.Common.{ℕ, ◌∙◌, ◌-◌, ◌==◌, nat_lt, not, [], arith, ◌≡◌, ◌+◌, ◌%◌, Bool, true, false, List, Some, refl, ap}
 use Rattle.std.specs.Prelude.{if◌then◌else◌}
 use Rattle.pac_table.specs.Table.{table}
 use Rattle.pac_table.specs.Instructions.{row_at, row_of}
 use Rattle.pac_bus.specs.Action.{Action}
 use Rattle.pac_alu.specs.Transfer.{copy_flags_of, search_flags_of, port_flags_of}
+use Rattle.pac_alu.specs.Flags.{flags_of, flag_byte_of, is_negative}
 use Rattle.pac_exec.specs.declared.regs.Regs.{Regs}
+use Rattle.pac_exec.specs.Registers.{bc, hl, with_bc, with_hl}
 use Rattle.pac_exec.specs.Effect.{effect_by}
-use Rattle.pac_cpu_vectors.specs.Manual.{done_again_if, CopiesBlocks, SearchesBlocks, InputsBlocks, OutputsBlocks}
+use Rattle.pac_cpu_vectors.specs.Manual.{up, down, done_again_if, CopiesBlocks, SearchesBlocks, InputsBlocks, OutputsBlocks}
 
 -- a choice between two transitions that differ in PC and in time is one of these
 again-in-fields : (again : Bool) (regs : Regs) (actions : List Action)
@@ -27,13 +29,43 @@ copies-blocks = (
   λ regs read input. ap Some (again-in-fields _ _ _),
 )
 
+-- the flags of a search, one by one
+searched-flags : (a byte count f : ℕ) → search_flags_of a byte count f ≡ flag_byte_of (record (flags_of f) {
+  sign = is_negative ((256 + a - byte) % 256);
+  zero = (256 + a - byte) % 256 == 0;
+  half_carry = nat_lt (a % 16) (byte % 16);
+  parity_overflow = not (count == 0);
+  subtract = true;
+}) f
+unfolding search_flags_of
+searched-flags a byte count f =
+    let whole : byte + 0 ≡ byte = omega arith in
+    let low : byte % 16 + 0 ≡ byte % 16 = omega arith in
+    rw (whole, low) refl
+
+-- the registers after a search of a byte, with this F
+abbrev after-search : (ℕ → ℕ) → Regs → ℕ → Regs
+after-search moved regs f = record (with_bc (with_hl regs (moved (hl regs))) (down (bc regs))) { f = f }
+
+searched : (moved : ℕ → ℕ) (regs : Regs) (byte : ℕ) (again : Bool)
+    → done_again_if again (after-search moved regs (search_flags_of regs.a byte (down (bc regs)) regs.f)) []
+    ≡ done_again_if again (after-search moved regs (flag_byte_of (record (flags_of regs.f) {
+      sign = is_negative ((256 + regs.a - byte) % 256);
+      zero = (256 + regs.a - byte) % 256 == 0;
+      half_carry = nat_lt (regs.a % 16) (byte % 16);
+      parity_overflow = not (down (bc regs) == 0);
+      subtract = true;
+    }) regs.f)) []
+searched moved regs byte again =
+    ap (λ (f : ℕ). done_again_if again (after-search moved regs f) []) (searched-flags regs.a byte (down (bc regs)) regs.f)
+
 pub searches-blocks : SearchesBlocks
-unfolding table row_at row_of effect_by search_flags_of
+unfolding table row_at row_of effect_by
 searches-blocks = (
-  λ regs read input. refl,
-  λ regs read input. refl,
-  λ regs read input. ap Some (again-in-fields _ _ _),
-  λ regs read input. ap Some (again-in-fields _ _ _),
+  λ regs read input. ap Some (searched up regs (read (hl regs)) false),
+  λ regs read input. ap Some (searched down regs (read (hl regs)) false),
+  λ regs read input. ap Some (again-in-fields _ _ _ ∙ searched up regs (read (hl regs)) _),
+  λ regs read input. ap Some (again-in-fields _ _ _ ∙ searched down regs (read (hl regs)) _),
 )
 
 pub inputs-blocks : InputsBlocks

@@ -57,11 +57,8 @@ arithmetic_of_bytes_lines =
     vector_line (0xFD ∷ 0x86 ∷ 0x7F ∷ []) (record usual_1 { h = 0x4C; ix = 0x4C80; iy = 0x4B81 }) cells_1 None (Took 19 ∷ [])
     (λ regs. record regs { r = 0x02; pc = 0x0003; a = 0x3C }) [] ∷
     -- ADD A,(IX-80H) | DD 86 80 | H=4C IX=0010 IY=4B81 DIP=10 (FF90)=10 | 19 | A=25
-    vector_line (0xDD ∷ 0x86 ∷ 0x80 ∷ []) (record usual_1 {
-      h = 0x4C;
-      ix = 0x0010;
-      iy = 0x4B81;
-    }) (Write 0xFF90 0x10 ∷ cells_1) None (Took 19 ∷ [])
+    vector_line (0xDD ∷ 0x86 ∷ 0x80 ∷ []) (record usual_1 { h = 0x4C; ix = 0x0010; iy = 0x4B81 }) (Write 0xFF90 0x10 ∷ cells_1) None
+    (Took 19 ∷ [])
     (λ regs. record regs { r = 0x02; pc = 0x0003; a = 0x25 }) [] ∷
     -- ADD A,(IY+7FH) | FD 86 7F | H=4C IX=4C80 IY=FFF0 | 19 | A=18
     vector_line (0xFD ∷ 0x86 ∷ 0x7F ∷ []) (record usual_1 { h = 0x4C; ix = 0x4C80; iy = 0xFFF0 }) cells_1 None (Took 19 ∷ [])
@@ -83,114 +80,44 @@ arithmetic_of_bytes_lines =
     -- CP (HL) | BE | | 7 | F=93
     vector_line (0xBE ∷ []) usual_2 cells_2 None (Took 7 ∷ []) (λ regs. record regs { r = 0x01; pc = 0x0001; f = 0x93 }) [] ∷
     -- INC B | 04 | A=7F BC=7F7F DE=7F7F HL=7F7F | 4 | F=94 B=80
-    vector_line (0x04 ∷ []) (record power_on_regs {
-      a = 0x7F;
-      b = 0x7F;
-      c = 0x7F;
-      d = 0x7F;
-      e = 0x7F;
-      h = 0x7F;
-      l = 0x7F;
-    }) [] None (Took 4 ∷ [])
+    vector_line (0x04 ∷ []) (record power_on_regs { a = 0x7F; b = 0x7F; c = 0x7F; d = 0x7F; e = 0x7F; h = 0x7F; l = 0x7F }) [] None
+    (Took 4 ∷ [])
     (λ regs. record regs { r = 0x01; pc = 0x0001; f = 0x94; b = 0x80 }) [] ∷
     -- INC C | 0C | A=7F BC=7F7F DE=7F7F HL=7F7F | 4 | F=94 C=80
-    vector_line (0x0C ∷ []) (record power_on_regs {
-      a = 0x7F;
-      b = 0x7F;
-      c = 0x7F;
-      d = 0x7F;
-      e = 0x7F;
-      h = 0x7F;
-      l = 0x7F;
-    }) [] None (Took 4 ∷ [])
+    vector_line (0x0C ∷ []) (record power_on_regs { a = 0x7F; b = 0x7F; c = 0x7F; d = 0x7F; e = 0x7F; h = 0x7F; l = 0x7F }) [] None
+    (Took 4 ∷ [])
     (λ regs. record regs { r = 0x01; pc = 0x0001; f = 0x94; c = 0x80 }) [] ∷
     -- INC D | 14 | A=7F BC=7F7F DE=7F7F HL=7F7F | 4 | F=94 D=80
-    vector_line (0x14 ∷ []) (record power_on_regs {
-      a = 0x7F;
-      b = 0x7F;
-      c = 0x7F;
-      d = 0x7F;
-      e = 0x7F;
-      h = 0x7F;
-      l = 0x7F;
-    }) [] None (Took 4 ∷ [])
+    vector_line (0x14 ∷ []) (record power_on_regs { a = 0x7F; b = 0x7F; c = 0x7F; d = 0x7F; e = 0x7F; h = 0x7F; l = 0x7F }) [] None
+    (Took 4 ∷ [])
     (λ regs. record regs { r = 0x01; pc = 0x0001; f = 0x94; d = 0x80 }) [] ∷
     -- INC E | 1C | A=7F BC=7F7F DE=7F7F HL=7F7F | 4 | F=94 E=80
-    vector_line (0x1C ∷ []) (record power_on_regs {
-      a = 0x7F;
-      b = 0x7F;
-      c = 0x7F;
-      d = 0x7F;
-      e = 0x7F;
-      h = 0x7F;
-      l = 0x7F;
-    }) [] None (Took 4 ∷ [])
+    vector_line (0x1C ∷ []) (record power_on_regs { a = 0x7F; b = 0x7F; c = 0x7F; d = 0x7F; e = 0x7F; h = 0x7F; l = 0x7F }) [] None
+    (Took 4 ∷ [])
     (λ regs. record regs { r = 0x01; pc = 0x0001; f = 0x94; e = 0x80 }) [] ∷
     -- INC H | 24 | A=7F BC=7F7F DE=7F7F HL=7F7F | 4 | F=94 H=80
-    vector_line (0x24 ∷ []) (record power_on_regs {
-      a = 0x7F;
-      b = 0x7F;
-      c = 0x7F;
-      d = 0x7F;
-      e = 0x7F;
-      h = 0x7F;
-      l = 0x7F;
-    }) [] None (Took 4 ∷ [])
+    vector_line (0x24 ∷ []) (record power_on_regs { a = 0x7F; b = 0x7F; c = 0x7F; d = 0x7F; e = 0x7F; h = 0x7F; l = 0x7F }) [] None
+    (Took 4 ∷ [])
     (λ regs. record regs { r = 0x01; pc = 0x0001; f = 0x94; h = 0x80 }) [] ∷
     -- INC L | 2C | A=7F BC=7F7F DE=7F7F HL=7F7F | 4 | F=94 L=80
-    vector_line (0x2C ∷ []) (record power_on_regs {
-      a = 0x7F;
-      b = 0x7F;
-      c = 0x7F;
-      d = 0x7F;
-      e = 0x7F;
-      h = 0x7F;
-      l = 0x7F;
-    }) [] None (Took 4 ∷ [])
+    vector_line (0x2C ∷ []) (record power_on_regs { a = 0x7F; b = 0x7F; c = 0x7F; d = 0x7F; e = 0x7F; h = 0x7F; l = 0x7F }) [] None
+    (Took 4 ∷ [])
     (λ regs. record regs { r = 0x01; pc = 0x0001; f = 0x94; l = 0x80 }) [] ∷
     -- INC A | 3C | A=7F BC=7F7F DE=7F7F HL=7F7F | 4 | A=80 F=94
-    vector_line (0x3C ∷ []) (record power_on_regs {
-      a = 0x7F;
-      b = 0x7F;
-      c = 0x7F;
-      d = 0x7F;
-      e = 0x7F;
-      h = 0x7F;
-      l = 0x7F;
-    }) [] None (Took 4 ∷ [])
+    vector_line (0x3C ∷ []) (record power_on_regs { a = 0x7F; b = 0x7F; c = 0x7F; d = 0x7F; e = 0x7F; h = 0x7F; l = 0x7F }) [] None
+    (Took 4 ∷ [])
     (λ regs. record regs { r = 0x01; pc = 0x0001; a = 0x80; f = 0x94 }) [] ∷
     -- DEC B | 05 | A=7F BC=7F7F DE=7F7F HL=7F7F | 4 | F=02 B=7E
-    vector_line (0x05 ∷ []) (record power_on_regs {
-      a = 0x7F;
-      b = 0x7F;
-      c = 0x7F;
-      d = 0x7F;
-      e = 0x7F;
-      h = 0x7F;
-      l = 0x7F;
-    }) [] None (Took 4 ∷ [])
+    vector_line (0x05 ∷ []) (record power_on_regs { a = 0x7F; b = 0x7F; c = 0x7F; d = 0x7F; e = 0x7F; h = 0x7F; l = 0x7F }) [] None
+    (Took 4 ∷ [])
     (λ regs. record regs { r = 0x01; pc = 0x0001; f = 0x02; b = 0x7E }) [] ∷
     -- DEC L | 2D | A=7F BC=7F7F DE=7F7F HL=7F7F | 4 | F=02 L=7E
-    vector_line (0x2D ∷ []) (record power_on_regs {
-      a = 0x7F;
-      b = 0x7F;
-      c = 0x7F;
-      d = 0x7F;
-      e = 0x7F;
-      h = 0x7F;
-      l = 0x7F;
-    }) [] None (Took 4 ∷ [])
+    vector_line (0x2D ∷ []) (record power_on_regs { a = 0x7F; b = 0x7F; c = 0x7F; d = 0x7F; e = 0x7F; h = 0x7F; l = 0x7F }) [] None
+    (Took 4 ∷ [])
     (λ regs. record regs { r = 0x01; pc = 0x0001; f = 0x02; l = 0x7E }) [] ∷
     -- DEC A | 3D | A=7F BC=7F7F DE=7F7F HL=7F7F | 4 | A=7E F=02
-    vector_line (0x3D ∷ []) (record power_on_regs {
-      a = 0x7F;
-      b = 0x7F;
-      c = 0x7F;
-      d = 0x7F;
-      e = 0x7F;
-      h = 0x7F;
-      l = 0x7F;
-    }) [] None (Took 4 ∷ [])
+    vector_line (0x3D ∷ []) (record power_on_regs { a = 0x7F; b = 0x7F; c = 0x7F; d = 0x7F; e = 0x7F; h = 0x7F; l = 0x7F }) [] None
+    (Took 4 ∷ [])
     (λ regs. record regs { r = 0x01; pc = 0x0001; a = 0x7E; f = 0x02 }) [] ∷
     -- INC A | 3C | A=FF | 4 | A=00 F=50
     vector_line (0x3C ∷ []) (record power_on_regs { a = 0xFF }) [] None (Took 4 ∷ [])

@@ -107,10 +107,8 @@ exchanges_lines =
     vector_line (0xDD ∷ 0xE3 ∷ []) (record usual_2 { sp = 0x4CFF }) (Write 0x4D00 0x48 ∷ Write 0x4CFF 0x90 ∷ []) None (Took 23 ∷ [])
     (λ regs. record regs { r = 0x02; pc = 0x0002; ix = 0x4890 }) (Write 0x4D00 0x39 ∷ Write 0x4CFF 0x88 ∷ []) ∷
     -- EX (SP),IX | DD E3 | SP=FFFF PC=0100 (0000)=48 BLANKS=05 (FFFF)=FF | 23 | IX=48FF (0000)=39 (FFFF)=88 BLANKS=00
-    vector_line (0xDD ∷ 0xE3 ∷ []) (record usual_2 {
-      sp = 0xFFFF;
-      pc = 0x0100;
-    }) (Write 0xFFFF 0xFF ∷ Write 0x0000 0x48 ∷ []) None (Took 23 ∷ [])
+    vector_line (0xDD ∷ 0xE3 ∷ []) (record usual_2 { sp = 0xFFFF; pc = 0x0100 }) (Write 0xFFFF 0xFF ∷ Write 0x0000 0x48 ∷ []) None
+    (Took 23 ∷ [])
     (λ regs. record regs { r = 0x02; pc = 0x0102; ix = 0x48FF }) (Write 0x0000 0x39 ∷ Write 0xFFFF 0x88 ∷ []) ∷
     -- EX (SP),IY | FD E3 | SP=4E56 (4E56)=11 (4E57)=22 | 23 | IY=2211 (4E57)=39 (4E56)=88
     vector_line (0xFD ∷ 0xE3 ∷ []) (record usual_2 { sp = 0x4E56 }) (Write 0x4E57 0x22 ∷ Write 0x4E56 0x11 ∷ []) None (Took 23 ∷ [])

@@ -26,7 +26,8 @@ flags_of_transfers_lines =
       h = 0x11;
       l = 0x11;
     }) (Write 0x1111 0x88 ∷ []) None (Took 16 ∷ [])
-    (λ regs. record regs { r = 0x02; pc = 0x0002; f = 0x04; b = 0x00; c = 0x01; d = 0x4E; e = 0x23; h = 0x11; l = 0x12 }) (Write 0x4E22 0x88 ∷ []) ∷
+    (λ regs. record regs { r = 0x02; pc = 0x0002; f = 0x04; b = 0x00; c = 0x01; d = 0x4E; e = 0x23; h = 0x11; l = 0x12 })
+    (Write 0x4E22 0x88 ∷ []) ∷
     -- LDI | ED A0 | F=FF BC=0001 DE=4E22 HL=1111 (1111)=88 | 16 | F=E9 BC=0000 DE=4E23 HL=1112 (4E22)=88
     vector_line (0xED ∷ 0xA0 ∷ []) (record power_on_regs {
       f = 0xFF;
@@ -37,24 +38,16 @@ flags_of_transfers_lines =
       h = 0x11;
       l = 0x11;
     }) (Write 0x1111 0x88 ∷ []) None (Took 16 ∷ [])
-    (λ regs. record regs { r = 0x02; pc = 0x0002; f = 0xE9; b = 0x00; c = 0x00; d = 0x4E; e = 0x23; h = 0x11; l = 0x12 }) (Write 0x4E22 0x88 ∷ []) ∷
+    (λ regs. record regs { r = 0x02; pc = 0x0002; f = 0xE9; b = 0x00; c = 0x00; d = 0x4E; e = 0x23; h = 0x11; l = 0x12 })
+    (Write 0x4E22 0x88 ∷ []) ∷
     -- LDI | ED A0 | F=C1 DE=4E22 HL=1111 (1111)=88 | 16 | F=C5 BC=FFFF DE=4E23 HL=1112 (4E22)=88
-    vector_line (0xED ∷ 0xA0 ∷ []) (record power_on_regs {
-      f = 0xC1;
-      d = 0x4E;
-      e = 0x22;
-      h = 0x11;
-      l = 0x11;
-    }) (Write 0x1111 0x88 ∷ []) None (Took 16 ∷ [])
-    (λ regs. record regs { r = 0x02; pc = 0x0002; f = 0xC5; b = 0xFF; c = 0xFF; d = 0x4E; e = 0x23; h = 0x11; l = 0x12 }) (Write 0x4E22 0x88 ∷ []) ∷
+    vector_line (0xED ∷ 0xA0 ∷ []) (record power_on_regs { f = 0xC1; d = 0x4E; e = 0x22; h = 0x11; l = 0x11 }) (Write 0x1111 0x88 ∷ []) None
+    (Took 16 ∷ [])
+    (λ regs. record regs { r = 0x02; pc = 0x0002; f = 0xC5; b = 0xFF; c = 0xFF; d = 0x4E; e = 0x23; h = 0x11; l = 0x12 })
+    (Write 0x4E22 0x88 ∷ []) ∷
     -- CPI | ED A1 | A=3B BC=0001 HL=1111 (1111)=3B | 16 | F=42 BC=0000 HL=1112
-    vector_line (0xED ∷ 0xA1 ∷ []) (record power_on_regs {
-      a = 0x3B;
-      b = 0x00;
-      c = 0x01;
-      h = 0x11;
-      l = 0x11;
-    }) (Write 0x1111 0x3B ∷ []) None (Took 16 ∷ [])
+    vector_line (0xED ∷ 0xA1 ∷ []) (record power_on_regs { a = 0x3B; b = 0x00; c = 0x01; h = 0x11; l = 0x11 }) (Write 0x1111 0x3B ∷ []) None
+    (Took 16 ∷ [])
     (λ regs. record regs { r = 0x02; pc = 0x0002; f = 0x42; b = 0x00; c = 0x00; h = 0x11; l = 0x12 }) [] ∷
     -- CPI | ED A1 | A=3B F=01 BC=0006 HL=1111 (1111)=3C | 16 | F=97 BC=0005 HL=1112
     vector_line (0xED ∷ 0xA1 ∷ []) (record power_on_regs {
@@ -67,13 +60,8 @@ flags_of_transfers_lines =
     }) (Write 0x1111 0x3C ∷ []) None (Took 16 ∷ [])
     (λ regs. record regs { r = 0x02; pc = 0x0002; f = 0x97; b = 0x00; c = 0x05; h = 0x11; l = 0x12 }) [] ∷
     -- CPI | ED A1 | A=80 BC=0001 HL=1111 (1111)=01 | 16 | F=12 BC=0000 HL=1112
-    vector_line (0xED ∷ 0xA1 ∷ []) (record power_on_regs {
-      a = 0x80;
-      b = 0x00;
-      c = 0x01;
-      h = 0x11;
-      l = 0x11;
-    }) (Write 0x1111 0x01 ∷ []) None (Took 16 ∷ [])
+    vector_line (0xED ∷ 0xA1 ∷ []) (record power_on_regs { a = 0x80; b = 0x00; c = 0x01; h = 0x11; l = 0x11 }) (Write 0x1111 0x01 ∷ []) None
+    (Took 16 ∷ [])
     (λ regs. record regs { r = 0x02; pc = 0x0002; f = 0x12; b = 0x00; c = 0x00; h = 0x11; l = 0x12 }) [] ∷
     -- CPI | ED A1 | A=20 F=FF BC=0002 HL=1111 (1111)=10 | 16 | F=2F BC=0001 HL=1112
     vector_line (0xED ∷ 0xA1 ∷ []) (record power_on_regs {

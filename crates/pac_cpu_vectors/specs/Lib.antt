@@ -30,5 +30,13 @@ pub mod PointersAtTheEndsOfMemory
 pub mod FlagsOfTransfers
 pub mod AcceptancesAndHaltedSteps
 pub mod Stops
+pub mod LoadsOfEachRegister
+pub mod LoadsOfEachPair
+pub mod ArithmeticOfAAndEachRegister
+pub mod ArithmeticOfEachPair
+pub mod Restarts
+pub mod RotationsAndShiftsOfEachRegister
+pub mod SingleBitsOfEachRegister
+pub mod PortsByEachRegister
 pub mod ProgramsOfAFewSteps
 pub mod AReset

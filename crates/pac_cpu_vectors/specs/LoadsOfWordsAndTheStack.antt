@@ -41,33 +41,29 @@ loads_of_words_and_the_stack_lines =
     vector_line (0x2A ∷ 0xFF ∷ 0x4C ∷ []) usual_1 (Write 0x4D00 0x12 ∷ Write 0x4CFF 0x34 ∷ []) None (Took 16 ∷ [])
     (λ regs. record regs { r = 0x01; pc = 0x0003; h = 0x12; l = 0x34 }) [] ∷
     -- LD DE,(0FFFFH) | ED 5B FF FF | PC=0100 (0000)=12 (FFFF)=FF | 20 | DE=12FF
-    vector_line (0xED ∷ 0x5B ∷ 0xFF ∷ 0xFF ∷ []) (record usual_1 {
-      pc = 0x0100;
-    }) (Write 0xFFFF 0xFF ∷ Write 0x0000 0x12 ∷ []) None (Took 20 ∷ [])
+    vector_line (0xED ∷ 0x5B ∷ 0xFF ∷ 0xFF ∷ []) (record usual_1 { pc = 0x0100 }) (Write 0xFFFF 0xFF ∷ Write 0x0000 0x12 ∷ []) None
+    (Took 20 ∷ [])
     (λ regs. record regs { r = 0x02; pc = 0x0104; d = 0x12; e = 0xFF }) [] ∷
     -- LD DE,(4CFFH) | ED 5B FF 4C | (4CFF)=34 (4D00)=12 | 20 | DE=1234
     vector_line (0xED ∷ 0x5B ∷ 0xFF ∷ 0x4C ∷ []) usual_1 (Write 0x4D00 0x12 ∷ Write 0x4CFF 0x34 ∷ []) None (Took 20 ∷ [])
     (λ regs. record regs { r = 0x02; pc = 0x0004; d = 0x12; e = 0x34 }) [] ∷
     -- LD SP,(0FFFFH) | ED 7B FF FF | PC=0100 (0000)=12 (FFFF)=FF | 20 | SP=12FF
-    vector_line (0xED ∷ 0x7B ∷ 0xFF ∷ 0xFF ∷ []) (record usual_1 {
-      pc = 0x0100;
-    }) (Write 0xFFFF 0xFF ∷ Write 0x0000 0x12 ∷ []) None (Took 20 ∷ [])
+    vector_line (0xED ∷ 0x7B ∷ 0xFF ∷ 0xFF ∷ []) (record usual_1 { pc = 0x0100 }) (Write 0xFFFF 0xFF ∷ Write 0x0000 0x12 ∷ []) None
+    (Took 20 ∷ [])
     (λ regs. record regs { r = 0x02; pc = 0x0104; sp = 0x12FF }) [] ∷
     -- LD SP,(4CFFH) | ED 7B FF 4C | (4CFF)=34 (4D00)=12 | 20 | SP=1234
     vector_line (0xED ∷ 0x7B ∷ 0xFF ∷ 0x4C ∷ []) usual_1 (Write 0x4D00 0x12 ∷ Write 0x4CFF 0x34 ∷ []) None (Took 20 ∷ [])
     (λ regs. record regs { r = 0x02; pc = 0x0004; sp = 0x1234 }) [] ∷
     -- LD IX,(0FFFFH) | DD 2A FF FF | PC=0100 (0000)=12 (FFFF)=FF | 20 | IX=12FF
-    vector_line (0xDD ∷ 0x2A ∷ 0xFF ∷ 0xFF ∷ []) (record usual_1 {
-      pc = 0x0100;
-    }) (Write 0xFFFF 0xFF ∷ Write 0x0000 0x12 ∷ []) None (Took 20 ∷ [])
+    vector_line (0xDD ∷ 0x2A ∷ 0xFF ∷ 0xFF ∷ []) (record usual_1 { pc = 0x0100 }) (Write 0xFFFF 0xFF ∷ Write 0x0000 0x12 ∷ []) None
+    (Took 20 ∷ [])
     (λ regs. record regs { r = 0x02; pc = 0x0104; ix = 0x12FF }) [] ∷
     -- LD IX,(4CFFH) | DD 2A FF 4C | (4CFF)=34 (4D00)=12 | 20 | IX=1234
     vector_line (0xDD ∷ 0x2A ∷ 0xFF ∷ 0x4C ∷ []) usual_1 (Write 0x4D00 0x12 ∷ Write 0x4CFF 0x34 ∷ []) None (Took 20 ∷ [])
     (λ regs. record regs { r = 0x02; pc = 0x0004; ix = 0x1234 }) [] ∷
     -- LD IY,(0FFFFH) | FD 2A FF FF | PC=0100 (0000)=12 (FFFF)=FF | 20 | IY=12FF
-    vector_line (0xFD ∷ 0x2A ∷ 0xFF ∷ 0xFF ∷ []) (record usual_1 {
-      pc = 0x0100;
-    }) (Write 0xFFFF 0xFF ∷ Write 0x0000 0x12 ∷ []) None (Took 20 ∷ [])
+    vector_line (0xFD ∷ 0x2A ∷ 0xFF ∷ 0xFF ∷ []) (record usual_1 { pc = 0x0100 }) (Write 0xFFFF 0xFF ∷ Write 0x0000 0x12 ∷ []) None
+    (Took 20 ∷ [])
     (λ regs. record regs { r = 0x02; pc = 0x0104; iy = 0x12FF }) [] ∷
     -- LD IY,(4CFFH) | FD 2A FF 4C | (4CFF)=34 (4D00)=12 | 20 | IY=1234
     vector_line (0xFD ∷ 0x2A ∷ 0xFF ∷ 0x4C ∷ []) usual_1 (Write 0x4D00 0x12 ∷ Write 0x4CFF 0x34 ∷ []) None (Took 20 ∷ [])

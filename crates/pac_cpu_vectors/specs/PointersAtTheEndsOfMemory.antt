@@ -16,10 +16,12 @@ abbrev pub pointers_at_the_ends_of_memory_lines : List VectorLine
 pointers_at_the_ends_of_memory_lines =
     -- LDI | ED A0 | HL=FFFF (FFFF)=FF | 16 | F=04 BC=0201 DE=4E23 HL=0000 (4E22)=FF
     vector_line (0xED ∷ 0xA0 ∷ []) (record usual_1 { h = 0xFF; l = 0xFF }) (Write 0xFFFF 0xFF ∷ cells_1) None (Took 16 ∷ [])
-    (λ regs. record regs { r = 0x02; pc = 0x0102; f = 0x04; b = 0x02; c = 0x01; d = 0x4E; e = 0x23; h = 0x00; l = 0x00 }) (Write 0x4E22 0xFF ∷ []) ∷
+    (λ regs. record regs { r = 0x02; pc = 0x0102; f = 0x04; b = 0x02; c = 0x01; d = 0x4E; e = 0x23; h = 0x00; l = 0x00 })
+    (Write 0x4E22 0xFF ∷ []) ∷
     -- LDD | ED A8 | | 16 | F=04 BC=0201 DE=4E21 HL=FFFF (4E22)=12
     vector_line (0xED ∷ 0xA8 ∷ []) usual_1 cells_1 None (Took 16 ∷ [])
-    (λ regs. record regs { r = 0x02; pc = 0x0102; f = 0x04; b = 0x02; c = 0x01; d = 0x4E; e = 0x21; h = 0xFF; l = 0xFF }) (Write 0x4E22 0x12 ∷ []) ∷
+    (λ regs. record regs { r = 0x02; pc = 0x0102; f = 0x04; b = 0x02; c = 0x01; d = 0x4E; e = 0x21; h = 0xFF; l = 0xFF })
+    (Write 0x4E22 0x12 ∷ []) ∷
     -- CPI | ED A1 | A=FF HL=FFFF (FFFF)=FF | 16 | F=46 BC=0201 HL=0000
     vector_line (0xED ∷ 0xA1 ∷ []) (record usual_1 { a = 0xFF; h = 0xFF; l = 0xFF }) (Write 0xFFFF 0xFF ∷ cells_1) None (Took 16 ∷ [])
     (λ regs. record regs { r = 0x02; pc = 0x0102; f = 0x46; b = 0x02; c = 0x01; h = 0x00; l = 0x00 }) [] ∷

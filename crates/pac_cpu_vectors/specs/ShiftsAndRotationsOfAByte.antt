@@ -54,19 +54,11 @@ shifts_and_rotations_of_a_byte_lines =
     vector_line (0xED ∷ 0x6F ∷ []) (record power_on_regs { f = 0xFF; h = 0x4D; l = 0x00 }) (Write 0x4D00 0x05 ∷ []) None (Took 18 ∷ [])
     (λ regs. record regs { r = 0x02; pc = 0x0002; f = 0x6D }) (Write 0x4D00 0x50 ∷ []) ∷
     -- RRD | ED 67 | A=84 F=12 HL=4D00 (4D00)=20 | 18 | A=80 F=80 (4D00)=42
-    vector_line (0xED ∷ 0x67 ∷ []) (record power_on_regs {
-      a = 0x84;
-      f = 0x12;
-      h = 0x4D;
-      l = 0x00;
-    }) (Write 0x4D00 0x20 ∷ []) None (Took 18 ∷ [])
+    vector_line (0xED ∷ 0x67 ∷ []) (record power_on_regs { a = 0x84; f = 0x12; h = 0x4D; l = 0x00 }) (Write 0x4D00 0x20 ∷ []) None
+    (Took 18 ∷ [])
     (λ regs. record regs { r = 0x02; pc = 0x0002; a = 0x80; f = 0x80 }) (Write 0x4D00 0x42 ∷ []) ∷
     -- RRD | ED 67 | A=10 F=01 HL=4D00 (4D00)=05 | 18 | A=15 (4D00)=00
-    vector_line (0xED ∷ 0x67 ∷ []) (record power_on_regs {
-      a = 0x10;
-      f = 0x01;
-      h = 0x4D;
-      l = 0x00;
-    }) (Write 0x4D00 0x05 ∷ []) None (Took 18 ∷ [])
+    vector_line (0xED ∷ 0x67 ∷ []) (record power_on_regs { a = 0x10; f = 0x01; h = 0x4D; l = 0x00 }) (Write 0x4D00 0x05 ∷ []) None
+    (Took 18 ∷ [])
     (λ regs. record regs { r = 0x02; pc = 0x0002; a = 0x15 }) (Write 0x4D00 0x00 ∷ []) ∷
     []

@@ -67,7 +67,8 @@ next_cpu_step before = cpu_step (around before.written) before.regs before.reque
 -- some steps, one after another: what is told of each, and what they leave
 abbrev pub told_of_steps : ℕ → Processor → List Told
 told_of_steps zero before = []
-told_of_steps (suc count) before = told_of_cpu_step (next_cpu_step before) ∷ told_of_steps count (processor_after (next_cpu_step before) before)
+told_of_steps (suc count) before =
+    told_of_cpu_step (next_cpu_step before) ∷ told_of_steps count (processor_after (next_cpu_step before) before)
 
 abbrev pub after_steps : ℕ → Processor → Processor
 after_steps zero before = before
@@ -89,7 +90,8 @@ vector_line code regs cells request told left actions =
     record { code = code; regs = regs; cells = cells; request = request; told = told; left = left; actions = actions }
 
 abbrev pub found_by : VectorLine → Processor
-found_by line = record { regs = line.regs; written = code_from line.regs.pc line.code ++ line.cells; request = line.request }
+found_by line =
+    record { regs = line.regs; written = code_from line.regs.pc line.code ++ line.cells; request = line.request }
 
 -- a line holds of the definition of a step
 pub record LineHolds (line : VectorLine) : Type 0 where

@@ -28,6 +28,14 @@ ghost use Rattle.pac_cpu_vectors.specs.PointersAtTheEndsOfMemory.{pointers_at_th
 ghost use Rattle.pac_cpu_vectors.specs.FlagsOfTransfers.{flags_of_transfers_lines};
 ghost use Rattle.pac_cpu_vectors.specs.AcceptancesAndHaltedSteps.{acceptances_and_halted_steps_lines};
 ghost use Rattle.pac_cpu_vectors.specs.Stops.{stops_lines};
+ghost use Rattle.pac_cpu_vectors.specs.LoadsOfEachRegister.{loads_of_each_register_lines};
+ghost use Rattle.pac_cpu_vectors.specs.LoadsOfEachPair.{loads_of_each_pair_lines};
+ghost use Rattle.pac_cpu_vectors.specs.ArithmeticOfAAndEachRegister.{arithmetic_of_a_and_each_register_lines};
+ghost use Rattle.pac_cpu_vectors.specs.ArithmeticOfEachPair.{arithmetic_of_each_pair_lines};
+ghost use Rattle.pac_cpu_vectors.specs.Restarts.{restarts_lines};
+ghost use Rattle.pac_cpu_vectors.specs.RotationsAndShiftsOfEachRegister.{rotations_and_shifts_of_each_register_lines};
+ghost use Rattle.pac_cpu_vectors.specs.SingleBitsOfEachRegister.{single_bits_of_each_register_lines};
+ghost use Rattle.pac_cpu_vectors.specs.PortsByEachRegister.{ports_by_each_register_lines};
 ghost use Rattle.pac_cpu_vectors.specs.ProgramsOfAFewSteps.{programs_of_a_few_steps_lines};
 ghost use Rattle.pac_cpu_vectors.specs.AReset.{a_reset_lines};
 
@@ -164,6 +172,46 @@ pub fn acceptances_and_halted_steps()
 /// Stops (this profile): bytes that are no documented instruction, and in mode 0 a vector byte that is no RST.
 pub fn stops()
     ensures { EachLineHolds stops_lines }
+{}
+
+/// Loads of each register (UM0080, "8-Bit Load Group").
+pub fn loads_of_each_register()
+    ensures { EachLineHolds loads_of_each_register_lines }
+{}
+
+/// Loads of each pair (UM0080, "16-Bit Load Group").
+pub fn loads_of_each_pair()
+    ensures { EachLineHolds loads_of_each_pair_lines }
+{}
+
+/// Arithmetic of A and each register (UM0080, "8-Bit Arithmetic Group").
+pub fn arithmetic_of_a_and_each_register()
+    ensures { EachLineHolds arithmetic_of_a_and_each_register_lines }
+{}
+
+/// Arithmetic of each pair (UM0080, "16-Bit Arithmetic Group").
+pub fn arithmetic_of_each_pair()
+    ensures { EachLineHolds arithmetic_of_each_pair_lines }
+{}
+
+/// Restarts (UM0080, "Call and Return Group").
+pub fn restarts()
+    ensures { EachLineHolds restarts_lines }
+{}
+
+/// Rotations and shifts of each register (UM0080, "Rotate and Shift Group").
+pub fn rotations_and_shifts_of_each_register()
+    ensures { EachLineHolds rotations_and_shifts_of_each_register_lines }
+{}
+
+/// Single bits of each register (UM0080, "Bit Set, Reset, and Test Group"; S and P/V, which it leaves open, stay: this profile).
+pub fn single_bits_of_each_register()
+    ensures { EachLineHolds single_bits_of_each_register_lines }
+{}
+
+/// Ports by each register (UM0080, "Input and Output Group").
+pub fn ports_by_each_register()
+    ensures { EachLineHolds ports_by_each_register_lines }
 {}
 
 /// Programs of a few steps (UM0080; this profile's EI, repeats and acceptances between them).

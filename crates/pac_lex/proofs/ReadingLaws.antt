@@ -1,14 +1,11 @@
 -- One answer is right for each line, and a text has the characters with which it is written.
-use Rattle.std.proofs.Common.{◌≡◌, ◌↔◌, ℕ, Bool, true, false, not, ◌&&◌, List, [], ◌∷◌, Some, None, Result, Ok, Err, refl, inl, inr}
+use Rattle.std.proofs.Common.{◌≡◌, ℕ, Bool, true, false, not, ◌&&◌, List, [], ◌∷◌, Some, None, Ok, Err, refl, inl, inr}
 use Rattle.std.specs.Prelude.{if◌then◌else◌}
 use Rattle.std.proofs.lemmas.Bool.{cases_Bool, eqb-true}
 use Rattle.std.proofs.lemmas.Option.{same_Some, none-some}
-use Rattle.pac_lex.specs.declared.fault.LexFault.{LexFault}
 use Rattle.pac_lex.specs.Bytes.{is_quote}
 use Rattle.pac_lex.specs.Texts.{quoted_text, one_character}
-use Rattle.pac_lex.specs.Tokens.{Lexeme}
-use Rattle.pac_lex.specs.Scan.{tokens_of}
-use Rattle.pac_lex.specs.OneReading.{IsReading, EachLineHasOneReading, TextsHaveTheirCharacters}
+use Rattle.pac_lex.specs.OneReading.{EachLineHasOneReading, TextsHaveTheirCharacters}
 use Rattle.pac_lex.proofs.CharacterLemmas.{characters-again}
 use Rattle.pac_lex.proofs.LineLaws.{tokens-read, read-again, fault-told, fault-found}
 

@@ -1,4 +1,5 @@
--- To be believed: a line read from left to right, up to its first fault.
+-- For proofs: a line read from left to right, up to its first fault, as a function. A reader takes what is read from the relations of
+-- Tokens.antt: that both are one is the law of OneReading.antt.
 use Rattle.std.specs.Prelude.{◌≡◌, ℕ, zero, suc, ◌+◌, ◌-◌, Bool, true, List, [], ◌∷◌, ◌&&◌, take, drop, length}
 use Rattle.std.specs.Prelude.{Option, Some, None, Result, Ok, Err, nat_lt, if◌then◌else◌}
 use Rattle.std.specs.List.{prefix_len, list_all}
