@@ -15,9 +15,9 @@ use Rattle.pac_map.specs.Latched.{Latched, latched_after_vector, latched_after_b
 use Rattle.pac_map.specs.View.{View, IsWellFormed, kept_nibble}
 use Rattle.pac_map.specs.Contents.{lookups_of, read_of}
 use Rattle.pac_map.proofs.WellFormed.{view-after-well-formed}
-use Rattle.pac_board_model.specs.History.{is_tile, is_colour, is_work, last_written, tile_at, colour_at, work_at, history_inputs}
+use Rattle.pac_board_model.specs.History.{is_same_place, last_written, tile_at, colour_at, work_at, history_inputs}
 use Rattle.pac_board_model.specs.History.{history_lookups, read}
-use Rattle.pac_board_model.specs.History.{view_after_entries, is_coordinate, is_wave_register, coordinate_at, register_at}
+use Rattle.pac_board_model.specs.History.{view_after_entries, coordinate_at, register_at}
 
 pub view-of-well-formed : (start : View) (entries : List Entry) → IsWellFormed start → IsWellFormed (view_after_entries start entries)
 view-of-well-formed start [] sized = sized
@@ -78,26 +78,26 @@ abbrev whole : ℕ → ℕ → ℕ
 whole cell byte = byte
 
 tile-written : (view : View) (place : BusPlace) (byte cell : ℕ) → cell < length view.tile
-    → slice_index (view_after_write view place byte).tile cell ≡ cond (is_tile cell place) byte (slice_index view.tile cell)
+    → slice_index (view_after_write view place byte).tile cell ≡ cond (is_same_place (Tile cell) place) byte (slice_index view.tile cell)
 tile-written view (Tile other) byte cell lt = cell-set view.tile other cell byte lt
 tile-written view (Colour other) byte cell lt = refl
 tile-written view _ byte cell lt = refl
 
 colour-written : (view : View) (place : BusPlace) (byte cell : ℕ) → cell < length view.colour
-    → slice_index (view_after_write view place byte).colour cell ≡ cond (is_colour cell place) byte (slice_index view.colour cell)
+    → slice_index (view_after_write view place byte).colour cell ≡ cond (is_same_place (Colour cell) place) byte (slice_index view.colour cell)
 colour-written view (Colour other) byte cell lt = cell-set view.colour other cell byte lt
 colour-written view (Tile other) byte cell lt = refl
 colour-written view _ byte cell lt = refl
 
 work-written : (view : View) (place : BusPlace) (byte cell : ℕ) → cell < length view.work
-    → slice_index (view_after_write view place byte).work cell ≡ cond (is_work cell place) byte (slice_index view.work cell)
+    → slice_index (view_after_write view place byte).work cell ≡ cond (is_same_place (Work cell) place) byte (slice_index view.work cell)
 work-written view (Work other) byte cell lt = cell-set view.work other cell byte lt
 work-written view (Tile other) byte cell lt = refl
 work-written view _ byte cell lt = refl
 
 coordinate-written : (view : View) (place : BusPlace) (byte cell : ℕ) → cell < length view.coordinates
     → slice_index (view_after_write view place byte).coordinates cell
-    ≡ cond (is_coordinate cell place) byte (slice_index view.coordinates cell)
+    ≡ cond (is_same_place (Coordinate cell) place) byte (slice_index view.coordinates cell)
 coordinate-written view (Coordinate other) byte cell lt = cell-set view.coordinates other cell byte lt
 coordinate-written view (Tile other) byte cell lt = refl
 coordinate-written view _ byte cell lt = refl
@@ -121,7 +121,7 @@ register-set registers other register byte lt = choose (other == register) refl
 
 register-written : (view : View) (place : BusPlace) (byte register : ℕ) → register < length view.registers
     → slice_index (view_after_write view place byte).registers register
-    ≡ cond (is_wave_register register place) (kept_nibble register byte) (slice_index view.registers register)
+    ≡ cond (is_same_place (Wave register) place) (kept_nibble register byte) (slice_index view.registers register)
 register-written view (Wave other) byte register lt = register-set view.registers other register byte lt
 register-written view (Tile other) byte register lt = refl
 register-written view _ byte register lt = refl
@@ -129,31 +129,31 @@ register-written view _ byte register lt = refl
 pub tile-viewed : (start : View) (entries : List Entry) (cell : ℕ) → IsWellFormed start → cell < ram_size
     → slice_index (view_after_entries start entries).tile cell ≡ tile_at start entries cell
 tile-viewed start entries cell well lt =
-    cell-viewed (λ view. view.tile) is_tile whole tile-written (λ view inputs latched. refl) start cell refl
+    cell-viewed (λ view. view.tile) (λ place. is_same_place (Tile place)) whole tile-written (λ view inputs latched. refl) start cell refl
     (λ older. let e = (view-of-well-formed start older well).tile in omega arith) entries
 
 pub colour-viewed : (start : View) (entries : List Entry) (cell : ℕ) → IsWellFormed start → cell < ram_size
     → slice_index (view_after_entries start entries).colour cell ≡ colour_at start entries cell
 colour-viewed start entries cell well lt =
-    cell-viewed (λ view. view.colour) is_colour whole colour-written (λ view inputs latched. refl) start cell refl
+    cell-viewed (λ view. view.colour) (λ place. is_same_place (Colour place)) whole colour-written (λ view inputs latched. refl) start cell refl
     (λ older. let e = (view-of-well-formed start older well).colour in omega arith) entries
 
 pub work-viewed : (start : View) (entries : List Entry) (cell : ℕ) → IsWellFormed start → cell < ram_size
     → slice_index (view_after_entries start entries).work cell ≡ work_at start entries cell
 work-viewed start entries cell well lt =
-    cell-viewed (λ view. view.work) is_work whole work-written (λ view inputs latched. refl) start cell refl
+    cell-viewed (λ view. view.work) (λ place. is_same_place (Work place)) whole work-written (λ view inputs latched. refl) start cell refl
     (λ older. let e = (view-of-well-formed start older well).work in omega arith) entries
 
 pub coordinate-viewed : (start : View) (entries : List Entry) (place : ℕ) → IsWellFormed start → place < coordinates_size
     → slice_index (view_after_entries start entries).coordinates place ≡ coordinate_at start entries place
 coordinate-viewed start entries place well lt =
-    cell-viewed (λ view. view.coordinates) is_coordinate whole coordinate-written (λ view inputs latched. refl) start place refl
+    cell-viewed (λ view. view.coordinates) (λ place. is_same_place (Coordinate place)) whole coordinate-written (λ view inputs latched. refl) start place refl
     (λ older. let e = (view-of-well-formed start older well).coordinates in omega arith) entries
 
 pub register-viewed : (start : View) (entries : List Entry) (register : ℕ) → IsWellFormed start → register < registers_size
     → slice_index (view_after_entries start entries).registers register ≡ register_at start entries register
 register-viewed start entries register well lt =
-    cell-viewed (λ view. view.registers) is_wave_register kept_nibble register-written (λ view inputs latched. refl) start register
+    cell-viewed (λ view. view.registers) (λ place. is_same_place (Wave place)) kept_nibble register-written (λ view inputs latched. refl) start register
     (sym (well.nibbles register)) (λ older. let e = (view-of-well-formed start older well).registers in omega arith) entries
 
 written-held : (view : View) (place : BusPlace) (byte : ℕ) → (view_after_write view place byte).held ≡ view.held

@@ -11,27 +11,14 @@ use Rattle.pac_cpu.specs.Tabulate.{tabulate}
 use Rattle.pac_map.specs.RomParts.{Parts}
 use Rattle.pac_board_model.specs.BoardView.{BoardView, board_after}
 
--- whether a place is this cell of tile, colour or work RAM
-abbrev pub is_tile : ℕ → BusPlace → Bool
-is_tile cell (Tile other) = other == cell
-is_tile cell _ = false
-
-abbrev pub is_colour : ℕ → BusPlace → Bool
-is_colour cell (Colour other) = other == cell
-is_colour cell _ = false
-
-abbrev pub is_work : ℕ → BusPlace → Bool
-is_work cell (Work other) = other == cell
-is_work cell _ = false
-
--- whether a place is this one of the sprites' coordinates, or this register of the wave generator
-abbrev pub is_coordinate : ℕ → BusPlace → Bool
-is_coordinate place (Coordinate other) = other == place
-is_coordinate place _ = false
-
-abbrev pub is_wave_register : ℕ → BusPlace → Bool
-is_wave_register register (Wave other) = other == register
-is_wave_register register _ = false
+-- whether two places are one: a cell of tile, colour or work RAM, one of the sprites' coordinates, a register of the wave generator
+abbrev pub is_same_place : BusPlace → BusPlace → Bool
+is_same_place (Tile cell) (Tile other) = other == cell
+is_same_place (Colour cell) (Colour other) = other == cell
+is_same_place (Work cell) (Work other) = other == cell
+is_same_place (Coordinate place) (Coordinate other) = other == place
+is_same_place (Wave register) (Wave other) = other == register
+is_same_place _ _ = false
 
 -- the byte last written to the place that a test tells
 abbrev pub last_written : (BusPlace → Bool) → List Entry → Option ℕ
@@ -46,21 +33,21 @@ last_held (Hold mask ∷ older) = Some mask
 last_held (entry ∷ older) = last_held older
 
 abbrev pub tile_at : View → List Entry → ℕ → ℕ
-tile_at start entries cell = unwrap_or (last_written (is_tile cell) entries) (slice_index start.tile cell)
+tile_at start entries cell = unwrap_or (last_written (is_same_place (Tile cell)) entries) (slice_index start.tile cell)
 
 abbrev pub colour_at : View → List Entry → ℕ → ℕ
-colour_at start entries cell = unwrap_or (last_written (is_colour cell) entries) (slice_index start.colour cell)
+colour_at start entries cell = unwrap_or (last_written (is_same_place (Colour cell)) entries) (slice_index start.colour cell)
 
 abbrev pub work_at : View → List Entry → ℕ → ℕ
-work_at start entries cell = unwrap_or (last_written (is_work cell) entries) (slice_index start.work cell)
+work_at start entries cell = unwrap_or (last_written (is_same_place (Work cell)) entries) (slice_index start.work cell)
 
 abbrev pub coordinate_at : View → List Entry → ℕ → ℕ
-coordinate_at start entries place = unwrap_or (last_written (is_coordinate place) entries) (slice_index start.coordinates place)
+coordinate_at start entries place = unwrap_or (last_written (is_same_place (Coordinate place)) entries) (slice_index start.coordinates place)
 
 -- a register of the wave generator holds what it can of the byte last written
 abbrev pub register_at : View → List Entry → ℕ → ℕ
 register_at start entries register =
-    kept_nibble register (unwrap_or (last_written (is_wave_register register) entries) (slice_index start.registers register))
+    kept_nibble register (unwrap_or (last_written (is_same_place (Wave register)) entries) (slice_index start.registers register))
 
 -- sprite coordinates and wave registers as lists, and the sprites' attributes, which are the last bytes of work RAM
 abbrev pub history_coordinates : View → List Entry → List ℕ
