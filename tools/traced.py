@@ -60,8 +60,8 @@ def how_refused(count: int, error: int) -> list[str]:
     return ["-r", f"{count}:{error}"]
 
 
-def run(tracer: str, list_path: str, how: list[str], words: list, **more: Any) -> tuple[subprocess.CompletedProcess, list[Call]]:
-    """Runs a program under the tracer: what it comes to, with the status 128 and the signal where one ended it, and its calls."""
+def run(tracer: str, list_path: str, how: list[str], words: list[Any], **more: Any) -> tuple[Any, list[Call]]:
+    """Runs a program under the tracer: what it comes to, as subprocess tells it, with the status 128 and the signal where one ended it, and its calls."""
     done = subprocess.run([tracer, list_path, *how, *words], check=False, **more)
     if done.returncode == FAILED:
         raise OSError(f"{words[0]} can't be traced")
