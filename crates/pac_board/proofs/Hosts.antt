@@ -1,8 +1,14 @@
 -- A host's calls are acts over the history.
 use Rattle.std.proofs.Common.{◌≡◌, ℕ, zero, suc, ◌+◌, ◌-◌, Bool, true, false, List, [], ◌∷◌, ◌++◌, map, replicate, slice_index_or, Result}
+use Rattle.std.proofs.Common.{◌≤◌, nat_le, ◌&&◌, length, take, drop, Option, None}
 use Rattle.std.proofs.Common.{Ok, Err, ◌⊎◌, inl, inr, refl, sym, ap, subst, ◌∙◌, append_assoc, arith}
+use Rattle.std.proofs.Math.Seq.{take-append_seam, drop-append_seam}
+use Rattle.std.proofs.lemmas.Bool.Decides.{nat_tests}
 use Rattle.std.proofs.lemmas.List.{append-nil, replicate-append-replicate}
 use Rattle.pac_cpu.specs.declared.once.Once.{Once}
+use Rattle.pac_cpu.specs.declared.once.StepKind.TheVariants.{Halted}
+use Rattle.pac_cpu.specs.declared.once.Stop.{Stop}
+use Rattle.pac_map.specs.RomParts.{Parts}
 use Rattle.pac_board_model.specs.BoardView.{BoardView}
 use Rattle.pac_board_model.specs.History.{board_after_entries}
 use Rattle.pac_board_model.specs.Host.{Act, StepOn, Account, Host, with_step, after_act, after_acts, host_at, host_view, account_by_view}
@@ -25,9 +31,12 @@ use Rattle.pac_board.specs.State.{BoardValue, BoardState, due_outputs, nothing_d
 use Rattle.pac_board.specs.Calls.{Executes, StepsOnce, Offers, Advances, IsOfferRefused, IsStepRefused, outputs_given, next_of}
 use Rattle.pac_board.specs.Calls.{outputs_in, board_after_step}
 use Rattle.pac_board.specs.Calls.{with_due}
-use Rattle.pac_board.specs.Hosts.{Call, Exec, StepOnce, Advance, Offer, Reset, InputSet, InputClear, Snapshot, Restore, HostedBoard}
-use Rattle.pac_board.specs.Hosts.{run_took, refused_took, step_took, offer_took, IsCall, acts_of, steps_between, AreCalls, goes_back}
-use Rattle.pac_board.specs.Hosts.{history, CallsAreOfTheHistory}
+use Rattle.pac_board.specs.Hosts.{Call, Exec, StepOnce, Advance, Offer, GoTo, Rest, CountAsked, Reset, InputSet, InputClear, Snapshot}
+use Rattle.pac_board.specs.Hosts.{Restore, PutFields, PutRoms, HostedBoard}
+use Rattle.pac_board.specs.Hosts.{run_took, refused_took, step_took, offer_took, way_took, IsCall, acts_of, stays_within, steps_between}
+use Rattle.pac_board.specs.Hosts.{AreCalls, acts_over, goes_back, given_over, history, CallsAreOfTheHistory, ListsAreCut, RestoresGiveAgain}
+use Rattle.pac_board.specs.Rests.{AreHalted, HasRested}
+use Rattle.pac_board.specs.Turns.{GoesTo, way, way_at}
 
 -- ---- acts, one after another
 
@@ -87,12 +96,45 @@ module _ {Board : Type 0} (account : Account Board) where
     walked (suc tries) =
         let w = walk (step account.ask) limit from tries in onward-walked w (has_ended limit w) refl (walked tries)
 
+    acted-of : (w : Walk Board) → IsWalked w → after_acts account at_first (replicate (w.now.steps - from.steps) StepOn) ≡ at_walk w
+    acted-of w is =
+        let steps : w.now.steps - from.steps ≡ is.steps = let count = is.count in omega arith in
+        ap (λ n. after_acts account at_first (replicate n StepOn)) steps ∙ is.acts
+
     pub walk-acted : (tries : ℕ) → let w = walk (step account.ask) limit from tries in
         after_acts account at_first (replicate (w.now.steps - from.steps) StepOn) ≡ at_walk w
-    walk-acted tries =
-        let is = walked tries in
-        let steps : (walk (step account.ask) limit from tries).now.steps - from.steps ≡ is.steps = let count = is.count in omega arith in
-        ap (λ n. after_acts account at_first (replicate n StepOn)) steps ∙ is.acts
+    walk-acted tries = acted-of (walk (step account.ask) limit from tries) (walked tries)
+
+-- and so are halted steps that were done in one go
+module _ (set : Parts) (limit : ℕ) (from : Moment BoardView) (kept : List (Moment BoardView)) (before : List Output) (last : ℕ)
+    (to : Moment BoardView) (outputs : List Output) (steps : AreHalted (step (by_view set)) from last to outputs) where
+  abbrev account : Account BoardView
+  account = account_by_view set
+
+  abbrev IsSo : Walk BoardView → Type 0
+  IsSo w = IsWalked account limit from kept before w
+
+  abbrev silent : ℕ → Walk BoardView
+  silent n = record { now = steps.at n; outputs = []; stop = None }
+
+  halted-timely : (now after : Moment BoardView) (given : List Output) → step (by_view set) now ≡ Goes after given Halted
+      → IsTimely now (Goes after given Halted)
+  halted-timely now after given e = subst (IsTimely now) e (step-timely (by_view set) now)
+
+  silent-walked : (n : ℕ) → n ≤ last → IsSo (silent n)
+  silent-walked zero less =
+      subst (λ now. IsSo (record { now = now; outputs = []; stop = None })) (sym steps.first) (walked account limit from kept before zero)
+  silent-walked (suc n) less =
+      let e = steps.between n (omega (arith, less)) in
+      step-walked account limit from kept before (silent n) (Goes (steps.at (suc n)) [] Halted) e
+      (halted-timely (steps.at n) (steps.at (suc n)) [] e) (silent-walked n (omega (arith, less)))
+
+  rest-acted : after_acts account (record { now = from; kept = kept; outputs = before }) (replicate (to.steps - from.steps) StepOn)
+      ≡ record { now = to; kept = kept; outputs = before ++ outputs }
+  rest-acted =
+      acted-of account limit from kept before (record { now = to; outputs = outputs; stop = None })
+      (step-walked account limit from kept before (silent last) (Goes to outputs Halted) steps.ends
+      (halted-timely (steps.at last) to outputs steps.ends) (silent-walked last (omega arith)))
 
 -- ---- a board's calls
 
@@ -126,6 +168,18 @@ walk-acts old new limit tries taken set_is now_is ledger =
           ∙ walk-acted account limit old.state.now kept before tries
           ∙ ap (λ now. at_moment now kept (before ++ w.outputs)) (sym now_is);
       ledger = ledger;
+    }
+
+-- by halted steps that were done in one go
+rest-acts : (old new : BoardValue) (limit : ℕ) → HasRested old limit new → due_outputs old ≡ []
+    → IsActed old (steps_on old.state.now new.state.now) [] new
+rest-acts old new limit rested nothing =
+    record {
+      set_is = ap (λ (b : BoardValue). b.set) rested.board;
+      gave = due_outputs new;
+      acted = λ kept before.
+          rest-acted old.set limit old.state.now kept before rested.last new.state.now (due_outputs new) rested.steps;
+      ledger = ap (λ due. due ++ due_outputs new) nothing;
     }
 
 -- by no step
@@ -266,19 +320,24 @@ module _ {S : Type 0} (to : Giving S) where
       still-acts old new [] offers.cut.taken (ap (λ (b : BoardValue). b.set) offers.board)
       (ap (λ (b : BoardValue). b.state.now) offers.board) refl offers.cut.parts
 
+  -- of a board of which nothing was due
+  way-acts : {E : Type 0} (old : BoardValue) (limit : ℕ) (sink : S) (answer : Result (Option Stop) E) (new : BoardValue) (later : S)
+      → (goes : GoesTo to old limit sink answer new later) → due_outputs old ≡ []
+      → IsActed old (steps_on old.state.now new.state.now) (way_took to old limit sink answer new later goes) new
+  way-acts old limit sink (Ok stop) new later goes nothing =
+      let outputs = (way old limit).outputs in
+      let none : due_outputs new ≡ [] = ap due_outputs goes.board in
+      walk-acts old new limit limit outputs (ap (λ (b : BoardValue). b.set) goes.board) (ap (λ (b : BoardValue). b.state.now) goes.board)
+      (ap (λ due. due ++ outputs) nothing ∙ sym (append-nil outputs) ∙ ap (λ due. outputs ++ due) (sym none))
+  way-acts old limit sink (Err refusal) new later goes nothing =
+      walk-acts old new limit goes.steps goes.cut.taken (ap (λ (b : BoardValue). b.set) goes.board)
+      (ap (λ (b : BoardValue). b.state.now) goes.board)
+      (ap (λ due. due ++ (way_at old limit goes.steps).outputs) nothing ∙ goes.cut.parts)
+
 -- ---- a host's calls
 
 abbrev moments : List BoardState → List (Moment BoardView)
 moments kept = map (λ (state : BoardState). state.now) kept
-
-abbrev seen : HostedBoard → List Output → Host BoardView
-seen hosted outputs = at_moment hosted.board.state.now (moments hosted.kept) outputs
-
-record AreActed (old : HostedBoard) (calls : List Call) (acts : List Act) (taken : List Output) (new : HostedBoard) : Type 0 where
-  set_is : new.board.set ≡ old.board.set
-  gave : List Output
-  acted : (before : List Output) → after_acts (account_by_view old.board.set) (seen old before) acts ≡ seen new (before ++ gave)
-  ledger : goes_back calls ≡ false → due_outputs old.board ++ gave ≡ taken ++ due_outputs new.board
 
 moments-more : (kept : List BoardState) (state : BoardState) → moments kept ++ state.now ∷ [] ≡ moments (kept ++ state ∷ [])
 moments-more [] state = refl
@@ -290,118 +349,276 @@ moments-at [] number state = refl
 moments-at (first ∷ kept) zero state = refl
 moments-at (first ∷ kept) (suc number) state = moments-at kept number state
 
--- a call that leaves the snapshots
-with-kept : (old : HostedBoard) (calls : List Call) (acts : List Act) (first taken : List Output) (new : HostedBoard) → new.kept ≡ old.kept
-    → taken ≡ first → IsActed old.board acts first new.board → AreActed old calls acts taken new
-with-kept old calls acts first taken new kept_is taken_is is =
-    record {
-      set_is = is.set_is;
-      gave = is.gave;
-      acted = λ before.
-          is.acted (moments old.kept) before
-          ∙ ap (λ kept. at_moment new.board.state.now (moments kept) (before ++ is.gave)) (sym kept_is);
-      ledger = λ _. is.ledger ∙ ap (λ first. first ++ due_outputs new.board) (sym taken_is);
-    }
+-- what was kept before, and what was kept since
+index-after : (earlier own : List BoardState) (number : ℕ) (state : BoardState) → length earlier ≤ number
+    → slice_index_or (earlier ++ own) number state ≡ slice_index_or own (number - length earlier) state
+index-after [] own number state less = let same : number ≡ number - 0 = omega arith in ap (λ n. slice_index_or own n state) same
+index-after (first ∷ earlier) own zero state less = absurd (omega (arith, less))
+index-after (first ∷ earlier) own (suc number) state less =
+    let same : number - length earlier ≡ suc number - suc (length earlier) = omega arith in
+    index-after earlier own number state (omega (arith, less)) ∙ ap (λ n. slice_index_or own n state) same
 
--- a call that makes no step
-silent : (old made new : HostedBoard) (calls : List Call) (acts : List Act) (taken : List Output) → (new ≡ made) × (taken ≡ [])
-    → made.board.set ≡ old.board.set
-    → ((before : List Output) → after_acts (account_by_view old.board.set) (seen old before) acts ≡ seen made before)
-    → (goes_back calls ≡ false → due_outputs old.board ≡ due_outputs made.board) → AreActed old calls acts taken new
-silent old made new calls acts taken is set_is acted due =
-    record {
-      set_is = ap (λ (h : HostedBoard). h.board.set) is.0 ∙ set_is;
-      gave = [];
-      acted = λ before. acted before ∙ ap (seen made) (sym (append-nil before)) ∙ ap (λ h. seen h (before ++ [])) (sym is.0);
-      ledger = λ stays.
-          append-nil (due_outputs old.board) ∙ due stays ∙ ap (λ (h : HostedBoard). due_outputs h.board) (sym is.0)
-          ∙ ap (λ taken. taken ++ due_outputs new.board) (sym is.1);
-    }
+module _ (earlier : List BoardState) where
+  abbrev seen : BoardValue → List BoardState → List Output → Host BoardView
+  seen board own outputs = at_moment board.state.now (moments own) outputs
 
-module _ {S : Type 0} (to : Giving S) where
-  call-acts : (call : Call) (old : HostedBoard) (taken : List Output) (new : HostedBoard) → IsCall to call old taken new
-      → AreActed old (call ∷ []) (acts_of call (steps_between old new)) taken new
-  call-acts (Exec us) old taken new done =
-      let call = done.0 in
-      with-kept old _ _ _ taken new done.1 call.taken_is
-      (run-acts to old.board us call.sink call.answer new.board call.later call.done)
-  call-acts StepOnce old taken new done =
-      let call = done.0 in
-      with-kept old _ _ _ taken new done.1 call.taken_is
-      (once-acts to old.board call.sink call.answer new.board call.later call.done)
-  call-acts Advance old taken new done =
-      with-kept old _ _ [] taken new done.3 done.2 (advance-acts to old.board done.0 new.board done.1)
-  call-acts Offer old taken new done =
-      let call = done.0 in
-      with-kept old _ _ _ taken new done.1 call.taken_is
-      (offer-acts to old.board call.sink call.answer new.board call.later call.done)
-  call-acts Reset old taken new done = silent old _ new _ _ taken done refl (λ before. refl) (λ _. refl)
-  call-acts (InputSet mask) old taken new done = silent old _ new _ _ taken done refl (λ before. refl) (λ _. refl)
-  call-acts (InputClear mask) old taken new done = silent old _ new _ _ taken done refl (λ before. refl) (λ _. refl)
-  call-acts Snapshot old taken new done =
-      silent old _ new _ _ taken done refl
-      (λ before. ap (λ kept. at_moment old.board.state.now kept before) (moments-more old.kept old.board.state)) (λ _. refl)
-  call-acts (Restore number) old taken new done =
-      silent old _ new _ _ taken done refl
-      (λ before. ap (λ now. at_moment now (moments old.kept) before) (moments-at old.kept number old.board.state))
-      (λ stays. not-both stays)
+  -- calls did this to a board and to the snapshots taken since
+  record AreActed (old : BoardValue) (own : List BoardState) (calls : List Call) (acts : List Act) (taken : List Output)
+      (new : HostedBoard) : Type 0 where
+    set_is : new.board.set ≡ old.set
+    since : List BoardState
+    kept_is : new.kept ≡ earlier ++ since
+    gave : List Output
+    acted : (before : List Output) → after_acts (account_by_view old.set) (seen old own before) acts
+        ≡ seen new.board since (before ++ gave)
+    ledger : goes_back calls ≡ false → due_outputs old ++ gave ≡ taken ++ due_outputs new.board
 
-  stays-both : (call : Call) (calls : List Call) → goes_back (call ∷ calls) ≡ false
-      → (goes_back (call ∷ []) ≡ false) × (goes_back calls ≡ false)
-  stays-both (Restore number) calls h = not-both h
-  stays-both call calls h = (refl, h)
-
-  calls-act : (calls : List Call) (old new : HostedBoard) (taken : List Output) (acts : List Act)
-      → AreCalls to calls old new taken acts → AreActed old calls acts taken new
-  calls-act [] old new taken acts is =
-      silent old old new [] acts taken (is.0, is.1) refl
-      (λ before. ap (after_acts (account_by_view old.board.set) (seen old before)) is.2) (λ _. refl)
-  calls-act (call ∷ calls) old new taken acts done =
-      let between = done.between in
-      let account = account_by_view old.board.set in
-      let one = call-acts call old done.first_taken between done.first in
-      let rest = calls-act calls between new done.more_taken done.more_acts done.after in
-      let first = acts_of call (steps_between old between) in
-      let after : (before : List Output) → after_acts account (seen between before) done.more_acts ≡ seen new (before ++ rest.gave) =
-      subst (λ set. (before : List Output)
-      → after_acts (account_by_view set) (seen between before) done.more_acts ≡ seen new (before ++ rest.gave)) one.set_is rest.acted in
+  -- a call that leaves the snapshots
+  with-kept : (old : HostedBoard) (own : List BoardState) (calls : List Call) (acts : List Act) (first taken : List Output)
+      (new : HostedBoard) → old.kept ≡ earlier ++ own → new.kept ≡ old.kept → taken ≡ first → IsActed old.board acts first new.board
+      → AreActed old.board own calls acts taken new
+  with-kept old own calls acts first taken new own_is kept_is taken_is is =
       record {
-        set_is = rest.set_is ∙ one.set_is;
-        gave = one.gave ++ rest.gave;
-        acted = λ before.
-            ap (after_acts account (seen old before)) done.acts_are
-            ∙ acts-joined account first done.more_acts (seen old before)
-            ∙ ap (λ h. after_acts account h done.more_acts) (one.acted before)
-            ∙ after (before ++ one.gave)
-            ∙ ap (seen new) (append_assoc before one.gave rest.gave);
-        ledger = λ stays.
-            let both = stays-both call calls stays in
-            sym (append_assoc (due_outputs old.board) one.gave rest.gave)
-            ∙ ap (λ all. all ++ rest.gave) (one.ledger both.0)
-            ∙ append_assoc done.first_taken (due_outputs between.board) rest.gave
-            ∙ ap (λ all. done.first_taken ++ all) (rest.ledger both.1)
-            ∙ sym (append_assoc done.first_taken done.more_taken (due_outputs new.board))
-            ∙ ap (λ all. all ++ due_outputs new.board) (sym done.taken_is);
+        set_is = is.set_is;
+        since = own;
+        kept_is = kept_is ∙ own_is;
+        gave = is.gave;
+        acted = λ before. is.acted (moments own) before;
+        ledger = λ _. is.ledger ∙ ap (λ first. first ++ due_outputs new.board) (sym taken_is);
       }
 
+  -- a call that makes no step
+  silent-acts : (old : BoardValue) (own since : List BoardState) (made new : HostedBoard) (calls : List Call) (acts : List Act)
+      (taken : List Output) → (new ≡ made) × (taken ≡ []) → made.kept ≡ earlier ++ since → made.board.set ≡ old.set
+      → ((before : List Output) → after_acts (account_by_view old.set) (seen old own before) acts ≡ seen made.board since before)
+      → (goes_back calls ≡ false → due_outputs old ≡ due_outputs made.board) → AreActed old own calls acts taken new
+  silent-acts old own since made new calls acts taken is kept_is set_is acted due =
+      record {
+        set_is = ap (λ (h : HostedBoard). h.board.set) is.0 ∙ set_is;
+        since = since;
+        kept_is = ap (λ (h : HostedBoard). h.kept) is.0 ∙ kept_is;
+        gave = [];
+        acted = λ before.
+            acted before ∙ ap (seen made.board since) (sym (append-nil before))
+            ∙ ap (λ (h : HostedBoard). seen h.board since (before ++ [])) (sym is.0);
+        ledger = λ stays.
+            append-nil (due_outputs old) ∙ due stays ∙ ap (λ (h : HostedBoard). due_outputs h.board) (sym is.0)
+            ∙ ap (λ taken. taken ++ due_outputs new.board) (sym is.1);
+      }
+
+  both-of : (one other : Bool) → (one && other) ≡ true → (one ≡ true) × (other ≡ true)
+  both-of true other h = (refl, h)
+  both-of false other h = not-both (sym h)
+
+  module _ {S : Type 0} (to : Giving S) where
+    call-acts : (call : Call) (old : HostedBoard) (own : List BoardState) (taken : List Output) (new : HostedBoard)
+        → old.kept ≡ earlier ++ own → stays_within (length earlier) (call ∷ []) ≡ true → IsCall to call old taken new
+        → AreActed old.board own (call ∷ []) (acts_of (length earlier) call (steps_between old new)) taken new
+    call-acts (Exec us) old own taken new own_is within done =
+        let call = done.0 in
+        with-kept old own _ _ _ taken new own_is done.1 call.taken_is
+        (run-acts to old.board us call.sink call.answer new.board call.later call.done)
+    call-acts StepOnce old own taken new own_is within done =
+        let call = done.0 in
+        with-kept old own _ _ _ taken new own_is done.1 call.taken_is
+        (once-acts to old.board call.sink call.answer new.board call.later call.done)
+    call-acts Advance old own taken new own_is within done =
+        with-kept old own _ _ [] taken new own_is done.3 done.2 (advance-acts to old.board done.0 new.board done.1)
+    call-acts Offer old own taken new own_is within done =
+        let call = done.0 in
+        with-kept old own _ _ _ taken new own_is done.1 call.taken_is
+        (offer-acts to old.board call.sink call.answer new.board call.later call.done)
+    call-acts (GoTo limit) old own taken new own_is within done =
+        let call = done.0 in
+        with-kept old own _ _ _ taken new own_is done.2 call.taken_is
+        (way-acts to old.board limit call.sink call.answer new.board call.later call.done done.1)
+    call-acts (Rest limit) old own taken new own_is within done =
+        with-kept old own _ _ [] taken new own_is done.3 done.2 (rest-acts old.board new.board limit done.0 done.1)
+    call-acts (CountAsked microseconds) old own taken new own_is within done =
+        silent-acts old.board own own _ new _ _ taken done own_is refl (λ before. refl) (λ _. refl)
+    call-acts Reset old own taken new own_is within done =
+        silent-acts old.board own own _ new _ _ taken done own_is refl (λ before. refl) (λ _. refl)
+    call-acts (InputSet mask) old own taken new own_is within done =
+        silent-acts old.board own own _ new _ _ taken done own_is refl (λ before. refl) (λ _. refl)
+    call-acts (InputClear mask) old own taken new own_is within done =
+        silent-acts old.board own own _ new _ _ taken done own_is refl (λ before. refl) (λ _. refl)
+    call-acts Snapshot old own taken new own_is within done =
+        silent-acts old.board own (own ++ old.board.state ∷ []) _ new _ _ taken done
+        (ap (λ kept. kept ++ old.board.state ∷ []) own_is ∙ append_assoc earlier own (old.board.state ∷ [])) refl
+        (λ before. ap (λ kept. at_moment old.board.state.now kept before) (moments-more own old.board.state)) (λ _. refl)
+    call-acts (Restore number) old own taken new own_is within done =
+        let less : length earlier ≤ number =
+        let tested = (both-of (nat_le (length earlier) number) true within).0 in grind (arith, nat_tests) in
+        let same = ap (λ kept. slice_index_or kept number old.board.state) own_is ∙ index-after earlier own number old.board.state less in
+        silent-acts old.board own own _ new _ _ taken done own_is refl
+        (λ before.
+        ap (λ now. at_moment now (moments own) before)
+        (moments-at own (number - length earlier) old.board.state ∙ ap (λ (state : BoardState). state.now) (sym same)))
+        (λ stays. not-both stays)
+    call-acts (PutFields state) old own taken new own_is within done = not-both (sym within)
+    call-acts (PutRoms set) old own taken new own_is within done = not-both (sym within)
+
+    stays-both : (call : Call) (calls : List Call) → goes_back (call ∷ calls) ≡ false
+        → (goes_back (call ∷ []) ≡ false) × (goes_back calls ≡ false)
+    stays-both (Restore number) calls h = not-both h
+    stays-both (PutFields state) calls h = not-both h
+    stays-both (PutRoms set) calls h = not-both h
+    stays-both call calls h = (refl, h)
+
+    within-both : (call : Call) (calls : List Call) → stays_within (length earlier) (call ∷ calls) ≡ true
+        → (stays_within (length earlier) (call ∷ []) ≡ true) × (stays_within (length earlier) calls ≡ true)
+    within-both (Restore number) calls h =
+        let both = both-of (nat_le (length earlier) number) (stays_within (length earlier) calls) h in
+        (ap (λ b. b && true) both.0, both.1)
+    within-both (PutFields state) calls h = not-both (sym h)
+    within-both (PutRoms set) calls h = not-both (sym h)
+    within-both call calls h = (refl, h)
+
+    calls-act : (calls : List Call) (old : HostedBoard) (own : List BoardState) (new : HostedBoard) (taken : List Output)
+        (steps : List ℕ) → old.kept ≡ earlier ++ own → stays_within (length earlier) calls ≡ true
+        → AreCalls to calls old new taken steps → AreActed old.board own calls (acts_over (length earlier) calls steps) taken new
+    calls-act [] old own new taken steps own_is within is =
+        silent-acts old.board own own old new [] [] taken (is.0, is.1) own_is refl (λ before. refl) (λ _. refl)
+    calls-act (call ∷ calls) old own new taken steps own_is within done =
+        let between = done.between in
+        let account = account_by_view old.board.set in
+        let stay = within-both call calls within in
+        let one = call-acts call old own done.first_taken between own_is stay.0 done.first in
+        let rest = calls-act calls between one.since new done.more_taken done.more_steps one.kept_is stay.1 done.after in
+        let first = acts_of (length earlier) call (steps_between old between) in
+        let later = acts_over (length earlier) calls done.more_steps in
+        let after : (before : List Output) → after_acts account (seen between.board one.since before) later
+        ≡ seen new.board rest.since (before ++ rest.gave) =
+        subst (λ set. (before : List Output) → after_acts (account_by_view set) (seen between.board one.since before) later
+        ≡ seen new.board rest.since (before ++ rest.gave)) one.set_is rest.acted in
+        record {
+          set_is = rest.set_is ∙ one.set_is;
+          since = rest.since;
+          kept_is = rest.kept_is;
+          gave = one.gave ++ rest.gave;
+          acted = λ before.
+              ap (λ steps. after_acts account (seen old.board own before) (acts_over (length earlier) (call ∷ calls) steps)) done.steps_are
+              ∙ acts-joined account first later (seen old.board own before)
+              ∙ ap (λ h. after_acts account h later) (one.acted before)
+              ∙ after (before ++ one.gave)
+              ∙ ap (seen new.board rest.since) (append_assoc before one.gave rest.gave);
+          ledger = λ stays.
+              let both = stays-both call calls stays in
+              sym (append_assoc (due_outputs old.board) one.gave rest.gave)
+              ∙ ap (λ all. all ++ rest.gave) (one.ledger both.0)
+              ∙ append_assoc done.first_taken (due_outputs between.board) rest.gave
+              ∙ ap (λ all. done.first_taken ++ all) (rest.ledger both.1)
+              ∙ sym (append_assoc done.first_taken done.more_taken (due_outputs new.board))
+              ∙ ap (λ all. all ++ due_outputs new.board) (sym done.taken_is);
+        }
+
+-- ---- the laws
+
+module _ {S : Type 0} (to : Giving S) where
   pub calls-of-the-history : CallsAreOfTheHistory to
-  calls-of-the-history items old calls new taken acts whole lie fit done =
-      let start = old.state.now.board in
-      let view = board_after_entries old.set start in
-      let first : HostedBoard = record { board = old; kept = [] } in
-      let is = calls-act calls first new taken acts done in
-      let told = history items old acts in
-      let now = old.state.now in
+  calls-of-the-history items old calls new taken steps whole lie fit within done =
+      let set = old.board.set in
+      let start = old.board.state.now.board in
+      let view = board_after_entries set start in
+      let acts = acts_over (length old.kept) calls steps in
+      let is = calls-act old.kept to calls old [] new taken steps (sym (append-nil old.kept)) within done in
+      let told = history items old.board acts in
+      let now = old.board.state.now in
       let begun = host_at (record { regs = now.regs; board = []; time = now.time; steps = now.steps }) in
-      let same : seen new is.gave ≡ host_view view told =
-      sym (is.acted []) ∙ sym (hosts-agree old.set items start begun acts whole lie fit) in
+      let same : seen old.kept new.board is.since is.gave ≡ host_view view told =
+      sym (is.acted []) ∙ sym (hosts-agree set items start begun acts whole lie fit) in
       let now_is = ap (λ (h : Host BoardView). h.now) same in
       let gave = ap (λ (h : Host BoardView). h.outputs) same in
       record {
         set = is.set_is;
         now = now_is;
-        kept = ap (λ (h : Host BoardView). h.kept) same;
-        picture = ap (λ (now : Moment BoardView). now.board.lines) now_is ∙ (view-tells old.set start told.now.board fit).lines;
-        lines = hosts-are-line-exact old.set items start now.regs now.time now.steps acts;
-        outputs = λ stays. ap (λ outputs. due_outputs old ++ outputs) (sym gave) ∙ is.ledger stays;
+        older = ap (take (length old.kept)) is.kept_is ∙ take-append_seam old.kept is.since;
+        kept =
+            ap (λ kept. moments (drop (length old.kept) kept)) is.kept_is
+            ∙ ap moments (drop-append_seam old.kept is.since)
+            ∙ ap (λ (h : Host BoardView). h.kept) same;
+        picture = ap (λ (now : Moment BoardView). now.board.lines) now_is ∙ (view-tells set start told.now.board fit).lines;
+        lines = hosts-are-line-exact set items start now.regs now.time now.steps acts;
+        outputs = λ stays. ap (λ outputs. due_outputs old.board ++ outputs) (sym gave) ∙ is.ledger stays;
+      }
+
+  pub lists-are-cut : ListsAreCut to
+  lists-are-cut [] more old new taken steps done =
+      record {
+        between = old;
+        first_taken = [];
+        first_steps = [];
+        first_done = (refl, refl, refl);
+        more_taken = taken;
+        more_steps = steps;
+        more_done = done;
+        taken_is = refl;
+        steps_are = refl;
+      }
+  lists-are-cut (call ∷ first) more old new taken steps done =
+      let rest = lists-are-cut first more done.between new done.more_taken done.more_steps done.after in
+      record {
+        between = rest.between;
+        first_taken = done.first_taken ++ rest.first_taken;
+        first_steps = steps_between old done.between ∷ rest.first_steps;
+        first_done = record {
+          between = done.between;
+          first_taken = done.first_taken;
+          first = done.first;
+          more_taken = rest.first_taken;
+          more_steps = rest.first_steps;
+          after = rest.first_done;
+          taken_is = refl;
+          steps_are = refl;
+        };
+        more_taken = rest.more_taken;
+        more_steps = rest.more_steps;
+        more_done = rest.more_done;
+        taken_is =
+            done.taken_is ∙ ap (λ more. done.first_taken ++ more) rest.taken_is
+            ∙ sym (append_assoc done.first_taken rest.first_taken rest.more_taken);
+        steps_are = done.steps_are ∙ ap (λ more. steps_between old done.between ∷ more) rest.steps_are;
+      }
+
+  -- what never goes back stays within its history
+  forward-within : (older : ℕ) (calls : List Call) → goes_back calls ≡ false → stays_within older calls ≡ true
+  forward-within older [] forward = refl
+  forward-within older (Restore number ∷ calls) forward = not-both forward
+  forward-within older (PutFields state ∷ calls) forward = not-both forward
+  forward-within older (PutRoms set ∷ calls) forward = not-both forward
+  forward-within older (call ∷ calls) forward = forward-within older calls forward
+
+  -- what the steps of a part give, and what is taken in it
+  part-given : (calls : List Call) (old new : HostedBoard) (taken : List Output) (steps : List ℕ) → goes_back calls ≡ false
+      → AreCalls to calls old new taken steps
+      → due_outputs old.board ++ given_over old.board (length old.kept) calls steps ≡ taken ++ due_outputs new.board
+  part-given calls old new taken steps forward done =
+      let within = forward-within (length old.kept) calls forward in
+      let is = calls-act old.kept to calls old [] new taken steps (sym (append-nil old.kept)) within done in
+      ap (λ (h : Host BoardView). due_outputs old.board ++ h.outputs) (is.acted []) ∙ is.ledger forward
+
+  pub restores-give-again : RestoresGiveAgain to
+  restores-give-again first number more old new taken steps first_forward more_forward done =
+      let parts = lists-are-cut first (Restore number ∷ more) old new taken steps done in
+      let at = parts.between in
+      let back = parts.more_done in
+      let silent = back.first in
+      let after : due_outputs back.between.board ++ given_over back.between.board (length back.between.kept) more back.more_steps
+      ≡ back.more_taken ++ due_outputs new.board =
+      part-given more back.between new back.more_taken back.more_steps more_forward back.after in
+      record {
+        at = at;
+        first_taken = parts.first_taken;
+        first_steps = parts.first_steps;
+        before = part-given first old at parts.first_taken parts.first_steps first_forward parts.first_done;
+        more_taken = back.more_taken;
+        more_steps = back.more_steps;
+        after =
+            subst (λ (h : HostedBoard). due_outputs h.board ++ given_over h.board (length h.kept) more back.more_steps
+            ≡ back.more_taken ++ due_outputs new.board) silent.0 after;
+        taken_is =
+            parts.taken_is
+            ∙ ap (λ more. parts.first_taken ++ more) (back.taken_is ∙ ap (λ none. none ++ back.more_taken) silent.1);
+        back_steps = steps_between at back.between;
+        steps_are = parts.steps_are ∙ ap (λ more. parts.first_steps ++ more) back.steps_are;
       }

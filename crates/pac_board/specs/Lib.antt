@@ -11,6 +11,7 @@ pub mod Hosts
 pub use Rattle.pac_cpu.specs.Instructions
 pub use Rattle.pac_cpu.specs.InterruptMode
 pub use Rattle.pac_cpu.specs.InterruptModeVariants
+pub use Rattle.pac_cpu.specs.PlacedItems
 pub use Rattle.pac_cpu.specs.Regs
 pub use Rattle.pac_cpu.specs.declared.once.Cause
 pub use Rattle.pac_cpu.specs.declared.once.Cause.TheVariants as CauseVariants

@@ -1,7 +1,7 @@
 //! Laws of the calls.
 
 ghost use Rattle.pac_board.specs.Laws.{TimeCanBeCut, RefusalsAreTakenUp, StepsAreDoneAgain, StepsArePartsOfRuns};
-ghost use Rattle.pac_board.specs.Hosts.{CallsAreOfTheHistory};
+ghost use Rattle.pac_board.specs.Hosts.{CallsAreOfTheHistory, ListsAreCut, RestoresGiveAgain};
 ghost use Rattle.pac_board.specs.Sinks.{by};
 
 use crate::sink::Sink;
@@ -30,4 +30,15 @@ pub fn steps_are_parts_of_runs<S: Sink>()
 /// its picture were composed at their moments and at no others.
 pub fn calls_are_of_the_history<S: Sink>()
     ensures { CallsAreOfTheHistory (by S.took S.refused) }
+{}
+
+/// Any list of calls can be cut anywhere: one that puts fields or ROMs is one history after another.
+pub fn lists_are_cut<S: Sink>()
+    ensures { ListsAreCut (by S.took S.refused) }
+{}
+
+/// What is given out over calls among which a board goes back: what was due then is given no more, and what the snapshot has due is given
+/// again.
+pub fn restores_give_again<S: Sink>()
+    ensures { RestoresGiveAgain (by S.took S.refused) }
 {}

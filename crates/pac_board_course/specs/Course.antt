@@ -7,6 +7,7 @@ use Rattle.pac_board.specs.Stop.{Stop}
 use Rattle.pac_board.specs.Step.{Moment, Next, frame_ticks}
 use Rattle.pac_board.specs.Trace.{by_view, play_step}
 use Rattle.pac_board.specs.Walk.{Walk, walk, walk_to}
+pub use Rattle.pac_board.specs.State.{frame_microseconds}
 use Rattle.pac_board.specs.State.{BoardValue, board_with_inputs, with_more_asked, nothing_due, steps_counted, latest, most_asked}
 use Rattle.pac_board.specs.Due.{Due}
 use Rattle.pac_board.specs.Calls.{with_due}
@@ -74,10 +75,6 @@ abbrev pub outcome_at : Moment BoardView → Option Stop → Outcome
 outcome_at now stop = record { frames = now.time / frame_ticks; steps = now.steps; ticks = now.time; stop = stop }
 
 -- ---- microseconds asked
-
--- the microseconds of a frame, which are its 50,688 T-states
-abbrev pub frame_microseconds : ℕ
-frame_microseconds = 16500
 
 -- so many frames can be asked of the board
 abbrev pub FitsAsked : BoardValue → List Stretch → Type 0

@@ -1,0 +1,6 @@
+use Rattle.pac_board.specs.Sinks.{by}
+use Rattle.pac_board.proofs.Hosts.{lists-are-cut}
+use Rattle.pac_board.proofs.laws.lists_are_cut.Goals as goal
+
+pub returns : goal.returns
+returns g c = lists-are-cut (by g.S.Sink.took g.S.Sink.refused)

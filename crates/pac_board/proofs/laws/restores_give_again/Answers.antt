@@ -1,0 +1,6 @@
+use Rattle.pac_board.specs.Sinks.{by}
+use Rattle.pac_board.proofs.Hosts.{restores-give-again}
+use Rattle.pac_board.proofs.laws.restores_give_again.Goals as goal
+
+pub returns : goal.returns
+returns g c = restores-give-again (by g.S.Sink.took g.S.Sink.refused)
