@@ -1,5 +1,6 @@
 -- To be believed: the numbers that a host's calls answer, and how a run is told (this profile).
-use Rattle.std.specs.Prelude.{◌≡◌, ℕ, Option, None, Some, [], ◌∷◌, Result, Ok, Err}
+use Rattle.std.specs.Prelude.{◌≡◌, ℕ, List, [], ◌∷◌, ◌++◌, Option, None, Some, Result, Ok, Err}
+use Rattle.std.specs.Int.{w16, w32, w64, to_le_bytes}
 use Rattle.pac_board.specs.Cause.{Cause}
 use Rattle.pac_board.specs.CauseVariants.{Opcode, Vector}
 use Rattle.pac_board.specs.Stop.{Stop}
@@ -71,3 +72,12 @@ ran_of ticks samples pictures (Some stop) = record {
   vector = vector_told stop.cause;
   zero = 0;
 }
+
+-- The 32 bytes in which it is told, as C lays out a `pac_ran`: each field at its place, numbers with the low byte first, and 0 where no
+-- field is. T-states are at 0; samples, pictures and the stop at 8, 12 and 16; the stop's PC at 20, the bytes from there on at 22, and the
+-- vector at 26.
+unfoldable pub ran_bytes : PacRan → List ℕ
+ran_bytes ran =
+    to_le_bytes w64 ran.ticks
+    ++ to_le_bytes w32 ran.samples ++ to_le_bytes w32 ran.pictures ++ to_le_bytes w32 ran.stop
+    ++ to_le_bytes w16 ran.pc ++ ran.bytes ++ ran.vector ∷ ran.zero ∷ 0 ∷ 0 ∷ 0 ∷ 0 ∷ []

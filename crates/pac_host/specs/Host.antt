@@ -23,7 +23,7 @@ use Rattle.pac_state.specs.Text.{save_text, written_version}
 use Rattle.pac_host.specs.declared.codes.HostFault.{HostFault}
 use Rattle.pac_host.specs.declared.codes.HostFault.TheVariants.{WrongLength, NoBoard, TooLong, NoRoom, NoFile}
 use Rattle.pac_host.specs.declared.ran.PacRan.{PacRan}
-use Rattle.pac_host.specs.Codes.{ran_of}
+use Rattle.pac_host.specs.Codes.{ran_of, ran_bytes}
 
 -- ---- what a host hands in
 
@@ -153,12 +153,19 @@ ExecFails roms block microseconds samples NoRoom =
     × (room_of samples < most_samples (state_in block) microseconds)
 ExecFails roms block microseconds samples fault = MissesBoard roms block fault
 
-abbrev pub Execs : (roms old : List ℕ) (microseconds : ℕ) (samples : List ℤ) (ran : PacRan) → Result (Unit {0}) HostFault
-    → (new : List ℕ) (samples_after : List ℤ) (ran_after : PacRan) → Type 0
-Execs roms old microseconds samples ran (Ok done) new samples_after ran_after =
-    HasExecuted roms old microseconds samples new samples_after ran_after
-Execs roms old microseconds samples ran (Err fault) new samples_after ran_after =
-    ExecFails roms old microseconds samples fault × (new ≡ old) × (samples_after ≡ samples) × (ran_after ≡ ran)
+-- it is told in 32 bytes
+pub record TellsRun (roms block : List ℕ) (microseconds : ℕ) (samples : List ℤ) (new : List ℕ) (samples_after : List ℤ) (told : List ℕ)
+    : Type 0 where
+  pub ran : PacRan
+  pub executed : HasExecuted roms block microseconds samples new samples_after ran
+  pub told_is : told ≡ ran_bytes ran
+
+abbrev pub Execs : (roms old : List ℕ) (microseconds : ℕ) (samples : List ℤ) (told : List ℕ) → Result (Unit {0}) HostFault
+    → (new : List ℕ) (samples_after : List ℤ) (told_after : List ℕ) → Type 0
+Execs roms old microseconds samples told (Ok done) new samples_after told_after =
+    TellsRun roms old microseconds samples new samples_after told_after
+Execs roms old microseconds samples told (Err fault) new samples_after told_after =
+    ExecFails roms old microseconds samples fault × (new ≡ old) × (samples_after ≡ samples) × (told_after ≡ told)
 
 -- ---- the picture
 

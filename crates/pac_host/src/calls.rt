@@ -6,7 +6,7 @@ ghost use Rattle.pac_board.specs.Inputs.{mask};
 
 use crate::block::{PacBoard, keep, open};
 use crate::codes::HostFault;
-use crate::ran::PacRan;
+use crate::ran::{RanBytes, bytes_of};
 use crate::roms::{check_roms, put_roms};
 use crate::time::{check, run};
 use pac_board::{Board, Inputs};
@@ -53,10 +53,10 @@ pub(crate) fn exec(
     roms: &[u8],
     microseconds: u32,
     samples: &mut [i16],
-    ran: &mut PacRan,
+    ran: &mut RanBytes,
 ) -> Result<(), HostFault>
-    ensures { host.Execs roms.now block.old.bytes microseconds samples.old ran.old result
-        block.new.bytes samples.new ran.new }
+    ensures { host.Execs roms.now block.old.bytes microseconds samples.old ran.old.bytes result
+        block.new.bytes samples.new ran.new.bytes }
 {
     check_roms(roms)?;
     let fields = open(block)?;
@@ -64,7 +64,7 @@ pub(crate) fn exec(
     let mut machine = Board::without_roms(0);
     put_roms(&mut machine, roms);
     machine.put_fields(&fields);
-    *ran = run(&mut machine, microseconds, samples);
+    ran.bytes = bytes_of(&run(&mut machine, microseconds, samples));
     keep(&machine, block);
     Ok(())
 }

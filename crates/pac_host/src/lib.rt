@@ -24,7 +24,7 @@ pub use block::PacBoard;
 pub use codes::HostFault;
 use codes::code;
 use pac_board::{Flags, Inputs};
-pub use ran::PacRan;
+pub use ran::{PacRan, RanBytes};
 
 /// The bytes of a board's block: a host that knows another size was made for another library.
 #[unsafe(no_mangle)]
@@ -75,10 +75,10 @@ pub extern "C" fn pac_exec(
     roms: &[u8],
     microseconds: u32,
     samples: &mut [i16],
-    ran: &mut PacRan,
+    ran: &mut RanBytes,
 ) -> u32
-    ensures { Answers (λ answer. host.Execs roms.now board.old.bytes microseconds samples.old ran.old answer
-        board.new.bytes samples.new ran.new) result }
+    ensures { Answers (λ answer. host.Execs roms.now board.old.bytes microseconds samples.old ran.old.bytes answer
+        board.new.bytes samples.new ran.new.bytes) result }
 {
     code(calls::exec(board, roms, microseconds, samples, ran))
 }

@@ -80,3 +80,28 @@ pub(crate) fn told(ticks: u64, samples: u32, pictures: u32, stop: Option<Stop>) 
         }
     }
 }
+
+/// The bytes of a `PacRan` as C lays it out, in a host's memory: what a call for some time writes.
+#[repr(C)]
+#[derive(Drop)]
+pub struct RanBytes {
+    /// Numbers with the low byte first; the last four are 0.
+    pub bytes: [u8; 32],
+}
+
+/// The bytes of what is told.
+pub(crate) fn bytes_of(ran: &PacRan) -> [u8; 32]
+    ensures { result ≡ codes.ran_bytes ran.now }
+{
+    let [t0, t1, t2, t3, t4, t5, t6, t7] = ran.ticks.to_le_bytes();
+    let [s0, s1, s2, s3] = ran.samples.to_le_bytes();
+    let [p0, p1, p2, p3] = ran.pictures.to_le_bytes();
+    let [e0, e1, e2, e3] = ran.stop.to_le_bytes();
+    let [pc, pc_high] = ran.pc.to_le_bytes();
+    let [b0, b1, b2, b3] = ran.bytes;
+    let (vector, zero) = (ran.vector, ran.zero);
+    [
+        t0, t1, t2, t3, t4, t5, t6, t7, s0, s1, s2, s3, p0, p1, p2, p3, e0, e1, e2, e3, pc,
+        pc_high, b0, b1, b2, b3, vector, zero, 0, 0, 0, 0,
+    ]
+}

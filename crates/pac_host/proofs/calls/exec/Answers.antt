@@ -32,7 +32,12 @@ returns c =
     c.put_fields.ensures
     ∙ ap (λ board. restored_board board state)
     (c.put_roms.ensures ∙ ap (λ (board : BoardValue). record board { set = set_of_roms roms }) c.without_roms-machine.ensures) in
-    executed roms c.args.block.now.bytes c.args.microseconds c.args.samples.now (set_of_roms roms) _ c.put_fields.new.self
-    c.keep.new.block.bytes c.run.new.samples c.run.result (c.in_ok-check_roms.ensures, refl) opened.is_block opened.state may board
-    (subst (λ (board : BoardValue). IsBlockOf board.state c.keep.new.block.bytes) c.run.ensures.board c.keep.ensures)
-    c.run.ensures.samples c.run.ensures.ran
+    record {
+      ran = c.run.result;
+      executed =
+          executed roms c.args.block.now.bytes c.args.microseconds c.args.samples.now (set_of_roms roms) _ c.put_fields.new.self
+          c.keep.new.block.bytes c.run.new.samples c.run.result (c.in_ok-check_roms.ensures, refl) opened.is_block opened.state may board
+          (subst (λ (board : BoardValue). IsBlockOf board.state c.keep.new.block.bytes) c.run.ensures.board c.keep.ensures)
+          c.run.ensures.samples c.run.ensures.ran;
+      told_is = c.bytes_of-ran.ensures;
+    }
