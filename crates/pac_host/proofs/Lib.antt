@@ -1,5 +1,9 @@
 pub mod Executed
 pub mod Filling
+pub mod FrameWalks
+pub mod Told
+pub mod Films
+pub mod FramesDone
 pub mod OneBoard
 pub mod Sounding
 pub mod TimeParts

@@ -31,7 +31,7 @@ told-pictures ticks samples pictures None = refl
 told-pictures ticks samples pictures (Some stop) = refl
 
 -- a stop alone
-abbrev told_stop : Option Stop → PacRan
+abbrev pub told_stop : Option Stop → PacRan
 told_stop stop = ran_of 0 0 0 stop
 
 told-stop : (ticks samples pictures : ℕ) (stop : Option Stop) → stop_told (ran_of ticks samples pictures stop) ≡ told_stop stop
@@ -46,19 +46,19 @@ head-is (Show image ∷ more) rest = head-is more rest
 
 -- ---- one call
 
-abbrev kept : List ℕ → BoardState → BoardValue
+abbrev pub kept : List ℕ → BoardState → BoardValue
 kept roms state = record { set = set_of_roms roms; state = state; made = 0 }
 
 -- what a call for some time tells of a board in this state
-record Tells (roms : List ℕ) (microseconds : ℕ) (new : List ℕ) (samples : List ℤ) (ran : PacRan) (state : BoardState) : Type 0 where
-  text : new ≡ block_text (board_after_run (kept roms state) microseconds).state
-  taken : take ran.samples samples ≡ samples_given (outputs_given (kept roms state) microseconds)
-  count : ran.samples ≡ sound_count (outputs_given (kept roms state) microseconds)
-  pictures : ran.pictures ≡ picture_count (outputs_given (kept roms state) microseconds)
-  ticks : ran.ticks ≡ run_ticks (kept roms state) microseconds
-  stop : stop_told ran ≡ told_stop (course (kept roms state) microseconds).stop
+pub record Tells (roms : List ℕ) (microseconds : ℕ) (new : List ℕ) (samples : List ℤ) (ran : PacRan) (state : BoardState) : Type 0 where
+  pub text : new ≡ block_text (board_after_run (kept roms state) microseconds).state
+  pub taken : take ran.samples samples ≡ samples_given (outputs_given (kept roms state) microseconds)
+  pub count : ran.samples ≡ sound_count (outputs_given (kept roms state) microseconds)
+  pub pictures : ran.pictures ≡ picture_count (outputs_given (kept roms state) microseconds)
+  pub ticks : ran.ticks ≡ run_ticks (kept roms state) microseconds
+  pub stop : stop_told ran ≡ told_stop (course (kept roms state) microseconds).stop
 
-tells : (roms block : List ℕ) (microseconds : ℕ) (buffer : List ℤ) (new : List ℕ) (samples : List ℤ) (ran : PacRan)
+pub tells : (roms block : List ℕ) (microseconds : ℕ) (buffer : List ℤ) (new : List ℕ) (samples : List ℤ) (ran : PacRan)
     → HasExecuted roms block microseconds buffer new samples ran → Tells roms microseconds new samples ran (state_in block)
 tells roms block microseconds buffer new samples ran done =
     let board = kept roms (state_in block) in

@@ -1,5 +1,6 @@
 //! Laws of a host's calls.
 
+ghost use Rattle.pac_host.specs.Films.{AllFramesAreDone, HostsPlayTheFilm};
 ghost use Rattle.pac_host.specs.HostLaws.{BlocksAreOneBoard, HostTimeCanBeCut, RoomIsBounded};
 
 use pac_board::laws::time_can_be_cut;
@@ -19,4 +20,14 @@ pub fn host_time_can_be_cut()
 /// The room that a call for some time needs is bounded by the microseconds that it is for.
 pub fn room_is_bounded()
     ensures { RoomIsBounded }
+{}
+
+/// A host that plays a script from power-on, frame by frame, hears the samples and sees the pictures of the script's trace.
+pub fn hosts_play_the_film()
+    ensures { HostsPlayTheFilm }
+{}
+
+/// No call of a host that plays frame by frame fails, until a stop is told.
+pub fn frames_are_done()
+    ensures { AllFramesAreDone }
 {}
