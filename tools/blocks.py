@@ -24,7 +24,7 @@ RAM = {0x4000: "tile RAM", 0x4400: "colour RAM", 0x4C00: "work RAM"}
 ROMS = {"program": 16_384, "tiles": 4_096, "sprites": 4_096, "colours": 32, "lookup": 256, "wave": 256}
 
 
-def number(block, name):
+def number(block: bytes, name: str) -> int:
     """The number of a field, a flag or a pair of registers, as BC."""
     if name in FLAGS:
         return int(number(block, "flags") & FLAGS[name] != 0)
@@ -35,7 +35,7 @@ def number(block, name):
     return int.from_bytes(block[at : at + size], "little")
 
 
-def put(block, name, value):
+def put(block: bytearray, name: str, value: int) -> None:
     """Writes the number of a field, a flag or a pair of registers into a block, which is a bytearray."""
     if name in FLAGS:
         put(block, "flags", number(block, "flags") & ~FLAGS[name] | value * FLAGS[name])
@@ -48,13 +48,13 @@ def put(block, name, value):
         block[at : at + size] = value.to_bytes(size, "little")
 
 
-def part(block, name):
+def part(block: bytes, name: str) -> bytes:
     """The bytes of a part."""
     at, size = PARTS[name]
     return bytes(block[at : at + size])
 
 
-def place(address):
+def place(address: int) -> int | None:
     """The place in a block of the RAM that has an address, by its first one; None where the address is that of no RAM."""
     for first, name in RAM.items():
         at, size = PARTS[name]
@@ -63,7 +63,7 @@ def place(address):
     return None
 
 
-def rom_block(**parts):
+def rom_block(**parts: bytes | dict[int, bytes]) -> bytes:
     """A ROM block: each part is bytes at their addresses, or the bytes from its beginning on; all else is 0."""
     block = bytearray()
     for name, size in ROMS.items():

@@ -14,17 +14,17 @@ PICTURE = blocks.PARTS["picture"][0]
 UNKEPT = set(range(16)) - {5, 10, 15}
 
 
-def set_digest(*parts):
+def set_digest(*parts: bytes) -> bytes:
     """The digest of a ROM set: program, tiles, sprites, colours, lookup, wave."""
     return hashlib.sha1(b"".join(parts)).digest()
 
 
-def sealed(text):
+def sealed(text: bytes) -> bytes:
     """A text with its digest after it."""
     return text + hashlib.sha1(text).digest()
 
 
-def state_file(digest, fields):
+def state_file(digest: bytes, fields: dict[int, bytes]) -> bytes:
     """The file of a board at power-on with a set of this digest, and the DIP switches at C9H, but for the bytes at some places."""
     text = bytearray(SIZE - 20)
     for at, content in {0: b"PACSTATE", 8: b"\2\0", 10: digest, DIP: b"\xc9", **fields}.items():
@@ -32,12 +32,12 @@ def state_file(digest, fields):
     return sealed(bytes(text))
 
 
-def number(file, at, size):
+def number(file: bytes, at: int, size: int) -> int:
     """The number of so many bytes at a place, the low byte first."""
     return int.from_bytes(file[at : at + size], "little")
 
 
-def is_out_of_range(file):
+def is_out_of_range(file: bytes) -> bool:
     """Whether a field has a value that no board has, or that is written in another way."""
     time, due, accumulators = blocks.number(file, "time"), blocks.number(file, "due"), blocks.part(file, "accumulators")
     return (
@@ -56,7 +56,7 @@ def is_out_of_range(file):
     )
 
 
-def fault(file, digest, frames):
+def fault(file: bytes, digest: bytes, frames: int) -> str | None:
     """Why no run of so many frames of a set with this digest begins from a file; None where one does."""
     if not b"PACSTATE".startswith(file[:8]):
         return "V1"
