@@ -1,51 +1,115 @@
 -- What a wave file was given in parts, and silence sample by sample.
-use Rattle.std.proofs.Common.{◌≡◌, ℕ, pos, ◌+◌, ◌-◌, ◌<◌, List, [], ◌++◌, replicate, Result, Ok, Err, sym, ap, subst, ◌∙◌}
-use Rattle.std.proofs.Common.{append_assoc, append-nil, arith, true, true≢false}
+use Rattle.std.proofs.Common.{◌≡◌, ℕ, pos, ◌+◌, ◌-◌, ◌<◌, List, [], ◌++◌, replicate, length, Result, Ok, Err, sym, ap, subst, ◌∙◌}
+use Rattle.std.proofs.Common.{append_assoc, append-nil, length-append, arith, true, true≢false}
 use Rattle.std.proofs.lemmas.List.{flat_map_more, replicate_more, replicate-append-replicate}
 use Rattle.std.proofs.lemmas.Grind.{flat_map-append}
 use Rattle.pac_out.specs.declared.WriteFault.{WriteFault}
 use Rattle.pac_out.specs.declared.counted.Counted.{Counted}
-use Rattle.pac_out.specs.Counted.{HasTaken, HasStopped, Refuses}
-use Rattle.pac_out.specs.Pending.{Holds}
-use Rattle.pac_out.proofs.Files.{stops-within}
+use Rattle.pac_out.specs.Counted.{HasTaken, HasStopped, Refuses, Stops}
+use Rattle.pac_out.proofs.Files.{Joins, stops-after, stops-within}
+use Rattle.pac_out.specs.Writes.{StopsAfter}
 use Rattle.pac_media.specs.Samples.{sample_text, samples_text}
-use Rattle.pac_media.specs.Sound.{Sound, Gains, SoundFails, FinishesSound}
+use Rattle.pac_media.specs.Sound.{Sound, Gains, Delivers, SoundFails, FinishesSound}
+
+-- a text in other words: as much of it is taken
+abbrev pub in-other-words : {W : Type 0} {took : W → List ℕ → W → Type 0} {refused : W → W → Type 0} {start : W} {one other : List ℕ}
+    {file : Counted W} → one ≡ other → HasStopped took refused start one file → HasStopped took refused start other file
+in-other-words {took = took} {refused = refused} {start = start} {file = file} same stopped =
+    record {
+      taken = stopped.taken;
+      stopped = subst (λ (text : List ℕ). StopsAfter took refused start text stopped.taken file.writer) same stopped.stopped;
+      count_is = stopped.count_is;
+      closed = stopped.closed;
+    }
 
 module _ {W : Type 0} {took : W → List ℕ → W → Type 0} where
-  -- bytes that are in the file or wait
-  pub gains-held : {old new : Counted W} {waiting later given bytes : List ℕ} {owed left : ℕ} {before : Sound W}
-      → record { file = old; waiting = waiting; owed = owed } ≡ before → given ≡ bytes → Holds took old (waiting ++ given) later new
-      → Gains took before bytes (record { file = new; waiting = later; owed = left })
-  gains-held {new = new} {waiting = waiting} {later = later} {given = given} {left = left} {before = before} is same held =
-      subst (λ (bytes : List ℕ). Gains took before bytes (record { file = new; waiting = later; owed = left })) same
-      (subst (λ (sound : Sound W). Gains took sound given (record { file = new; waiting = later; owed = left })) is
+  -- nothing was given
+  pub gains-nothing : (wave : Sound W) → Gains took wave [] wave
+  gains-nothing wave = record {
+    at_least = omega arith;
+    after = λ start text has. record { prefix = has.prefix; parts = append-nil text ∙ has.parts; taken = has.taken };
+    further = λ start text has. omega arith;
+  }
+
+  -- some bytes, and then others
+  pub gains-joined : {old mid new : Sound W} {one other : List ℕ} → Gains took old one mid → Gains took mid other new
+      → Gains took old (one ++ other) new
+  gains-joined {new = new} {one = one} {other = other} first second =
+      record {
+        at_least = let e = first.at_least in let f = second.at_least in omega (arith, e, f);
+        after = λ start text has. let later = second.after start (text ++ one) (first.after start text has) in
+            record { prefix = later.prefix; parts = sym (append_assoc text one other) ∙ later.parts; taken = later.taken };
+        further = λ start text has. let e = first.further start text has in
+            let f = second.further start (text ++ one) (first.after start text has) in
+            omega (arith, e, f);
+      }
+
+  -- bytes that wait
+  pub gains-waiting : {file : Counted W} {waiting later given bytes : List ℕ} {owed left : ℕ} {before : Sound W}
+      → record { file = file; waiting = waiting; owed = owed } ≡ before → given ≡ bytes → later ≡ waiting ++ given
+      → Gains took before bytes (record { file = file; waiting = later; owed = left })
+  gains-waiting {file = file} {waiting = waiting} {later = later} {given = given} {left = left} {before = before} is same kept =
+      subst (λ (bytes : List ℕ). Gains took before bytes (record { file = file; waiting = later; owed = left })) same
+      (subst (λ (sound : Sound W). Gains took sound given (record { file = file; waiting = later; owed = left })) is
       (record {
-        at_least = held.takes.at_least;
+        at_least = omega arith;
         after = λ start text has. record {
-          prefix = has.prefix ++ held.put;
+          prefix = has.prefix;
           parts = ap (λ all. all ++ given) has.parts
-              ∙ (append_assoc has.prefix waiting given
-              ∙ (ap (λ rest. has.prefix ++ rest) held.parts ∙ sym (append_assoc has.prefix held.put later)));
-          taken = held.takes.after start has.prefix has.taken;
+              ∙ (append_assoc has.prefix waiting given ∙ ap (λ rest. has.prefix ++ rest) (sym kept));
+          taken = has.taken;
         };
+        further = λ start text has. omega arith;
       }))
 
+  -- how many samples are still to come is another matter
+  pub gains-owed : {old new : Sound W} {file : Counted W} {waiting given bytes : List ℕ} {owed left : ℕ}
+      → record { file = file; waiting = waiting; owed = owed } ≡ new → given ≡ bytes → Gains took old given new
+      → Gains took old bytes (record { file = file; waiting = waiting; owed = left })
+  gains-owed {old = old} {file = file} {waiting = waiting} {given = given} {owed = owed} {left = left} is same gains =
+      let held = subst (λ (sound : Sound W). Gains took old given sound) (sym is) gains in
+      subst (λ (bytes : List ℕ). Gains took old bytes (record { file = file; waiting = waiting; owed = left })) same
+      (record {
+        at_least = held.at_least;
+        after = λ start text has. let later = held.after start text has in
+            record { prefix = later.prefix; parts = later.parts; taken = later.taken };
+        further = held.further;
+      })
+
+  -- what was given is written, and nothing waits
+  pub delivered-gains : {old new : Sound W} {bytes : List ℕ} → Delivers took old bytes new → Gains took old bytes new
+  delivered-gains {old = old} {bytes = bytes} done =
+      record {
+        at_least = done.at_least;
+        after = λ start text has. record {
+          prefix = text ++ bytes;
+          parts = sym (ap (λ waiting. (text ++ bytes) ++ waiting) done.none_waits ∙ append-nil (text ++ bytes));
+          taken = done.after start text has;
+        };
+        further = λ start text has. let all = ap length has.parts in let long = length-append text bytes in
+            let held = length-append has.prefix old.waiting in omega (arith, all, long, held);
+      }
+
   module _ {refused : W → W → Type 0} {fault : WriteFault} where
-    -- a refusal within what waits and these bytes
-    pub fails-held : {old new : Counted W} {waiting later given bytes : List ℕ} {owed left : ℕ} {before : Sound W}
-        → record { file = old; waiting = waiting; owed = owed } ≡ before → given ≡ bytes
-        → Refuses took refused old (waiting ++ given) fault new
-        → SoundFails took refused before bytes fault (record { file = new; waiting = later; owed = left })
-    fails-held {new = new} {waiting = waiting} {later = later} {given = given} {left = left} {before = before} is same refuses =
-        subst (λ (bytes : List ℕ). SoundFails took refused before bytes fault (record { file = new; waiting = later; owed = left })) same
-        (subst (λ (sound : Sound W). SoundFails took refused sound given fault (record { file = new; waiting = later; owed = left })) is
+    -- a refusal within what waits
+    pub fails-waiting : Joins took → {old new : Counted W} {waiting later : List ℕ} {owed left : ℕ} {before : Sound W}
+        → record { file = old; waiting = waiting; owed = owed } ≡ before
+        → Refuses took refused old waiting fault new → Stops took refused old waiting new
+        → SoundFails took refused before [] fault (record { file = new; waiting = later; owed = left })
+    fails-waiting joined {new = new} {waiting = waiting} {later = later} {left = left} is refuses stops =
+        subst (λ (sound : Sound W). SoundFails took refused sound [] fault (record { file = new; waiting = later; owed = left })) is
         (record {
           told = refuses.told;
           at_least = refuses.at_least;
-          after = λ start text has. subst (λ (all : List ℕ). HasStopped took refused start all new)
-              (sym (append_assoc has.prefix waiting given) ∙ ap (λ all. all ++ given) (sym has.parts))
-              (refuses.after start has.prefix has.taken);
-        }))
+          after = λ start text has. in-other-words (sym has.parts ∙ sym (append-nil text))
+              (record {
+                taken = length has.prefix + stops.taken;
+                stopped = stops-after joined has.taken.written stops.stopped;
+                count_is = let counted = has.taken.count_is in let more = stops.count_is in omega (arith, counted, more);
+                closed = refuses.closed;
+              });
+          past = λ start text has. omega arith;
+        })
 
     -- a file that has refused before
     pub fails-shut : {file : Counted W} {waiting bytes : List ℕ} {owed : ℕ} {before : Sound W}
@@ -57,6 +121,7 @@ module _ {W : Type 0} {took : W → List ℕ → W → Type 0} where
           told = told;
           at_least = omega (arith, told);
           after = λ start text has. absurd (true≢false (sym shut ∙ has.taken.open_yet));
+          past = λ start text has. absurd (true≢false (sym shut ∙ has.taken.open_yet));
         })
 
   -- a refusal after some bytes, and within more
@@ -68,7 +133,7 @@ module _ {W : Type 0} {took : W → List ℕ → W → Type 0} where
         told = second.told;
         at_least = let e = first.at_least in let f = second.at_least in omega (arith, e, f);
         after = λ start text has. let stop = second.after start (text ++ one) (first.after start text has) in
-            subst (λ (all : List ℕ). HasStopped took refused start all new.file)
+            in-other-words
             (append_assoc (text ++ one) other more
             ∙ (append_assoc text one (other ++ more)
             ∙ ap (λ all. text ++ all) (sym (append_assoc one other more))))
@@ -78,6 +143,9 @@ module _ {W : Type 0} {took : W → List ℕ → W → Type 0} where
               count_is = stop.count_is;
               closed = stop.closed;
             });
+        past = λ start text has. let e = first.further start text has in
+            let f = second.past start (text ++ one) (first.after start text has) in
+            omega (arith, e, f);
       }
 
   -- what was given is written

@@ -1,12 +1,12 @@
 //! The sound of a run.
 
-ghost use Rattle.std.specs.Prelude.{◌≡◌, ◌<◌, ◌-◌, ◌^◌, [], true, false, pos, replicate, IfErr, IsErr, OnOk, OnErr};
+ghost use Rattle.std.specs.Prelude.{◌≡◌, ◌<◌, ◌≤◌, ◌+◌, ◌-◌, ◌^◌, [], ◌++◌, length, true, false, pos, replicate, IfErr, IsErr, OnOk, OnErr, MatchBool};
 ghost use Rattle.pac_out.specs.Pieces.{joined_pieces};
 ghost use Rattle.pac_media.specs.Samples.{riff_size, wav_header, sample_text, samples_text};
 ghost use Rattle.pac_media.specs.Sound.{HasText, GivesSound, FinishesSound};
 
+use arrayvec::ArrayVec;
 use pac_out::counted::Counted;
-use pac_out::pending::Pending;
 use pac_out::{Out, WriteFault};
 use std::marker::Model;
 
@@ -58,11 +58,20 @@ fn bytes_of(sample: i16) -> [u8; 2]
     sample.to_le_bytes()
 }
 
-/// A file of samples with its header. Samples are gathered and go to the file in large writes.
+/// Gathers bytes after those that wait where there is room for them, and tells whether there is.
+#[inline]
+fn keep(waiting: &mut ArrayVec<u8, 8192>, bytes: &[u8]) -> bool
+    ensures kept { MatchBool result (waiting.new.items ≡ waiting.old.items ++ bytes.now) (waiting.new ≡ waiting.old) }
+    ensures room { length waiting.old.items + length bytes.now ≤ 8192 → result ≡ true }
+{
+    waiting.try_extend_from_slice(bytes).is_ok()
+}
+
+/// A file of samples with its header. Samples are gathered, at most 8,192 bytes of them, and go to the file in large writes.
 #[derive(Drop)]
 pub struct WaveFile<W> {
     file: Counted<W>,
-    waiting: Pending,
+    waiting: ArrayVec<u8, 8192>,
     owed: u32,
 }
 
@@ -71,7 +80,7 @@ impl<W> Model for WaveFile<W> {
 
     ghost Value = { Sound W };
 
-    ghost view = { λ wave. record { file = wave.file; waiting = wave.waiting; owed = wave.owed } };
+    ghost view = { λ wave. record { file = wave.file; waiting = wave.waiting.items; owed = wave.owed } };
 }
 
 impl<W: Out> WaveFile<W> {
@@ -81,9 +90,11 @@ impl<W: Out> WaveFile<W> {
         ensures text { HasText W.took writer (wav_header samples) result }
         ensures owed { result.owed ≡ samples }
     {
+        let mut waiting = ArrayVec::new();
+        keep(&mut waiting, header(samples).as_flattened());
         WaveFile {
             file: Counted::new(writer),
-            waiting: Pending::of(header(samples).as_flattened()),
+            waiting,
             owed: samples,
         }
     }
@@ -99,8 +110,31 @@ impl<W: Out> WaveFile<W> {
         ensures later_unchanged { self.old.file.failed ≡ true → self.new ≡ self.old }
     {
         check_open(&self.file)?;
-        self.waiting.put(&mut self.file, &bytes_of(sample))?;
+        self.gather(&bytes_of(sample))?;
         self.owed = self.owed.saturating_sub(1);
+        Ok(())
+    }
+
+    /// Gathers a sample's bytes, and writes what waits where there is no room for them.
+    #[inline]
+    fn gather(&mut self, bytes: &[u8; 2]) -> Result<(), WriteFault>
+        ensures put { GivesSound W.took W.refused self.old bytes.now result self.new }
+        ensures owed { self.new.owed ≡ self.old.owed }
+    {
+        if keep(&mut self.waiting, bytes) {
+            return Ok(());
+        }
+        self.make_room(bytes)
+    }
+
+    /// Writes what waits, and gathers a sample's bytes: a call of its own, so that `put`, which is inlined, stays short.
+    #[inline(never)]
+    fn make_room(&mut self, bytes: &[u8; 2]) -> Result<(), WriteFault>
+        ensures put { GivesSound W.took W.refused self.old bytes.now result self.new }
+        ensures owed { self.new.owed ≡ self.old.owed }
+    {
+        self.flush()?;
+        keep(&mut self.waiting, bytes);
         Ok(())
     }
 
@@ -112,7 +146,9 @@ impl<W: Out> WaveFile<W> {
         ensures later_unchanged { self.old.file.failed ≡ true → self.new ≡ self.old }
     {
         check_open(&self.file)?;
-        self.waiting.flush(&mut self.file)
+        self.file.put(&self.waiting)?;
+        self.waiting.clear();
+        Ok(())
     }
 
     /// Gathers zeros for the samples that are still to come, and writes what waits.

@@ -1,8 +1,8 @@
-use Rattle.std.proofs.Common.{◌≡◌, ℕ, ◌+◌, ◌-◌, ◌<◌, List, pos, replicate, subst, arith}
+use Rattle.std.proofs.Common.{◌≡◌, ℕ, ◌+◌, ◌-◌, ◌<◌, List, ◌∙◌, ap, pos, refl, replicate, subst, arith}
 use Rattle.std.proofs.lemmas.Result.{err_from_is_err_and}
 use Rattle.pac_media.specs.Samples.{samples_text}
-use Rattle.pac_media.specs.Sound.{Gains, SoundFails}
-use Rattle.pac_media.proofs.Gathered.{fails-within, finishes-after, silence-rest}
+use Rattle.pac_media.specs.Sound.{Sound, Gains, SoundFails}
+use Rattle.pac_media.proofs.Gathered.{fails-within, finishes-after, gains-joined, gains-nothing, silence-more, silence-rest}
 use Rattle.pac_media.proofs.wave_file.WaveFile.finish.Goals as goal
 
 pub returns-in_err-put-clause-written : goal.returns-in_err-put-clause-written
@@ -23,3 +23,22 @@ returns-clause-written g c =
     (subst (λ (count : ℕ). Gains g.W.Out.took c.args.self.now (samples_text (replicate count (pos 0))) c.loop.self) last
     c.loop.invariant.given)
     c.flush.ensures.written
+
+pub loop-init : goal.loop-init
+loop-init g c = record {
+  given = gains-nothing c.args.self.now;
+  owed = omega arith;
+  end_is = ap (λ (sound : Sound g.row.W.Denot). sound.owed) c.self.view_is;
+  shut = λ failed. refl;
+}
+
+pub loop-preserved : goal.loop-preserved
+loop-preserved g c =
+    record {
+      given = subst (λ (text : List ℕ). Gains g.W.Out.took c.args.self.now text c.put.new.self) (silence-more c.loop.counter)
+          (gains-joined c.loop.invariant.given c.in_ok-put.ensures.put);
+      owed = omega (arith, c.loop-test.true, c.loop.invariant.owed, c.loop.invariant.end_is, c.in_ok-put.ensures.owed);
+      end_is = c.loop.invariant.end_is;
+      shut = λ failed. let same = c.loop.invariant.shut failed in
+          c.put.ensures.later_unchanged (ap (λ (sound : Sound g.row.W.Denot). sound.file.failed) same ∙ failed) ∙ same;
+    }

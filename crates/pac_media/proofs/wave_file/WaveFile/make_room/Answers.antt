@@ -1,0 +1,21 @@
+use Rattle.std.proofs.Common.{◌≡◌, ◌≤◌, ◌+◌, ◌∙◌, Bool, length, ◌++◌, ap, arith, refl, subst}
+use Rattle.std.specs.Prelude.{MatchBool}
+use Rattle.std.proofs.lemmas.Result.{err_from_is_err_and}
+use Rattle.pac_media.specs.Sound.{Sound}
+use Rattle.pac_media.proofs.Gathered.{fails-within, gains-nothing, gains-joined, gains-waiting, delivered-gains}
+use Rattle.pac_media.proofs.wave_file.WaveFile.make_room.Goals as goal
+
+pub returns-in_err-flush-clause-put : goal.returns-in_err-flush-clause-put
+returns-in_err-flush-clause-put g c =
+    let told = err_from_is_err_and c.from_residual.result c.from_residual.ensures.1 in
+    rw (told.1, told.2) (fails-within (gains-nothing c.args.self.now) c.in_err-flush.ensures.written c.args.bytes.now)
+
+pub returns-clause-put : goal.returns-clause-put
+returns-clause-put g c =
+    let written = c.in_ok-flush.ensures.written in
+    let none = ap (λ (sound : Sound g.row.W.Denot). length sound.waiting) c.self.view_is ∙ ap length written.none_waits in
+    let room : length c.self.inside.waiting.items + length c.args.bytes.now ≤ 8192 = omega (arith, none, c.fits-bytes) in
+    let kept =
+    subst (λ (kept : Bool). MatchBool kept (c.keep.new.waiting.items ≡ c.self.inside.waiting.items ++ c.args.bytes.now) (c.keep.new.waiting
+    ≡ c.self.inside.waiting)) (c.keep.ensures.room room) c.keep.ensures.kept in
+    gains-joined (delivered-gains written) (gains-waiting c.self.view_is refl kept)
