@@ -1,10 +1,11 @@
 -- The answers of a run, one by one.
-use Rattle.std.proofs.Common.{◌≡◌, ℕ, List, Option, None, Some, Result, Ok, Err, subst}
+use Rattle.std.proofs.Common.{◌≡◌, ℕ, List, Option, None, Some, Result, Ok, Err, refl, subst}
 use Rattle.pac_asm.specs.declared.fault.AsmFault.{AsmFault}
 use Rattle.pac_asm.specs.Programs.{program_of}
 use Rattle.pac_board_course.specs.Script.{script_of}
-use Rattle.pac_board_course.specs.State.{BoardValue}
+use Rattle.pac_board_course.specs.State.{BoardState, BoardValue}
 use Rattle.pac_board_course.specs.Stretch.{Stretch}
+use Rattle.pac_board_course.specs.Stretches.{total_frames}
 use Rattle.pac_board_course.specs.ScriptFault.{ScriptFault}
 use Rattle.pac_roms_manifest.specs.Manifests.{manifest_of}
 use Rattle.pac_roms_manifest.specs.Sets.{set_of}
@@ -19,14 +20,16 @@ use Rattle.pac_board_course.specs.declared.outcome.Outcome.{Outcome}
 use Rattle.pac_asm.specs.Results.{◌>>=◌}
 use Rattle.pac_run.specs.Plan.{Plan, plan_of, program_in, source_in, program_told}
 use Rattle.pac_run.specs.Plan.{set_in, set_told, script_told}
-use Rattle.pac_run.specs.Recorded.{FilmStops, WritesRun}
-use Rattle.pac_run.specs.Resumes.{IsSaveCutAt, Resumes, contents_from, state_text}
-use Rattle.pac_run.specs.Run.{Writing, Writers, RunContents, IsUnwritten, TakesText, StopsInText, NothingWritten, Runs, IsRunWhole}
-use Rattle.pac_run.specs.Run.{IsCutAt, contents_of, frames_text, wave_text, report_text}
+use Rattle.pac_run.specs.declared.run.RunEnd.{RunEnd}
+use Rattle.pac_run.specs.Recorded.{FilmStops, RunsTo, WritesRun}
+use Rattle.pac_run.specs.Resumes.{IsSaveCutAt, Resumes, contents_from, end_state, run_from, state_text}
+use Rattle.pac_run.specs.Run.{Writing, Writings, RunContents, IsUnwritten, TakesText, StopsInText, NothingWritten, Runs, IsRunWhole}
+use Rattle.pac_run.specs.Run.{IsCutAt, frames_text, wave_text, report_text}
 use Rattle.pac_run.specs.Start.{IsFirstBoard}
 use Rattle.pac_run.specs.Started.{Prepares}
 use Rattle.pac_run.specs.Texts as text
-use Rattle.pac_state.specs.Files.{IsFile}
+use Rattle.pac_state.specs.Files.{IsFile, IsState}
+use Rattle.pac_state.specs.Text.{save_text, written_version}
 
 -- ---- judging tells of no refused write and of no state
 
@@ -72,7 +75,7 @@ plan-writes inputs =
 
 -- ---- a run is written
 
-module _ {F W L R : Type 0} (to : Writers F W L R) (run : RunContents) (listing : TakesText to.listing run.listing) where
+module _ {F W L R : Type 0} (to : Writings F W L R) (run : RunContents) (listing : TakesText to.listing run.listing) where
   -- film or wave file broke
   pub cut-at : (output : Which) (count : ℕ) → FilmStops to.frames to.wave run.frames run.outputs output count → IsUnwritten to.report
       → IsCutAt run to output count
@@ -109,101 +112,117 @@ module _ {F W L R : Type 0} (to : Writers F W L R) (run : RunContents) (listing 
             report = subst (λ bytes. StopsInText to.report bytes count) same-report report;
           }
 
--- ---- the answers of a run from power-on
+-- ---- a run from power-on or from a state file
 
-module _ {F W L R : Type 0} (to : Writers F W L R) (inputs : RunInputs) where
-  pub refused : (why : RunFault) → Prepares inputs None (Err why) → NothingWritten to → Runs inputs to (Err why)
-  refused (fault.Source told) is none = (is, none)
-  refused (fault.Set told) is none = (is, none)
-  refused (fault.Script told) is none = (is, none)
-  refused (fault.State told) is none = absurd is.refuses
-  refused (fault.Write output count) is none = absurd (subst NoWrite is (plan-writes inputs))
-  refused fault.NoMemory is none = none
+module _ {F W L R : Type 0} (to : Writings F W L R) (inputs : RunInputs) (from : Option (List ℕ)) where
+  pub unbegun : (why : RunFault) → Prepares inputs from (Err why) → NothingWritten to → RunsTo inputs from to (Err why)
+  unbegun (fault.Source told) is none = (is, none)
+  unbegun (fault.Set told) is none = (is, none)
+  unbegun (fault.Script told) is none = (is, none)
+  unbegun (fault.State told) is none = (is, none)
+  unbegun (fault.Write output count) is none = absurd (subst NoWrite is (plan-writes inputs))
+  unbegun fault.NoMemory is none = none
 
-  -- what was written of a plan's contents
-  module _ (plan : Plan) (plan_is : plan_of inputs ≡ Ok plan) where
-    pub ran : (answer : Result Outcome RunFault) → WritesRun (contents_of plan inputs.dip) to answer → Runs inputs to answer
-    ran (Ok outcome) written = record { plan = plan; plan_is = plan_is; holds = written }
-    ran (Err (fault.Write output count)) written = record { plan = plan; plan_is = plan_is; holds = written }
-    ran (Err (fault.Source told)) written = absurd written
-    ran (Err (fault.Set told)) written = absurd written
-    ran (Err (fault.Script told)) written = absurd written
-    ran (Err (fault.State told)) written = absurd written
-    ran (Err fault.NoMemory) written = absurd written
+  pub broke-off : (plan : Plan) → plan_of inputs ≡ Ok plan → (board : BoardValue) → IsFirstBoard plan.set inputs.dip plan.script from board
+      → (why : RunFault) → WritesRun (contents_from plan inputs.dip from board) to (Err why) → RunsTo inputs from to (Err why)
+  broke-off plan plan_is board first (fault.Write output count) written =
+      record { plan = plan; plan_is = plan_is; holds = record { board = board; is_first = first; holds = written } }
+  broke-off plan plan_is board first (fault.Source told) written = absurd written
+  broke-off plan plan_is board first (fault.Set told) written = absurd written
+  broke-off plan plan_is board first (fault.Script told) written = absurd written
+  broke-off plan plan_is board first (fault.State told) written = absurd written
+  broke-off plan plan_is board first fault.NoMemory written = absurd written
 
--- ---- the answers of a run that may begin with a state file, and whose end is saved
+-- from power-on
+module _ {F W L R : Type 0} (to : Writings F W L R) (inputs : RunInputs) where
+  pub ran : (it : RunEnd) → RunsTo inputs None to (Ok it) → Runs inputs to (Ok it.outcome)
+  ran it runs = record { plan = runs.plan; plan_is = runs.plan_is; holds = runs.holds.holds.files }
 
-module _ {F W L R S : Type 0} (to : Writers F W L R) (state : Writing S) (inputs : RunInputs) (from : Option (List ℕ)) where
-  pub unresumed : (why : RunFault) → Prepares inputs from (Err why) → NothingWritten to → IsUnwritten state
-      → Resumes inputs from to state (Err why)
-  unresumed (fault.Source told) is none unsaved = (is, none, unsaved)
-  unresumed (fault.Set told) is none unsaved = (is, none, unsaved)
-  unresumed (fault.Script told) is none unsaved = (is, none, unsaved)
-  unresumed (fault.State told) is none unsaved = (is, none, unsaved)
-  unresumed (fault.Write output count) is none unsaved = absurd (subst NoWrite is (plan-writes inputs))
-  unresumed fault.NoMemory is none unsaved = (none, unsaved)
+  pub failed : (why : RunFault) → RunsTo inputs None to (Err why) → Runs inputs to (Err why)
+  failed (fault.Source told) runs = runs
+  failed (fault.Set told) runs = runs
+  failed (fault.Script told) runs = runs
+  failed (fault.State told) runs = absurd runs.0.refuses
+  failed (fault.Write output count) runs = record { plan = runs.plan; plan_is = runs.plan_is; holds = runs.holds.holds }
+  failed fault.NoMemory runs = runs
 
-  module _ (plan : Plan) (plan_is : plan_of inputs ≡ Ok plan) (board : BoardValue)
-      (first : IsFirstBoard plan.set inputs.dip plan.script from board)
-    where
-      abbrev run : RunContents
-      run = contents_from plan inputs.dip from board
+-- ---- a run whose end is saved
 
-      -- an output before the state was refused
-      held-back : (output : Which) (count : ℕ) → IsCutAt run to output count → IsUnwritten state
-          → IsSaveCutAt plan inputs.dip from to state output count board
-      held-back which.Frames count cut unsaved = (cut, unsaved)
-      held-back which.Wave count cut unsaved = (cut, unsaved)
-      held-back which.Listing count cut unsaved = (cut, unsaved)
-      held-back which.Report count cut unsaved = (cut, unsaved)
-      held-back which.State count cut unsaved = absurd cut
-      held-back which.Text count cut unsaved = absurd cut
+module _ {F W L R S : Type 0} (to : Writings F W L R) (state : Writing S) (inputs : RunInputs) (from : Option (List ℕ)) where
+  -- an output before the state was refused
+  held-back : (plan : Plan) (board : BoardValue) (output : Which) (count : ℕ)
+      → IsCutAt (contents_from plan inputs.dip from board) to output count → IsUnwritten state
+      → IsSaveCutAt plan inputs.dip from to state output count board
+  held-back plan board which.Frames count cut unsaved = (cut, unsaved)
+  held-back plan board which.Wave count cut unsaved = (cut, unsaved)
+  held-back plan board which.Listing count cut unsaved = (cut, unsaved)
+  held-back plan board which.Report count cut unsaved = (cut, unsaved)
+  held-back plan board which.State count cut unsaved = absurd cut
+  held-back plan board which.Text count cut unsaved = absurd cut
 
-      pub unsaved : (why : RunFault) → WritesRun run to (Err why) → IsUnwritten state → Resumes inputs from to state (Err why)
-      unsaved (fault.Write output count) written none =
-          record {
-            plan = plan;
-            plan_is = plan_is;
-            holds = record { board = board; is_first = first; holds = held-back output count written none };
-          }
-      unsaved (fault.Source told) written none = absurd written
-      unsaved (fault.Set told) written none = absurd written
-      unsaved (fault.Script told) written none = absurd written
-      unsaved (fault.State told) written none = absurd written
-      unsaved fault.NoMemory written none = absurd written
+  pub unsaved : (why : RunFault) → RunsTo inputs from to (Err why) → IsUnwritten state → Resumes inputs from to state (Err why)
+  unsaved (fault.Source told) runs none = (runs.0, runs.1, none)
+  unsaved (fault.Set told) runs none = (runs.0, runs.1, none)
+  unsaved (fault.Script told) runs none = (runs.0, runs.1, none)
+  unsaved (fault.State told) runs none = (runs.0, runs.1, none)
+  unsaved (fault.Write output count) runs none =
+      record {
+        plan = runs.plan;
+        plan_is = runs.plan_is;
+        holds = record {
+          board = runs.holds.board;
+          is_first = runs.holds.is_first;
+          holds = held-back runs.plan runs.holds.board output count runs.holds.holds none;
+        };
+      }
+  unsaved fault.NoMemory runs none = (runs, none)
 
-      -- all before the state is written
-      module _ (outcome : Outcome) (files : IsRunWhole run to outcome) (bytes : List ℕ)
-          (bytes_are : bytes ≡ state_text plan inputs.dip from board) (file : IsFile plan.set bytes)
-        where
-          pub saved : TakesText state bytes → Resumes inputs from to state (Ok outcome)
-          saved takes =
-              record {
-                plan = plan;
-                plan_is = plan_is;
-                holds = record {
-                  board = board;
-                  is_first = first;
-                  holds = record {
-                    files = files;
-                    state_is = subst (TakesText state) bytes_are takes;
-                    file = subst (IsFile plan.set) bytes_are file;
-                  };
-                };
-              }
+  -- all before the state is written
+  module _ (it : RunEnd) (runs : RunsTo inputs from to (Ok it)) where
+    abbrev bytes : List ℕ
+    bytes = save_text written_version it.board.value.set it.board.value.state
 
-          pub save-refused : (count : ℕ) → StopsInText state bytes count
-              → Resumes inputs from to state (Err (fault.Write which.State count))
-          save-refused count stops =
-              record {
-                plan = plan;
-                plan_is = plan_is;
-                holds = record {
-                  board = board;
-                  is_first = first;
-                  holds = (
-                    subst (IsRunWhole run to) files.outcome_is files,
-                    subst (λ bytes. StopsInText state bytes count) bytes_are stops,
-                  );
-                };
-              }
+    abbrev end : BoardState
+    end =
+        end_state runs.plan.set (total_frames runs.plan.script) runs.holds.board (run_from runs.plan inputs.dip from runs.holds.board)
+
+    bytes-are : bytes ≡ state_text runs.plan inputs.dip from runs.holds.board
+    bytes-are = λ i. save_text written_version (runs.holds.holds.set_is i) (runs.holds.holds.state_is i)
+
+    -- what is saved is a state file
+    file-is : IsFile runs.plan.set (state_text runs.plan inputs.dip from runs.holds.board)
+    file-is = record {
+      version = written_version;
+      known = refl;
+      state = end;
+      is_state = subst IsState runs.holds.holds.state_is runs.holds.holds.is_state;
+      text = refl;
+    }
+
+    pub saved : TakesText state bytes → Resumes inputs from to state (Ok it.outcome)
+    saved takes =
+        record {
+          plan = runs.plan;
+          plan_is = runs.plan_is;
+          holds = record {
+            board = runs.holds.board;
+            is_first = runs.holds.is_first;
+            holds = record { files = runs.holds.holds.files; state_is = subst (TakesText state) bytes-are takes; file = file-is };
+          };
+        }
+
+    pub save-refused : (count : ℕ) → StopsInText state bytes count → Resumes inputs from to state (Err (fault.Write which.State count))
+    save-refused count stops =
+        let files = runs.holds.holds.files in
+        record {
+          plan = runs.plan;
+          plan_is = runs.plan_is;
+          holds = record {
+            board = runs.holds.board;
+            is_first = runs.holds.is_first;
+            holds = (
+              subst (IsRunWhole (contents_from runs.plan inputs.dip from runs.holds.board) to) files.outcome_is files,
+              subst (λ bytes. StopsInText state bytes count) bytes-are stops,
+            );
+          };
+        }

@@ -5,8 +5,7 @@ use Rattle.std.specs.Prelude.{IfSome}
 use Rattle.std.proofs.Common.{List, Option, None, Some, is_some, refl, sym, ap, subst}
 use Rattle.std.proofs.lemmas.Bool.{false≢true}
 use Rattle.std.proofs.lemmas.Bool.Decides.{nat_tests}
-use Rattle.pac_board_course.specs.BoardView.{IsBoard}
-use Rattle.pac_board_course.specs.Course.{FitsAsked, FitsTime, frame_microseconds}
+use Rattle.pac_board_course.specs.Course.{frame_microseconds}
 use Rattle.pac_board_course.specs.State.{BoardState, BoardValue, latest, most_asked, nothing_due, passed_lines}
 use Rattle.pac_board_course.specs.State.{power_on_board, recomposed_view, with_view}
 use Rattle.pac_board_course.specs.Step.{frame_ticks, sample_ticks}

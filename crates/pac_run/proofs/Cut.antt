@@ -1,8 +1,8 @@
 -- A run whose end was saved, and that is resumed from the file, is the run at once.
-use Rattle.std.proofs.Common.{◌≡◌, ℕ, ◌+◌, ◌-◌, ◌*◌, ◌/◌, ◌%◌, ◌<◌, ◌≤◌, zero, suc, min, pos, nat_le, arith}
-use Rattle.std.proofs.Common.{Bool, true, false, not, ◌&&◌, ◌||◌, is_some}
+use Rattle.std.proofs.Common.{◌≡◌, ℕ, ◌+◌, ◌-◌, ◌*◌, ◌%◌, ◌<◌, ◌≤◌, zero, suc, pos, nat_le, arith}
+use Rattle.std.proofs.Common.{Bool, true, false, not, ◌||◌, is_some}
 use Rattle.std.proofs.Common.{List, [], ◌∷◌, ◌++◌, length, replicate, Option, None}
-use Rattle.std.proofs.Common.{Some, refl, sym, ap, subst, ◌∙◌, append-nil, length-append}
+use Rattle.std.proofs.Common.{Some, refl, sym, ap, ◌∙◌, append-nil, length-append}
 use Rattle.std.proofs.lemmas.Bool.Decides.{nat_tests}
 use Rattle.pac_asm.specs.PlacedItems.{Item, AllLie}
 use Rattle.pac_board_course.specs.BoardView.{BoardView, IsBoard}
@@ -25,14 +25,14 @@ use Rattle.pac_board_course.proofs.Resumed.{plays-join, stopped-runs-stay}
 use Rattle.pac_board_course.proofs.ResumedTimes.{resumed-runs-have-their-frames}
 use Rattle.pac_board_course.proofs.Walks.{play-timely}
 use Rattle.pac_media.specs.Samples.{samples_text}
-use Rattle.pac_state.specs.Files.{IsState}
 use Rattle.pac_state.specs.Text.{written_version}
-use Rattle.pac_run.specs.Cuts.{IsCutWell, JoinsRuns, RunsAreCut, SavedStatesAreTakenUp, StoppedRunsEnd, frames_sound, saved_board}
-use Rattle.pac_run.specs.Resumes.{end_state, frames_asked, outcome_since, run_of_play, without_history}
+use Rattle.pac_run.specs.Cuts.{JoinsRuns, RunsAreCut, SavedStatesAreTakenUp, StoppedRunsEnd, frames_sound, saved_board}
+use Rattle.pac_run.specs.Resumes.{end_state, frames_asked, run_of_play, without_history}
 use Rattle.pac_run.specs.Start.{is_between_frames}
 use Rattle.pac_run.specs.Texts.{images_text, samples_in, sound_text}
 use Rattle.pac_run.proofs.Begins.{both-true}
-use Rattle.pac_run.proofs.Filmed.{frames-append, samples-append, sound-append}
+use Rattle.pac_run.proofs.Filmed.{samples-append, sound-append}
+use Rattle.pac_run.proofs.Heard.{frames-append, pictures-counted}
 
 -- ---- counting
 
@@ -40,11 +40,6 @@ samples-counted : (outputs : List Output) → length (samples_in outputs) ≡ so
 samples-counted [] = refl
 samples-counted (Sound sample ∷ more) = ap suc (samples-counted more)
 samples-counted (Show image ∷ more) = samples-counted more
-
-pictures-counted : (one other : List Output) → picture_count (one ++ other) ≡ picture_count one + picture_count other
-pictures-counted [] other = omega arith
-pictures-counted (Sound sample ∷ more) other = pictures-counted more other
-pictures-counted (Show image ∷ more) other = let e = pictures-counted more other in omega (arith, e)
 
 -- ---- time and steps grow
 

@@ -18,10 +18,11 @@ use Rattle.pac_run.specs.Debugs.{IsReady, setting_of_plan, IsBrokenAt, Debugs}
 use Rattle.pac_run.specs.declared.plan.Prepared.{Prepared}
 use Rattle.pac_run.specs.Plan.{Plan, plan_with}
 use Rattle.pac_run.specs.Started.{IsPrepared, Prepares}
-use Rattle.pac_run.specs.Run.{Writing, Writers, TakesText, StopsInText, IsUnwritten, NothingWritten, outcome_of, trace_of}
+use Rattle.pac_run.specs.Run.{Writing, Writings, TakesText, StopsInText, IsUnwritten, NothingWritten, outcome_of, trace_of}
 use Rattle.pac_run.specs.Run.{contents_of, frames_text, wave_text}
 use Rattle.pac_run.specs.Texts as text
-use Rattle.pac_run.specs.Watched.{AllTold, WatchedTill}
+use Rattle.pac_run.specs.Recorded.{WatchedTill}
+use Rattle.pac_run.specs.Watched.{AllTold}
 use Rattle.pac_run.proofs.Answered.{NoWrite, plan-writes, cut-at-report, is-whole}
 use Rattle.pac_run.proofs.Traced.{session-outputs, session-outcome, seen-through, same-setting}
 
@@ -50,7 +51,7 @@ ready-session inputs prepared session frames ready is count =
       lie = ready.lie;
     })
 
-module _ {F W L R T : Type 0} (inputs : RunInputs) (commands : List ℕ) (to : Writers F W L R) (words : Writing T) where
+module _ {F W L R T : Type 0} (inputs : RunInputs) (commands : List ℕ) (to : Writings F W L R) (words : Writing T) where
   -- nothing was written
   pub refused-all : (why : RunFault) → Prepares inputs None (Err why) → NothingWritten to → IsUnwritten words
       → Debugs inputs commands to words (Err why)
@@ -106,7 +107,7 @@ module _ {F W L R T : Type 0} (inputs : RunInputs) (commands : List ℕ) (to : W
             (lines commands) output count
             → TakesText to.listing plan.listing → IsUnwritten to.report → IsBrokenAt plan inputs.dip commands to words output count
         broken-so which.Frames count till listing report = (record { listing = listing; film = till.0; report = report }, till.1)
-        broken-so which.Wave count till listing report = (record { listing = listing; film = till.0; report = report }, till.1, till.2)
+        broken-so which.Wave count till listing report = (record { listing = listing; film = till.0; report = report }, till.1)
         broken-so which.Listing count till listing report = absurd till
         broken-so which.Report count till listing report = absurd till
         broken-so which.State count till listing report = absurd till
@@ -125,12 +126,12 @@ module _ {F W L R T : Type 0} (inputs : RunInputs) (commands : List ℕ) (to : W
     module _ (outcome : Outcome) (outcome_is : IsOutcome session outcome)
         (shown : TakesText to.frames (text.images_text outputs)
         × TakesText to.wave (text.wave_file_text (total_frames session.setting.script) outputs)
-        × AllTold (TakesText words) session.setting (lines commands)) (listing : TakesText to.listing plan.listing) where
+        × AllTold words session.setting (lines commands)) (listing : TakesText to.listing plan.listing) where
       ends-so : outcome ≡ outcome_of (trace_of plan inputs.dip)
       ends-so = session-outcome inputs program session frames ready outcome outcome_is
 
-      all-told : AllTold (TakesText words) (setting_of_plan plan inputs.dip) (lines commands)
-      all-told = subst (λ it. AllTold (TakesText words) it (lines commands)) setting shown.2
+      all-told : AllTold words (setting_of_plan plan inputs.dip) (lines commands)
+      all-told = subst (λ it. AllTold words it (lines commands)) setting shown.2
 
       -- film and sound are those of the plan's trace
       images : TakesText to.frames (frames_text (contents_of plan inputs.dip))

@@ -1,7 +1,9 @@
 pub mod Planned
 pub mod Begins
+pub mod Heard
 pub mod Filmed
 pub mod Lent
+pub mod Carried
 pub mod Traced
 pub mod Answered
 pub mod Resumed

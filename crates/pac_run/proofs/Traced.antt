@@ -1,7 +1,6 @@
 -- A course's run, and a session's, is that of the plan.
-use Rattle.std.proofs.Common.{◌≡◌, ℕ, ◌+◌, ◌-◌, ◌*◌, ◌/◌, ◌^◌, ◌<◌, ◌≤◌, suc, min, arith}
-use Rattle.std.proofs.Common.{List, [], Option, None, Some, Ok, refl, sym, ap, subst, ◌∙◌}
-use Rattle.pac_board_course.specs.Stop.{Stop}
+use Rattle.std.proofs.Common.{◌≡◌, ℕ, ◌+◌, ◌-◌, ◌*◌, ◌/◌, ◌^◌, ◌<◌, ◌≤◌, min, arith}
+use Rattle.std.proofs.Common.{List, [], Option, None, Some, refl, sym, ap, subst, ◌∙◌}
 use Rattle.pac_board_course.specs.Stretches.{total_frames, held, most_frames}
 use Rattle.pac_board_course.specs.Stretch.{Stretch}
 use Rattle.pac_asm.specs.Assembled.{Assembled}
@@ -12,7 +11,7 @@ use Rattle.pac_board_course.specs.Entry.{Entry}
 use Rattle.pac_board_course.specs.History.{board_after_entries}
 use Rattle.pac_board_course.specs.Output.{Output, picture_count}
 use Rattle.pac_board_course.specs.Step.{Moment, frame_ticks}
-use Rattle.pac_board_course.specs.Trace.{by_history, by_view, frames_gone, play_step, resumed, run_at, trace, frame_steps}
+use Rattle.pac_board_course.specs.Trace.{by_history, by_view, frames_gone, play_step, run_at, trace, frame_steps}
 use Rattle.pac_board_course.specs.Walk.{Walk}
 use Rattle.pac_board_course.proofs.Agreed.{runs-agree, resumed-runs-agree, power-on-board}
 use Rattle.pac_board_course.proofs.HostCarried.{steps-agree}
@@ -21,7 +20,7 @@ use Rattle.pac_board_course.proofs.Resumed.{resumed-runs-end}
 use Rattle.pac_board_course.proofs.ResumedTimes.{resumed-runs-are-timed}
 use Rattle.pac_board_course.proofs.Runs.{walk-below}
 use Rattle.pac_board_course.proofs.Walks.{play-timely}
-use Rattle.pac_board_course.specs.State.{BoardState, BoardValue, nothing_due, power_on_board}
+use Rattle.pac_board_course.specs.State.{BoardValue, nothing_due}
 use Rattle.pac_board_course.proofs.Begun.{courses-begin}
 use Rattle.pac_board_course.specs.Course.{CourseValue, begun, board_asked, course_after, end_of, frame_microseconds}
 use Rattle.pac_board_course.specs.Course.{held_in, next_in, way_on}
@@ -33,8 +32,8 @@ use Rattle.pac_run.specs.declared.inputs.RunInputs.{RunInputs}
 use Rattle.pac_run.specs.Debugs.{IsReady, IsSeenThrough, setting_of_plan}
 use Rattle.pac_run.specs.Plan.{Plan, PlaysProgram, plan_with, program_items}
 use Rattle.pac_run.specs.Recorded.{course_contents, outcome_between}
-use Rattle.pac_run.specs.Resumes.{contents_from, end_state, outcome_since, resumed_of, run_from, without_history}
-use Rattle.pac_run.specs.Run.{RunContents, contents_of, trace_of, outcome_of}
+use Rattle.pac_run.specs.Resumes.{contents_from, end_state, resumed_of, run_from, without_history}
+use Rattle.pac_run.specs.Run.{RunContents, trace_of, outcome_of}
 use Rattle.pac_run.specs.Start.{IsFirstBoard}
 
 -- ---- from power-on

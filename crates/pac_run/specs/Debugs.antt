@@ -1,8 +1,7 @@
 -- To be believed: what a run under a debugger writes, tells and answers.
-use Rattle.std.specs.Prelude.{◌≡◌, ℕ, ◌<◌, ◌≤◌, List, [], Option, Result, Ok, Err}
+use Rattle.std.specs.Prelude.{◌≡◌, ℕ, List, [], Option, Result, Ok, Err}
 use Rattle.std.specs.Str.Lines.{lines}
 use Rattle.pac_board_course.specs.Stretches.{total_frames, held}
-use Rattle.pac_media.specs.Samples.{header_size}
 use Rattle.pac_board_course.specs.Entry.{Entry}
 use Rattle.pac_asm.specs.Assembled.{Assembled}
 use Rattle.pac_board_course.specs.RomParts.{IsWhole as HasAllParts}
@@ -22,9 +21,9 @@ use Rattle.pac_run.specs.declared.fault.RunFault.TheVariants as fault
 use Rattle.pac_run.specs.declared.inputs.RunInputs.{RunInputs}
 use Rattle.pac_board_course.specs.declared.outcome.Outcome.{Outcome}
 use Rattle.pac_run.specs.Plan.{Plan, PlaysProgram, plan_of, plan_with}
-use Rattle.pac_run.specs.Run.{Writing, Writers, TakesText, IsUnwritten, NothingWritten, IsRunWhole, IsCutAt}
-use Rattle.pac_run.specs.Run.{WithPlan, contents_of, trace_of}
-use Rattle.pac_run.specs.Watched.{AllTold, ToldTill, TextStops}
+use Rattle.pac_run.specs.Run.{Writing, Writings, TakesText, IsUnwritten, NothingWritten, IsRunWhole, IsCutAt}
+use Rattle.pac_run.specs.Run.{WithPlan, contents_of, shown_before, trace_of}
+use Rattle.pac_run.specs.Watched.{AllTold, ToldTill, ToldAtWave, IsLineUntold}
 
 -- the run that the session of a plan looks at
 abbrev pub setting_of_plan : Plan → ℕ → Setting
@@ -63,30 +62,34 @@ pub record IsReady (inputs : RunInputs) (program : Option Assembled) (session : 
 
 -- the text's writer took exactly what the session tells of all lines of the commands
 abbrev pub HasTold : {T : Type 0} → Plan → ℕ → (commands : List ℕ) → Writing T → Type 0
-HasTold plan dip commands text = AllTold (TakesText text) (setting_of_plan plan dip) (lines commands)
+HasTold plan dip commands text = AllTold text (setting_of_plan plan dip) (lines commands)
 
 -- the text's writer took what those lines tell that need no more of the run's outputs than these; the next line needs more
-abbrev pub HasToldTill : {T : Type 0} → Plan → ℕ → (commands : List ℕ) → Writing T → (taken : List Given) → Type 0
-HasToldTill plan dip commands text taken = ToldTill (TakesText text) (setting_of_plan plan dip) (lines commands) taken
+abbrev pub HasToldTill : {T : Type 0} → Plan → ℕ → (commands : List ℕ) → Writing T → (given : List Given) → Type 0
+HasToldTill plan dip commands text given = ToldTill text (setting_of_plan plan dip) (lines commands) given
 
--- The text's writer refused within what one line tells, after all that those before tell. Frames and wave have exactly the outputs
--- that these lines give, the refused one too.
-abbrev pub IsUntold : {F W L R T : Type 0} → Plan → ℕ → (commands : List ℕ) → Writers F W L R → Writing T → ℕ → Type 0
+-- what was told where the wave's writer had taken so many bytes
+abbrev pub HasToldAtWave : {T : Type 0} → Plan → ℕ → (commands : List ℕ) → Writing T → (taken : ℕ) → Type 0
+HasToldAtWave plan dip commands text taken =
+    ToldAtWave text (setting_of_plan plan dip) (lines commands) (trace_of plan dip).outputs taken
+
+-- The text's writer refused within what one line tells.
+abbrev pub IsUntold : {F W L R T : Type 0} → Plan → ℕ → (commands : List ℕ) → Writings F W L R → Writing T → ℕ → Type 0
 IsUntold plan dip commands to text count =
-    TextStops to.frames to.wave text (total_frames plan.script) (trace_of plan dip).outputs (setting_of_plan plan dip) (lines commands)
+    IsLineUntold to.frames to.wave text (total_frames plan.script) (trace_of plan dip).outputs (setting_of_plan plan dip) (lines commands)
     count
 
 -- ---- the run, by its answer
 
 -- Done: the four files are exactly those of the run without a session, and the text is what a session over that run tells.
-pub record IsDebugged {F W L R T : Type 0} (plan : Plan) (dip : ℕ) (commands : List ℕ) (to : Writers F W L R) (text : Writing T)
+pub record IsDebugged {F W L R T : Type 0} (plan : Plan) (dip : ℕ) (commands : List ℕ) (to : Writings F W L R) (text : Writing T)
     (outcome : Outcome) : Type 0 where
   pub files : IsRunWhole (contents_of plan dip) to outcome
   pub seen : IsSeenThrough plan dip
   pub told : HasTold plan dip commands text
 
 -- a refused write, by its output: what a run leaves then, and what the session has told till then
-abbrev pub IsBrokenAt : {F W L R T : Type 0} → Plan → ℕ → (commands : List ℕ) → Writers F W L R → Writing T → Output → ℕ → Type 0
+abbrev pub IsBrokenAt : {F W L R T : Type 0} → Plan → ℕ → (commands : List ℕ) → Writings F W L R → Writing T → Output → ℕ → Type 0
 IsBrokenAt plan dip commands to text Listing count = IsCutAt (contents_of plan dip) to Listing count × IsUnwritten text
 IsBrokenAt plan dip commands to text Report count = IsCutAt (contents_of plan dip) to Report count × HasTold plan dip commands text
 IsBrokenAt plan dip commands to text State count = ⊥
@@ -96,12 +99,12 @@ IsBrokenAt plan dip commands to text Text count = record {
   untold : IsUntold plan dip commands to text count;
 }
 IsBrokenAt plan dip commands to text Frames count =
-    (files : IsCutAt (contents_of plan dip) to Frames count) × HasToldTill plan dip commands text files.film.held_up.taken
+    (files : IsCutAt (contents_of plan dip) to Frames count)
+    × HasToldTill plan dip commands text (shown_before files.film.images.taken (trace_of plan dip).outputs)
 IsBrokenAt plan dip commands to text Wave count =
-    (files : IsCutAt (contents_of plan dip) to Wave count) × (count < header_size → IsUnwritten text)
-    × ((past : header_size ≤ count) → HasToldTill plan dip commands text (files.film.held_up past).taken)
+    (files : IsCutAt (contents_of plan dip) to Wave count) × HasToldAtWave plan dip commands text files.film.sound.taken
 
-abbrev pub Debugs : {F W L R T : Type 0} → RunInputs → (commands : List ℕ) → Writers F W L R → Writing T → Result Outcome RunFault → Type 0
+abbrev pub Debugs : {F W L R T : Type 0} → RunInputs → (commands : List ℕ) → Writings F W L R → Writing T → Result Outcome RunFault → Type 0
 Debugs inputs commands to text (Ok outcome) = WithPlan inputs (λ plan. IsDebugged plan inputs.dip commands to text outcome)
 Debugs inputs commands to text (Err (fault.Write output count)) =
     WithPlan inputs (λ plan. IsSeenThrough plan inputs.dip × IsBrokenAt plan inputs.dip commands to text output count)

@@ -1,90 +1,96 @@
--- For proofs: what recording a board's outputs leaves of the film and the wave file, side by side.
-use Rattle.std.specs.Prelude.{◌≡◌, ℕ, ◌-◌, ◌/◌, ◌≤◌, List, [], ◌∷◌, ◌++◌, length, Option, Result, Ok, Err}
+-- For proofs: what recording a board's outputs leaves of frames and wave, side by side, and of a session's text beside them.
+use Rattle.std.specs.Prelude.{◌≡◌, ℕ, ◌-◌, ◌*◌, ◌/◌, List, [], Option, Result, Ok, Err}
 use Rattle.pac_board_course.specs.Stop.{Stop}
 use Rattle.pac_board_course.specs.Stretches.{total_frames}
-use Rattle.pac_media.specs.Counted.{HasTaken, Takes, Refuses, file_count}
+use Rattle.pac_media.specs.Counted.{HasTaken}
+use Rattle.pac_media.specs.CountedFile.{Counted}
 use Rattle.pac_media.specs.WriteFault.{WriteFault}
-use Rattle.pac_media.specs.Samples.{samples_text}
-use Rattle.pac_media.specs.Sound.{Delivers, SoundFails, FinishesSound}
-use Rattle.pac_media.specs.Sound as media
+use Rattle.pac_media.specs.Samples.{wav_header}
 use Rattle.pac_board_course.specs.BoardView.{BoardView}
-use Rattle.pac_board_course.specs.Output.{Output, Image, Sound, Show}
+use Rattle.pac_board_course.specs.ModelLaws.{frame_samples}
+use Rattle.pac_board_course.specs.Output.{Output}
 use Rattle.pac_board_course.specs.Step.{Moment, frame_ticks}
 use Rattle.pac_board_course.specs.Course.{CourseValue, way_on, course_after}
+use Rattle.pac_debug.specs.Running.{Setting, whole_run}
 use Rattle.pac_asm.specs.Assembled.{Assembled}
+use Rattle.pac_state.specs.Files.{IsState}
 use Rattle.pac_run.specs.declared.inputs.RunInputs.{RunInputs}
-use Rattle.pac_run.specs.Plan.{listing_in, source_in}
+use Rattle.pac_run.specs.Plan.{Plan, IsStateRefused, listing_in, plan_of, source_in}
 use Rattle.pac_run.specs.declared.fault.Output.{Output as Which}
 use Rattle.pac_run.specs.declared.fault.Output.TheVariants as which
 use Rattle.pac_run.specs.declared.fault.OutputFault.{OutputFault}
 use Rattle.pac_run.specs.declared.fault.RunFault.{RunFault}
 use Rattle.pac_run.specs.declared.fault.RunFault.TheVariants as fault
 use Rattle.pac_run.specs.declared.film.Film.{Film}
+use Rattle.pac_run.specs.declared.run.RunEnd.{RunEnd}
+use Rattle.pac_board_course.specs.State.{BoardValue}
 use Rattle.pac_board_course.specs.declared.outcome.Outcome.{Outcome}
-use Rattle.pac_run.specs.Run.{Writing, Writers, RunContents, TakesText, StopsInText, FramesStop, WaveStops, IsRunWhole, IsCutAt}
-use Rattle.pac_run.specs.Texts.{sound_text}
+use Rattle.pac_run.specs.Resumes.{WithFirstBoard, contents_from, end_state, run_from}
+use Rattle.pac_run.specs.Run.{Writing, Writings, RunContents, TakesText, StopsInText, FramesStop, WaveStops, IsRunWhole, IsCutAt}
+use Rattle.pac_run.specs.Run.{NothingWritten, WithPlan, shown_before, writing}
 use Rattle.pac_run.specs.Texts as text
+use Rattle.pac_run.specs.Watched.{AllTold, ToldTill, ToldAtWave, IsLineUntold}
 
--- ---- a film over any writers
+-- ---- frames and wave
 
--- all is written: the images, and the samples with zeros after them
-pub record IsRecorded {F W : Type 0} (took_f : F → List ℕ → F → Type 0) (took_w : W → List ℕ → W → Type 0) (outputs : List Output)
-    (old new : Film F W) : Type 0 where
-  pub frames : Takes took_f old.frames (text.images_text outputs) new.frames
-  pub wave : Delivers took_w old.wave (sound_text old.wave.owed outputs) new.wave
+-- of outputs of so many frames the one has the images and the other the sound; or one of them refused
+abbrev pub FilmStops : {F W : Type 0} → Writing F → Writing W → ℕ → List Output → Which → ℕ → Type 0
+FilmStops frames wave total outputs which.Frames count = FramesStop frames wave total outputs count
+FilmStops frames wave total outputs which.Wave count = WaveStops frames wave total outputs count
+FilmStops frames wave total outputs other count = ⊥
 
--- what a wave file was given is written, unless its writer refuses
-pub record IsFlushed {W : Type 0} (took : W → List ℕ → W → Type 0) (refused : W → W → Type 0) (old : media.Sound W) (bytes : List ℕ)
-    (new : media.Sound W) : Type 0 where
-  pub answer : Result Unit WriteFault
-  pub written : FinishesSound took refused old bytes answer new
+abbrev pub RecordsOutputs : {F W A : Type 0} → Writing F → Writing W → ℕ → List Output → Result A OutputFault → Type 0
+RecordsOutputs frames wave total outputs (Ok done) =
+    TakesText frames (text.images_text outputs) × TakesText wave (text.wave_file_text total outputs)
+RecordsOutputs frames wave total outputs (Err fault) = FilmStops frames wave total outputs fault.output fault.count
 
--- The film was refused within an image: it had all images before, and the wave file has the sound till then.
-pub record StopsInImage {F W : Type 0} (took_f : F → List ℕ → F → Type 0) (refused_f : F → F → Type 0) (took_w : W → List ℕ → W → Type 0)
-    (refused_w : W → W → Type 0) (taken : List Output) (image : Image) (old : Film F W) (count : ℕ) (new : Film F W) : Type 0 where
-  pub fault : WriteFault
-  pub count_is : count ≡ fault.count
-  pub frames : Refuses took_f refused_f old.frames (text.images_text (taken ++ Show image ∷ [])) fault new.frames
-  pub images : (start : F) → HasTaken took_f start [] old.frames → file_count (length (text.images_text taken)) ≤ count
-  pub wave : IsFlushed took_w refused_w old.wave (samples_text (text.samples_in taken)) new.wave
+-- a film whose wave file has its header, and nothing else is written
+pub record HasBegun {F W : Type 0} (took_f : F → List ℕ → F → Type 0) (took_w : W → List ℕ → W → Type 0) (frames : F) (wave : W)
+    (total : ℕ) (film : Film F W) : Type 0 where
+  pub images : HasTaken took_f frames [] film.frames
+  pub header : HasTaken took_w wave (wav_header (frame_samples * total)) film.wave.file
+  pub none_waits : film.wave.waiting ≡ []
+  pub owed : film.wave.owed ≡ frame_samples * total
 
--- the wave file was refused within some sound: the film has all images till then
-pub record StopsInSound {F W : Type 0} (took_f : F → List ℕ → F → Type 0) (took_w : W → List ℕ → W → Type 0) (refused_w : W → W → Type 0)
-    (taken : List Output) (sound : List ℕ) (old : Film F W) (count : ℕ) (new : Film F W) : Type 0 where
-  pub fault : WriteFault
-  pub count_is : count ≡ fault.count
-  pub frames : Takes took_f old.frames (text.images_text taken) new.frames
-  pub wave : SoundFails took_w refused_w old.wave sound fault new.wave
-
--- The film and the wave file took these outputs; the next one was refused, or after all of them the zeros.
-abbrev pub StopsFilm : {F W : Type 0} → (F → List ℕ → F → Type 0) → (F → F → Type 0) → (W → List ℕ → W → Type 0) → (W → W → Type 0)
-    → (taken left : List Output) → Film F W → Which → ℕ → Film F W → Type 0
-StopsFilm took_f refused_f took_w refused_w taken (Show image ∷ more) old which.Frames count new =
-    StopsInImage took_f refused_f took_w refused_w taken image old count new
-StopsFilm took_f refused_f took_w refused_w taken (Sound sample ∷ more) old which.Wave count new =
-    StopsInSound took_f took_w refused_w taken (samples_text (text.samples_in (taken ++ Sound sample ∷ []))) old count new
-StopsFilm took_f refused_f took_w refused_w taken [] old which.Wave count new =
-    StopsInSound took_f took_w refused_w taken (sound_text old.wave.owed taken) old count new
-StopsFilm took_f refused_f took_w refused_w taken left old other count new = ⊥
-
--- film or wave file stopped among all outputs of a run
-pub record StopsAmong {F W : Type 0} (took_f : F → List ℕ → F → Type 0) (refused_f : F → F → Type 0) (took_w : W → List ℕ → W → Type 0)
-    (refused_w : W → W → Type 0) (outputs : List Output) (old : Film F W) (output : Which) (count : ℕ) (new : Film F W) : Type 0 where
-  pub taken : List Output
-  pub left : List Output
-  pub parts : outputs ≡ taken ++ left
-  pub film : StopsFilm took_f refused_f took_w refused_w taken left old output count new
-
+-- a film that had begun, over whichever writers
 abbrev pub PerformsFilm : {F W A : Type 0} → (F → List ℕ → F → Type 0) → (F → F → Type 0) → (W → List ℕ → W → Type 0) → (W → W → Type 0)
     → List Output → Film F W → Result A OutputFault → Film F W → Type 0
-PerformsFilm took_f refused_f took_w refused_w outputs old (Ok done) new = IsRecorded took_f took_w outputs old new
-PerformsFilm took_f refused_f took_w refused_w outputs old (Err fault) new =
-    StopsAmong took_f refused_f took_w refused_w outputs old fault.output fault.count new
+PerformsFilm took_f refused_f took_w refused_w outputs old answer new =
+    (frames : _) (wave : _) (total : ℕ) → HasBegun took_f took_w frames wave total old
+    → RecordsOutputs (writing took_f refused_f frames new.frames.writer) (writing took_w refused_w wave new.wave.file.writer) total outputs
+    answer
 
--- what the end of a film that refused leaves: where its images were refused, the sound so far is written
-abbrev pub GivesUp : {F W : Type 0} → (W → List ℕ → W → Type 0) → (W → W → Type 0) → Film F W → Which → Film F W → Type 0
-GivesUp took refused old which.Frames new = (new.frames ≡ old.frames) × IsFlushed took refused old.wave [] new.wave
-GivesUp took refused old other new = new ≡ old
+-- ---- and the text of a session
+
+-- what is told, by the output that refused
+abbrev pub WatchedTill : {F W T : Type 0} → Writing F → Writing W → Writing T → (total : ℕ) → List Output → Setting → List (List ℕ) → Which
+    → ℕ → Type 0
+WatchedTill frames wave words total outputs setting lines which.Text count =
+    IsLineUntold frames wave words total outputs setting lines count
+WatchedTill frames wave words total outputs setting lines which.Frames count =
+    (film : FramesStop frames wave total outputs count) × ToldTill words setting lines (shown_before film.images.taken outputs)
+WatchedTill frames wave words total outputs setting lines which.Wave count =
+    (film : WaveStops frames wave total outputs count) × ToldAtWave words setting lines outputs film.sound.taken
+WatchedTill frames wave words total outputs setting lines other count = ⊥
+
+-- the images and the sound of outputs of so many frames, and all that the lines tell; or one of the three writers refused
+abbrev pub WatchesOutputs : {F W T A : Type 0} → Writing F → Writing W → Writing T → (total : ℕ) → List Output → Setting → List (List ℕ)
+    → Result A OutputFault → Type 0
+WatchesOutputs frames wave words total outputs setting lines (Ok done) =
+    TakesText frames (text.images_text outputs) × TakesText wave (text.wave_file_text total outputs) × AllTold words setting lines
+WatchesOutputs frames wave words total outputs setting lines (Err fault) =
+    WatchedTill frames wave words total outputs setting lines fault.output fault.count
+
+-- a film that had begun, and a new file of the text, over whichever writers
+abbrev pub WatchesFilm : {F W T A : Type 0} → (F → List ℕ → F → Type 0) → (F → F → Type 0) → (W → List ℕ → W → Type 0) → (W → W → Type 0)
+    → (T → List ℕ → T → Type 0) → (T → T → Type 0) → Setting → List (List ℕ) → Film F W → Counted T → Result A OutputFault → Film F W
+    → Counted T → Type 0
+WatchesFilm took_f refused_f took_w refused_w took refused setting lines old words answer new later =
+    (frames : _) (wave : _) (text : _) (total : ℕ) → HasBegun took_f took_w frames wave total old → HasTaken took text [] words
+    → WatchesOutputs (writing took_f refused_f frames new.frames.writer) (writing took_w refused_w wave new.wave.file.writer)
+    (writing took refused text later.writer) total (whole_run setting).outputs setting lines answer
+
+-- ---- a whole run
 
 -- a course that came to its end or to this stop
 pub record HasPlayed (old : CourseValue) (stop : Option Stop) (new : CourseValue) : Type 0 where
@@ -110,23 +116,30 @@ course_contents inputs program course = record {
 }
 
 -- a run's four texts, whole, or up to a refused write
-abbrev pub WritesRun : {F W L R : Type 0} → RunContents → Writers F W L R → Result Outcome RunFault → Type 0
+abbrev pub WritesRun : {F W L R : Type 0} → RunContents → Writings F W L R → Result Outcome RunFault → Type 0
 WritesRun run to (Ok outcome) = IsRunWhole run to outcome
 WritesRun run to (Err (fault.Write output count)) = IsCutAt run to output count
 WritesRun run to (Err other) = ⊥
 
--- ---- two writers
+-- A run of a plan that may begin with a state file, and the board at its end, of which nothing is saved yet.
+pub record IsRunTo {F W L R : Type 0} (plan : Plan) (dip : ℕ) (from : Option (List ℕ)) (to : Writings F W L R) (outcome : Outcome)
+    (end board : BoardValue) : Type 0 where
+  pub files : IsRunWhole (contents_from plan dip from board) to outcome
+  pub set_is : end.set ≡ plan.set
+  pub state_is : end.state ≡ end_state plan.set (total_frames plan.script) board (run_from plan dip from board)
+  pub is_state : IsState end.state
 
--- of outputs of so many frames the one has the images and the other the sound; or one of them refused
-abbrev pub FilmStops : {F W : Type 0} → Writing F → Writing W → ℕ → List Output → Which → ℕ → Type 0
-FilmStops frames wave total outputs which.Frames count = FramesStop frames wave total outputs count
-FilmStops frames wave total outputs which.Wave count = WaveStops frames wave total outputs count
-FilmStops frames wave total outputs other count = ⊥
+abbrev pub RunsTo : {F W L R : Type 0} → RunInputs → (from : Option (List ℕ)) → Writings F W L R → Result RunEnd RunFault → Type 0
+RunsTo inputs from to (Ok ran) =
+    WithPlan inputs (λ plan. WithFirstBoard plan inputs.dip from (IsRunTo plan inputs.dip from to ran.outcome ran.board.value))
+RunsTo inputs from to (Err (fault.Write output count)) =
+    WithPlan inputs (λ plan. WithFirstBoard plan inputs.dip from (λ board. IsCutAt (contents_from plan inputs.dip from board) to output
+    count))
+RunsTo inputs from to (Err (fault.State refusal)) = IsStateRefused inputs from refusal × NothingWritten to
+RunsTo inputs from to (Err fault.NoMemory) = NothingWritten to
+RunsTo inputs from to (Err refusal) = (plan_of inputs ≡ Err refusal) × NothingWritten to
 
-abbrev pub RecordsOutputs : {F W A : Type 0} → Writing F → Writing W → ℕ → List Output → Result A OutputFault → Type 0
-RecordsOutputs frames wave total outputs (Ok done) =
-    TakesText frames (text.images_text outputs) × TakesText wave (text.wave_file_text total outputs)
-RecordsOutputs frames wave total outputs (Err fault) = FilmStops frames wave total outputs fault.output fault.count
+-- ---- one writer
 
 -- a text, put into one writer
 abbrev pub WritesWholeText : {W A : Type 0} → Writing W → List ℕ → Result A WriteFault → Type 0

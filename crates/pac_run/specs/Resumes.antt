@@ -23,7 +23,7 @@ use Rattle.pac_run.specs.declared.fault.RunFault.TheVariants as fault
 use Rattle.pac_run.specs.declared.inputs.RunInputs.{RunInputs}
 use Rattle.pac_board_course.specs.declared.outcome.Outcome.{Outcome}
 use Rattle.pac_run.specs.Plan.{Plan, IsStateRefused, plan_of}
-use Rattle.pac_run.specs.Run.{Writing, Writers, RunContents, TakesText, StopsInText, IsUnwritten, NothingWritten, WithPlan}
+use Rattle.pac_run.specs.Run.{Writing, Writings, RunContents, TakesText, StopsInText, IsUnwritten, NothingWritten, WithPlan}
 use Rattle.pac_run.specs.Run.{IsRunWhole, IsCutAt, contents_of, trace_of}
 use Rattle.pac_run.specs.Start.{IsFirstBoard}
 
@@ -92,14 +92,14 @@ pub record WithFirstBoard (plan : Plan) (dip : ℕ) (from : Option (List ℕ)) (
   pub holds : fact board
 
 -- all is written, the state too; that is a state file of the set
-pub record IsSaved {F W L R S : Type 0} (plan : Plan) (dip : ℕ) (from : Option (List ℕ)) (to : Writers F W L R) (state : Writing S)
+pub record IsSaved {F W L R S : Type 0} (plan : Plan) (dip : ℕ) (from : Option (List ℕ)) (to : Writings F W L R) (state : Writing S)
     (outcome : Outcome) (board : BoardValue) : Type 0 where
   pub files : IsRunWhole (contents_from plan dip from board) to outcome
   pub state_is : TakesText state (state_text plan dip from board)
   pub file : IsFile plan.set (state_text plan dip from board)
 
 -- a refused write: the state comes last, after all the others are whole; where another was refused, nothing of it is written
-abbrev pub IsSaveCutAt : {F W L R S : Type 0} → Plan → (dip : ℕ) → (from : Option (List ℕ)) → Writers F W L R → Writing S → Which → ℕ
+abbrev pub IsSaveCutAt : {F W L R S : Type 0} → Plan → (dip : ℕ) → (from : Option (List ℕ)) → Writings F W L R → Writing S → Which → ℕ
     → BoardValue → Type 0
 IsSaveCutAt plan dip from to state State count board =
     IsRunWhole (contents_from plan dip from board) to (contents_from plan dip from board).outcome
@@ -107,7 +107,7 @@ IsSaveCutAt plan dip from to state State count board =
 IsSaveCutAt plan dip from to state output count board =
     IsCutAt (contents_from plan dip from board) to output count × IsUnwritten state
 
-abbrev pub Resumes : {F W L R S : Type 0} → RunInputs → (from : Option (List ℕ)) → Writers F W L R → Writing S → Result Outcome RunFault
+abbrev pub Resumes : {F W L R S : Type 0} → RunInputs → (from : Option (List ℕ)) → Writings F W L R → Writing S → Result Outcome RunFault
     → Type 0
 Resumes inputs from to state (Ok outcome) =
     WithPlan inputs (λ plan. WithFirstBoard plan inputs.dip from (IsSaved plan inputs.dip from to state outcome))

@@ -1,12 +1,12 @@
 -- To be believed: what a run writes and answers.
-use Rattle.std.specs.Prelude.{◌≡◌, ℕ, ◌<◌, ◌≤◌, List, [], ◌∷◌, ◌++◌, length, Result, Ok, Err, ◌⊎◌}
+use Rattle.std.specs.Prelude.{◌≡◌, ℕ, ◌-◌, ◌<◌, ◌≤◌, nat_le, if◌then◌else◌, List, [], ◌∷◌, length, Result, Ok, Err}
 use Rattle.pac_media.specs.Counted.{file_count}
 use Rattle.pac_media.specs.Writes.{StopsAfter}
 use Rattle.pac_board_course.specs.Stretches.{total_frames}
 use Rattle.pac_board_course.specs.Entry.{Entry}
 use Rattle.pac_media.specs.Samples.{header_size}
 use Rattle.pac_board_course.specs.BoardView.{power_on_board_view}
-use Rattle.pac_board_course.specs.Output.{Output, Image, Sound, Show}
+use Rattle.pac_board_course.specs.Output.{Output}
 use Rattle.pac_board_course.specs.Shown.{blank_count}
 use Rattle.pac_board_course.specs.Trace.{by_history, trace}
 use Rattle.pac_board_course.specs.Walk.{Walk}
@@ -16,6 +16,7 @@ use Rattle.pac_run.specs.declared.fault.Output.TheVariants.{Frames, Wave, Listin
 use Rattle.pac_run.specs.declared.fault.RunFault.{RunFault}
 use Rattle.pac_run.specs.declared.fault.RunFault.TheVariants as fault
 use Rattle.pac_run.specs.declared.inputs.RunInputs.{RunInputs}
+use Rattle.pac_run.specs.declared.writers.Writers.{Writers}
 use Rattle.pac_board_course.specs.declared.outcome.Outcome.{Outcome}
 use Rattle.pac_run.specs.Plan.{Plan, plan_of}
 use Rattle.pac_run.specs.Texts as text
@@ -54,7 +55,7 @@ contents_of plan dip = record {
   outcome = outcome_of (trace_of plan dip);
 }
 
--- ---- the four writers
+-- ---- the writers
 
 -- a writer's two relations, and its value before and after the run
 pub record Writing (W : Type 0) : Type 1 where
@@ -62,6 +63,9 @@ pub record Writing (W : Type 0) : Type 1 where
   pub refused : W → W → Type 0
   pub old : W
   pub new : W
+
+abbrev pub writing : {W : Type 0} → (took : W → List ℕ → W → Type 0) → (refused : W → W → Type 0) → (old new : W) → Writing W
+writing took refused old new = record { took = took; refused = refused; old = old; new = new }
 
 -- the writer took this text and nothing else; it took so many bytes of it and then refused; nothing was written to it
 abbrev pub TakesText : {W : Type 0} → Writing W → List ℕ → Type 0
@@ -76,74 +80,67 @@ pub record StopsInText {W : Type 0} (writer : Writing W) (text : List ℕ) (coun
 abbrev pub IsUnwritten : {W : Type 0} → Writing W → Type 0
 IsUnwritten writer = writer.new ≡ writer.old
 
--- the writer took the whole text, or so many bytes of it and then refused
-pub record WasCut {W : Type 0} (writer : Writing W) (text : List ℕ) : Type 0 where
-  pub count : ℕ
-  pub stopped : StopsInText writer text count
-
-abbrev pub TookOrRefused : {W : Type 0} → Writing W → List ℕ → Type 0
-TookOrRefused writer text = TakesText writer text ⊎ WasCut writer text
-
-pub record Writers (F W L R : Type 0) : Type 1 where
+-- the four writers of a run, each with its relations, before and after
+pub record Writings (F W L R : Type 0) : Type 1 where
   pub frames : Writing F
   pub wave : Writing W
   pub listing : Writing L
   pub report : Writing R
 
--- ---- a film that is held up: frames and wave, which are written side by side as the run gives pictures and samples
+abbrev pub writings : {F W L R : Type 0} → (F → List ℕ → F → Type 0) → (F → F → Type 0) → (W → List ℕ → W → Type 0) → (W → W → Type 0)
+    → (L → List ℕ → L → Type 0) → (L → L → Type 0) → (R → List ℕ → R → Type 0) → (R → R → Type 0) → (old new : Writers F W L R)
+    → Writings F W L R
+writings took_f refused_f took_w refused_w took_l refused_l took_r refused_r old new = record {
+  frames = writing took_f refused_f old.frames new.frames;
+  wave = writing took_w refused_w old.wave new.wave;
+  listing = writing took_l refused_l old.listing new.listing;
+  report = writing took_r refused_r old.report new.report;
+}
 
--- The frames' writer refused within an image, after all those before it; the wave's has the sound till then, unless it refused too.
-pub record StopsAtImage {F W : Type 0} (frames : Writing F) (wave : Writing W) (most : ℕ) (taken : List Output) (image : Image)
-    (count : ℕ)
-    : Type 0 where
-  pub film : StopsInText frames (text.images_text (taken ++ Show image ∷ [])) count
-  pub images : file_count (length (text.images_text taken)) ≤ count
-  pub sound : TookOrRefused wave (text.wave_so_far most taken)
+-- ---- frames and wave, which are written side by side as the run gives pictures and samples
 
--- Frames and wave of a run of so many frames took these outputs, and one of the two refused then: the frames' at the next picture; the
--- wave's at the next sample, or at what waited before it; or after all outputs at the zeros, or at what waited before them.
-abbrev pub StopsAt : {F W : Type 0} → Writing F → Writing W → (most : ℕ) → (taken left : List Output) → Which → ℕ → Type 0
-StopsAt frames wave most taken (Show image ∷ more) Frames count = StopsAtImage frames wave most taken image count
-StopsAt frames wave most taken (Sound sample ∷ more) Wave count =
-    TakesText frames (text.images_text taken) × StopsInText wave (text.wave_so_far most (taken ++ Sound sample ∷ [])) count
-StopsAt frames wave most taken [] Wave count = TakesText frames (text.images_text taken)
-    × StopsInText wave (text.wave_file_text most taken) count
-StopsAt frames wave most taken left other count = ⊥
+-- Of some outputs those that come before the one with the byte of this number; all of them, if they have no such byte.
+abbrev pub outputs_before : (bytes : Output → List ℕ) → (number : ℕ) → List Output → List Output
+outputs_before bytes number [] = []
+outputs_before bytes number (output ∷ more) =
+    if nat_le (length (bytes output)) number
+    then output ∷ outputs_before bytes (number - length (bytes output)) more
+    else []
 
--- Of all outputs of a run frames and wave took these first ones and no more.
-pub record IsFilmHeldUp {F W : Type 0} (frames : Writing F) (wave : Writing W) (most : ℕ) (outputs : List Output) (output : Which)
-    (count : ℕ)
-    : Type 0 where
-  pub taken : List Output
-  pub left : List Output
-  pub parts : outputs ≡ taken ++ left
-  pub stops : StopsAt frames wave most taken left output count
+-- What was given before the image of which a byte was refused, and before the sample: after so many bytes of all images, and of the wave
+-- file, which begins with its header.
+abbrev pub shown_before : (taken : ℕ) → List Output → List Output
+shown_before taken outputs = outputs_before text.image_bytes taken outputs
 
--- so many bytes of all images were taken
+abbrev pub heard_before : (taken : ℕ) → List Output → List Output
+heard_before taken outputs = outputs_before text.sample_bytes (taken - header_size) outputs
+
+-- The frames' writer refused after so many bytes of all images. The wave's has exactly the sound that came before that image.
 pub record FramesStop {F W : Type 0} (frames : Writing F) (wave : Writing W) (most : ℕ) (outputs : List Output) (count : ℕ) : Type
     0 where
-  pub frames_stop : StopsInText frames (text.images_text outputs) count
-  pub held_up : IsFilmHeldUp frames wave most outputs Frames count
+  pub images : StopsInText frames (text.images_text outputs) count
+  pub sound : TakesText wave (text.wave_so_far most (shown_before images.taken outputs))
 
--- So many bytes of the whole wave file were taken. Its header is written before the first image: where that is refused nothing is
--- written to the frames.
+-- The wave's writer refused after so many bytes of the whole wave file. Its header is written before the first image: where that is
+-- refused nothing is written to the frames. Past it these have exactly the images that came before the sample of which a byte was
+-- refused, or all of them where that was a zero after the samples.
 pub record WaveStops {F W : Type 0} (frames : Writing F) (wave : Writing W) (most : ℕ) (outputs : List Output) (count : ℕ) : Type
     0 where
-  pub wave_stops : StopsInText wave (text.wave_file_text most outputs) count
-  pub header_first : count < header_size → IsUnwritten frames
-  pub held_up : header_size ≤ count → IsFilmHeldUp frames wave most outputs Wave count
+  pub sound : StopsInText wave (text.wave_file_text most outputs) count
+  pub header_first : sound.taken < header_size → IsUnwritten frames
+  pub images : header_size ≤ sound.taken → TakesText frames (text.images_text (heard_before sound.taken outputs))
 
 -- ---- the run, by its answer
 
 -- nothing was written at all
-pub record NothingWritten {F W L R : Type 0} (to : Writers F W L R) : Type 0 where
+pub record NothingWritten {F W L R : Type 0} (to : Writings F W L R) : Type 0 where
   pub frames : IsUnwritten to.frames
   pub wave : IsUnwritten to.wave
   pub listing : IsUnwritten to.listing
   pub report : IsUnwritten to.report
 
 -- done: each output has exactly its text
-pub record IsRunWhole {F W L R : Type 0} (run : RunContents) (to : Writers F W L R) (outcome : Outcome) : Type 0 where
+pub record IsRunWhole {F W L R : Type 0} (run : RunContents) (to : Writings F W L R) (outcome : Outcome) : Type 0 where
   pub outcome_is : outcome ≡ run.outcome
   pub frames : TakesText to.frames (frames_text run)
   pub wave : TakesText to.wave (wave_text run)
@@ -152,7 +149,7 @@ pub record IsRunWhole {F W L R : Type 0} (run : RunContents) (to : Writers F W L
 
 -- a refused write, by its output: that one took so many bytes of its text; those before it are whole, those after it untouched,
 -- and of frames and wave, which are written side by side, the other one has what was given till then
-abbrev pub IsCutAt : {F W L R : Type 0} → RunContents → Writers F W L R → Which → ℕ → Type 0
+abbrev pub IsCutAt : {F W L R : Type 0} → RunContents → Writings F W L R → Which → ℕ → Type 0
 IsCutAt run to Listing count = record {
   listing : StopsInText to.listing run.listing count;
   frames : IsUnwritten to.frames;
@@ -183,7 +180,7 @@ pub record WithPlan (inputs : RunInputs) (fact : Plan → Type 0) : Type 0 where
   pub plan_is : plan_of inputs ≡ Ok plan
   pub holds : fact plan
 
-abbrev pub Runs : {F W L R : Type 0} → RunInputs → Writers F W L R → Result Outcome RunFault → Type 0
+abbrev pub Runs : {F W L R : Type 0} → RunInputs → Writings F W L R → Result Outcome RunFault → Type 0
 Runs inputs to (Ok outcome) = WithPlan inputs (λ plan. IsRunWhole (contents_of plan inputs.dip) to outcome)
 Runs inputs to (Err (fault.Write output count)) = WithPlan inputs (λ plan. IsCutAt (contents_of plan inputs.dip) to output count)
 Runs inputs to (Err fault.NoMemory) = NothingWritten to

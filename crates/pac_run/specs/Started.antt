@@ -1,5 +1,5 @@
 -- For proofs: the board that a run begins with, and what is played, by the answers of making them.
-use Rattle.std.specs.Prelude.{◌≡◌, ℕ, List, Option, None, Some, Result, Ok, Err}
+use Rattle.std.specs.Prelude.{◌≡◌, ℕ, List, Option, Result, Ok, Err}
 use Rattle.pac_board_course.specs.BoardView.{IsBoard}
 use Rattle.pac_board_course.specs.Course.{FitsAsked, FitsTime}
 use Rattle.pac_board_course.specs.RomParts.{Parts, IsWhole}

@@ -7,17 +7,21 @@ use Rattle.pac_board_course.specs.Stop.{Stop}
 use Rattle.pac_board_course.specs.Cause.{Cause}
 use Rattle.pac_board_course.specs.CauseVariants.{Opcode, Vector}
 use Rattle.pac_media.specs.Images.{ppm_of}
-use Rattle.pac_media.specs.Samples.{wav_header, samples_text}
+use Rattle.pac_media.specs.Samples.{wav_header, sample_text, samples_text}
 use Rattle.pac_board_course.specs.ModelLaws.{frame_samples}
-use Rattle.pac_board_course.specs.Output.{Output, Image, Sound, Show}
+use Rattle.pac_board_course.specs.Output.{Output, Sound, Show}
 use Rattle.pac_board_course.specs.declared.outcome.Outcome.{Outcome}
 
--- the pictures and the samples among outputs, in order
-abbrev pub pictures_in : List Output → List Image
-pictures_in [] = []
-pictures_in (Show image ∷ more) = image ∷ pictures_in more
-pictures_in (Sound sample ∷ more) = pictures_in more
+-- the bytes of an output: of a picture among the images, and of a sample in the sound
+abbrev pub image_bytes : Output → List ℕ
+image_bytes (Show image) = ppm_of image.lines image.palette
+image_bytes (Sound sample) = []
 
+abbrev pub sample_bytes : Output → List ℕ
+sample_bytes (Sound sample) = sample_text sample
+sample_bytes (Show image) = []
+
+-- the samples among outputs, in order
 abbrev pub samples_in : List Output → List ℤ
 samples_in [] = []
 samples_in (Sound sample ∷ more) = sample ∷ samples_in more
@@ -25,7 +29,7 @@ samples_in (Show image ∷ more) = samples_in more
 
 -- the images of the pictures, one after another
 abbrev pub images_text : List Output → List ℕ
-images_text outputs = flat_map (λ (image : Image). ppm_of image.lines image.palette) (pictures_in outputs)
+images_text outputs = flat_map image_bytes outputs
 
 -- a wave file of so many frames: after a stop zeros stand in for the samples that never came
 abbrev pub filled_samples : ℕ → List ℤ → List ℤ

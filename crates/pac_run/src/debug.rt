@@ -4,6 +4,7 @@ ghost use Rattle.std.specs.Prelude.{◌≡◌, IfOk, IfErr, None, Err};
 ghost use Rattle.pac_debug.specs.Session.{IsNew, session_at_start};
 ghost use Rattle.pac_run.specs.declared.fault.RunFault.TheVariants.{NoMemory};
 ghost use Rattle.pac_run.specs.Debugs.{Debugs, IsReady};
+ghost use Rattle.pac_run.specs.Run.{writing, writings};
 ghost use Rattle.pac_run.specs.Started.{Prepares};
 
 use crate::fault::{Output, RunFault};
@@ -11,47 +12,12 @@ use crate::inputs::RunInputs;
 use crate::plan::{Prepared, prepare};
 use crate::run::{list, report_on};
 use crate::watch::watch_run;
+use crate::writers::Writers;
 use pac_asm::Program;
 use pac_board_course::{Board, Outcome, Script};
 use pac_debug::Session;
 use pac_media::{Image, Out};
 use std::alloc::Global;
-
-/// Writes all that a session's run gives out, in order: the listing; then wave, frames and the session's text, as they come; then
-/// the report.
-fn write_watched<F: Out, W: Out, L: Out, R: Out, T: Out>(
-    inputs: &RunInputs,
-    commands: &[u8],
-    program: &Option<Program>,
-    session: Session,
-    total: u32,
-    image: Image,
-    frames: &mut F,
-    wave: &mut W,
-    listing: &mut L,
-    report: &mut R,
-    text: &mut T,
-) -> Result<Outcome, RunFault>
-    requires { IsReady inputs.now program.now session total }
-    ensures { Debugs inputs.now commands.now (record {
-      frames = record { took = F.took; refused = F.refused; old = frames.old; new = frames.new };
-      wave = record { took = W.took; refused = W.refused; old = wave.old; new = wave.new };
-      listing = record { took = L.took; refused = L.refused; old = listing.old; new = listing.new };
-      report = record { took = R.took; refused = R.refused; old = report.old; new = report.new };
-    }) (record { took = T.took; refused = T.refused; old = text.old; new = text.new }) result }
-{
-    if let Err(fault) = list(listing, inputs.source, program) {
-        return Err(RunFault::Write(Output::Listing, fault.count));
-    }
-    let outcome = match watch_run(session, commands, image, frames, wave, text) {
-        Ok(outcome) => outcome,
-        Err(fault) => return Err(RunFault::Write(fault.output, fault.count)),
-    };
-    match report_on(report, outcome, total) {
-        Ok(()) => Ok(outcome),
-        Err(fault) => Err(RunFault::Write(Output::Report, fault.count)),
-    }
-}
 
 /// A session over what is played, at the beginning of its run. Refused for want of memory alone.
 fn session(alloc: Global, board: Box<Board>, script: Script) -> Result<Session, RunFault>
@@ -103,6 +69,39 @@ fn make_ready(alloc: Global, inputs: &RunInputs) -> Result<Ready, RunFault>
     })
 }
 
+/// Writes all that a session's run gives out, in order: the listing; then wave, frames and the session's text, as they come; then
+/// the report.
+fn write_watched<F: Out, W: Out, L: Out, R: Out, T: Out>(
+    inputs: &RunInputs,
+    commands: &[u8],
+    ready: Ready,
+    to: &mut Writers<F, W, L, R>,
+    text: &mut T,
+) -> Result<Outcome, RunFault>
+    requires { IsReady inputs.now ready.program ready.session ready.total }
+    ensures { Debugs inputs.now commands.now (writings F.took F.refused W.took W.refused
+        L.took L.refused R.took R.refused to.old to.new)
+        (writing T.took T.refused text.old text.new) result }
+{
+    let Ready {
+        program,
+        session,
+        total,
+        image,
+    } = ready;
+    if let Err(fault) = list(&mut to.listing, inputs.source, &program) {
+        return Err(RunFault::Write(Output::Listing, fault.count));
+    }
+    let outcome = match watch_run(session, commands, image, &mut to.frames, &mut to.wave, text) {
+        Ok(outcome) => outcome,
+        Err(fault) => return Err(RunFault::Write(fault.output, fault.count)),
+    };
+    match report_on(&mut to.report, outcome, total) {
+        Ok(()) => Ok(outcome),
+        Err(fault) => Err(RunFault::Write(Output::Report, fault.count)),
+    }
+}
+
 /// The run of `run_all` under a debugger: the commands, a line each, are done first, and then the run goes on to the script's end.
 /// Images, sound, listing and report are those of `run_all`, whatever the commands do; a fifth output gets what they tell. All
 /// memory is found before anything is written.
@@ -110,26 +109,13 @@ pub fn debug_all<F: Out, W: Out, L: Out, R: Out, T: Out>(
     alloc: Global,
     inputs: &RunInputs,
     commands: &[u8],
-    frames: &mut F,
-    wave: &mut W,
-    listing: &mut L,
-    report: &mut R,
+    to: &mut Writers<F, W, L, R>,
     text: &mut T,
 ) -> Result<Outcome, RunFault>
-    ensures { Debugs inputs.now commands.now (record {
-      frames = record { took = F.took; refused = F.refused; old = frames.old; new = frames.new };
-      wave = record { took = W.took; refused = W.refused; old = wave.old; new = wave.new };
-      listing = record { took = L.took; refused = L.refused; old = listing.old; new = listing.new };
-      report = record { took = R.took; refused = R.refused; old = report.old; new = report.new };
-    }) (record { took = T.took; refused = T.refused; old = text.old; new = text.new }) result }
+    ensures { Debugs inputs.now commands.now (writings F.took F.refused W.took W.refused
+        L.took L.refused R.took R.refused to.old to.new)
+        (writing T.took T.refused text.old text.new) result }
 {
-    let Ready {
-        program,
-        session,
-        total,
-        image,
-    } = make_ready(alloc, inputs)?;
-    write_watched(
-        inputs, commands, &program, session, total, image, frames, wave, listing, report, text,
-    )
+    let ready = make_ready(alloc, inputs)?;
+    write_watched(inputs, commands, ready, to, text)
 }

@@ -5,7 +5,8 @@ ghost use Rattle.pac_board_course.specs.Stretches.{total_frames};
 ghost use Rattle.pac_run.specs.Films.{film_took, film_refused};
 ghost use Rattle.pac_board_course.specs.Course.{way_on};
 ghost use Rattle.pac_board_course.specs.State.{nothing_due};
-ghost use Rattle.pac_run.specs.Recorded.{GivesUp, HasPlayed, PerformsFilm, RecordsOutputs};
+ghost use Rattle.pac_run.specs.Recorded.{HasPlayed, PerformsFilm, RecordsOutputs};
+ghost use Rattle.pac_run.specs.Run.{writing};
 
 use crate::fault::{Output, OutputFault};
 use pac_board_course::{Course, Picture, Refused, Sink, Stop};
@@ -41,8 +42,15 @@ impl<F: Out, W: Out> Sink for Film<F, W> {
         }
     }
 
-    /// Puts the picture's image into the film.
+    /// Writes the samples that wait, and then puts the picture's image into the film: so no image is written before its sound.
     fn picture(&mut self, picture: &Picture) -> Result<(), Refused> {
+        if let Err(fault) = self.wave.flush() {
+            self.fault = Some(OutputFault {
+                output: Output::Wave,
+                count: fault.count,
+            });
+            return Err(Refused);
+        }
         match self.frames.put(picture) {
             Ok(()) => Ok(()),
             Err(fault) => {
@@ -60,17 +68,12 @@ impl<F: Out, W: Out> Sink for Film<F, W> {
 pub(crate) const FRAME_SAMPLES: u32 = pac_board_course::FRAME_SAMPLES as u32;
 
 impl<F: Out, W: Out> Film<F, W> {
-    /// The output that refused. Where that is the film, the samples that came before are still written.
-    pub(crate) fn give_up(&mut self) -> OutputFault
-        requires { IsSome self.old.fault }
-        ensures told { Some result ≡ self.old.fault }
-        ensures left { GivesUp W.took W.refused self.old result.output self.new }
+    /// The output that refused.
+    pub(crate) fn refusal(&self) -> OutputFault
+        requires { IsSome self.now.fault }
+        ensures { Some result ≡ self.now.fault }
     {
-        let fault = self.fault.unwrap();
-        if let Output::Frames = fault.output {
-            let _ = self.wave.flush();
-        }
-        fault
+        self.fault.unwrap()
     }
 
     /// Plays what is left of a course: all that the board gives out is written, and zeros for the samples that never came.
@@ -89,7 +92,7 @@ impl<F: Out, W: Out> Film<F, W> {
                     count: fault.count,
                 }),
             },
-            Err(_) => Err(self.give_up()),
+            Err(_) => Err(self.refusal()),
         }
     }
 }
@@ -105,8 +108,7 @@ pub fn record_run<F: Out, W: Out>(
     requires { course.old.board.state.due ≡ nothing_due }
     ensures played { IfOk result (λ stop. HasPlayed course.old stop course.new) }
     ensures texts { RecordsOutputs
-        (record { took = F.took; refused = F.refused; old = frames.old; new = frames.new })
-        (record { took = W.took; refused = W.refused; old = wave.old; new = wave.new })
+        (writing F.took F.refused frames.old frames.new) (writing W.took W.refused wave.old wave.new)
         (total_frames course.old.script) (way_on course.old).outputs result }
 {
     let mut wave = WaveFile::begin(wave, FRAME_SAMPLES * course.frames());

@@ -12,6 +12,7 @@ pub mod resume;
 pub mod run;
 mod start;
 mod watch;
+mod writers;
 
 pub use debug::debug_all;
 pub use fault::{Output, RunFault, StateFault};
@@ -22,3 +23,4 @@ pub use pac_roms_manifest::{Part, SetFault};
 pub use pac_state::LoadFault;
 pub use resume::resume_all;
 pub use run::run_all;
+pub use writers::Writers;

@@ -3,22 +3,22 @@
 ghost use Rattle.std.specs.Prelude.{option_copied};
 ghost use Rattle.pac_run.specs.Resumes.{Resumes};
 ghost use Rattle.pac_run.specs.Recorded.{WritesWholeText};
+ghost use Rattle.pac_run.specs.Run.{writing, writings};
 ghost use Rattle.pac_state.specs.Text.{save_text, written_version};
 
 use crate::fault::{Output, RunFault};
 use crate::inputs::RunInputs;
-use crate::plan::{Prepared, prepare};
-use crate::run::{begin, write_all};
+use crate::run::run_from;
+use crate::writers::Writers;
 use pac_board_course::{Board, Outcome};
 use pac_media::{Out, WriteFault};
-use pac_state::laws::boards_have_states;
 use pac_state::save;
 use std::alloc::Global;
 
 /// Writes the state of a board.
 fn put_state<S: Out>(board: &Board, state: &mut S) -> Result<(), WriteFault>
     ensures { WritesWholeText
-        (record { took = S.took; refused = S.refused; old = state.old; new = state.new })
+        (writing S.took S.refused state.old state.new)
         (save_text written_version board.now.set board.now.state) result }
 {
     save(board, state)
@@ -32,44 +32,19 @@ pub fn resume_all<F: Out, W: Out, L: Out, R: Out, S: Out>(
     alloc: Global,
     inputs: &RunInputs,
     from: Option<&[u8]>,
-    frames: &mut F,
-    wave: &mut W,
-    listing: &mut L,
-    report: &mut R,
+    to: &mut Writers<F, W, L, R>,
     state: &mut S,
 ) -> Result<Outcome, RunFault>
-    ensures { Resumes inputs.now (option_copied from.entry) (record {
-      frames = record { took = F.took; refused = F.refused; old = frames.old; new = frames.new };
-      wave = record { took = W.took; refused = W.refused; old = wave.old; new = wave.new };
-      listing = record { took = L.took; refused = L.refused; old = listing.old; new = listing.new };
-      report = record { took = R.took; refused = R.refused; old = report.old; new = report.new };
-    }) (record { took = S.took; refused = S.refused; old = state.old; new = state.new }) result }
+    ensures { Resumes inputs.now (option_copied from.entry) (writings F.took F.refused W.took W.refused
+        L.took L.refused R.took R.refused to.old to.new)
+        (writing S.took S.refused state.old state.new) result }
 {
-    let Prepared {
-        program,
-        board,
-        script,
-        image,
-    } = prepare(alloc, inputs, from)?;
-    let mut course = begin(board, script);
-    let outcome = match write_all(
-        inputs,
-        &program,
-        &mut course,
-        image,
-        frames,
-        wave,
-        listing,
-        report,
-    ) {
-        Ok(outcome) => outcome,
+    let ran = match run_from(alloc, inputs, from, to) {
+        Ok(ran) => ran,
         Err(fault) => return Err(fault),
     };
-    let board = course.into_board();
-    // (a law, with nothing to run: what is saved of a board is a state file)
-    boards_have_states(&board);
-    match put_state(&board, state) {
-        Ok(()) => Ok(outcome),
+    match put_state(&ran.board, state) {
+        Ok(()) => Ok(ran.outcome),
         Err(fault) => Err(RunFault::Write(Output::State, fault.count)),
     }
 }

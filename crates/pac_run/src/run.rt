@@ -6,8 +6,8 @@ ghost use Rattle.pac_board_course.specs.Step.{frame_ticks};
 ghost use Rattle.pac_board_course.specs.Course.{FitsAsked, FitsTime, begun, course_after, way_on};
 ghost use Rattle.pac_board_course.specs.State.{nothing_due};
 ghost use Rattle.pac_run.specs.Plan.{listing_in};
-ghost use Rattle.pac_run.specs.Recorded.{WritesRun, WritesWholeText, course_contents, outcome_between};
-ghost use Rattle.pac_run.specs.Run.{Runs};
+ghost use Rattle.pac_run.specs.Recorded.{RunsTo, WritesRun, WritesWholeText, course_contents, outcome_between};
+ghost use Rattle.pac_run.specs.Run.{Runs, writing, writings};
 ghost use Rattle.pac_run.specs.Texts as text;
 
 use crate::fault::{Output, RunFault};
@@ -15,10 +15,12 @@ use crate::film::record_run;
 use crate::inputs::RunInputs;
 use crate::plan::{Prepared, prepare};
 use crate::report::put_report;
+use crate::writers::Writers;
 use pac_asm::Program;
 use pac_board_course::{Board, Course, FRAME_TICKS, Outcome, Script, Stop};
 use pac_listing::write_listing;
 use pac_media::{Counted, Image, Out, WriteFault};
+use pac_state::laws::boards_have_states;
 use std::alloc::Global;
 
 /// Puts the listing into its file: without a source it has no lines and no symbols.
@@ -43,7 +45,7 @@ pub(crate) fn list<L: Out>(
     program: &Option<Program>,
 ) -> Result<(), WriteFault>
     ensures { WritesWholeText
-        (record { took = L.took; refused = L.refused; old = listing.old; new = listing.new })
+        (writing L.took L.refused listing.old listing.new)
         (listing_in (option_copied source.entry) program.now) result }
 {
     let mut file = Counted::new(listing);
@@ -57,7 +59,7 @@ pub(crate) fn report_on<R: Out>(
     total: u32,
 ) -> Result<(), WriteFault>
     ensures { WritesWholeText
-        (record { took = R.took; refused = R.refused; old = report.old; new = report.new })
+        (writing R.took R.refused report.old report.new)
         (text.report outcome total) result }
 {
     let mut file = Counted::new(report);
@@ -92,36 +94,65 @@ pub(crate) fn write_all<F: Out, W: Out, L: Out, R: Out>(
     program: &Option<Program>,
     course: &mut Course,
     image: Image,
-    frames: &mut F,
-    wave: &mut W,
-    listing: &mut L,
-    report: &mut R,
+    to: &mut Writers<F, W, L, R>,
 ) -> Result<Outcome, RunFault>
     requires due { course.old.board.state.due ≡ nothing_due }
     requires begins { course.old.gone ≡ course.old.board.state.now.time / frame_ticks }
     ensures played { IfOk result (λ outcome. course.new ≡ course_after course.old (way_on course.old)) }
-    ensures written { WritesRun (course_contents inputs.now program.now course.old) (record {
-      frames = record { took = F.took; refused = F.refused; old = frames.old; new = frames.new };
-      wave = record { took = W.took; refused = W.refused; old = wave.old; new = wave.new };
-      listing = record { took = L.took; refused = L.refused; old = listing.old; new = listing.new };
-      report = record { took = R.took; refused = R.refused; old = report.old; new = report.new };
-    }) result }
+    ensures written { WritesRun (course_contents inputs.now program.now course.old) (writings F.took F.refused W.took W.refused
+        L.took L.refused R.took R.refused to.old to.new) result }
 {
     let total = course.frames();
     let time = course.board().time();
     let steps = course.board().steps();
-    if let Err(fault) = list(listing, inputs.source, program) {
+    if let Err(fault) = list(&mut to.listing, inputs.source, program) {
         return Err(RunFault::Write(Output::Listing, fault.count));
     }
-    let stop = match record_run(course, image, frames, wave) {
+    let stop = match record_run(course, image, &mut to.frames, &mut to.wave) {
         Ok(stop) => stop,
         Err(fault) => return Err(RunFault::Write(fault.output, fault.count)),
     };
     let outcome = outcome_since(time, steps, course.board(), stop);
-    match report_on(report, outcome, total) {
+    match report_on(&mut to.report, outcome, total) {
         Ok(()) => Ok(outcome),
         Err(fault) => Err(RunFault::Write(Output::Report, fault.count)),
     }
+}
+
+/// What a run came to, and the board at its end.
+#[derive(Drop)]
+pub struct RunEnd {
+    /// What it came to.
+    pub outcome: Outcome,
+    /// The board.
+    pub board: Box<Board>,
+}
+
+/// A run from power-on, or from the board of a state file.
+pub(crate) fn run_from<F: Out, W: Out, L: Out, R: Out>(
+    alloc: Global,
+    inputs: &RunInputs,
+    from: Option<&[u8]>,
+    to: &mut Writers<F, W, L, R>,
+) -> Result<RunEnd, RunFault>
+    ensures { RunsTo inputs.now (option_copied from.entry) (writings F.took F.refused W.took W.refused
+        L.took L.refused R.took R.refused to.old to.new) result }
+{
+    let Prepared {
+        program,
+        board,
+        script,
+        image,
+    } = prepare(alloc, inputs, from)?;
+    let mut course = begin(board, script);
+    let outcome = match write_all(inputs, &program, &mut course, image, to) {
+        Ok(outcome) => outcome,
+        Err(fault) => return Err(fault),
+    };
+    let board = course.into_board();
+    // (a law, with nothing to run: a board's state is in its ranges)
+    boards_have_states(&board);
+    Ok(RunEnd { outcome, board })
 }
 
 /// Runs a source, or the program of a ROM set, on the board while a script holds its inputs. To four outputs go the
@@ -131,33 +162,13 @@ pub(crate) fn write_all<F: Out, W: Out, L: Out, R: Out>(
 pub fn run_all<F: Out, W: Out, L: Out, R: Out>(
     alloc: Global,
     inputs: &RunInputs,
-    frames: &mut F,
-    wave: &mut W,
-    listing: &mut L,
-    report: &mut R,
+    to: &mut Writers<F, W, L, R>,
 ) -> Result<Outcome, RunFault>
-    ensures { Runs inputs.now (record {
-      frames = record { took = F.took; refused = F.refused; old = frames.old; new = frames.new };
-      wave = record { took = W.took; refused = W.refused; old = wave.old; new = wave.new };
-      listing = record { took = L.took; refused = L.refused; old = listing.old; new = listing.new };
-      report = record { took = R.took; refused = R.refused; old = report.old; new = report.new };
-    }) result }
+    ensures { Runs inputs.now (writings F.took F.refused W.took W.refused
+        L.took L.refused R.took R.refused to.old to.new) result }
 {
-    let Prepared {
-        program,
-        board,
-        script,
-        image,
-    } = prepare(alloc, inputs, None)?;
-    let mut course = begin(board, script);
-    write_all(
-        inputs,
-        &program,
-        &mut course,
-        image,
-        frames,
-        wave,
-        listing,
-        report,
-    )
+    match run_from(alloc, inputs, None, to) {
+        Ok(ran) => Ok(ran.outcome),
+        Err(fault) => Err(fault),
+    }
 }

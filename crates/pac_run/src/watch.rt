@@ -6,7 +6,8 @@ ghost use Rattle.pac_board_course.specs.Stretches.{total_frames};
 ghost use Rattle.pac_debug.specs.Motions.{IsOutcome};
 ghost use Rattle.pac_debug.specs.Running.{whole_run};
 ghost use Rattle.pac_debug.specs.Session.{session_at_start};
-ghost use Rattle.pac_run.specs.Watched.{Films, WatchesOutputs};
+ghost use Rattle.pac_run.specs.Recorded.{WatchesFilm, WatchesOutputs};
+ghost use Rattle.pac_run.specs.Run.{writing};
 
 use crate::fault::{Output, OutputFault};
 use crate::film::{FRAME_SAMPLES, Film};
@@ -24,8 +25,7 @@ impl<F: Out, W: Out> Film<F, W> {
     ) -> Result<Outcome, OutputFault>
         requires { session ≡ session_at_start session.setting 0 }
         ensures outcome { IfOk result (IsOutcome session) }
-        ensures film { Films F.took F.refused W.took W.refused T.took T.refused session.setting
-            (lines commands.now)
+        ensures film { WatchesFilm F.took F.refused W.took W.refused T.took T.refused session.setting (lines commands.now)
             self.old text.old result self.new text.new }
     {
         match watch(session, commands, self, text) {
@@ -36,7 +36,7 @@ impl<F: Out, W: Out> Film<F, W> {
                     count: fault.count,
                 }),
             },
-            Err(CommandFault::Refused) => Err(self.give_up()),
+            Err(CommandFault::Refused) => Err(self.refusal()),
             Err(CommandFault::Text(fault)) => {
                 let _ = self.wave.flush();
                 Err(OutputFault {
@@ -61,9 +61,8 @@ pub fn watch_run<F: Out, W: Out, T: Out>(
     requires { session ≡ session_at_start session.setting 0 }
     ensures outcome { IfOk result (IsOutcome session) }
     ensures texts { WatchesOutputs
-        (record { took = F.took; refused = F.refused; old = frames.old; new = frames.new })
-        (record { took = W.took; refused = W.refused; old = wave.old; new = wave.new })
-        (record { took = T.took; refused = T.refused; old = text.old; new = text.new })
+        (writing F.took F.refused frames.old frames.new) (writing W.took W.refused wave.old wave.new)
+        (writing T.took T.refused text.old text.new)
         (total_frames session.setting.script)
         (whole_run session.setting).outputs session.setting (lines commands.now) result }
 {

@@ -6,10 +6,10 @@ use Rattle.clap.specs.declared.error.kind.ErrorKind.{ErrorKind}
 use Rattle.pac_run_files.specs.Files.{FindsFile, Handling}
 use Rattle.pac_run_options.specs.CommandLine.{Asked, faults_of, request_of}
 use Rattle.pac_run.specs.WriteFault.{WriteFault}
-use Rattle.pac_run.specs.Run.{Writing}
+use Rattle.pac_run.specs.Run.{Writing, writing}
 use Rattle.pac_run_command.specs.declared.failure.Failure.TheVariants.{Memory, Words}
 use Rattle.pac_run_command.specs.Endings.{Ending, FailureEnds}
-use Rattle.pac_run_command.specs.Programs.{assembling, writing}
+use Rattle.pac_run_command.specs.Programs.{assembling}
 use Rattle.pac_run_command.specs.Works.{Works, WorksUnkept, desk_of, without_output}
 
 -- what a machine's files and their writers say by relations, and what a writer of standard output and the console say

@@ -1,11 +1,11 @@
 -- To be believed: what assembling a source leaves of its two outputs, and what a run leaves, by the answer; and the same over files.
-use Rattle.std.specs.Prelude.{◌≡◌, ℕ, List, Option, Result, Ok, Err}
+use Rattle.std.specs.Prelude.{◌≡◌, ℕ, List, Option, None, Result, Ok, Err}
 use Rattle.pac_asm.specs.Programs.{program_of}
 use Rattle.pac_listing.specs.Listing.{listing}
 use Rattle.pac_asm.specs.Assembled.{Assembled}
 use Rattle.pac_run.specs.Debugs.{Debugs}
 use Rattle.pac_run.specs.Resumes.{Resumes}
-use Rattle.pac_run.specs.Run.{Writing, Writers, TakesText, StopsInText, IsUnwritten}
+use Rattle.pac_run.specs.Run.{Writing, Writings, Runs, TakesText, StopsInText, IsUnwritten, writing}
 use Rattle.pac_run.specs.Writes.{took_if_there, refused_if_there}
 use Rattle.pac_run.specs.declared.fault.Output.TheVariants.{Listing}
 use Rattle.pac_run.specs.declared.fault.RunFault.{RunFault}
@@ -52,21 +52,24 @@ abbrev pub HoldsByAnswer : (Result Outcome RunFault → Type 0) → Result Outco
 HoldsByAnswer holds (Ok outcome) = holds (Ok outcome)
 HoldsByAnswer holds (Err failure) = IsRunFailure (λ fault. holds (Err fault)) failure
 
--- a run of the program, from the state in a file or from power-on
-abbrev pub PerformsRun : {F W L R S : Type 0} → RunInputs → (from : Option (List ℕ)) → Writers F W L R → (state : Writing S)
+-- A run where no state is named, neither to begin with nor to be saved: from power-on. Where one is, a run that may begin with one, and
+-- whose end may be saved.
+abbrev pub RunsOrResumes : {F W L R S : Type 0} → RunInputs → (from : Option (List ℕ)) → Writings F W L R → (state : Writing (Option S))
+    → (named : Option S) → Result Outcome RunFault → Type 0
+RunsOrResumes inputs None to state None answer = Runs inputs to answer × IsUnwritten state
+RunsOrResumes inputs from to state named answer = Resumes inputs from to state answer
+
+-- a run of the program: a file for the state is there where one is named
+abbrev pub PerformsRun : {F W L R S : Type 0} → RunInputs → (from : Option (List ℕ)) → Writings F W L R → (state : Writing (Option S))
     → Result Outcome Failure → Type 0
-PerformsRun inputs from to state answer = HoldsByAnswer (Resumes inputs from to state) answer
+PerformsRun inputs from to state answer = HoldsByAnswer (RunsOrResumes inputs from to state state.old) answer
 
 -- a run of the program under a debugger
-abbrev pub PerformsWatched : {F W L R T : Type 0} → RunInputs → (commands : List ℕ) → Writers F W L R → Writing T
+abbrev pub PerformsWatched : {F W L R T : Type 0} → RunInputs → (commands : List ℕ) → Writings F W L R → Writing T
     → Result Outcome Failure → Type 0
 PerformsWatched inputs commands to text answer = HoldsByAnswer (Debugs inputs commands to text) answer
 
 -- ---- over files, by the two relations of their writers: as they were created, and as the work left them
-
--- a writer before and after
-abbrev pub writing : {W : Type 0} → (took : W → List ℕ → W → Type 0) → (refused : W → W → Type 0) → (old new : W) → Writing W
-writing took refused old new = record { took = took; refused = refused; old = old; new = new }
 
 -- what assembling a source does with its two files
 abbrev pub Assembling : Type 0 → Type 1
@@ -80,9 +83,9 @@ assembling took refused source answer created left =
 abbrev pub Performing : Type 0 → Type 1
 Performing File = Result Outcome Failure → RunInputs → (created left : Outputs File) → Type 0
 
-abbrev pub writers_of : {File R : Type 0} → (took : File → List ℕ → File → Type 0) → (refused : File → File → Type 0)
-    → (created left : Outputs File) → Writing R → Writers File File File R
-writers_of took refused created left report = record {
+abbrev pub writings_of : {File R : Type 0} → (took : File → List ℕ → File → Type 0) → (refused : File → File → Type 0)
+    → (created left : Outputs File) → Writing R → Writings File File File R
+writings_of took refused created left report = record {
   frames = writing took refused created.frames left.frames;
   wave = writing took refused created.wave left.wave;
   listing = writing took refused created.listing left.listing;
@@ -92,11 +95,11 @@ writers_of took refused created left report = record {
 abbrev pub performing : {File R : Type 0} → (took : File → List ℕ → File → Type 0) → (refused : File → File → Type 0) → Writing R
     → (from : Option (List ℕ)) → Performing File
 performing took refused report from answer inputs created left =
-    PerformsRun inputs from (writers_of took refused created left report)
+    PerformsRun inputs from (writings_of took refused created left report)
     (writing (took_if_there took) (refused_if_there refused) created.state left.state) answer
 
 -- under a debugger a run writes no state
 abbrev pub watching : {File R T : Type 0} → (took : File → List ℕ → File → Type 0) → (refused : File → File → Type 0) → Writing R
     → Writing T → (commands : List ℕ) → Performing File
 watching took refused report text commands answer inputs created left =
-    PerformsWatched inputs commands (writers_of took refused created left report) text answer × (left.state ≡ created.state)
+    PerformsWatched inputs commands (writings_of took refused created left report) text answer × (left.state ≡ created.state)

@@ -7,7 +7,8 @@ ghost use Rattle.pac_run_options.specs.CommandLine.{told_asm};
 ghost use Rattle.pac_run_command.specs.Failures.{Opens};
 ghost use Rattle.pac_run_files.specs.Files.{AllClosed, AllCreated, FirstUncreated};
 ghost use Rattle.pac_run_command.specs.Making.{Makes, asm_outputs, asm_paths, asm_output_files};
-ghost use Rattle.pac_run_command.specs.Programs.{Assembles, assembling, writing};
+ghost use Rattle.pac_run.specs.Run.{writing};
+ghost use Rattle.pac_run_command.specs.Programs.{Assembles, assembling};
 
 use crate::failure::{Failure, Target, read_failure};
 use pac_asm::{AsmError, Program, assemble};

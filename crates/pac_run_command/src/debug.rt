@@ -4,14 +4,15 @@ ghost use Rattle.std.specs.Prelude.{◌≡◌, ◌≤◌};
 ghost use Rattle.pac_run_options.specs.CommandLine.{told_debug, told_run};
 ghost use Rattle.pac_run_command.specs.Failures as told;
 ghost use Rattle.pac_run_command.specs.Outputs.{RecordsRun, WatchesRun, from_power_on};
-ghost use Rattle.pac_run_command.specs.Programs.{PerformsWatched, watching, writing};
+ghost use Rattle.pac_run.specs.Run.{writing, writings};
+ghost use Rattle.pac_run_command.specs.Programs.{PerformsWatched, watching};
 
 use crate::failure::{Failure, failure_of, read_failure};
 use crate::given::inputs_of;
-use crate::play::{close_outputs, create_outputs, end};
+use crate::play::{Outputs, close_outputs, create_outputs, end};
 use crate::program::tell;
 use crate::teller::Teller;
-use pac_run::{Out, Outcome, RunInputs, debug_all};
+use pac_run::{Out, Outcome, RunInputs, Writers, debug_all};
 use pac_run_files::{
     FileSystem, Given, NamedFile, manifest_in, parts_of, read_parts, read_watched,
 };
@@ -23,23 +24,38 @@ pub fn debug_inputs<F: Out, W: Out, L: Out, R: Out, T: Out>(
     alloc: Global,
     inputs: &RunInputs,
     commands: &[u8],
-    frames: &mut F,
-    wave: &mut W,
-    listing: &mut L,
-    report: &mut R,
+    to: &mut Writers<F, W, L, R>,
     text: &mut T,
 ) -> Result<Outcome, Failure<'static>>
-    ensures { PerformsWatched inputs.now commands.now (record {
-      frames = writing F.took F.refused frames.old frames.new;
-      wave = writing W.took W.refused wave.old wave.new;
-      listing = writing L.took L.refused listing.old listing.new;
-      report = writing R.took R.refused report.old report.new;
-    }) (writing T.took T.refused text.old text.new) result }
+    ensures { PerformsWatched inputs.now commands.now
+        (writings F.took F.refused W.took W.refused L.took L.refused R.took R.refused to.old to.new)
+        (writing T.took T.refused text.old text.new) result }
 {
-    match debug_all(alloc, inputs, commands, frames, wave, listing, report, text) {
+    match debug_all(alloc, inputs, commands, to, text) {
         Ok(outcome) => Ok(outcome),
         Err(fault) => Err(failure_of(fault)),
     }
+}
+
+/// A run under a debugger over the files of its outputs; report and text go to standard output.
+fn debug_over<F: Out, R: Out, T: Out>(
+    alloc: Global,
+    inputs: &RunInputs,
+    commands: &[u8],
+    outputs: &mut Outputs<F>,
+    report: &mut R,
+    text: &mut T,
+) -> Result<Outcome, Failure<'static>>
+    ensures { watching F.took F.refused (writing R.took R.refused report.old report.new) (writing T.took T.refused text.old text.new)
+        commands.now result inputs.now outputs.old outputs.new }
+{
+    let mut to = Writers {
+        frames: &mut outputs.frames,
+        wave: &mut outputs.wave,
+        listing: &mut outputs.listing,
+        report,
+    };
+    debug_inputs(alloc, inputs, commands, &mut to, text)
 }
 
 /// Creates the outputs, runs what was read under the debugger, and closes them.
@@ -72,16 +88,7 @@ pub fn record_watched<D: FileSystem, R: Out, T: Out>(
         Ok(outputs) => outputs,
         Err(failure) => return Err(failure),
     };
-    let ran = debug_inputs(
-        alloc,
-        &inputs,
-        commands,
-        &mut outputs.frames,
-        &mut outputs.wave,
-        &mut outputs.listing,
-        report,
-        text,
-    );
+    let ran = debug_over(alloc, &inputs, commands, &mut outputs, report, text);
     close_outputs(disk, outputs);
     ran
 }

@@ -4,7 +4,7 @@ ghost use Rattle.std.specs.Prelude.{◌≡◌};
 ghost use Rattle.pac_dis.specs.Lines.{disassembly};
 ghost use Rattle.pac_run.specs.Recorded.{WritesWholeText};
 ghost use Rattle.pac_run_command.specs.Making.{TellsDisassembly};
-ghost use Rattle.pac_run_command.specs.Programs.{writing};
+ghost use Rattle.pac_run.specs.Run.{writing};
 ghost use Rattle.pac_run_command.specs.Texts.{WritesDisassembly};
 
 use crate::failure::{Failure, Target, read_failure};

@@ -1,43 +1,64 @@
 //! `run`: a ROM set, a script and perhaps a source become frames, sound, a listing and a report, from power-on or from a board that was
 //! saved.
 
-ghost use Rattle.std.specs.Prelude.{◌≡◌, ◌≤◌, option_copied};
+ghost use Rattle.std.specs.Prelude.{◌≡◌, ◌≤◌, ◌||◌, is_some, option_copied};
 ghost use Rattle.pac_run_options.specs.CommandLine.{told_play};
 ghost use Rattle.pac_run_command.specs.Endings.{RunEnds};
 ghost use Rattle.pac_run_command.specs.Failures as told;
 ghost use Rattle.pac_run_command.specs.Failures.{Opens};
 ghost use Rattle.pac_run_files.specs.Files.{AllClosed, AllCreated, FirstUncreated};
 ghost use Rattle.pac_run_command.specs.Outputs.{PlaysRun, RecordsRun, run_output_files, run_outputs, run_paths};
-ghost use Rattle.pac_run_command.specs.Programs.{PerformsRun, performing, writing};
+ghost use Rattle.pac_run.specs.Run.{writing, writings};
+ghost use Rattle.pac_run.specs.Writes.{refused_if_there, took_if_there};
+ghost use Rattle.pac_run_command.specs.Programs.{PerformsRun, RunsOrResumes, performing};
 
 use crate::failure::{Failure, Target, end_status, failure_of, read_failure};
 use crate::given::{bytes_in, inputs_of};
 use crate::program::tell;
 use crate::teller::Teller;
-use pac_run::{Out, Outcome, Output, RunInputs, resume_all};
+use pac_run::{Out, Outcome, Output, RunFault, RunInputs, Writers, resume_all, run_all};
 use pac_run_files::{FileSystem, Given, NamedFile, manifest_in, parts_of, read_parts, read_played};
 use pac_run_options::PlayFiles;
 use std::alloc::Global;
 
-/// A run of the program: that of `resume_all`, its fault told as a failure.
+/// Whether a state is named, to begin with or to be saved.
+fn names_state<S>(from: Option<&[u8]>, state: &Option<S>) -> bool
+    ensures { result ≡ (is_some from.entry || is_some state.now) }
+{
+    from.is_some() || state.is_some()
+}
+
+/// A run where no state is named is that of `run_all`, and else that of `resume_all`.
+fn run_or_resume<F: Out, W: Out, L: Out, R: Out, S: Out>(
+    alloc: Global,
+    inputs: &RunInputs,
+    from: Option<&[u8]>,
+    to: &mut Writers<F, W, L, R>,
+    state: &mut Option<S>,
+) -> Result<Outcome, RunFault>
+    ensures { RunsOrResumes inputs.now (option_copied from.entry)
+        (writings F.took F.refused W.took W.refused L.took L.refused R.took R.refused to.old to.new)
+        (writing (took_if_there S.took) (refused_if_there S.refused) state.old state.new) state.old result }
+{
+    if !names_state(from, state) {
+        return run_all(alloc, inputs, to);
+    }
+    resume_all(alloc, inputs, from, to, state)
+}
+
+/// A run of the program, its fault told as a failure.
 pub fn run_inputs<F: Out, W: Out, L: Out, R: Out, S: Out>(
     alloc: Global,
     inputs: &RunInputs,
     from: Option<&[u8]>,
-    frames: &mut F,
-    wave: &mut W,
-    listing: &mut L,
-    report: &mut R,
-    state: &mut S,
+    to: &mut Writers<F, W, L, R>,
+    state: &mut Option<S>,
 ) -> Result<Outcome, Failure<'static>>
-    ensures { PerformsRun inputs.now (option_copied from.entry) (record {
-      frames = writing F.took F.refused frames.old frames.new;
-      wave = writing W.took W.refused wave.old wave.new;
-      listing = writing L.took L.refused listing.old listing.new;
-      report = writing R.took R.refused report.old report.new;
-    }) (writing S.took S.refused state.old state.new) result }
+    ensures { PerformsRun inputs.now (option_copied from.entry)
+        (writings F.took F.refused W.took W.refused L.took L.refused R.took R.refused to.old to.new)
+        (writing (took_if_there S.took) (refused_if_there S.refused) state.old state.new) result }
 {
-    match resume_all(alloc, inputs, from, frames, wave, listing, report, state) {
+    match run_or_resume(alloc, inputs, from, to, state) {
         Ok(outcome) => Ok(outcome),
         Err(fault) => Err(failure_of(fault)),
     }
@@ -117,6 +138,26 @@ pub fn close_outputs<D: FileSystem>(disk: &mut D, outputs: Outputs<D::File>)
     }
 }
 
+/// A run over the files of its outputs; the report goes to standard output.
+fn run_over<F: Out, R: Out>(
+    alloc: Global,
+    inputs: &RunInputs,
+    from: Option<&[u8]>,
+    outputs: &mut Outputs<F>,
+    report: &mut R,
+) -> Result<Outcome, Failure<'static>>
+    ensures { performing F.took F.refused (writing R.took R.refused report.old report.new) (option_copied from.entry)
+        result inputs.now outputs.old outputs.new }
+{
+    let mut to = Writers {
+        frames: &mut outputs.frames,
+        wave: &mut outputs.wave,
+        listing: &mut outputs.listing,
+        report,
+    };
+    run_inputs(alloc, inputs, from, &mut to, &mut outputs.state)
+}
+
 /// Creates the outputs, runs what was read, and closes them.
 pub fn record<D: FileSystem, R: Out>(
     alloc: Global,
@@ -139,16 +180,7 @@ pub fn record<D: FileSystem, R: Out>(
         Ok(outputs) => outputs,
         Err(failure) => return Err(failure),
     };
-    let ran = run_inputs(
-        alloc,
-        &inputs,
-        from,
-        &mut outputs.frames,
-        &mut outputs.wave,
-        &mut outputs.listing,
-        report,
-        &mut outputs.state,
-    );
+    let ran = run_over(alloc, &inputs, from, &mut outputs, report);
     close_outputs(disk, outputs);
     ran
 }

@@ -1,18 +1,17 @@
-use Rattle.std.proofs.Common.{refl}
-use Rattle.std.proofs.lemmas.Result.{err_from_is_err_and}
-use Rattle.pac_run.proofs.Answered.{refused}
-use Rattle.pac_run.proofs.Lent.{writing}
-use Rattle.pac_run.proofs.Resumed.{run-written}
+use Rattle.pac_run.specs.Run.{writings}
+use Rattle.pac_run.proofs.Answered.{failed, ran}
 use Rattle.pac_run.proofs.run.run_all.Goals as goal
 
-pub returns-in_err-program : goal.returns-in_err-program
-returns-in_err-program g c =
-    let p = err_from_is_err_and c.from_residual.result c.from_residual.ensures.1 in
-    rw (p.1, p.2)
-    (refused _ c.args.inputs.now c.in_err-program.field-0.0 c.in_err-program.ensures
-    (record { frames = refl; wave = refl; listing = refl; report = refl }))
+pub returns-in-Ok : goal.returns-in-Ok
+returns-in-Ok g c =
+    ran
+    (writings g.F.Out.took g.F.Out.refused g.W.Out.took g.W.Out.refused g.L.Out.took g.L.Out.refused g.R.Out.took g.R.Out.refused
+    c.args.to.now c.run_from.new.to)
+    c.args.inputs.now c.in-Ok.ran c.in-Ok.ensures
 
-pub returns : goal.returns
-returns g c =
-    run-written c.args.inputs.now c.in_ok-program.field-0 c.in_ok-program.ensures c.begin-course.result c.begin-course.ensures
-    _ c.write_all.result c.write_all.ensures.written
+pub returns-in-Err : goal.returns-in-Err
+returns-in-Err g c =
+    failed
+    (writings g.F.Out.took g.F.Out.refused g.W.Out.took g.W.Out.refused g.L.Out.took g.L.Out.refused g.R.Out.took g.R.Out.refused
+    c.args.to.now c.run_from.new.to)
+    c.args.inputs.now c.in-Err.fault c.in-Err.ensures

@@ -3,7 +3,7 @@ use Rattle.pac_board_course.specs.Course.{CourseValue, way_on}
 use Rattle.pac_board_course.specs.State.{BoardValue}
 use Rattle.pac_board_course.specs.Stretches.{most_frames}
 use Rattle.pac_run.specs.Recorded.{course_contents}
-use Rattle.pac_run.proofs.Lent.{writing}
+use Rattle.pac_run.specs.Run.{writings}
 use Rattle.pac_run.proofs.Traced.{is-near}
 use Rattle.pac_run.proofs.Answered.{cut-at}
 use Rattle.pac_run.proofs.run.write_all.Goals as goal
@@ -11,12 +11,14 @@ use Rattle.pac_run.proofs.run.write_all.Goals as goal
 pub returns-in-Err-record_run-clause-written : goal.returns-in-Err-record_run-clause-written
 returns-in-Err-record_run-clause-written g c =
     cut-at
-    (record {
-      frames = writing g.F.Out.took g.F.Out.refused c.args.frames.now c.record_run.new.frames;
-      wave = writing g.W.Out.took g.W.Out.refused c.args.wave.now c.record_run.new.wave;
-      listing = writing g.L.Out.took g.L.Out.refused c.args.listing.now c.list.new.listing;
-      report = writing g.R.Out.took g.R.Out.refused c.args.report.now c.args.report.now;
-    })
+    (writings g.F.Out.took g.F.Out.refused g.W.Out.took g.W.Out.refused g.L.Out.took g.L.Out.refused g.R.Out.took g.R.Out.refused
+    c.args.to.now (record {
+      frames = c.record_run.new.frames;
+      wave = c.record_run.new.wave;
+      listing = c.list.new.listing;
+      report =
+          c.args.to.now.report;
+    }))
     (course_contents c.args.inputs.now c.args.program.now c.args.course.now) c.in_default.ensures c.in-Err-record_run.fault.output
     c.in-Err-record_run.fault.count c.in-Err-record_run.ensures.texts refl
 

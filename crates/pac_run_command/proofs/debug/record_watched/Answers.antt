@@ -1,4 +1,4 @@
-use Rattle.std.proofs.Common.{inl, refl, rules}
+use Rattle.std.proofs.Common.{inl, rules}
 use Rattle.pac_run_command.proofs.debug.record_watched.Goals as goal
 
 pub returns : goal.returns
@@ -8,12 +8,7 @@ returns g c = inl (record {
   created = c.in-Ok-create_outputs.outputs;
   during = c.create_outputs.new.disk;
   all_created = c.in-Ok-create_outputs.ensures;
-  left = record {
-    frames = c.debug_inputs-ran.new.frames;
-    wave = c.debug_inputs-ran.new.wave;
-    listing = c.debug_inputs-ran.new.listing;
-    state = c.in-Ok-create_outputs.outputs.state;
-  };
-  performed = (c.debug_inputs-ran.ensures, refl);
+  left = c.debug_over-ran.new.outputs;
+  performed = c.debug_over-ran.ensures;
   all_closed = c.close_outputs.ensures;
 })

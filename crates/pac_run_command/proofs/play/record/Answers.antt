@@ -8,12 +8,7 @@ returns g c = inl (record {
   created = c.in-Ok-create_outputs.outputs;
   during = c.create_outputs.new.disk;
   all_created = c.in-Ok-create_outputs.ensures;
-  left = record {
-    frames = c.run_inputs-ran.new.frames;
-    wave = c.run_inputs-ran.new.wave;
-    listing = c.run_inputs-ran.new.listing;
-    state = c.run_inputs-ran.new.state;
-  };
-  performed = c.run_inputs-ran.ensures;
+  left = c.run_over-ran.new.outputs;
+  performed = c.run_over-ran.ensures;
   all_closed = c.close_outputs.ensures;
 })

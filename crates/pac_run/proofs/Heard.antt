@@ -1,0 +1,207 @@
+-- What comes before a byte among outputs: all of a first part and something of a second, or something of the first.
+use Rattle.std.proofs.Common.{◌≡◌, ℕ, ◌+◌, ◌-◌, ◌<◌, ◌≤◌, nat_le, Bool, true, false, if◌then◌else◌, List, [], ◌∷◌, ◌++◌, length}
+use Rattle.std.proofs.Common.{refl, sym, ap, ◌∙◌, append-nil, length-append, arith}
+use Rattle.std.proofs.lemmas.Bool.Decides.{nat_tests}
+use Rattle.std.proofs.lemmas.Grind.{flat_map-append}
+use Rattle.std.specs.List.{flat_map}
+use Rattle.pac_media.specs.Samples.{sample_text, samples_text}
+use Rattle.pac_board_course.specs.Output.{Output, Sound, Show, picture_count}
+use Rattle.pac_run.specs.Run.{outputs_before}
+use Rattle.pac_run.specs.Texts.{image_bytes, sample_bytes, samples_in, images_text}
+
+-- ---- counts and texts of lists that are put together
+
+pub pictures-counted : (one other : List Output) → picture_count (one ++ other) ≡ picture_count one + picture_count other
+pictures-counted [] other = omega arith
+pictures-counted (Sound sample ∷ more) other = pictures-counted more other
+pictures-counted (Show image ∷ more) other = let e = pictures-counted more other in omega (arith, e)
+
+pub frames-append : (one other : List Output) → images_text (one ++ other) ≡ images_text one ++ images_text other
+frames-append one other = flat_map-append image_bytes one other
+
+-- no picture has no image
+pub no-images : (outputs : List Output) → picture_count outputs ≡ 0 → images_text outputs ≡ []
+no-images [] none = refl
+no-images (Sound sample ∷ more) none = no-images more none
+no-images (Show image ∷ more) none = absurd (omega (arith, none))
+
+-- the sound's bytes are those of its samples
+pub sound-bytes : (outputs : List Output) → samples_text (samples_in outputs) ≡ flat_map sample_bytes outputs
+sound-bytes [] = refl
+sound-bytes (Sound sample ∷ more) = ap (λ rest. sample_text sample ++ rest) (sound-bytes more)
+sound-bytes (Show image ∷ more) = sound-bytes more
+
+-- ---- before a byte
+
+choose : {A : Type 0} (test : Bool) (one other : A) → test ≡ true → (if test then one else other) ≡ one
+choose true one other is = refl
+choose false one other is = ap (λ (test : Bool). if test then one else other) is
+
+not-chosen : {A : Type 0} (test : Bool) (one other : A) → test ≡ false → (if test then one else other) ≡ other
+not-chosen true one other is = ap (λ (test : Bool). if test then one else other) is
+not-chosen false one other is = refl
+
+module _ (bytes : Output → List ℕ) where
+  abbrev pub size : List Output → ℕ
+  size outputs = length (flat_map bytes outputs)
+
+  pub size-more : (output : Output) (more : List Output) → size (output ∷ more) ≡ length (bytes output) + size more
+  size-more output more = length-append (bytes output) (flat_map bytes more)
+
+  pub size-joined : (one other : List Output) → size (one ++ other) ≡ size one + size other
+  size-joined one other = ap length (flat_map-append bytes one other) ∙ length-append (flat_map bytes one) (flat_map bytes other)
+
+  -- an output whose bytes all come before, and one with the byte
+  goes-on : (n : ℕ) (output : Output) (more : List Output) → length (bytes output) ≤ n
+      → outputs_before bytes n (output ∷ more) ≡ output ∷ outputs_before bytes (n - length (bytes output)) more
+  goes-on n output more less =
+      let test : nat_le (length (bytes output)) n ≡ true = grind (arith, nat_tests) in
+      choose (nat_le (length (bytes output)) n) (output ∷ outputs_before bytes (n - length (bytes output)) more) [] test
+
+  pub ends-there : (n : ℕ) (output : Output) (more : List Output) → n < length (bytes output) → outputs_before bytes n (output ∷ more) ≡ []
+  ends-there n output more less =
+      let test : nat_le (length (bytes output)) n ≡ false = grind (arith, nat_tests) in
+      not-chosen (nat_le (length (bytes output)) n) (output ∷ outputs_before bytes (n - length (bytes output)) more) [] test
+
+  -- all of a first part comes before
+  pub before-past : (n : ℕ) (one other : List Output) → size one ≤ n
+      → outputs_before bytes n (one ++ other) ≡ one ++ outputs_before bytes (n - size one) other
+  before-past n [] other less = let none : n ≡ n - size [] = omega arith in ap (λ m. outputs_before bytes m other) none
+  before-past n (output ∷ one) other less =
+      let long = size-more output one in
+      let first = goes-on n output (one ++ other) (omega (arith, long, less)) in
+      let rest = before-past (n - length (bytes output)) one other (omega (arith, long, less)) in
+      let count : (n - length (bytes output)) - size one ≡ n - size (output ∷ one) = omega (arith, long) in
+      first ∙ ap (λ more. output ∷ more) (rest ∙ ap (λ m. one ++ outputs_before bytes m other) count)
+
+  pub all-before : (n : ℕ) (outputs : List Output) → size outputs ≤ n → outputs_before bytes n outputs ≡ outputs
+  all-before n outputs less =
+      ap (outputs_before bytes n) (sym (append-nil outputs)) ∙ (before-past n outputs [] less ∙ append-nil outputs)
+
+  -- the byte is in a first part
+  step-within : (n : ℕ) (output : Output) (one other : List Output) (test : Bool) → nat_le (length (bytes output)) n ≡ test
+      → (test ≡ true → outputs_before bytes (n - length (bytes output)) (one ++ other)
+      ≡ outputs_before bytes (n - length (bytes output)) one)
+      → outputs_before bytes n ((output ∷ one) ++ other) ≡ outputs_before bytes n (output ∷ one)
+  step-within n output one other true is rest =
+      choose (nat_le (length (bytes output)) n) (output ∷ outputs_before bytes (n - length (bytes output)) (one ++ other)) [] is
+      ∙ (ap (λ more. output ∷ more) (rest refl)
+      ∙ sym (choose (nat_le (length (bytes output)) n) (output ∷ outputs_before bytes (n - length (bytes output)) one) [] is))
+  step-within n output one other false is rest =
+      not-chosen (nat_le (length (bytes output)) n) (output ∷ outputs_before bytes (n - length (bytes output)) (one ++ other)) [] is
+      ∙ sym (not-chosen (nat_le (length (bytes output)) n) (output ∷ outputs_before bytes (n - length (bytes output)) one) [] is)
+
+  pub before-within : (n : ℕ) (one other : List Output) → n < size one
+      → outputs_before bytes n (one ++ other) ≡ outputs_before bytes n one
+  before-within n [] other less = absurd (omega (arith, less))
+  before-within n (output ∷ one) other less =
+      let long = size-more output one in
+      step-within n output one other (nat_le (length (bytes output)) n) refl
+      (λ is. let enough : length (bytes output) ≤ n = grind (arith, nat_tests) in
+      before-within (n - length (bytes output)) one other (omega (arith, long, less, enough)))
+
+  -- what comes before is a first part
+  pub record Parts (n : ℕ) (outputs : List Output) : Type 0 where
+    pub rest : List Output
+    pub parts : outputs ≡ outputs_before bytes n outputs ++ rest
+
+  part-more : (n : ℕ) (output : Output) (more : List Output) (test : Bool) → nat_le (length (bytes output)) n ≡ test
+      → Parts (n - length (bytes output)) more → Parts n (output ∷ more)
+  part-more n output more true is later =
+      record {
+        rest = later.rest;
+        parts = ap (λ list. output ∷ list) later.parts
+            ∙ ap (λ first. first ++ later.rest)
+            (sym (choose (nat_le (length (bytes output)) n) (output ∷ outputs_before bytes (n - length (bytes output)) more) [] is));
+      }
+  part-more n output more false is later =
+      record {
+        rest = output ∷ more;
+        parts = ap (λ first. first ++ (output ∷ more))
+            (sym (not-chosen (nat_le (length (bytes output)) n) (output ∷ outputs_before bytes (n - length (bytes output)) more) [] is));
+      }
+
+  pub parts-of : (n : ℕ) (outputs : List Output) → Parts n outputs
+  parts-of n [] = record { rest = []; parts = refl }
+  parts-of n (output ∷ more) =
+      part-more n output more (nat_le (length (bytes output)) n) refl (parts-of (n - length (bytes output)) more)
+
+-- ---- what a wave that refuses has heard
+
+-- one sample more is no picture more
+pub samples-add-none : (n : ℕ) (taken : List Output) (sample : _)
+    → picture_count (outputs_before sample_bytes n (taken ++ Sound sample ∷ [])) ≡ picture_count (outputs_before sample_bytes n taken)
+samples-add-none n taken sample = choose-part (nat_le (size sample_bytes taken) n) refl
+  where
+    last : (m : ℕ) → picture_count (outputs_before sample_bytes m (Sound sample ∷ [])) ≡ 0
+    last m = none (nat_le (length (sample_text sample)) m)
+      where
+        none : (test : Bool) → picture_count (if test then (Sound sample ∷ []) else []) ≡ 0
+        none true = refl
+        none false = refl
+
+    choose-part : (test : Bool) → nat_le (size sample_bytes taken) n ≡ test
+        → picture_count (outputs_before sample_bytes n (taken ++ Sound sample ∷ []))
+        ≡ picture_count (outputs_before sample_bytes n taken)
+    choose-part true is =
+        let past : size sample_bytes taken ≤ n = grind (arith, nat_tests) in
+        let e = pictures-counted taken (outputs_before sample_bytes (n - size sample_bytes taken) (Sound sample ∷ [])) in
+        let f = last (n - size sample_bytes taken) in
+        let whole = ap picture_count (before-past sample_bytes n taken (Sound sample ∷ []) past) in
+        let all = ap picture_count (all-before sample_bytes n taken past) in
+        omega (arith, e, f, whole, all)
+    choose-part false is =
+        let within : n < size sample_bytes taken = grind (arith, nat_tests) in
+        ap picture_count (before-within sample_bytes n taken (Sound sample ∷ []) within)
+
+-- The outputs that were taken are those that were heard, and some that wait, of which none is a picture.
+pub record IsHeard (n : ℕ) (outputs taken : List Output) : Type 0 where
+  pub waiting : List Output
+  pub parts : taken ≡ outputs_before sample_bytes n outputs ++ waiting
+  pub no_picture : picture_count waiting ≡ 0
+
+module _ (n : ℕ) (taken left : List Output)
+    (settled : picture_count (outputs_before sample_bytes n taken) ≡ picture_count taken)
+    (past : size sample_bytes taken ≤ n → outputs_before sample_bytes (n - size sample_bytes taken) left ≡ []) where
+  heard-by : (test : Bool) → nat_le (size sample_bytes taken) n ≡ test → IsHeard n (taken ++ left) taken
+  heard-by true is =
+      let enough : size sample_bytes taken ≤ n = grind (arith, nat_tests) in
+      record {
+        waiting = [];
+        parts = sym (append-nil (outputs_before sample_bytes n (taken ++ left))
+            ∙ (before-past sample_bytes n taken left enough ∙ (ap (λ more. taken ++ more) (past enough) ∙ append-nil taken)));
+        no_picture = refl;
+      }
+  heard-by false is =
+      let within : n < size sample_bytes taken = grind (arith, nat_tests) in
+      let split = parts-of sample_bytes n taken in
+      let same = before-within sample_bytes n taken left within in
+      let count = pictures-counted (outputs_before sample_bytes n taken) split.rest in
+      let all = ap picture_count split.parts in
+      record {
+        waiting = split.rest;
+        parts = split.parts ∙ ap (λ first. first ++ split.rest) (sym same);
+        no_picture = omega (arith, settled, count, all);
+      }
+
+  pub is-heard : IsHeard n (taken ++ left) taken
+  is-heard = heard-by (nat_le (size sample_bytes taken) n) refl
+
+-- and the images are the same
+pub heard-images : (n : ℕ) (outputs taken : List Output) → IsHeard n outputs taken
+    → images_text taken ≡ images_text (outputs_before sample_bytes n outputs)
+heard-images n outputs taken heard =
+    let before = outputs_before sample_bytes n outputs in
+    ap images_text heard.parts
+    ∙ (frames-append before heard.waiting
+    ∙ (ap (λ more. images_text before ++ more) (no-images heard.waiting heard.no_picture) ∙ append-nil (images_text before)))
+
+-- ---- what was shown before an image that was refused
+
+pub is-shown : (n : ℕ) (taken : List Output) (image : _) (more : List Output) → size image_bytes taken ≤ n
+    → n < size image_bytes taken + length (image_bytes (Show image))
+    → outputs_before image_bytes n (taken ++ Show image ∷ more) ≡ taken
+is-shown n taken image more enough few =
+    before-past image_bytes n taken (Show image ∷ more) enough
+    ∙ (ap (λ rest. taken ++ rest) (ends-there image_bytes (n - size image_bytes taken) (Show image) more (omega (arith, enough, few)))
+    ∙ append-nil taken)

@@ -1,0 +1,55 @@
+-- A run over writers that are lent, with its fault told as a failure.
+use Rattle.std.proofs.Common.{ℕ, List, Option, None, Some, Result, Ok, Err, ◌≡◌, ◌||◌, true, false, sym}
+use Rattle.std.proofs.lemmas.Bool.{false≢true}
+use Rattle.std.specs.Prelude.{is_some, option_copied}
+use Rattle.std.specs.Borrow.{Bor}
+use Rattle.pac_run.specs.Outcome.{Outcome}
+use Rattle.pac_run.specs.declared.fault.RunFault.{RunFault}
+use Rattle.pac_run.specs.declared.inputs.RunInputs.{RunInputs}
+use Rattle.pac_run.specs.Run.{Writing, Writings, IsUnwritten, Runs}
+use Rattle.pac_run.specs.Resumes.{Resumes}
+use Rattle.pac_run.proofs.Carried.{runs, resumes, debugs}
+use Rattle.pac_run.proofs.Lent.{Carries, itself}
+use Rattle.pac_run_command.specs.declared.failure.Failure.{Failure}
+use Rattle.pac_run_command.specs.Programs.{HoldsByAnswer, PerformsRun, PerformsWatched, RunsOrResumes}
+
+by-answer : {one other : Result Outcome RunFault → Type 0} → ((answer : Result Outcome RunFault) → one answer → other answer)
+    → (answer : Result Outcome Failure) → HoldsByAnswer one answer → HoldsByAnswer other answer
+by-answer onward (Ok outcome) holds = onward (Ok outcome) holds
+by-answer onward (Err failure) holds = record { fault = holds.fault; told = holds.told; left = onward (Err holds.fault) holds.left }
+
+module _ {F G W V L K R Q : Type 0} (to : Writings F W L R) (other : Writings G V K Q) (shows : Carries to.frames other.frames)
+    (sounds : Carries to.wave other.wave) (lists : Carries to.listing other.listing) (reports : Carries to.report other.report) where
+  module _ {S : Type 0} (state : Writing (Option S)) (inputs : RunInputs) where
+    one-of : (from : Option (List ℕ)) (named : Option S) (answer : Result Outcome RunFault)
+        → RunsOrResumes inputs from to state named answer → RunsOrResumes inputs from other state named answer
+    one-of None None answer (ran, unsaved) = (runs to other shows sounds lists reports inputs answer ran, unsaved)
+    one-of None (Some file) answer ran = resumes to other shows sounds lists reports state inputs None answer ran
+    one-of (Some bytes) None answer ran = resumes to other shows sounds lists reports state inputs (Some bytes) answer ran
+    one-of (Some bytes) (Some file) answer ran = resumes to other shows sounds lists reports state inputs (Some bytes) answer ran
+
+    pub performed : (from : Option (List ℕ)) (answer : Result Outcome Failure) → PerformsRun inputs from to state answer
+        → PerformsRun inputs from other state answer
+    performed from answer ran = by-answer (one-of from state.old) answer ran
+
+  pub watched : {T : Type 0} (words : Writing T) (inputs : RunInputs) (commands : List ℕ) (answer : Result Outcome Failure)
+      → PerformsWatched inputs commands to words answer → PerformsWatched inputs commands other words answer
+  watched words inputs commands answer ran =
+      by-answer (debugs to other shows sounds lists reports words words (itself words) inputs commands) answer ran
+
+-- a state is named, to begin with or to be saved, or it isn't
+module _ {F W L R S : Type 0} (to : Writings F W L R) (state : Writing (Option S)) (inputs : RunInputs) where
+  pub resumed : (from : Option (Bor (List ℕ))) (named : Option S) (answer : Result Outcome RunFault)
+      → true ≡ (is_some from || is_some named) → Resumes inputs (option_copied from) to state answer
+      → RunsOrResumes inputs (option_copied from) to state named answer
+  resumed None None answer some ran = absurd (false≢true (sym some))
+  resumed None (Some file) answer some ran = ran
+  resumed (Some bytes) None answer some ran = ran
+  resumed (Some bytes) (Some file) answer some ran = ran
+
+  pub started : (from : Option (Bor (List ℕ))) (named : Option S) (answer : Result Outcome RunFault)
+      → false ≡ (is_some from || is_some named) → Runs inputs to answer → IsUnwritten state
+      → RunsOrResumes inputs (option_copied from) to state named answer
+  started None None answer none ran unsaved = (ran, unsaved)
+  started None (Some file) answer none ran unsaved = absurd (false≢true none)
+  started (Some bytes) named answer none ran unsaved = absurd (false≢true none)
