@@ -43,36 +43,35 @@ told_by_kind (Ran instruction) ticks = Took ticks
 told_by_kind Halted ticks = TookHalted ticks
 told_by_kind Accepted ticks = TookAccepted ticks
 
-abbrev pub told_of_cpu_step : CpuStep → Told
-told_of_cpu_step (Steps regs actions ticks kind) = told_by_kind kind ticks
-told_of_cpu_step (Stops stop) = Refused stop.pc stop.bytes stop.cause
-
 -- a request is taken back where it was accepted
 abbrev pub request_after : Told → Option ℕ → Option ℕ
 request_after (TookAccepted ticks) request = None
 request_after _ request = request
 
--- what the next step finds
-abbrev pub processor_after : CpuStep → Processor → Processor
-processor_after (Steps regs actions ticks kind) before = record {
-  regs = regs;
-  written = bus_after_actions (λ written action. action ∷ written) before.written actions;
-  request = request_after (told_by_kind kind ticks) before.request;
-}
-processor_after (Stops stop) before = before
+-- what some steps come to: what is told of each, and what they leave
+pub record StepsTaken : Type 0 where
+  pub told : List Told
+  pub regs : Regs
+  pub written : List Action
 
-abbrev pub next_cpu_step : Processor → CpuStep
-next_cpu_step before = cpu_step (around before.written) before.regs before.request
+abbrev pub with_told : Told → StepsTaken → StepsTaken
+with_told told course = record { told = told ∷ course.told; regs = course.regs; written = course.written }
 
--- some steps, one after another: what is told of each, and what they leave
-abbrev pub told_of_steps : ℕ → Processor → List Told
-told_of_steps zero before = []
-told_of_steps (suc count) before =
-    told_of_cpu_step (next_cpu_step before) ∷ told_of_steps count (processor_after (next_cpu_step before) before)
+-- a step, and then what follows it
+abbrev pub step_and_rest : (Processor → StepsTaken) → Processor → CpuStep → StepsTaken
+step_and_rest rest before (Steps regs actions ticks kind) =
+    with_told (told_by_kind kind ticks) (rest (record {
+      regs = regs;
+      written = bus_after_actions (λ written action. action ∷ written) before.written actions;
+      request = request_after (told_by_kind kind ticks) before.request;
+    }))
+step_and_rest rest before (Stops stop) = with_told (Refused stop.pc stop.bytes stop.cause) (rest before)
 
-abbrev pub after_steps : ℕ → Processor → Processor
-after_steps zero before = before
-after_steps (suc count) before = after_steps count (processor_after (next_cpu_step before) before)
+-- some steps, one after another
+abbrev pub steps_taken : ℕ → Processor → StepsTaken
+steps_taken zero before = record { told = []; regs = before.regs; written = before.written }
+steps_taken (suc count) before =
+    step_and_rest (steps_taken count) before (cpu_step (around before.written) before.regs before.request)
 
 -- a line: the code, which is at PC; the registers, the cells and the request that its first step finds; what is told of its
 -- steps; the registers after them, from those before; and the writes and outputs in their order
@@ -93,12 +92,17 @@ abbrev pub found_by : VectorLine → Processor
 found_by line =
     record { regs = line.regs; written = code_from line.regs.pc line.code ++ line.cells; request = line.request }
 
+-- what a line says that its steps come to
+abbrev pub steps_told : VectorLine → StepsTaken
+steps_told line = record {
+  told = line.told;
+  regs = line.left line.regs;
+  written = bus_after_actions (λ written action. action ∷ written) (found_by line).written line.actions;
+}
+
 -- a line holds of the definition of a step
 pub record LineHolds (line : VectorLine) : Type 0 where
-  pub told : told_of_steps (length line.told) (found_by line) ≡ line.told
-  pub regs : (after_steps (length line.told) (found_by line)).regs ≡ line.left line.regs
-  pub actions : (after_steps (length line.told) (found_by line)).written
-      ≡ bus_after_actions (λ written action. action ∷ written) (found_by line).written line.actions
+  pub steps : steps_taken (length line.told) (found_by line) ≡ steps_told line
 
 abbrev pub EachLineHolds : List VectorLine → Type 0
 EachLineHolds [] = Unit {0}

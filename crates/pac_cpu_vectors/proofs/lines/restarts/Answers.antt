@@ -33,9 +33,9 @@ unfolding ones table row_at row_of effect_by control_effect byte_load_effect wor
     left_digits_of right_digits_of input_flags_of control_load_flags_of copy_flags_of search_flags_of port_flags_of field_condition is_met
     cpu_step
 returns c =
-    record { told = refl; regs = refl; actions = refl } &
-    record { told = refl; regs = refl; actions = refl } &
-    record { told = refl; regs = refl; actions = refl } &
-    record { told = refl; regs = refl; actions = refl } &
-    record { told = refl; regs = refl; actions = refl } &
+    record { steps = refl } &
+    record { steps = refl } &
+    record { steps = refl } &
+    record { steps = refl } &
+    record { steps = refl } &
     tt
