@@ -1,6 +1,7 @@
 -- To be believed: the flag byte F (UM0080, "Z80 Status Indicator Flags"): S is bit 7, Z bit 6, H bit 4, P/V bit 2, N bit 1 and
 -- C bit 0. Bits 5 and 3 have no meaning; in this profile no operation here changes them.
 use Rattle.std.specs.Prelude.{ℕ, ℤ, pos, negsuc, Bool, not, false, ◌+◌, ◌*◌, ◌/◌, ◌%◌, ◌<◌, ◌==◌, ◌||◌, nat_le, int_lt, if◌then◌else◌}
+use Rattle.std.specs.Prelude.{[], ◌∷◌, get_or}
 use Rattle.pac_alu.specs.declared.flag_byte.Flags.{Flags}
 use Rattle.pac_alu.specs.declared.flag_byte.Condition.{Condition}
 use Rattle.pac_alu.specs.declared.flag_byte.Condition.TheVariants.{NotZero, Zero, NoCarry, Carry, ParityOdd, ParityEven, Plus, Minus}
@@ -58,14 +59,7 @@ parity_flags_of value half_carry carry = record {
 
 -- the condition of a code's field cc, 0 to 7
 unfoldable pub field_condition : ℕ → Condition
-field_condition field =
-    if field == 0 then NotZero else
-    if field == 1 then Zero else
-    if field == 2 then NoCarry else
-    if field == 3 then Carry else
-    if field == 4 then ParityOdd else
-    if field == 5 then ParityEven else
-    if field == 6 then Plus else Minus
+field_condition field = get_or (NotZero ∷ Zero ∷ NoCarry ∷ Carry ∷ ParityOdd ∷ ParityEven ∷ Plus ∷ []) field Minus
 
 -- whether a condition of a jump, call or return is met (UM0080, "Jump Group")
 unfoldable pub is_met : Condition → ℕ → Bool

@@ -1,5 +1,5 @@
 -- To be believed: rotations and shifts (UM0080, "Rotate and Shift Group").
-use Rattle.std.specs.Prelude.{ℕ, false, ◌+◌, ◌*◌, ◌/◌, ◌%◌, ◌==◌, if◌then◌else◌}
+use Rattle.std.specs.Prelude.{ℕ, false, ◌+◌, ◌*◌, ◌/◌, ◌%◌, ◌==◌, [], ◌∷◌, get_or}
 use Rattle.pac_alu.specs.declared.bytes.ByteResult.{ByteResult}
 use Rattle.pac_alu.specs.declared.shifts.Digits.{Digits}
 use Rattle.pac_alu.specs.declared.shifts.Shift.{Shift}
@@ -8,13 +8,7 @@ use Rattle.pac_alu.specs.Flags.{flags_of, flag_byte_of, parity_flags_of}
 
 -- the shift of a code's field, 0 to 5 and 7; no documented code has 6
 unfoldable pub field_shift : ℕ → Shift
-field_shift field =
-    if field == 0 then Rlc else
-    if field == 1 then Rrc else
-    if field == 2 then Rl else
-    if field == 3 then Rr else
-    if field == 4 then Sla else
-    if field == 5 then Sra else Srl
+field_shift field = get_or (Rlc ∷ Rrc ∷ Rl ∷ Rr ∷ Sla ∷ Sra ∷ []) field Srl
 
 -- the byte one place to the left or the right. What comes in: at RLC and RRC the bit that leaves, at RL and RR
 -- the carry, at SLA and SRL 0, at SRA the bit 7 that was there
