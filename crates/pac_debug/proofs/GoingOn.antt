@@ -19,8 +19,8 @@ use Rattle.pac_debug_session.proofs.Forwards.{between-joined, between-self}
 use Rattle.pac_debug.specs.declared.line.CommandFault.{CommandFault}
 use Rattle.pac_debug.specs.declared.line.CommandFault.TheVariants as faults
 use Rattle.pac_debug.specs.GoingOn.{LineAnswer, AnswersEach, Offered, WasTaken, WasRefused, WasOffered, AreInOrder, IsHeldUpAfter}
-use Rattle.pac_debug.specs.GoingOn.{IsHeldUpAt, NoneIsTold, GoesIntoFile, ComesTo, LinesGoOn}
-use Rattle.pac_debug.specs.Obeying.{Scene, Commands, IsHeldUp, session_without_due}
+use Rattle.pac_debug.specs.GoingOn.{AreDoneInTurn, EndIn, IsHeldUpAt, NoneIsTold, GoesIntoFile, ComesTo, LinesGoOn, TextsAreLines}
+use Rattle.pac_debug.specs.Obeying.{Scene, Commands, IsHeldUp, IsLineAnswered, session_without_due}
 use Rattle.pac_debug.specs.Watched.{IsFurther, LinesGive, RefusedOf, outputs_until}
 use Rattle.pac_debug.proofs.Giving.{further-on, line-given}
 use Rattle.pac_debug.proofs.Telling.{line-told, line-refused, line-untold}
@@ -327,3 +327,42 @@ module _ {S : Type 0} (to : Giving S) where
 pub lines-go-on : {S W : Type 0} (to : Giving S) (wrote : W → List ℕ → W → Type 0) (balked : W → W → Type 0)
     → LinesGoOn to wrote balked
 lines-go-on to wrote balked = comes-to to wrote balked
+
+-- ---- a text of lines
+
+end-after : (answers : List LineAnswer) (result : LineAnswer) → EndIn answers result → EndIn (Ok tt ∷ answers) result
+end-after [] result is = is
+end-after (answer ∷ more) result is = is
+
+module _ {S W : Type 0} (to : Giving S) (wrote : W → List ℕ → W → Type 0) (balked : W → W → Type 0) where
+  -- one more line before
+  one-more : (line : List ℕ) (lines : List (List ℕ)) (old mid new : Scene S W) (result : LineAnswer)
+      → IsLineAnswered to wrote balked line old mid → AreDoneInTurn to wrote balked lines mid result new
+      → AreDoneInTurn to wrote balked (line ∷ lines) old result new
+  one-more line lines old mid new result here rest =
+      record {
+        before = line ∷ rest.before;
+        left = rest.left;
+        parts = ap (λ ls. line ∷ ls) rest.parts;
+        answers = Ok tt ∷ rest.answers;
+        end_is = end-after rest.answers result rest.end_is;
+        each = record { between = mid; before = here; after = rest.each };
+      }
+
+  pub in-turn : TextsAreLines to wrote balked
+  in-turn [] old (Ok done) new same =
+      record { before = []; left = []; parts = refl; answers = []; end_is = refl; each = same }
+  in-turn [] old (Err fault) new obeyed = absurd obeyed
+  in-turn (line ∷ lines) old (Ok done) new obeyed =
+      one-more line lines old obeyed.between new (Ok done) obeyed.before (in-turn lines obeyed.between (Ok done) new obeyed.after)
+  in-turn (line ∷ lines) old (Err fault) new (inl here) =
+      record {
+        before = line ∷ [];
+        left = lines;
+        parts = refl;
+        answers = Err fault ∷ [];
+        end_is = refl;
+        each = record { between = new; before = here; after = refl };
+      }
+  in-turn (line ∷ lines) old (Err fault) new (inr later) =
+      one-more line lines old later.between new (Err fault) later.before (in-turn lines later.between (Err fault) new later.after)

@@ -1,5 +1,5 @@
--- To be believed: the law of command lines that go on after one that wasn't answered, which is proved on a public function of the
--- crate. A sink or a text may refuse at any of the lines, and the next line is done all the same.
+-- To be believed: the laws of command lines that go on after one that wasn't answered, each proved on a public function of the crate.
+-- A sink or a text may refuse at any of the lines, and the next line is done all the same.
 use Rattle.std.specs.Prelude.{◌≡◌, ◌<◌, ◌≤◌, ℕ, ◌+◌, true, false, List, [], ◌∷◌, ◌++◌, length, Option, None, Some, Result, Ok, Err, ◌⊎◌}
 use Rattle.pac_board.specs.Output.{Output}
 use Rattle.pac_board.specs.Sinks.{Giving, Then}
@@ -14,7 +14,7 @@ use Rattle.pac_debug_session.specs.Running.{outputs_between}
 use Rattle.pac_debug_session.specs.Session.{SessionValue, session_at_command, session_due_outputs}
 use Rattle.pac_debug.specs.declared.line.CommandFault.{CommandFault}
 use Rattle.pac_debug.specs.declared.line.CommandFault.TheVariants as faults
-use Rattle.pac_debug.specs.Obeying.{Scene, Commands, motion_of, session_without_due}
+use Rattle.pac_debug.specs.Obeying.{Scene, Commands, ObeysLines, motion_of, session_without_due}
 use Rattle.pac_debug.specs.Watched.{TellsOfLine, IsFurther, outputs_until}
 
 -- how a line was answered
@@ -144,3 +144,28 @@ abbrev pub LinesGoOn : {S W : Type 0} → Giving S → (wrote : W → List ℕ �
 LinesGoOn {S} {W} to wrote balked =
     (lines : List (List ℕ)) (answers : List LineAnswer) (old new : Scene S W) → AnswersEach to wrote balked lines answers old new
     → ComesTo to wrote balked lines answers old new
+
+-- ---- texts of lines
+
+-- the answers to some lines, of which the last one alone may not be answered
+abbrev pub EndIn : List LineAnswer → LineAnswer → Type 0
+EndIn [] result = result ≡ Ok tt
+EndIn (answer ∷ []) result = result ≡ answer
+EndIn (Ok done ∷ more) result = EndIn more result
+EndIn (Err fault ∷ more) result = ⊥
+
+-- What a text of lines comes to (`ObeysLines`) is what its lines come to, each by itself, up to the first that isn't answered. So the
+-- lines that are left go on from there.
+pub record AreDoneInTurn {S W : Type 0} (to : Giving S) (wrote : W → List ℕ → W → Type 0) (balked : W → W → Type 0)
+    (lines : List (List ℕ)) (old : Scene S W) (result : LineAnswer) (new : Scene S W) : Type 0 where
+  pub before : List (List ℕ)
+  pub left : List (List ℕ)
+  pub parts : lines ≡ before ++ left
+  pub answers : List LineAnswer
+  pub end_is : EndIn answers result
+  pub each : AnswersEach to wrote balked before answers old new
+
+abbrev pub TextsAreLines : {S W : Type 0} → Giving S → (wrote : W → List ℕ → W → Type 0) → (balked : W → W → Type 0) → Type 0
+TextsAreLines {S} {W} to wrote balked =
+    (lines : List (List ℕ)) (old : Scene S W) (result : LineAnswer) (new : Scene S W) → ObeysLines to wrote balked lines old result new
+    → AreDoneInTurn to wrote balked lines old result new

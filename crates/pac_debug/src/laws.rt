@@ -1,7 +1,7 @@
 //! Laws of what a session tells, gives and does.
 
 ghost use Rattle.pac_board.specs.Sinks.{by};
-ghost use Rattle.pac_debug.specs.GoingOn.{LinesGoOn};
+ghost use Rattle.pac_debug.specs.GoingOn.{LinesGoOn, TextsAreLines};
 ghost use Rattle.pac_debug.specs.Laws.{TellsOneThing, AllLinesTell};
 ghost use Rattle.pac_debug.specs.StepsMade.{LinesMakeNoMore, SessionsMakeNoMore};
 
@@ -21,6 +21,11 @@ pub fn something_is_told()
 /// Lines go on after one that wasn't answered: whatever each asks, and whichever of them the sink or the text refuses.
 pub fn lines_go_on<S: Sink, W: Out>()
     ensures { LinesGoOn (by S.took S.refused) W.took W.refused }
+{}
+
+/// What a text of lines comes to is what its lines come to, up to the first that isn't answered.
+pub fn texts_are_lines<S: Sink, W: Out>()
+    ensures { TextsAreLines (by S.took S.refused) W.took W.refused }
 {}
 
 /// The board makes the steps of the run, and no more of them once more than the lines ask for that go back.

@@ -1,0 +1,7 @@
+-- By induction over the lines.
+use Rattle.pac_board.specs.Sinks.{by}
+use Rattle.pac_debug.proofs.GoingOn.{in-turn}
+use Rattle.pac_debug.proofs.laws.texts_are_lines.Goals as goal
+
+pub returns : goal.returns
+returns g c = in-turn (by g.S.Sink.took g.S.Sink.refused) g.W.Out.took g.W.Out.refused
