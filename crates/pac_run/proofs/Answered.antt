@@ -195,7 +195,7 @@ module _ {F W L R S : Type 0} (to : Writings F W L R) (state : Writing S) (input
       version = written_version;
       known = refl;
       state = end;
-      is_state = subst IsState runs.holds.holds.state_is runs.holds.holds.is_state;
+      is_state = runs.holds.holds.in_order.ends;
       text = refl;
     }
 
@@ -207,7 +207,12 @@ module _ {F W L R S : Type 0} (to : Writings F W L R) (state : Writing S) (input
           holds = record {
             board = runs.holds.board;
             is_first = runs.holds.is_first;
-            holds = record { files = runs.holds.holds.files; state_is = subst (TakesText state) bytes-are takes; file = file-is };
+            holds = record {
+              files = runs.holds.holds.files;
+              state_is = subst (TakesText state) bytes-are takes;
+              file = file-is;
+              in_order = runs.holds.holds.in_order;
+            };
           };
         }
 

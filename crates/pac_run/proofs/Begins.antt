@@ -42,7 +42,7 @@ quiet None true e = absurd (false≢true e)
 quiet (Some sample) picture e = absurd (false≢true e)
 
 module _ (state : BoardState) (frames : ℕ) (begins : start_fault state frames ≡ None) where
-  tests : (is_between_frames state ≡ true) × (has_room state frames ≡ true)
+  pub tests : (is_between_frames state ≡ true) × (has_room state frames ≡ true)
   tests = no-fault (is_between_frames state) (has_room state frames) begins
 
   pub nothing-is-due : state.due ≡ nothing_due

@@ -1,8 +1,8 @@
--- A run whose end was saved, and that is resumed from the file, is the run at once.
-use Rattle.std.proofs.Common.{◌≡◌, ℕ, ◌+◌, ◌-◌, ◌*◌, ◌%◌, ◌<◌, ◌≤◌, zero, suc, pos, nat_le, arith}
-use Rattle.std.proofs.Common.{Bool, true, false, not, ◌||◌, is_some}
+-- Of two plays, the run of the first, saved, and that of the second, resumed from what was saved, are the run of both.
+use Rattle.std.proofs.Common.{◌≡◌, ℕ, ◌+◌, ◌-◌, ◌*◌, ◌/◌, ◌%◌, ◌<◌, ◌≤◌, zero, suc, min, pos, nat_le, arith}
+use Rattle.std.proofs.Common.{Bool, true, false, not, ◌&&◌, ◌||◌, is_some}
 use Rattle.std.proofs.Common.{List, [], ◌∷◌, ◌++◌, length, replicate, Option, None}
-use Rattle.std.proofs.Common.{Some, refl, sym, ap, ◌∙◌, append-nil, length-append}
+use Rattle.std.proofs.Common.{Some, refl, sym, ap, subst, ◌∙◌, append-nil, length-append}
 use Rattle.std.proofs.lemmas.Bool.Decides.{nat_tests}
 use Rattle.pac_asm.specs.PlacedItems.{Item, AllLie}
 use Rattle.pac_board_course.specs.BoardView.{BoardView, IsBoard}
@@ -21,18 +21,16 @@ use Rattle.pac_board_course.specs.Trace.{Play, by_history, by_view, frames_gone,
 use Rattle.pac_board_course.specs.Trace.{resumed, resumed_end, resumed_start, resumed_step}
 use Rattle.pac_board_course.specs.Walk.{Walk, onward_if, walk, walk_after_step}
 use Rattle.pac_board_course.proofs.Agreed.{resumed-runs-agree}
-use Rattle.pac_board_course.proofs.Resumed.{plays-join, stopped-runs-stay}
+use Rattle.pac_board_course.proofs.Resumed.{plays-join}
 use Rattle.pac_board_course.proofs.ResumedTimes.{resumed-runs-have-their-frames}
 use Rattle.pac_board_course.proofs.Walks.{play-timely}
 use Rattle.pac_media.specs.Samples.{samples_text}
-use Rattle.pac_state.specs.Text.{written_version}
-use Rattle.pac_run.specs.Cuts.{JoinsRuns, RunsAreCut, SavedStatesAreTakenUp, StoppedRunsEnd, frames_sound, saved_board}
-use Rattle.pac_run.specs.Resumes.{end_state, frames_asked, run_of_play, without_history}
+use Rattle.pac_run.specs.Parts.{outcomes_joined}
+use Rattle.pac_run.specs.Resumes.{end_state, frames_asked, outcome_since, run_of_play, without_history}
 use Rattle.pac_run.specs.Start.{is_between_frames}
 use Rattle.pac_run.specs.Texts.{images_text, samples_in, sound_text}
 use Rattle.pac_run.proofs.Begins.{both-true}
-use Rattle.pac_run.proofs.Filmed.{samples-append, sound-append}
-use Rattle.pac_run.proofs.Heard.{frames-append, pictures-counted}
+use Rattle.pac_run.proofs.Filmed.{frames-append, samples-append, sound-append}
 
 -- ---- counting
 
@@ -40,6 +38,11 @@ samples-counted : (outputs : List Output) → length (samples_in outputs) ≡ so
 samples-counted [] = refl
 samples-counted (Sound sample ∷ more) = ap suc (samples-counted more)
 samples-counted (Show image ∷ more) = samples-counted more
+
+pictures-counted : (one other : List Output) → picture_count (one ++ other) ≡ picture_count one + picture_count other
+pictures-counted [] other = omega arith
+pictures-counted (Sound sample ∷ more) other = pictures-counted more other
+pictures-counted (Show image ∷ more) other = let e = pictures-counted more other in omega (arith, e)
 
 -- ---- time and steps grow
 
@@ -87,6 +90,24 @@ is-near state between =
 
 -- ---- a run in two
 
+-- the board of the state file that is saved at the end of a play's run
+abbrev pub board_of_end : Parts → Play → BoardValue → Walk (List Entry) → BoardValue
+board_of_end set play board end = record { set = set; state = end_state set play.frames board end; made = 0 }
+
+-- the sound of so many frames, as a wave file has it after its header
+abbrev pub frames_sound : ℕ → List Output → List ℕ
+frames_sound frames outputs = sound_text (frame_samples * frames) outputs
+
+-- Beside the run of both plays: the images one after another and the samples one after another are its own, it ends in the same state,
+-- and what they came to adds up.
+pub record JoinsRuns (set : Parts) (first second : Play) (board saved : BoardValue) (one two whole : Walk (List Entry)) : Type 0 where
+  pub images : images_text one.outputs ++ images_text two.outputs ≡ images_text whole.outputs
+  pub sound :
+      frames_sound first.frames one.outputs ++ frames_sound second.frames two.outputs
+      ≡ frames_sound (first.frames + second.frames) whole.outputs
+  pub state : end_state set second.frames saved two ≡ end_state set (first.frames + second.frames) board whole
+  pub outcome : outcomes_joined (outcome_since board one) (outcome_since saved two) ≡ outcome_since board whole
+
 module _ (set : Parts) (items : List Item) (first second : Play) (board : BoardValue) (whole : IsWhole set)
     (lie : AllLie set.program items) (holds : IsBoard board.state.now.board) (between : is_between_frames board.state ≡ true)
     (open_yet : (run_of_play set items first board).stop ≡ None)
@@ -95,16 +116,16 @@ module _ (set : Parts) (items : List Item) (first second : Play) (board : BoardV
     one = run_of_play set items first board
 
     abbrev saved : BoardValue
-    saved = saved_board set first board one
+    saved = board_of_end set first board one
 
     near : board.state.now.time % frame_ticks < sample_ticks
     near = is-near board.state between
 
-    has-frames : HasItsFrames (by_history set items board.state.now.board) first (without_history board.state.now)
+    pub has-frames : HasItsFrames (by_history set items board.state.now.board) first (without_history board.state.now)
     has-frames =
         resumed-runs-have-their-frames (by_history set items board.state.now.board) first (without_history board.state.now) open_yet
 
-    still-between : is_between_frames saved.state ≡ true
+    pub still-between : is_between_frames saved.state ≡ true
     still-between = let e = has-frames.near near in grind (arith, nat_tests)
 
     -- the first run, told by the view
@@ -191,7 +212,7 @@ module _ (set : Parts) (items : List Item) (first second : Play) (board : BoardV
           λ i. record { now = ends-joined i; asked = asked i; due = nothing_due }
 
       -- what they came to
-      runs-joined : JoinsRuns set first second board saved one two all
+      pub runs-joined : JoinsRuns set first second board saved one two all
       runs-joined =
           let ends = ends-joined in
           let one_grown = run-grown set items first board in
@@ -210,20 +231,3 @@ module _ (set : Parts) (items : List Item) (first second : Play) (board : BoardV
             state = states-joined;
             outcome = λ i. record { frames = frames i; steps = all_steps i; ticks = all_ticks i; stop = stops-joined i };
           }
-
--- ---- the laws
-
-pub runs-are-cut : RunsAreCut
-runs-are-cut set items first second board whole lie holds between open_yet =
-    record {
-      between = still-between set items first second board whole lie holds between open_yet;
-      joins = runs-joined set items first second board whole lie holds between open_yet;
-    }
-
-pub stopped-runs-end : StoppedRunsEnd
-stopped-runs-end set items first second board stop met =
-    stopped-runs-stay (by_history set items board.state.now.board) first second (without_history board.state.now) stop met
-
-pub saved-states-are-taken-up : SavedStatesAreTakenUp
-saved-states-are-taken-up set script state board holds taken =
-    taken.board_is (record { version = written_version; known = refl; state = state; is_state = holds; text = refl })

@@ -10,3 +10,5 @@ pub mod Resumed
 pub mod Watching
 pub mod Debugged
 pub mod Cut
+pub mod Scripts
+pub mod InParts

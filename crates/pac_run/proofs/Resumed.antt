@@ -1,7 +1,7 @@
 -- The answers of what was prepared, begun and written.
 use Rattle.std.proofs.Common.{◌≡◌, ℕ, List, Option, Ok, Err, ap, subst, ◌∙◌}
 use Rattle.pac_board_course.specs.Course.{CourseValue, begun, board_asked, course_after, way_on}
-use Rattle.pac_board_course.specs.State.{BoardValue}
+use Rattle.pac_board_course.specs.State.{BoardState, BoardValue}
 use Rattle.pac_board_course.specs.declared.outcome.Outcome.{Outcome}
 use Rattle.pac_state.specs.Files.{IsState}
 use Rattle.pac_run.specs.declared.fault.RunFault.{RunFault}
@@ -9,7 +9,7 @@ use Rattle.pac_run.specs.declared.inputs.RunInputs.{RunInputs}
 use Rattle.pac_run.specs.declared.plan.Prepared.{Prepared}
 use Rattle.pac_run.specs.Plan.{Plan, plan_with}
 use Rattle.pac_run.specs.Recorded.{IsRunTo, RunsTo, WritesRun, course_contents}
-use Rattle.pac_run.specs.Resumes.{contents_from}
+use Rattle.pac_run.specs.Resumes.{contents_from, last_state}
 use Rattle.pac_run.specs.Run.{Writings, WithPlan}
 use Rattle.pac_run.specs.Resumes.{WithFirstBoard}
 use Rattle.pac_run.specs.Started.{IsPrepared}
@@ -44,6 +44,10 @@ module _ (inputs : RunInputs) (from : Option (List ℕ)) (prepared : Prepared) (
           let end-of : end ≡ board_asked (course_after (begun prepared.board.value prepared.script) (way_on (begun prepared.board.value
           prepared.script))) =
           asked ∙ ap board_asked played ∙ ap (λ course. board_asked (course_after course (way_on course))) begins in
+          let there : end.state ≡ last_state plan inputs.dip from prepared.board.value =
+          ap (λ (board : BoardValue). board.state) end-of
+          ∙ same-state inputs prepared.program prepared.board.value prepared.script ready.whole ready.lie ready.board.holds from
+          ready.board.first in
           record {
             plan = plan;
             plan_is = ready.plan_is;
@@ -53,10 +57,13 @@ module _ (inputs : RunInputs) (from : Option (List ℕ)) (prepared : Prepared) (
               holds = record {
                 files = subst (λ run. WritesRun run to (Ok outcome)) contents-are files;
                 set_is = ap (λ (board : BoardValue). board.set) end-of;
-                state_is = ap (λ (board : BoardValue). board.state) end-of
-                    ∙ same-state inputs prepared.program prepared.board.value prepared.script ready.whole ready.lie ready.board.holds from
-                    ready.board.first;
-                is_state = holds;
+                state_is = there;
+                in_order = record {
+                  whole = ready.whole;
+                  lie = ready.lie;
+                  starts = ready.board.holds;
+                  ends = subst (λ (state : BoardState). IsState state) there holds;
+                };
               };
             };
           }

@@ -7,7 +7,7 @@ pub mod Texts
 pub mod Films
 pub mod Run
 pub mod Resumes
-pub mod Cuts
+pub mod Parts
 pub mod Recorded
 pub mod Watched
 pub mod Debugs

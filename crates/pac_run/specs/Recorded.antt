@@ -13,7 +13,6 @@ use Rattle.pac_board_course.specs.Step.{Moment, frame_ticks}
 use Rattle.pac_board_course.specs.Course.{CourseValue, way_on, course_after}
 use Rattle.pac_debug.specs.Running.{Setting, whole_run}
 use Rattle.pac_asm.specs.Assembled.{Assembled}
-use Rattle.pac_state.specs.Files.{IsState}
 use Rattle.pac_run.specs.declared.inputs.RunInputs.{RunInputs}
 use Rattle.pac_run.specs.Plan.{Plan, IsStateRefused, listing_in, plan_of, source_in}
 use Rattle.pac_run.specs.declared.fault.Output.{Output as Which}
@@ -25,7 +24,7 @@ use Rattle.pac_run.specs.declared.film.Film.{Film}
 use Rattle.pac_run.specs.declared.run.RunEnd.{RunEnd}
 use Rattle.pac_board_course.specs.State.{BoardValue}
 use Rattle.pac_board_course.specs.declared.outcome.Outcome.{Outcome}
-use Rattle.pac_run.specs.Resumes.{WithFirstBoard, contents_from, end_state, run_from}
+use Rattle.pac_run.specs.Resumes.{IsInOrder, WithFirstBoard, contents_from, end_state, run_from}
 use Rattle.pac_run.specs.Run.{Writing, Writings, RunContents, TakesText, StopsInText, FramesStop, WaveStops, IsRunWhole, IsCutAt}
 use Rattle.pac_run.specs.Run.{NothingWritten, WithPlan, shown_before, writing}
 use Rattle.pac_run.specs.Texts as text
@@ -127,7 +126,7 @@ pub record IsRunTo {F W L R : Type 0} (plan : Plan) (dip : ℕ) (from : Option (
   pub files : IsRunWhole (contents_from plan dip from board) to outcome
   pub set_is : end.set ≡ plan.set
   pub state_is : end.state ≡ end_state plan.set (total_frames plan.script) board (run_from plan dip from board)
-  pub is_state : IsState end.state
+  pub in_order : IsInOrder plan dip from board
 
 abbrev pub RunsTo : {F W L R : Type 0} → RunInputs → (from : Option (List ℕ)) → Writings F W L R → Result RunEnd RunFault → Type 0
 RunsTo inputs from to (Ok ran) =

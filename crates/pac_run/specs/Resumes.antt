@@ -1,20 +1,20 @@
 -- To be believed: what a run writes and answers that may begin with the board of a state file, and whose end is saved as one.
 use Rattle.std.specs.Prelude.{◌≡◌, ℕ, ◌+◌, ◌-◌, ◌*◌, min, List, [], Option, None, Some, Result, Ok, Err}
-use Rattle.pac_asm.specs.PlacedItems.{Item}
-use Rattle.pac_board_course.specs.BoardView.{BoardView}
+use Rattle.pac_asm.specs.PlacedItems.{Item, AllLie}
+use Rattle.pac_board_course.specs.BoardView.{BoardView, IsBoard}
 use Rattle.pac_board_course.specs.Carried.{moment_view}
 use Rattle.pac_board_course.specs.Course.{frame_microseconds}
 use Rattle.pac_board_course.specs.Entry.{Entry}
 use Rattle.pac_board_course.specs.History.{board_after_entries}
 use Rattle.pac_board_course.specs.Output.{picture_count}
-use Rattle.pac_board_course.specs.RomParts.{Parts}
+use Rattle.pac_board_course.specs.RomParts.{Parts, IsWhole}
 use Rattle.pac_board_course.specs.State.{BoardState, BoardValue, nothing_due}
 use Rattle.pac_board_course.specs.Step.{Moment}
 use Rattle.pac_board_course.specs.Stretches.{total_frames}
 use Rattle.pac_board_course.specs.Trace.{Play, by_history, frames_gone, resumed}
 use Rattle.pac_board_course.specs.Walk.{Walk}
 use Rattle.pac_debug.specs.Running.{play_of}
-use Rattle.pac_state.specs.Files.{IsFile}
+use Rattle.pac_state.specs.Files.{IsFile, IsState}
 use Rattle.pac_state.specs.Text.{save_text, written_version}
 use Rattle.pac_run.specs.declared.fault.Output.{Output as Which}
 use Rattle.pac_run.specs.declared.fault.Output.TheVariants.{State}
@@ -79,9 +79,19 @@ end_state set total board end = record {
   due = nothing_due;
 }
 
+abbrev pub last_state : Plan → (dip : ℕ) → (from : Option (List ℕ)) → BoardValue → BoardState
+last_state plan dip from board = end_state plan.set (total_frames plan.script) board (run_from plan dip from board)
+
 abbrev pub state_text : Plan → (dip : ℕ) → (from : Option (List ℕ)) → BoardValue → List ℕ
-state_text plan dip from board =
-    save_text written_version plan.set (end_state plan.set (total_frames plan.script) board (run_from plan dip from board))
+state_text plan dip from board = save_text written_version plan.set (last_state plan dip from board)
+
+-- What is played is in order, and so is what comes of it: each part of the set has its size, the items lie in its program, and the run
+-- begins and ends with states that a board can have.
+pub record IsInOrder (plan : Plan) (dip : ℕ) (from : Option (List ℕ)) (board : BoardValue) : Type 0 where
+  pub whole : IsWhole plan.set
+  pub lie : AllLie plan.set.program plan.items
+  pub starts : IsBoard board.state.now.board
+  pub ends : IsState (last_state plan dip from board)
 
 -- ---- the run, by its answer
 
@@ -97,6 +107,7 @@ pub record IsSaved {F W L R S : Type 0} (plan : Plan) (dip : ℕ) (from : Option
   pub files : IsRunWhole (contents_from plan dip from board) to outcome
   pub state_is : TakesText state (state_text plan dip from board)
   pub file : IsFile plan.set (state_text plan dip from board)
+  pub in_order : IsInOrder plan dip from board
 
 -- a refused write: the state comes last, after all the others are whole; where another was refused, nothing of it is written
 abbrev pub IsSaveCutAt : {F W L R S : Type 0} → Plan → (dip : ℕ) → (from : Option (List ℕ)) → Writings F W L R → Writing S → Which → ℕ

@@ -1,18 +1,8 @@
-//! Laws of runs that are cut, saved and resumed.
+//! Laws of runs that are saved and resumed.
 
-ghost use Rattle.pac_run.specs.Cuts.{RunsAreCut, SavedStatesAreTakenUp, StoppedRunsEnd};
+ghost use Rattle.pac_run.specs.Parts.{RunsInParts};
 
-/// A run that is cut in two, saved and resumed gives what the run at once gives.
-pub fn runs_are_cut()
-    ensures { RunsAreCut }
-{}
-
-/// A run that met a stop has no more to give.
-pub fn stopped_runs_end()
-    ensures { StoppedRunsEnd }
-{}
-
-/// A run that is given what was saved of a state begins with it.
-pub fn saved_states_are_taken_up()
-    ensures { SavedStatesAreTakenUp }
+/// A run in parts, each from the state that the one before it has saved, gives what the run at once gives.
+pub fn runs_in_parts()
+    ensures { RunsInParts }
 {}

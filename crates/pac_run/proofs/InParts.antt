@@ -1,0 +1,306 @@
+-- A plan's run whose end was saved, and that goes on from the file, is the run of both scripts at once.
+use Rattle.std.proofs.Common.{◌≡◌, ℕ, ◌+◌, ◌-◌, ◌*◌, ◌/◌, ◌≤◌, nat_le, arith, List, [], ◌++◌, Option, None, Some}
+use Rattle.std.proofs.Common.{Bool, true, not, ◌&&◌, if◌then◌else◌, refl, sym, ap, subst, ◌∙◌}
+use Rattle.std.proofs.lemmas.Bool.{le-leb}
+use Rattle.pac_board_course.specs.BoardView.{IsBoard, power_on_board_view}
+use Rattle.pac_board_course.specs.Course.{frame_microseconds}
+use Rattle.pac_board_course.specs.Entry.{Entry}
+use Rattle.pac_board_course.specs.Output.{picture_count}
+use Rattle.pac_board_course.specs.Shown.{blank_count}
+use Rattle.pac_board_course.specs.RomParts.{Parts}
+use Rattle.pac_board_course.specs.State.{BoardState, BoardValue, latest, most_asked, power_on_board}
+use Rattle.pac_board_course.specs.Step.{frame_ticks}
+use Rattle.pac_board_course.specs.Stop.{Stop}
+use Rattle.pac_board_course.specs.Stretch.{Stretch}
+use Rattle.pac_board_course.specs.Stretches.{total_frames}
+use Rattle.pac_board_course.specs.Trace.{Play, by_history, frames_gone, frame_steps, plays_joined}
+use Rattle.pac_board_course.specs.Walk.{Walk}
+use Rattle.pac_board_course.proofs.Outputs.{outputs-timed}
+use Rattle.pac_board_course.proofs.Resumed.{resumed-runs-end, runs-begin, stopped-runs-stay}
+use Rattle.pac_board_course.proofs.ResumedTimes.{resumed-runs-are-timed}
+use Rattle.pac_debug.specs.Running.{play_of}
+use Rattle.pac_state.specs.Files.{IsFile, IsState, board_of_file}
+use Rattle.pac_state.specs.Text.{save_text, written_version}
+use Rattle.pac_state.proofs.Files.{text-board}
+use Rattle.pac_run.specs.Parts.{AreOneRun, JoinsFirst, RunsInParts, StoppedBefore, outcomes_joined, saved_board, sound_after_header}
+use Rattle.pac_run.specs.Parts.{with_script}
+use Rattle.pac_run.specs.Plan.{Plan}
+use Rattle.pac_run.specs.declared.fault.StateFault.{StateFault}
+use Rattle.pac_run.specs.declared.fault.StateFault.TheVariants.{Midst, Limit}
+use Rattle.pac_run.specs.Resumes.{IsInOrder, contents_from, end_state, last_state, outcome_since, resumed_of, run_from}
+use Rattle.pac_run.specs.Resumes.{run_of_play, state_text, without_history}
+use Rattle.pac_run.specs.Run.{RunContents, frames_text, outcome_of, trace_of}
+use Rattle.pac_run.specs.Start.{IsFirstBoard, has_room, is_between_frames, start_fault}
+use Rattle.pac_run.specs.Texts.{images_text}
+use Rattle.pac_run.proofs.Begins.{tests, time-fits, asked-fits}
+use Rattle.pac_run.proofs.Cut.{JoinsRuns, board_of_end, has-frames, runs-joined, still-between}
+use Rattle.pac_run.proofs.Scripts.{play-joined, total-joined}
+
+-- ---- a run from power-on is one that is taken up there
+
+module _ (plan : Plan) (dip : ℕ) where
+  abbrev first_board : BoardValue
+  first_board = power_on_board plan.set dip
+
+  from-power-on : resumed_of plan first_board ≡ trace_of plan dip
+  from-power-on = (runs-begin (by_history plan.set plan.items (power_on_board_view dip)) (play_of plan.script) []).whole
+
+  -- a picture for each blank
+  same-frames : picture_count (trace_of plan dip).outputs ≡ blank_count (trace_of plan dip).now.board
+  same-frames =
+      let ask = by_history plan.set plan.items (power_on_board_view dip) in
+      let from = without_history first_board.state.now in
+      let pictures = subst (λ (run : Walk (List Entry)). picture_count run.outputs + frames_gone from ≡ frames_gone run.now)
+      ((resumed-runs-end ask (play_of plan.script) from).enough ∙ from-power-on)
+      (resumed-runs-are-timed ask (play_of plan.script) from (frame_steps * total_frames plan.script)).pictures in
+      let blanks = (outputs-timed plan.set plan.items dip (frame_steps * total_frames plan.script) (play_of plan.script)).blanks in
+      omega (arith, pictures, blanks)
+
+  less-none : (n : ℕ) → n - 0 ≡ n
+  less-none n = omega arith
+
+  same-outcome : outcome_since first_board (resumed_of plan first_board) ≡ outcome_of (trace_of plan dip)
+  same-outcome = ap (outcome_since first_board) from-power-on ∙ (λ i. record {
+    frames = same-frames i;
+    steps = less-none (trace_of plan dip).now.steps i;
+    ticks = less-none (trace_of plan dip).now.time i;
+    stop = (trace_of plan dip).stop;
+  })
+
+-- ---- a run, told by what is taken up
+
+abbrev contents_since : Plan → BoardValue → RunContents
+contents_since plan board = record {
+  outputs = (resumed_of plan board).outputs;
+  frames = total_frames plan.script;
+  listing = plan.listing;
+  outcome = outcome_since board (resumed_of plan board);
+}
+
+-- From power-on the board is that of power-on; from a file any will do.
+abbrev IsAtPowerOn : Parts → ℕ → (from : Option (List ℕ)) → BoardValue → Type 0
+IsAtPowerOn set dip None board = board ≡ power_on_board set dip
+IsAtPowerOn set dip (Some bytes) board = Unit {0}
+
+at-power-on : (set : Parts) (dip : ℕ) (script : List Stretch) (from : Option (List ℕ)) (board : BoardValue)
+    → IsFirstBoard set dip script from board → IsAtPowerOn set dip from board
+at-power-on set dip script None board is = is
+at-power-on set dip script (Some bytes) board is = tt
+
+run-since : (plan : Plan) (dip : ℕ) (from : Option (List ℕ)) (board : BoardValue) → IsAtPowerOn plan.set dip from board
+    → run_from plan dip from board ≡ resumed_of plan board
+run-since plan dip None board is = sym (ap (resumed_of plan) is ∙ from-power-on plan dip)
+run-since plan dip (Some bytes) board is = refl
+
+contents-since : (plan : Plan) (dip : ℕ) (from : Option (List ℕ)) (board : BoardValue) → IsAtPowerOn plan.set dip from board
+    → contents_from plan dip from board ≡ contents_since plan board
+contents-since plan dip None board is = sym (ap (contents_since plan) is ∙ (λ i. record {
+  outputs = (from-power-on plan dip i).outputs;
+  frames = total_frames plan.script;
+  listing = plan.listing;
+  outcome = same-outcome plan dip i;
+}))
+contents-since plan dip (Some bytes) board is = refl
+
+-- it begins between two frames
+starts-between : (plan : Plan) (dip : ℕ) (from : Option (List ℕ)) (board : BoardValue) → IsFirstBoard plan.set dip plan.script from board
+    → is_between_frames board.state ≡ true
+starts-between plan dip None board is = ap (λ (board : BoardValue). is_between_frames board.state) is
+starts-between plan dip (Some bytes) board is = (tests board.state (total_frames plan.script) is.begins).0
+
+-- ---- where a run can begin
+
+no-fault : (between room : Bool) → between ≡ true → room ≡ true
+    → ◌≡◌ {A = Option StateFault} (if not between then Some Midst else if not room then Some Limit else None) None
+no-fault between room is has = rw (is, has) refl
+
+both-hold : (one other : Bool) → one ≡ true → other ≡ true → (one && other) ≡ true
+both-hold one other is has = rw (is, has) refl
+
+begins-with : (set : Parts) (dip : ℕ) (script longer : List Stretch) (from : Option (List ℕ)) (board : BoardValue)
+    → IsFirstBoard set dip script from board → start_fault board.state (total_frames longer) ≡ None
+    → IsFirstBoard set dip longer from board
+begins-with set dip script longer None board is none = is
+begins-with set dip script longer (Some bytes) board is none = record { file = is.file; board_is = is.board_is; begins = none }
+
+-- ---- a run that was saved, and the one after it
+
+module _ (plan : Plan) (dip : ℕ) (from : Option (List ℕ)) (board : BoardValue) (second : List Stretch) (other_dip : ℕ)
+    (first : IsFirstBoard plan.set dip plan.script from board) (order : IsInOrder plan dip from board)
+  where
+    abbrev saved : BoardValue
+    saved = saved_board plan dip from board
+
+    at-first : IsAtPowerOn plan.set dip from board
+    at-first = at-power-on plan.set dip plan.script from board first
+
+    abbrev bytes : List ℕ
+    bytes = state_text plan dip from board
+
+    abbrev one_play : Play
+    one_play = play_of plan.script
+
+    abbrev both : List Stretch
+    both = plan.script ++ second
+
+    -- What was saved is a file of this board alone.
+    abbrev file : IsFile plan.set bytes
+    file = record { version = written_version; known = refl; state = last_state plan dip from board; is_state = order.ends; text = refl }
+
+    board-is : (told : IsFile plan.set bytes) → saved ≡ board_of_file plan.set told
+    board-is told = sym (text-board plan.set bytes file) ∙ text-board plan.set bytes told
+
+    same-both : resumed_of (with_script plan both) board ≡ run_of_play plan.set plan.items (plays_joined one_play (play_of second)) board
+    same-both = ap (λ play. run_of_play plan.set plan.items play board) (play-joined plan.script second)
+
+    module _ (no_stop : (contents_from plan dip from board).outcome.stop ≡ None) where
+      open-yet : (resumed_of plan board).stop ≡ None
+      open-yet = sym (ap (λ (run : RunContents). run.outcome.stop) (contents-since plan dip from board at-first)) ∙ no_stop
+
+      between : is_between_frames board.state ≡ true
+      between = starts-between plan dip from board first
+
+      abbrev taken : BoardValue
+      taken = board_of_end plan.set one_play board (resumed_of plan board)
+
+      saved-is : saved ≡ taken
+      saved-is = ap (board_of_end plan.set one_play board) (run-since plan dip from board at-first)
+
+      still : is_between_frames saved.state ≡ true
+      still =
+          subst (λ (board : BoardValue). is_between_frames board.state ≡ true) (sym saved-is)
+          (still-between plan.set plan.items one_play (play_of second) board order.whole order.lie order.starts between open-yet)
+
+      pub can-go-on : has_room saved.state (total_frames second) ≡ true → IsFirstBoard plan.set other_dip second (Some bytes) saved
+      can-go-on room = record {
+        file = file;
+        board_is = board-is;
+        begins = no-fault (is_between_frames saved.state) (has_room saved.state (total_frames second)) still room;
+      }
+
+      module _ (later : BoardValue) (resumes : IsFirstBoard plan.set other_dip second (Some bytes) later) where
+        later-is : later ≡ taken
+        later-is = resumes.board_is file ∙ sym (board-is file) ∙ saved-is
+
+        -- Both runs at once have room where the second has.
+        begins-there : start_fault taken.state (total_frames second) ≡ None
+        begins-there =
+            subst (λ (board : BoardValue). start_fault board.state (total_frames second) ≡ None) later-is resumes.begins
+
+        begins-both : start_fault board.state (total_frames both) ≡ None
+        begins-both =
+            let frames = total-joined plan.script second in
+            let gone = (has-frames plan.set plan.items one_play (play_of second) board order.whole order.lie order.starts between
+            open-yet).gone in
+            let time = time-fits taken.state (total_frames second) begins-there in
+            let asked = asked-fits taken.state (total_frames second) begins-there in
+            let time_fits : frame_ticks * (board.state.now.time / frame_ticks + total_frames both) ≤ latest =
+            omega (arith, frames, gone, time) in
+            let asked_fits : board.state.asked + frame_microseconds * total_frames both ≤ most_asked =
+            omega (arith, frames, gone, asked) in
+            no-fault (is_between_frames board.state) (has_room board.state (total_frames both)) between
+            (both-hold (nat_le (frame_ticks * (board.state.now.time / frame_ticks + total_frames both)) latest)
+            (nat_le (board.state.asked + frame_microseconds * total_frames both) most_asked)
+            (le-leb _ _ time_fits) (le-leb _ _ asked_fits))
+
+        first-both : IsFirstBoard plan.set dip both from board
+        first-both = begins-with plan.set dip plan.script both from board first begins-both
+
+        held : IsBoard taken.state.now.board
+        held =
+            let ends = subst (λ (board : BoardValue). IsState board.state) saved-is order.ends in
+            record { memory = ends.memory; accumulators = ends.range.accumulators; lines = ends.range.picture }
+
+        joined : JoinsRuns plan.set one_play (play_of second) board taken (resumed_of plan board)
+            (run_of_play plan.set plan.items (play_of second) taken)
+            (run_of_play plan.set plan.items (plays_joined one_play (play_of second)) board)
+        joined =
+            runs-joined plan.set plan.items one_play (play_of second) board order.whole order.lie order.starts between open-yet held
+
+        -- the contents of the three runs
+        one-is : contents_from plan dip from board ≡ contents_since plan board
+        one-is = contents-since plan dip from board at-first
+
+        two-is : contents_since (with_script plan second) later ≡ contents_since (with_script plan second) taken
+        two-is = ap (contents_since (with_script plan second)) later-is
+
+        abbrev whole_contents : RunContents
+        whole_contents =
+            let run = run_of_play plan.set plan.items (plays_joined one_play (play_of second)) board in
+            record {
+              outputs = run.outputs;
+              frames = total_frames plan.script + total_frames second;
+              listing = plan.listing;
+              outcome = outcome_since board run;
+            }
+
+        whole-is : contents_from (with_script plan both) dip from board ≡ whole_contents
+        whole-is = contents-since (with_script plan both) dip from board at-first ∙ (λ i. record {
+          outputs = (same-both i).outputs;
+          frames = total-joined plan.script second i;
+          listing = plan.listing;
+          outcome = outcome_since board (same-both i);
+        })
+
+        texts : AreOneRun (contents_from plan dip from board) (contents_from (with_script plan second) other_dip (Some bytes) later)
+            (contents_from (with_script plan both) dip from board)
+        texts = record {
+          images = (λ i. frames_text (one-is i) ++ frames_text (two-is i)) ∙ joined.images ∙ sym (ap frames_text whole-is);
+          sound =
+              (λ i. sound_after_header (one-is i) ++ sound_after_header (two-is i)) ∙ joined.sound ∙ sym (ap sound_after_header whole-is);
+          outcome =
+              (λ i. outcomes_joined (one-is i).outcome (two-is i).outcome) ∙ joined.outcome
+              ∙ sym (ap (λ (run : RunContents). run.outcome) whole-is);
+        }
+
+        last-states : last_state (with_script plan second) other_dip (Some bytes) later ≡ last_state (with_script plan both) dip from board
+        last-states =
+            ap (λ board. end_state plan.set (total_frames second) board (resumed_of (with_script plan second) board)) later-is
+            ∙ joined.state
+            ∙ sym ((λ i. end_state plan.set (total_frames both) board (run-since (with_script plan both) dip from board at-first i))
+            ∙ (λ i. end_state plan.set (total-joined plan.script second i) board (same-both i)))
+
+        pub joins-first : JoinsFirst plan dip from board second other_dip later
+        joins-first = record {
+          begins = first-both;
+          texts = texts;
+          state = ap (save_text written_version plan.set) last-states;
+          in_order = λ (later_order : IsInOrder (with_script plan second) other_dip (Some bytes) later). record {
+            whole = order.whole;
+            lie = order.lie;
+            starts = order.starts;
+            ends = subst (λ (state : BoardState). IsState state) last-states later_order.ends;
+          };
+        }
+
+    -- A run that met a stop is that of both scripts.
+    module _ (stop : Stop) (met : (contents_from plan dip from board).outcome.stop ≡ Some stop) where
+      stays : resumed_of (with_script plan both) board ≡ resumed_of plan board
+      stays =
+          same-both
+          ∙ stopped-runs-stay (by_history plan.set plan.items board.state.now.board) one_play (play_of second)
+          (without_history board.state.now) stop
+          (sym (ap (λ (run : RunContents). run.outcome.stop) (contents-since plan dip from board at-first)) ∙ met)
+
+      pub stopped-before : StoppedBefore plan dip from board second
+      stopped-before =
+          let one = contents-since plan dip from board at-first in
+          let whole = contents-since (with_script plan both) dip from board at-first in
+          record {
+            images = ap frames_text one ∙ ap (λ (run : Walk (List Entry)). images_text run.outputs) (sym stays)
+                ∙ sym (ap frames_text whole);
+            outcome =
+                ap (λ (run : RunContents). run.outcome) one ∙ ap (outcome_since board) (sym stays)
+                ∙ sym (ap (λ (run : RunContents). run.outcome) whole);
+          }
+
+-- ---- the law
+
+pub runs-in-parts : RunsInParts
+runs-in-parts plan dip from board second other_dip first order = (
+  λ no_stop. record {
+    taken_up = can-go-on plan dip from board second other_dip first order no_stop;
+    joins = joins-first plan dip from board second other_dip first order no_stop;
+  },
+  stopped-before plan dip from board second other_dip first order,
+)
