@@ -12,3 +12,4 @@ pub mod Debugged
 pub mod Cut
 pub mod Scripts
 pub mod InParts
+pub mod Neutral

@@ -11,6 +11,7 @@ pub mod Parts
 pub mod Recorded
 pub mod Watched
 pub mod Debugs
+pub mod Neutral
 pub use Rattle.pac_board_course.specs.ScriptCodes
 pub use Rattle.pac_roms_manifest.specs.Codes as SetCodes
 pub use Rattle.pac_roms_manifest.specs.Manifests

@@ -7,7 +7,8 @@ use Rattle.pac_run.specs.declared.fault.RunFault.{RunFault}
 use Rattle.pac_run.specs.declared.fault.RunFault.TheVariants as fault
 use Rattle.pac_run.specs.declared.inputs.RunInputs.{RunInputs}
 use Rattle.pac_run.specs.Debugs.{Debugs}
-use Rattle.pac_run.specs.Run.{Writing, Writers, Runs}
+use Rattle.pac_run.specs.declared.writers.Writers.{Writers}
+use Rattle.pac_run.specs.Run.{Writing, Writings, Runs, writings}
 
 -- each answer but the one that the session's text was refused, which a run without a debugger hasn't
 abbrev pub IsOfRuns : Result Outcome RunFault → Type 0
@@ -15,7 +16,7 @@ IsOfRuns (Err (fault.Write Text count)) = ⊥
 IsOfRuns answer = Unit {0}
 
 -- By that answer the four writers have what they have by the same answer of a run without a debugger, whatever the commands ask.
-abbrev pub LeavesTheRun : {F W L R T : Type 0} → Writers F W L R → Writing T → Type 0
+abbrev pub LeavesTheRun : {F W L R T : Type 0} → Writings F W L R → Writing T → Type 0
 LeavesTheRun to text =
     (inputs : RunInputs) (commands : List ℕ) (answer : Result Outcome RunFault) → IsOfRuns answer → Debugs inputs commands to text answer
     → Runs inputs to answer
@@ -25,10 +26,6 @@ abbrev pub DebuggersChangeNothing : {F W L R T : Type 0} → (F → List ℕ →
     → (W → W → Type 0) → (L → List ℕ → L → Type 0) → (L → L → Type 0) → (R → List ℕ → R → Type 0) → (R → R → Type 0)
     → (T → List ℕ → T → Type 0) → (T → T → Type 0) → Type 0
 DebuggersChangeNothing {F} {W} {L} {R} {T} took_f refused_f took_w refused_w took_l refused_l took_r refused_r took refused =
-    (frames frames_left : F) (wave wave_left : W) (listing listing_left : L) (report report_left : R) (text text_left : T)
-    → LeavesTheRun (record {
-      frames = record { took = took_f; refused = refused_f; old = frames; new = frames_left };
-      wave = record { took = took_w; refused = refused_w; old = wave; new = wave_left };
-      listing = record { took = took_l; refused = refused_l; old = listing; new = listing_left };
-      report = record { took = took_r; refused = refused_r; old = report; new = report_left };
-    }) (record { took = took; refused = refused; old = text; new = text_left })
+    (old new : Writers F W L R) (text text_left : T)
+    → LeavesTheRun (writings took_f refused_f took_w refused_w took_l refused_l took_r refused_r old new)
+    (record { took = took; refused = refused; old = text; new = text_left })
