@@ -27,6 +27,7 @@ use Rattle.pac_table.proofs.Lengths.{length-immediate-bytes, length-arranged}
 use Rattle.pac_asm_operation.specs.declared.fault.OperationFault.{OperationFault}
 use Rattle.pac_asm_operation.specs.declared.fault.OperationFault.TheVariants.{Range}
 use Rattle.pac_asm_operation.specs.declared.operand.Operand.{Operand}
+use Rattle.pac_table_names.specs.declared.writing.Writing.TheVariants as writing
 use Rattle.pac_asm_operation.specs.declared.operand.Operand.TheVariants.{Named, AlternateAf, AtName, Indexed, Memory, Value}
 use Rattle.pac_asm_operation.specs.Operands.{parts_at_commas, operands_of_parts}
 use Rattle.pac_asm_operation.specs.Operations.{Operation, is_form, are_forms, fits_as, named_value, fits, row_for, with_operands}
@@ -62,12 +63,18 @@ pub kept-operands : (word : List ℕ) (first second : Option (Operand Place)) �
 kept-operands word first second = trees-kept (operand_pair first second)
 
 form-seen : (some : Writing) (operand : Operand Place) → is_form some (seen_operand operand) ≡ is_form some operand
-form-seen some (Named name) = refl
-form-seen some AlternateAf = refl
-form-seen some (AtName name) = refl
-form-seen some (Indexed name tokens) = refl
-form-seen some (Memory tokens) = refl
-form-seen some (Value tokens) = refl
+form-seen (writing.Named other) (Named name) = refl
+form-seen _ (Named name) = refl
+form-seen writing.AlternateAf AlternateAf = refl
+form-seen _ AlternateAf = refl
+form-seen (writing.AtName other) (AtName name) = refl
+form-seen _ (AtName name) = refl
+form-seen (writing.Indexed other) (Indexed name tokens) = refl
+form-seen _ (Indexed name tokens) = refl
+form-seen (writing.AtNumber kind) (Memory tokens) = refl
+form-seen _ (Memory tokens) = refl
+form-seen (writing.Number kind) (Value tokens) = refl
+form-seen _ (Value tokens) = refl
 
 forms-seen : (shapes : List Shape) (operands : List (Operand Place)) →
     are_forms shapes (map seen_operand operands) ≡ are_forms shapes operands

@@ -32,43 +32,19 @@ use Rattle.pac_asm_operation.specs.Operands.{parts_at_commas, operands_of_parts}
 
 -- ---- form
 
--- What each way of writing takes: a name, `AF'`, a name in parentheses, one with a displacement, an address, a number.
--- A name in parentheses is also the form with a displacement, of 0.
-abbrev pub takes_name : Writing → Name → Bool
-takes_name (writing.Named name) other = is_same_name name other
-takes_name (writing.FirstField names) other = is_some (value_of_name names other)
-takes_name (writing.SecondField names) other = is_some (value_of_name names other)
-takes_name _ other = false
-
-abbrev pub takes_alternate : Writing → Bool
-takes_alternate writing.AlternateAf = true
-takes_alternate _ = false
-
-abbrev pub takes_at_name : Writing → Name → Bool
-takes_at_name (writing.AtName name) other = is_same_name name other
-takes_at_name (writing.Indexed name) other = is_same_name name other
-takes_at_name _ other = false
-
-abbrev pub takes_indexed : Writing → Name → Bool
-takes_indexed (writing.Indexed name) other = is_same_name name other
-takes_indexed _ other = false
-
-abbrev pub takes_memory : Writing → Bool
-takes_memory (writing.AtNumber kind) = true
-takes_memory _ = false
-
-abbrev pub takes_value : Writing → Bool
-takes_value (writing.Number kind) = true
-takes_value _ = false
-
--- whether this way of writing takes an operand, whatever its number is
+-- Whether this way of writing takes an operand, whatever its number is: a name, `AF'`, a name in parentheses, one with a displacement, an
+-- address, a number. A name in parentheses is also the form with a displacement, of 0.
 abbrev pub is_form : {A : Type 0} → Writing → Operand A → Bool
-is_form some (Named name) = takes_name some name
-is_form some AlternateAf = takes_alternate some
-is_form some (AtName name) = takes_at_name some name
-is_form some (Indexed name x) = takes_indexed some name
-is_form some (Memory x) = takes_memory some
-is_form some (Value x) = takes_value some
+is_form (writing.Named name) (Named other) = is_same_name name other
+is_form (writing.FirstField names) (Named other) = is_some (value_of_name names other)
+is_form (writing.SecondField names) (Named other) = is_some (value_of_name names other)
+is_form writing.AlternateAf AlternateAf = true
+is_form (writing.AtName name) (AtName other) = is_same_name name other
+is_form (writing.Indexed name) (AtName other) = is_same_name name other
+is_form (writing.Indexed name) (Indexed other x) = is_same_name name other
+is_form (writing.AtNumber kind) (Memory x) = true
+is_form (writing.Number kind) (Value x) = true
+is_form _ _ = false
 
 -- each operand is written as its shape says, and there are as many operands as shapes
 abbrev pub are_forms : {A : Type 0} → List Shape → List (Operand A) → Bool

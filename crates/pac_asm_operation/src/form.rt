@@ -5,12 +5,12 @@ ghost use Rattle.std.specs.List.{All};
 ghost use Rattle.pac_table.specs.Instructions.{row_at, row_count};
 ghost use Rattle.pac_table_names.specs.Names.{listed_shapes, writing_of};
 ghost use Rattle.pac_table_names.specs.ByName.{family_in};
-ghost use Rattle.pac_asm_operation.specs.Operations.{are_forms, fits_as, is_form, row_size, takes_alternate, takes_at_name, takes_indexed, takes_memory, takes_name, takes_value};
+ghost use Rattle.pac_asm_operation.specs.Operations.{are_forms, fits_as, is_form, row_size};
 ghost use Rattle.pac_asm_operation.specs.Views.{fits_row, is_absent, is_form_if, operand_pair};
 
 use crate::operand::Operand;
 use pac_table::{Mnemonic, Shape, row_numbered};
-use pac_table_names::{Name, Writing, written};
+use pac_table_names::{Writing, written};
 
 /// The first row whose form the operands have.
 pub(crate) fn first_row<T>(
@@ -96,43 +96,16 @@ fn is_absent(shape: Shape) -> bool
 fn is_form<T>(writing: Writing, operand: &Operand<T>) -> bool
     ensures { result ≡ is_form writing operand.now }
 {
-    match operand {
-        Operand::Named(name) => takes_name(writing, *name),
-        Operand::AlternateAf => matches!(writing, Writing::AlternateAf),
-        Operand::AtName(name) => takes_at_name(writing, *name),
-        Operand::Indexed(name, _) => takes_indexed(writing, *name),
-        Operand::Memory(_) => matches!(writing, Writing::AtNumber(_)),
-        Operand::Value(_) => matches!(writing, Writing::Number(_)),
-    }
-}
-
-/// Whether this way of writing takes a name.
-fn takes_name(writing: Writing, other: Name) -> bool
-    ensures { result ≡ takes_name writing other }
-{
-    match writing {
-        Writing::Named(name) => name.is(other),
-        Writing::FirstField(names) | Writing::SecondField(names) => names.value(other).is_some(),
-        _ => false,
-    }
-}
-
-/// Whether this way of writing takes a name in parentheses.
-fn takes_at_name(writing: Writing, other: Name) -> bool
-    ensures { result ≡ takes_at_name writing other }
-{
-    match writing {
-        Writing::AtName(name) | Writing::Indexed(name) => name.is(other),
-        _ => false,
-    }
-}
-
-/// Whether this way of writing takes a name with a displacement.
-fn takes_indexed(writing: Writing, other: Name) -> bool
-    ensures { result ≡ takes_indexed writing other }
-{
-    match writing {
-        Writing::Indexed(name) => name.is(other),
+    match (writing, operand) {
+        (Writing::Named(name), Operand::Named(other)) => name.is(*other),
+        (Writing::FirstField(names), Operand::Named(other)) => names.value(*other).is_some(),
+        (Writing::SecondField(names), Operand::Named(other)) => names.value(*other).is_some(),
+        (Writing::AlternateAf, Operand::AlternateAf) => true,
+        (Writing::AtName(name), Operand::AtName(other)) => name.is(*other),
+        (Writing::Indexed(name), Operand::AtName(other)) => name.is(*other),
+        (Writing::Indexed(name), Operand::Indexed(other, _)) => name.is(*other),
+        (Writing::AtNumber(_), Operand::Memory(_)) => true,
+        (Writing::Number(_), Operand::Value(_)) => true,
         _ => false,
     }
 }
