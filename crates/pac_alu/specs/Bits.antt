@@ -1,4 +1,4 @@
--- To be believed: one bit of a byte (UM0080, "Bit Set, Reset, and Test Group"). The place is the code's field of three bits.
+-- Believed: one bit of a byte (UM0080, "Bit Set, Reset, and Test Group"). The place is the code's field of three bits.
 use Rattle.std.specs.Prelude.{ℕ, true, false, ◌+◌, ◌-◌, ◌%◌, ◌^◌, ◌==◌, if◌then◌else◌}
 use Rattle.pac_alu.specs.Flags.{flags_of, flag_byte_of}
 use Rattle.pac_num.specs.Numbers.{bit}

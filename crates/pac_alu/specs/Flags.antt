@@ -1,6 +1,6 @@
--- To be believed: the flag byte F (UM0080, "Z80 Status Indicator Flags"): S is bit 7, Z bit 6, H bit 4, P/V bit 2, N bit 1 and
+-- Believed: the flag byte F (UM0080, "Z80 Status Indicator Flags"): S is bit 7, Z bit 6, H bit 4, P/V bit 2, N bit 1 and
 -- C bit 0. Bits 5 and 3 have no meaning; in this profile no operation here changes them.
-use Rattle.std.specs.Prelude.{ℕ, ℤ, pos, negsuc, Bool, not, false, ◌+◌, ◌*◌, ◌/◌, ◌%◌, ◌<◌, ◌==◌, ◌||◌, nat_le, int_lt, if◌then◌else◌}
+use Rattle.std.specs.Prelude.{ℕ, ℤ, pos, negsuc, Bool, not, false, ◌+◌, ◌*◌, ◌/◌, ◌%◌, ◌==◌, ◌||◌, nat_le, int_lt, if◌then◌else◌}
 use Rattle.std.specs.Prelude.{[], ◌∷◌, get_or}
 use Rattle.pac_alu.specs.declared.flag_byte.Flags.{Flags}
 use Rattle.pac_alu.specs.declared.flag_byte.Condition.{Condition}
@@ -27,10 +27,6 @@ abbrev pub flag_byte_of : Flags → ℕ → ℕ
 flag_byte_of flags before =
     weight_if 128 flags.sign + weight_if 64 flags.zero + before / 32 % 2 * 32 + weight_if 16 flags.half_carry
     + before / 8 % 2 * 8 + weight_if 4 flags.parity_overflow + weight_if 2 flags.subtract + weight_if 1 flags.carry
-
--- a carry that an operation takes in is 0 or 1
-abbrev pub IsCarry : ℕ → Type 0
-IsCarry carry = carry < 2
 
 -- S: bit 7 of a byte, or bit 15 of a word
 abbrev pub is_negative : ℕ → Bool

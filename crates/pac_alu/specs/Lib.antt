@@ -1,4 +1,5 @@
 pub mod Flags
+pub mod FlagsProofs
 pub mod Arithmetic
 pub mod Words
 pub mod Rotate

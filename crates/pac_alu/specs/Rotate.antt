@@ -1,4 +1,4 @@
--- To be believed: rotations and shifts (UM0080, "Rotate and Shift Group").
+-- Believed: rotations and shifts (UM0080, "Rotate and Shift Group").
 use Rattle.std.specs.Prelude.{ℕ, false, ◌+◌, ◌*◌, ◌/◌, ◌%◌, ◌==◌, [], ◌∷◌, get_or}
 use Rattle.pac_alu.specs.declared.bytes.ByteResult.{ByteResult}
 use Rattle.pac_alu.specs.declared.shifts.Digits.{Digits}

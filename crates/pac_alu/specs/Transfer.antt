@@ -1,4 +1,4 @@
--- To be believed: the flags of instructions that move values (UM0080, "8-Bit Load Group", "Exchange, Block Transfer, and Search
+-- Believed: the flags of instructions that move values (UM0080, "8-Bit Load Group", "Exchange, Block Transfer, and Search
 -- Group" and "Input and Output Group"). A count is the value after the instruction's decrement.
 use Rattle.std.specs.Prelude.{ℕ, Bool, true, false, not, ◌==◌}
 use Rattle.pac_alu.specs.Arithmetic.{difference_flags}

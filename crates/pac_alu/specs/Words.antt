@@ -1,4 +1,4 @@
--- To be believed: operations on words (UM0080, "16-Bit Arithmetic Group"). C: the whole sum is above 65,535, or the whole
+-- Believed: operations on words (UM0080, "16-Bit Arithmetic Group"). C: the whole sum is above 65,535, or the whole
 -- difference below 0. H: the same of the low twelve bits, a carry or borrow of bit 11. V: the signed result is outside -32,768
 -- to 32,767. A carry taken in is 0 or 1.
 use Rattle.std.specs.Prelude.{ℕ, ℤ, pos, negsuc, true, false, ◌+◌, ◌-◌, ◌%◌, ◌==◌, nat_lt, ◌+ℤ◌, ◌-ℤ◌, if◌then◌else◌}

@@ -1,7 +1,7 @@
 //! Rotations and shifts of bytes, and RLD and RRD.
 
 ghost use Rattle.std.specs.Prelude.{◌≡◌};
-ghost use Rattle.pac_alu.specs.Flags.{IsCarry};
+ghost use Rattle.pac_alu.specs.FlagsProofs.{IsCarry};
 ghost use Rattle.pac_alu.specs.Rotate.{field_shift, shifted_of, leaving_bit, shift_of, accumulator_rotation_of};
 ghost use Rattle.pac_alu.specs.Rotate.{left_digits_of, right_digits_of};
 

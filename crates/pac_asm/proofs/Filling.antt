@@ -15,7 +15,8 @@ use Rattle.pac_code.specs.Items.{Item, Content, bytes_of, bytes_in, IsValid}
 use Rattle.pac_asm_line.specs.Statements.{Statement, nothing, origin, equate, bytes, words, space, condition, otherwise, end_condition}
 use Rattle.pac_asm_line.specs.Statements.{operation, Form}
 use Rattle.pac_asm_line.specs.Forms.{form_of}
-use Rattle.pac_asm_line.specs.Contents.{content_of, SizeFits, OrFault, map_unless_fault, gathered_bytes, part_bytes, word_bytes, fill_value}
+use Rattle.pac_asm_line.specs.Contents.{content_of, OrFault, map_unless_fault, gathered_bytes, part_bytes, word_bytes, fill_value}
+use Rattle.pac_asm_line.specs.ContentsProofs.{SizeFits}
 use Rattle.pac_asm_operation.specs.Operations.{instruction_of}
 use Rattle.pac_asm_program.specs.Names.{Symbol}
 use Rattle.pac_asm_program.specs.Programs.{items_in}
@@ -34,9 +35,11 @@ use Rattle.pac_asm.specs.Standings as standings
 use Rattle.pac_asm.specs.Layouts.{IsFree, IsFreePlace, ArePlacesApart}
 use Rattle.pac_asm.specs.Reading.{form_of_line, form_in, form_or_fault}
 use Rattle.pac_asm.specs.Phase2.{line_at_place, phase2}
-use Rattle.pac_asm_program.specs.Rom.{covers, IsApartFrom, IsFit}
+use Rattle.pac_asm_program.specs.Rom.{covers}
+use Rattle.pac_asm_program.specs.RomLaws.{IsApartFrom, IsFit}
 use Rattle.pac_asm_program.specs.Rom as rom
 use Rattle.pac_asm.specs.Items.{IsSized, AllFit, FitsLine, IsItemOf, IsLineOf}
+use Rattle.pac_asm_program.specs.RomLaws as rom_laws
 
 -- ---- a placed line has an item
 
@@ -119,8 +122,8 @@ covered-by (x ∷ items) zero d cell below e = or_left (covers x cell) (is_cover
 covered-by (x ∷ items) (suc k) d cell below e =
     or_right (covers x cell) (is_covered items cell) (covered-by items k d cell (omega arith) e)
 
-apart-push : (items : List Item) (item : Item) → rom.AreApart items → All (λ x. IsApartFrom x item) items
-    → rom.AreApart (items ++ item ∷ [])
+apart-push : (items : List Item) (item : Item) → rom_laws.AreApart items → All (λ x. IsApartFrom x item) items
+    → rom_laws.AreApart (items ++ item ∷ [])
 apart-push [] item h all = (λ k d below. absurd (omega arith), tt)
 apart-push (x ∷ items) item h all = (
   All-push (IsApartFrom x) items item h.0 (All-head (λ x. IsApartFrom x item) x items all),
@@ -141,13 +144,13 @@ items-more filled here =
 
 -- the items of some lines
 pub record AreLaid (filled : List Line) : Type 0 where
-  pub apart : rom.AreApart (flat_map items_in filled)
+  pub apart : rom_laws.AreApart (flat_map items_in filled)
   pub fit : All IsFit (flat_map items_in filled)
 
-laid-as : (filled : List Line) (items : List Item) → flat_map items_in filled ≡ items → rom.AreApart items → All IsFit items →
+laid-as : (filled : List Line) (items : List Item) → flat_map items_in filled ≡ items → rom_laws.AreApart items → All IsFit items →
     AreLaid filled
 laid-as filled items e apart fit =
-    record { apart = subst rom.AreApart (sym e) apart; fit = subst (All IsFit) (sym e) fit }
+    record { apart = subst rom_laws.AreApart (sym e) apart; fit = subst (All IsFit) (sym e) fit }
 
 laid-push : (filled : List Line) (here : Line) → IsFreeLine filled here → AreLaid filled → AreLaid (filled ++ here ∷ [])
 laid-push filled line.Blank free laid =

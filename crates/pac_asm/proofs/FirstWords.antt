@@ -13,7 +13,7 @@ use Rattle.pac_lex.specs.Bytes.{is_blank, is_comment_start, is_quote, is_name_st
 use Rattle.std.specs.Char.{is_ascii_digit, is_ascii_alphanumeric}
 use Rattle.std.specs.List.{list_all}
 use Rattle.pac_lex.specs.Numbers.{numeral}
-use Rattle.pac_lex.specs.Texts.{closing_length}
+use Rattle.pac_lex.specs.TextsProofs.{closing_length}
 use Rattle.pac_lex.specs.Tokens.{Lexeme, one_byte_kind, one_byte_kinds, is_af, begins}
 use Rattle.pac_lex.specs.Words.{first_word}
 use Rattle.pac_lex.specs.Scan.{FoundToken, one_byte_token, numeral_token, name_token_at, number_token_at, quoted_token, text_token_at}

@@ -9,7 +9,8 @@ use Rattle.pac_asm.specs.declared.fault.AsmError.TheVariants as errors
 use Rattle.pac_asm.specs.Errors.{AssemblyFails}
 use Rattle.pac_asm.specs.Results.{◌>>=◌, result_of_line}
 use Rattle.pac_asm.specs.Pairing.{is_found_line}
-use Rattle.pac_asm.specs.Unclosed.{conditional_of_line, is_never_closed, first_unclosed}
+use Rattle.pac_asm.specs.Unclosed.{conditional_of_line, is_never_closed}
+use Rattle.pac_asm.specs.UnclosedProofs.{first_unclosed}
 use Rattle.pac_asm.specs.Standings.{Standing, first_standing}
 use Rattle.pac_asm.specs.Phase1.{after_text, after_line, unless_left_open, phase1}
 use Rattle.pac_asm.proofs.Pairs.{shifted, shifted-more, shifted-none}

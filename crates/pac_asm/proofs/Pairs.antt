@@ -7,7 +7,8 @@ use Rattle.pac_asm_line.specs.declared.conditional.Conditional.{Conditional}
 use Rattle.pac_asm_line.specs.declared.conditional.Conditional.TheVariants.{If, Else, EndIf}
 use Rattle.pac_asm.specs.declared.lines.Pairing.{Pairing}
 use Rattle.pac_asm.specs.Pairing.{pairing_after_word}
-use Rattle.pac_asm.specs.Unclosed.{conditional_of_line, stays_open, is_never_closed, first_unclosed}
+use Rattle.pac_asm.specs.Unclosed.{conditional_of_line, stays_open, is_never_closed}
+use Rattle.pac_asm.specs.UnclosedProofs.{first_unclosed}
 
 -- the first that is never closed below so many lines
 abbrev pub shifted : ℕ → Option ℕ → Option ℕ

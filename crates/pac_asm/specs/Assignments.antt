@@ -1,11 +1,12 @@
--- To be believed: which numbers the names of a source stand for, told of all names at once: every expression is valued by the
+-- Law: which numbers the names of a source stand for, told of all names at once: every expression is valued by the
 -- assignment that is judged, wherever its names are defined.
 use Rattle.std.specs.Prelude.{◌≡◌, ℕ, ℤ, pos, ◌+◌, Bool, true, false, not, List, [], ◌∷◌, ◌++◌, Option, Some, None, option_map}
 use Rattle.std.specs.Prelude.{Result}
 use Rattle.std.specs.Prelude.{Ok, Err}
 use Rattle.std.specs.Ordering.{int_eq}
 use Rattle.pac_expr.specs.Trees.{Tree}
-use Rattle.pac_expr.specs.Values.{ValueResult, tree_value, HasUndefined}
+use Rattle.pac_expr.specs.Values.{ValueResult, tree_value}
+use Rattle.pac_expr.specs.ValuesLaws.{HasUndefined}
 use Rattle.pac_asm_program.specs.Names.{Symbol, number_of_symbol}
 use Rattle.pac_asm_line.specs.Statements.{Statement, nothing, origin, equate, space, condition, otherwise, end_condition}
 use Rattle.pac_asm_line.specs.Statements.{Form}

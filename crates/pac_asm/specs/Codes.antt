@@ -1,4 +1,4 @@
--- To be believed: what is printed for a fault of a source (this profile).
+-- Believed: what is printed for a fault of a source (this profile).
 use Rattle.std.specs.Prelude.{ℕ, List, ◌++◌, codes}
 use Rattle.std.specs.Fmt.{decimal}
 use Rattle.pac_lex.specs.Codes as lexing

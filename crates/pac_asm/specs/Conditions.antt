@@ -1,4 +1,4 @@
--- To be believed: which lines count: IF, ELSE and ENDIF choose the lines that become a program (this profile). The innermost
+-- Believed: which lines count: IF, ELSE and ENDIF choose the lines that become a program (this profile). The innermost
 -- open IF stands first in a list of open ones.
 use Rattle.std.specs.Prelude.{ℕ, ℤ, pos, Bool, true, false, List, [], ◌∷◌, length, nat_lt, Option, Some, Result, Ok, Err}
 use Rattle.std.specs.Prelude.{if◌then◌else◌, ◌||◌}

@@ -1,4 +1,4 @@
--- To be believed: which lines count (this profile). IF and ENDIF pair up by the first words of all lines. Between an IF and its
+-- Law: which lines count (this profile). IF and ENDIF pair up by the first words of all lines. Between an IF and its
 -- ELSE lines count where the IF's value isn't 0, and between the ELSE and the ENDIF where it is 0; a line counts where it does so
 -- in each IF that is open around it.
 use Rattle.std.specs.Prelude.{Bool, true, false, not, ◌&&◌, ◌||◌, if◌then◌else◌, List, [], ◌∷◌, Option, Some, None}

@@ -1,4 +1,4 @@
--- To be believed: what a program has of each line, under an assignment of numbers to names: the item that the line's form has by
+-- For proofs: what a program has of each line, under an assignment of numbers to names: the item that the line's form has by
 -- that assignment, at the address where the line stands.
 use Rattle.std.specs.Prelude.{◌≡◌, ℕ, ℤ, Bool, true, false, List, [], ◌∷◌, Option, Some, None, option_map, Result, Ok, Err}
 use Rattle.pac_code.specs.Items.{Content}

@@ -1,4 +1,4 @@
--- To be believed: what `assemble` answers where a source can't be assembled, in the words of the definitions (`AssemblyFails`,
+-- For proofs: what `assemble` answers where a source can't be assembled, in the words of the definitions (`AssemblyFails`,
 -- `AssemblyGives`). What is said of a line, and of a value that a call changes, is for proofs.
 use Rattle.std.specs.Prelude.{◌≡◌, ℕ, Result, Ok, Err}
 use Rattle.pac_lex.specs.declared.fault.LexError.{LexError}

@@ -3,6 +3,7 @@ pub mod Results
 pub mod Errors
 pub mod Conditions
 pub mod Unclosed
+pub mod UnclosedProofs
 pub mod Pairing
 pub mod Skipping
 pub mod Standings

@@ -1,4 +1,4 @@
--- To be believed: the first phase: line by line, from the first on, up to the first fault. In a line the faults come in the
+-- Believed: the first phase: line by line, from the first on, up to the first fault. In a line the faults come in the
 -- order A1, A2, A12, A13, A3, A4, A10, A5, A6, A14 (this profile).
 use Rattle.std.specs.Prelude.{ℕ, Bool, pos, ◌+◌, List, [], ◌∷◌, ◌++◌, length, nat_lt, Option, Result, Ok, Err}
 use Rattle.std.specs.Prelude.{if◌then◌else◌}

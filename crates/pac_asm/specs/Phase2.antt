@@ -1,4 +1,4 @@
--- To be believed: the second phase: what each placed line puts into the program, once all names are known. In a line the faults
+-- Believed: the second phase: what each placed line puts into the program, once all names are known. In a line the faults
 -- come in the order A8, A10, A9 (this profile).
 use Rattle.std.specs.Prelude.{ℕ, ◌+◌, List, [], ◌∷◌, ◌++◌, Option, Some, None, Result, Ok, Err}
 use Rattle.pac_code.specs.Items.{Content}

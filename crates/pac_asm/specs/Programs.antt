@@ -1,4 +1,4 @@
--- To be believed: the program of a source, or its fault (this profile). A7 comes before all other faults, and the second phase
+-- Believed: the program of a source, or its fault (this profile). A7 comes before all other faults, and the second phase
 -- begins where the first one has found none.
 use Rattle.std.specs.Prelude.{ℕ, ◌+◌, List, [], length, nat_lt, Result, Ok, Err, flat_map, if◌then◌else◌}
 use Rattle.std.specs.Str.Lines.{lines}

@@ -1,4 +1,4 @@
--- To be believed: what a line says, where no IF skips it, or why it says nothing (this profile).
+-- Believed: what a line says, where no IF skips it, or why it says nothing (this profile).
 use Rattle.std.specs.Prelude.{ℕ, List, Option, Some, None, Result, Ok, Err}
 use Rattle.pac_lex.specs.Scan.{tokens_of}
 use Rattle.pac_lex.specs.Tokens.{Lexeme}

@@ -1,4 +1,4 @@
--- To be believed: what a step of assembling gives: what comes next, or what is wrong.
+-- Believed: what a step of assembling gives: what comes next, or what is wrong.
 use Rattle.std.specs.Prelude.{ℕ, Result, Ok, Err}
 pub use Rattle.pac_lex.specs.Results.{◌>>=◌}
 use Rattle.pac_asm.specs.declared.fault.AsmCode.{AsmCode}

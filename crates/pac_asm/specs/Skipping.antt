@@ -1,4 +1,4 @@
--- To be believed: what the lines that IF, ELSE and ENDIF skip leave behind: nothing.
+-- Law: what the lines that IF, ELSE and ENDIF skip leave behind: nothing.
 use Rattle.std.specs.Prelude.{◌≡◌, ℕ, false, List, [], ◌∷◌, ◌++◌, length, slice_get, Some, Result, Ok}
 use Rattle.std.specs.Str.Lines.{lines as text_lines}
 use Rattle.pac_asm_program.specs.Names.{Symbol}

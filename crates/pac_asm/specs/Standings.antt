@@ -1,4 +1,4 @@
--- To be believed: what the lines above leave to a line in the first phase, and where its bytes may stand.
+-- Believed: what the lines above leave to a line in the first phase, and where its bytes may stand.
 use Rattle.std.specs.Prelude.{ℕ, ℤ, pos, negsuc, ◌+◌, Bool, true, false, ◌&&◌, List, [], nat_lt, nat_le, Option, Some, None}
 use Rattle.std.specs.Prelude.{is_none, Result, Ok, Err, if◌then◌else◌}
 use Rattle.std.specs.List.{list_any, range_with_len}

@@ -1,6 +1,5 @@
--- To be believed: how IF and ENDIF pair up: by the first words of all lines alone, whatever else stands in them (this profile).
-use Rattle.std.specs.Prelude.{ℕ, zero, suc, ◌+◌, Bool, true, false, List, [], ◌∷◌, Option, Some, None, option_map, map}
-use Rattle.std.specs.Prelude.{if◌then◌else◌}
+-- Believed: how IF and ENDIF pair up: by the first words of all lines alone, whatever else stands in them (this profile).
+use Rattle.std.specs.Prelude.{ℕ, zero, suc, Bool, true, false, List, [], ◌∷◌, Option, Some, map}
 use Rattle.pac_lex.specs.Words.{first_word}
 use Rattle.pac_asm_line.specs.declared.conditional.Conditional.{Conditional}
 use Rattle.pac_asm_line.specs.declared.conditional.Conditional.TheVariants.{If, EndIf}
@@ -22,9 +21,3 @@ stays_open inner (word ∷ below) = stays_open inner below
 abbrev pub is_never_closed : Option Conditional → List (List ℕ) → Bool
 is_never_closed (Some If) below = stays_open 0 (map conditional_of_line below)
 is_never_closed word below = false
-
--- how many lines stand above the first IF that is never closed, if there is one
-abbrev pub first_unclosed : List (List ℕ) → Option ℕ
-first_unclosed [] = None
-first_unclosed (line ∷ below) =
-    if is_never_closed (conditional_of_line line) below then Some 0 else option_map (λ above. above + 1) (first_unclosed below)

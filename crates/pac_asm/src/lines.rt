@@ -4,7 +4,7 @@ ghost use Rattle.std.specs.Prelude.{◌≡◌, ◌<◌, ◌≤◌, nat_lt, lengt
 ghost use Rattle.std.specs.Str.Lines.{lines};
 ghost use Rattle.pac_asm.specs.Programs.{most_lines};
 ghost use Rattle.pac_asm.specs.Pairing.{pairing_after_word};
-ghost use Rattle.pac_asm.specs.Unclosed.{first_unclosed};
+ghost use Rattle.pac_asm.specs.UnclosedProofs.{first_unclosed};
 
 use pac_asm_line::{Conditional, conditional_of};
 use pac_lex::first_line;

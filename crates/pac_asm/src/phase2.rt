@@ -4,6 +4,7 @@ ghost use Rattle.std.specs.Prelude.{◌≡◌, ◌≤◌, [], ◌∷◌, length,
 ghost use Rattle.std.specs.Str.Lines.{lines};
 ghost use Rattle.pac_asm_program.specs.Programs.{items_in};
 ghost use Rattle.pac_asm_program.specs.Rom as rom;
+ghost use Rattle.pac_asm_program.specs.RomLaws as rom_laws;
 ghost use Rattle.pac_asm.specs.declared.place.LineLayout.TheVariants.{Placed};
 ghost use Rattle.pac_asm.specs.Errors.{LineGives, AssemblyFails};
 ghost use Rattle.pac_asm.specs.Items.{AllFit, FitsLine, IsLineOf};
@@ -31,8 +32,8 @@ pub(crate) fn fill_in(
     ensures exact { MatchResult result
         (λ filled. spec.phase2 symbols.now 1 [] (lines source.now) places.now ≡ Ok filled.items)
         (λ error. AssemblyFails error (spec.phase2 symbols.now 1 [] (lines source.now) places.now)) }
-    ensures items { IfOk result (λ filled. (rom.AreApart (flat_map items_in filled.items))
-        × All rom.IsFit (flat_map items_in filled.items)) }
+    ensures items { IfOk result (λ filled. (rom_laws.AreApart (flat_map items_in filled.items))
+        × All rom_laws.IsFit (flat_map items_in filled.items)) }
 {
     let mut filled = Vec::with_capacity(alloc, places.len())?;
     let mut rest = source;

@@ -8,10 +8,12 @@ use Rattle.std.specs.Str.{str_eq_ignore_ascii_case}
 use Rattle.std.proofs.lemmas.Bool.{and_parts, cases_Bool, cond-true, cond-false, agree_below, agree_below_at, false≢true}
 use Rattle.pac_lex.specs.Bytes.{is_name_byte}
 use Rattle.pac_asm_operation.specs.declared.directive.Directive.{Directive}
-use Rattle.pac_asm_operation.specs.Directives.{begins_directive, directive_names, directive_of}
+use Rattle.pac_asm_operation.specs.DirectivesProofs.{begins_directive}
+use Rattle.pac_asm_operation.specs.Directives.{directive_names, directive_of}
 use Rattle.pac_asm_operation.proofs.FirstLetter.{with-letter}
 use Rattle.pac_asm_line.specs.declared.conditional.Conditional.{Conditional}
-use Rattle.pac_asm_line.specs.Conditionals.{conditional_of_directive, conditional_word, may_begin_conditional}
+use Rattle.pac_asm_line.specs.Conditionals.{conditional_of_directive, conditional_word}
+use Rattle.pac_asm_line.specs.ConditionalsProofs.{may_begin_conditional}
 
 -- a directive that has nothing to do with counting
 abbrev is_other : List ℕ × Directive → Bool

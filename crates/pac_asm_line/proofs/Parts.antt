@@ -6,7 +6,8 @@ use Rattle.std.specs.Option.{option_and_then, option_map_or}
 use Rattle.std.specs.List.{list_all, list_any, slice_split}
 use Rattle.std.proofs.lemmas.List.Splits.{length-slice_split}
 use Rattle.pac_lex.specs.declared.token.Token.{Token}
-use Rattle.pac_lex.specs.Tokens.{Lexeme, views}
+use Rattle.pac_lex.specs.Tokens.{Lexeme}
+use Rattle.pac_lex.specs.TokensProofs.{views}
 use Rattle.pac_expr.specs.Trees.{Tree, atom, here}
 use Rattle.pac_expr.specs.Parsing.{tree_in}
 use Rattle.pac_asm_operation.specs.Reserved.{expression_in, is_reserved_token}

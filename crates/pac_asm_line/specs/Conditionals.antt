@@ -1,5 +1,5 @@
--- To be believed: the directives by whose first word a line tells which lines count (this profile).
-use Rattle.std.specs.Prelude.{ℕ, ◌==◌, Bool, ◌||◌, List, Option, None, Some}
+-- Believed: the directives by whose first word a line tells which lines count (this profile).
+use Rattle.std.specs.Prelude.{ℕ, List, Option, None, Some}
 use Rattle.pac_asm_operation.specs.declared.directive.Directive.{Directive}
 use Rattle.pac_asm_operation.specs.declared.directive.Directive.TheVariants as directives
 use Rattle.pac_asm_operation.specs.Directives.{directive_of}
@@ -15,7 +15,3 @@ conditional_of_directive other = None
 -- what a line's first word opens, parts or closes, in either case, whatever follows it
 abbrev pub conditional_word : List ℕ → Option Conditional
 conditional_word word = conditional_of_directive (directive_of word)
-
--- whether one of these words begins with a byte: E or I, in either case
-abbrev pub may_begin_conditional : ℕ → Bool
-may_begin_conditional b = b == 69 || b == 101 || b == 73 || b == 105

@@ -1,6 +1,6 @@
--- To be believed: how many bytes a statement takes, and what it places. Numbers are in whole numbers of 32 bits with their
+-- Believed: how many bytes a statement takes, and what it places. Numbers are in whole numbers of 32 bits with their
 -- sign; a negative byte or word is two's complement, and a word stands low byte first (UM0080).
-use Rattle.std.specs.Prelude.{◌≡◌, ℕ, ℤ, pos, negsuc, ◌*◌, List, [], ◌∷◌, ◌++◌, length, replicate}
+use Rattle.std.specs.Prelude.{ℕ, ℤ, pos, negsuc, ◌*◌, List, [], ◌∷◌, ◌++◌, length, replicate}
 use Rattle.std.specs.Prelude.{Option, Some, None, Result, Ok, Err, if◌then◌else◌}
 use Rattle.std.specs.List.{sum_by}
 use Rattle.pac_num.specs.Numbers.{low_byte, high_byte}
@@ -24,11 +24,6 @@ statement_size (bytes parts) = sum_by part_size parts
 statement_size (words numbers) = 2 * length numbers
 statement_size (operation written) = operations.operation_size written
 statement_size statement = 0
-
--- A statement takes so many bytes, which may be any number for a space.
-abbrev pub SizeFits : ℕ → Statement → Type 0
-SizeFits size (space count fill) = Unit {0}
-SizeFits size statement = size ≡ statement_size statement
 
 -- what an expression or a line gives, or its fault
 abbrev pub OrFault : Type 0 → Type 0

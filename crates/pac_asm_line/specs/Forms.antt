@@ -1,11 +1,11 @@
--- To be believed: the form of a line, as a function of its tokens: by cases on the whole line (this profile's source language).
+-- Believed: the form of a line, as a function of its tokens: by cases on the whole line (this profile's source language).
 -- Where there is none, the line is refused as A2.
 use Rattle.std.specs.Prelude.{ℕ, Bool, true, false, not, ◌||◌, List, [], ◌∷◌, Option, Some, None, option_map, is_some, if◌then◌else◌}
 use Rattle.std.specs.Option.{option_and_then}
 use Rattle.pac_lex.specs.declared.token.TokenKind.{TokenKind}
 use Rattle.pac_lex.specs.declared.token.TokenKind.TheVariants as kinds
 use Rattle.pac_lex.specs.Tokens.{Lexeme}
-use Rattle.pac_lex.specs.Texts.{characters_of}
+use Rattle.pac_lex.specs.TextsProofs.{characters_of}
 use Rattle.pac_expr.specs.Trees.{Tree}
 use Rattle.pac_table_names.specs.Names.{is_operation, name_of}
 use Rattle.pac_asm_operation.specs.declared.directive.Directive.{Directive}

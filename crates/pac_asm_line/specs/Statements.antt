@@ -1,4 +1,4 @@
--- To be believed: what a line of the source says (this profile's source language).
+-- Believed: what a line of the source says (this profile's source language).
 use Rattle.std.specs.Prelude.{ℕ, List, Option}
 use Rattle.pac_expr.specs.Trees.{Tree}
 use Rattle.pac_asm_operation.specs.Operations.{Operation}

@@ -1,8 +1,9 @@
 -- For proofs: what the code keeps of a line, as what it says: tokens stand for the trees and texts that they spell.
 use Rattle.std.specs.Prelude.{List, [], ◌∷◌, map, option_map, unwrap_or}
 use Rattle.std.specs.Option.{option_map_or}
-use Rattle.pac_lex.specs.Tokens.{Lexeme, views}
-use Rattle.pac_lex.specs.Texts.{characters_of}
+use Rattle.pac_lex.specs.Tokens.{Lexeme}
+use Rattle.pac_lex.specs.TokensProofs.{views}
+use Rattle.pac_lex.specs.TextsProofs.{characters_of}
 use Rattle.pac_expr.specs.Trees.{Tree, atom, here}
 use Rattle.pac_expr.specs.Parsing.{tree_in}
 use Rattle.pac_asm_operation.specs.Operands.{parts_at_commas}

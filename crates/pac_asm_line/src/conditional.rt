@@ -2,7 +2,8 @@
 
 ghost use Rattle.std.specs.Prelude.{◌≡◌};
 ghost use Rattle.pac_lex.specs.Words.{first_word};
-ghost use Rattle.pac_asm_line.specs.Conditionals.{conditional_word, may_begin_conditional};
+ghost use Rattle.pac_asm_line.specs.Conditionals.{conditional_word};
+ghost use Rattle.pac_asm_line.specs.ConditionalsProofs.{may_begin_conditional};
 
 use pac_asm_operation::{Directive, directive_of};
 use pac_lex::{first_byte, first_word};

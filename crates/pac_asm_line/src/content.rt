@@ -1,9 +1,11 @@
 //! What a statement places.
 
 ghost use Rattle.std.specs.Prelude.{◌≡◌, IfOk, IfSome, Ok, Some, length, option_map, replicate};
-ghost use Rattle.pac_lex.specs.Tokens.{views};
+ghost use Rattle.pac_lex.specs.TokensProofs.{views};
 ghost use Rattle.pac_code.specs.Items.{Code, Data, IsValid, bytes_in};
-ghost use Rattle.pac_asm_line.specs.Contents.{content_of, fill_value, gathered_bytes, joined_bytes, map_unless_fault, SizeFits, part_bytes, word_bytes};
+ghost use Rattle.pac_asm_line.specs.Contents.{content_of, fill_value, gathered_bytes, joined_bytes, map_unless_fault, part_bytes};
+ghost use Rattle.pac_asm_line.specs.Contents.{word_bytes};
+ghost use Rattle.pac_asm_line.specs.ContentsProofs.{SizeFits};
 ghost use Rattle.pac_asm_line.specs.Gathered.{ContentGives, gathered_so_far};
 ghost use Rattle.pac_asm_line.specs.Views.{part_of_tokens, parts_of_operands, seen_statement, expression_tree, trees_of};
 

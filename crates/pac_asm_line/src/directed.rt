@@ -1,8 +1,8 @@
 //! The statements of directives, from the tokens after them.
 
 ghost use Rattle.std.specs.Prelude.{◌≡◌, option_map, option_copied};
-ghost use Rattle.pac_lex.specs.Tokens.{views};
-ghost use Rattle.pac_lex.specs.Texts.{characters_of};
+ghost use Rattle.pac_lex.specs.TokensProofs.{views};
+ghost use Rattle.pac_lex.specs.TextsProofs.{characters_of};
 ghost use Rattle.pac_expr.specs.Trees.{Tree};
 ghost use Rattle.pac_asm_operation.specs.Operands.{parts_at_commas};
 ghost use Rattle.pac_asm_operation.specs.Reserved.{expression_in};

@@ -1,7 +1,7 @@
 //! Expressions, as the tokens that spell them.
 
 ghost use Rattle.std.specs.Prelude.{◌≡◌, option_map};
-ghost use Rattle.pac_lex.specs.Tokens.{views};
+ghost use Rattle.pac_lex.specs.TokensProofs.{views};
 ghost use Rattle.pac_expr.specs.Values.{tree_value};
 ghost use Rattle.pac_asm_operation.specs.Reserved.{expression_in};
 ghost use Rattle.pac_asm_line.specs.Views.{expression_tree};

@@ -1,7 +1,7 @@
 //! The bytes of a line, gathered from its operands.
 
 ghost use Rattle.std.specs.Prelude.{◌≡◌, [], ◌∷◌, IfOk, Ok};
-ghost use Rattle.pac_lex.specs.Texts.{characters_of};
+ghost use Rattle.pac_lex.specs.TextsProofs.{characters_of};
 ghost use Rattle.pac_num.specs.Numbers.{low_byte, high_byte};
 ghost use Rattle.pac_asm_line.specs.declared.gathered.ContentError.TheVariants as errors;
 ghost use Rattle.pac_asm_line.specs.Contents.{joined_bytes, map_unless_fault};

@@ -1,7 +1,7 @@
 //! The form of a line, from its tokens.
 
 ghost use Rattle.std.specs.Prelude.{◌≡◌, option_map};
-ghost use Rattle.pac_lex.specs.Tokens.{views};
+ghost use Rattle.pac_lex.specs.TokensProofs.{views};
 ghost use Rattle.pac_asm_line.specs.Forms.{after_colon, directive_or_operation, form_of, form_with_label, is_colon, is_name_kind, statement_after_label, may_stand};
 ghost use Rattle.pac_asm_line.specs.Views as view;
 

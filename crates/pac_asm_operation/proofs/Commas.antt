@@ -8,7 +8,8 @@ use Rattle.std.proofs.Common.{length-drop}
 use Rattle.std.proofs.Math.Seq.{take-length}
 use Rattle.std.proofs.lemmas.List.Splits.{slice_split-cons_no, slice_split_first}
 use Rattle.pac_lex.specs.declared.token.Token.{Token}
-use Rattle.pac_lex.specs.Tokens.{Lexeme, view, views}
+use Rattle.pac_lex.specs.Tokens.{Lexeme}
+use Rattle.pac_lex.specs.TokensProofs.{view, views}
 use Rattle.pac_asm_operation.specs.Operands.{is_comma}
 
 -- where nothing passes before the end, there is one part

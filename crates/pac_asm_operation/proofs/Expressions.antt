@@ -8,10 +8,12 @@ use Rattle.std.proofs.lemmas.Bool.{and_parts, false≢true, or_parts}
 use Rattle.pac_lex.specs.declared.token.Token.{Token}
 use Rattle.pac_lex.specs.declared.token.TokenKind.{TokenKind}
 use Rattle.pac_lex.specs.declared.token.TokenKind.TheVariants as kinds
-use Rattle.pac_lex.specs.Tokens.{Lexeme, views}
-use Rattle.pac_lex.specs.Texts.{one_character}
+use Rattle.pac_lex.specs.Tokens.{Lexeme}
+use Rattle.pac_lex.specs.TokensProofs.{views}
+use Rattle.pac_lex.specs.TextsProofs.{one_character}
 use Rattle.pac_expr.specs.Trees.{Tree, atom, group, signed, joined, here, Mark, opening, closing, text_mark, kind_mark, marks_of, spelling}
-use Rattle.pac_expr.specs.Parsing.{tree_of, tree_in}
+use Rattle.pac_expr.specs.ParsingProofs.{tree_of}
+use Rattle.pac_expr.specs.Parsing.{tree_in}
 use Rattle.pac_expr.proofs.Complete.{tree-of-spelling}
 use Rattle.pac_table_names.specs.declared.names.Name.{Name}
 use Rattle.pac_asm_operation.specs.declared.operand.Operand.TheVariants.{Indexed, Memory, Value}

@@ -6,7 +6,8 @@ use Rattle.std.specs.Map.{lookup}
 use Rattle.std.specs.Str.{str_eq_ignore_ascii_case}
 use Rattle.pac_lemmas.proofs.Lookups.{lookup-filter}
 use Rattle.pac_lemmas.proofs.Letters.{same-first-letter}
-use Rattle.pac_asm_operation.specs.Directives.{begins_directive, directive_names, directive_of}
+use Rattle.pac_asm_operation.specs.DirectivesProofs.{begins_directive}
+use Rattle.pac_asm_operation.specs.Directives.{directive_names, directive_of}
 
 -- no word at all is no directive
 pub no-letter : (word : List ℕ) → None ≡ slice_get word 0 → None ≡ directive_of word

@@ -1,6 +1,5 @@
--- To be believed: the names of the directives, in either case (this profile).
-use Rattle.std.specs.Prelude.{ℕ, Bool, ◌==◌, List, [], ◌∷◌, slice_index, Option, codes, is_some}
-use Rattle.std.specs.Char.{to_ascii_lowercase}
+-- Believed: the names of the directives, in either case (this profile).
+use Rattle.std.specs.Prelude.{ℕ, Bool, List, [], ◌∷◌, Option, codes, is_some}
 use Rattle.std.specs.Map.{lookup}
 use Rattle.std.specs.Str.{str_eq_ignore_ascii_case}
 use Rattle.pac_asm_operation.specs.declared.directive.Directive.{Directive}
@@ -14,10 +13,6 @@ directive_names =
     ∷ (codes "DEFS", directives.Space) ∷ (codes "DS", directives.Space)
     ∷ (codes "DEFM", directives.Text) ∷ (codes "DM", directives.Text)
     ∷ (codes "IF", directives.Condition) ∷ (codes "ELSE", directives.Otherwise) ∷ (codes "ENDIF", directives.EndCondition) ∷ []
-
--- whether the name of a directive begins with a letter, in either case
-abbrev pub begins_directive : ℕ → List ℕ × Directive → Bool
-begins_directive letter entry = to_ascii_lowercase (slice_index entry.0 0) == to_ascii_lowercase letter
 
 -- the directive that a word is, if it is one
 unfoldable pub directive_of : List ℕ → Option Directive

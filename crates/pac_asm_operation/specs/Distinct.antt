@@ -1,4 +1,4 @@
--- To be believed: the reserved words: which they are, and that no two of them are one (this profile's source language).
+-- Law: the reserved words: which they are, and that no two of them are one (this profile's source language).
 use Rattle.std.specs.Prelude.{◌≡◌, ℕ, List, ◌++◌, map}
 use Rattle.std.specs.List.{list_any, IsDistinct}
 use Rattle.std.specs.Map.{keys_of}

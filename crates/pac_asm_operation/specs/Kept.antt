@@ -3,7 +3,8 @@ use denote.Ref.{Bor}
 use Rattle.std.specs.Prelude.{◌≡◌, ℕ, ◌<◌, ℤ, Bool, List, [], ◌∷◌, map, length, Option, Some, None, IfSome, Result, Ok, Err}
 use Rattle.std.specs.List.{All}
 use Rattle.pac_lex.specs.declared.token.Token.{Token}
-use Rattle.pac_lex.specs.Tokens.{Lexeme, views}
+use Rattle.pac_lex.specs.Tokens.{Lexeme}
+use Rattle.pac_lex.specs.TokensProofs.{views}
 use Rattle.pac_expr.specs.Trees.{Tree}
 use Rattle.pac_expr.specs.Values as expressions
 use Rattle.pac_table.specs.Instructions.{Instruction, row_at, row_count}

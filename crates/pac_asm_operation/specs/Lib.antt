@@ -1,7 +1,9 @@
 pub mod Directives
+pub mod DirectivesProofs
 pub mod Reserved
 pub mod Distinct
 pub mod Operands
+pub mod OperandsProofs
 pub mod Operations
 pub mod Views
 pub mod Kept

@@ -1,12 +1,10 @@
--- To be believed: the operands of an operation, each by the whole of its tokens (this profile's source language).
+-- Believed: the operands of an operation, each by the whole of its tokens (this profile's source language).
 use Rattle.std.specs.Prelude.{ℕ, ◌-◌, Bool, true, false, if◌then◌else◌, List, [], ◌∷◌, length, take}
 use Rattle.std.specs.Prelude.{Option, Some, None, option_map}
 use Rattle.std.specs.List.{slice_split}
 use Rattle.pac_lex.specs.declared.token.TokenKind.{TokenKind}
 use Rattle.pac_lex.specs.declared.token.TokenKind.TheVariants as kinds
-use Rattle.std.specs.Borrow.{Bor}
-use Rattle.pac_lex.specs.declared.token.Token.{Token}
-use Rattle.pac_lex.specs.Tokens.{Lexeme, views}
+use Rattle.pac_lex.specs.Tokens.{Lexeme}
 use Rattle.pac_expr.specs.Trees.{Tree, group}
 use Rattle.pac_table_names.specs.declared.names.Name.{Name}
 use Rattle.pac_table_names.specs.Names.{name_of}
@@ -105,8 +103,3 @@ operand_before _ _ = None
 abbrev pub operands_of_parts : List (List Lexeme) → Option (List (Operand Tree))
 operands_of_parts [] = Some []
 operands_of_parts (part ∷ parts) = operand_before (operand_of part) (operands_of_parts parts)
-
--- the parts of what follows a comma, if there is one
-abbrev pub parts_after : Option (Bor (List Token)) → List (List Lexeme)
-parts_after None = []
-parts_after (Some tokens) = slice_split is_comma (views tokens.now)

@@ -1,4 +1,4 @@
--- To be believed: an operation of the source: the rows of the instruction table that it fits, and the instruction that it is
+-- Believed: an operation of the source: the rows of the instruction table that it fits, and the instruction that it is
 -- (Zilog Z80 CPU User Manual UM0080 for the forms; the ranges of numbers are this profile's).
 use Rattle.std.specs.Prelude.{ℕ, ◌+◌, ◌-◌, ◌/◌, ◌%◌, ◌==◌, ℤ, pos, negsuc, ◌-ℤ◌, int_le, nat_lt, unsigned_abs, Bool, true, false, ◌&&◌}
 use Rattle.std.specs.Prelude.{if◌then◌else◌}

@@ -1,4 +1,4 @@
--- To be believed: the names that stand for no symbol, and the expressions of the source, which have none of them (this
+-- Believed: the names that stand for no symbol, and the expressions of the source, which have none of them (this
 -- profile's source language).
 use Rattle.std.specs.Prelude.{ℕ, Bool, false, ◌||◌, if◌then◌else◌, List, Option, None, is_some}
 use Rattle.std.specs.List.{list_any}

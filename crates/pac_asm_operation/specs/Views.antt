@@ -4,7 +4,8 @@ use Rattle.std.specs.Option.{unwrap_or}
 use Rattle.std.specs.List.{slice_split}
 use denote.Ref.{Bor}
 use Rattle.pac_lex.specs.declared.token.Token.{Token}
-use Rattle.pac_lex.specs.Tokens.{Lexeme, views}
+use Rattle.pac_lex.specs.Tokens.{Lexeme}
+use Rattle.pac_lex.specs.TokensProofs.{views}
 use Rattle.pac_expr.specs.Trees.{Tree, atom, here}
 use Rattle.pac_asm_operation.specs.declared.operand.Operand.{Operand}
 use Rattle.pac_asm_operation.specs.declared.operand.Operand.TheVariants.{Named, AlternateAf, AtName, Indexed, Memory, Value}

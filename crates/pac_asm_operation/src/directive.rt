@@ -4,7 +4,8 @@ ghost use Rattle.std.specs.Prelude.{◌≡◌, map};
 ghost use Rattle.std.specs.List.{filter};
 ghost use Rattle.std.specs.Map.{lookup};
 ghost use Rattle.std.specs.Str.{str_eq_ignore_ascii_case};
-ghost use Rattle.pac_asm_operation.specs.Directives.{begins_directive, directive_names, directive_of};
+ghost use Rattle.pac_asm_operation.specs.DirectivesProofs.{begins_directive};
+ghost use Rattle.pac_asm_operation.specs.Directives.{directive_names, directive_of};
 
 /// A directive of the source (this profile).
 #[derive(Clone, Copy)]

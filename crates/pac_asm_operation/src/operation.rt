@@ -1,7 +1,7 @@
 //! An operation and its instruction.
 
 ghost use Rattle.std.specs.Prelude.{◌≡◌, IfOk, length, option_map};
-ghost use Rattle.pac_lex.specs.Tokens.{views};
+ghost use Rattle.pac_lex.specs.TokensProofs.{views};
 ghost use Rattle.pac_table.specs.Instructions.{code, IsInstruction};
 
 use crate::coding::placed;

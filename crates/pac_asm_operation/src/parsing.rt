@@ -1,7 +1,7 @@
 //! An operand read from its tokens.
 
 ghost use Rattle.std.specs.Prelude.{◌≡◌, ◌∷◌, ◌++◌, [], IfSome, IfNone, MatchOption, option_map, if◌then◌else◌, take, length, ◌-◌};
-ghost use Rattle.pac_lex.specs.Tokens.{view, views};
+ghost use Rattle.pac_lex.specs.TokensProofs.{view, views};
 ghost use Rattle.std.specs.List.{slice_split};
 ghost use Rattle.pac_asm_operation.specs.Operands.{parts_at_commas, is_comma, operands_of_parts, operand_of, expression_operand, lone_operand, indirect_operand, operand_after_name, is_sign, ends_closed};
 ghost use Rattle.pac_asm_operation.specs.Views.{FindsOperand, inside_parentheses};

@@ -2,8 +2,9 @@
 
 ghost use Rattle.std.specs.Prelude.{◌≡◌, ◌<◌, ◌≤◌, ◌∷◌, length, IfSome};
 ghost use Rattle.std.specs.List.{slice_split, position_or_len};
-ghost use Rattle.pac_lex.specs.Tokens.{view, views};
-ghost use Rattle.pac_asm_operation.specs.Operands.{is_comma, parts_after};
+ghost use Rattle.pac_lex.specs.TokensProofs.{view, views};
+ghost use Rattle.pac_asm_operation.specs.Operands.{is_comma};
+ghost use Rattle.pac_asm_operation.specs.OperandsProofs.{parts_after};
 
 use pac_lex::{Token, TokenKind};
 

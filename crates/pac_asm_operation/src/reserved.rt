@@ -2,7 +2,7 @@
 
 ghost use Rattle.std.specs.Prelude.{◌≡◌, is_some};
 ghost use Rattle.std.specs.List.{list_any};
-ghost use Rattle.pac_lex.specs.Tokens.{view, views};
+ghost use Rattle.pac_lex.specs.TokensProofs.{view, views};
 ghost use Rattle.pac_asm_operation.specs.Reserved.{expression_in, is_reserved, is_reserved_token};
 
 use crate::directive::directive_of;

@@ -9,7 +9,9 @@ use Rattle.std.proofs.lemmas.List.FromFn.{get_or-map-range_with_len, length-map-
 use Rattle.pac_code.specs.Items.{Item, bytes_of}
 use Rattle.pac_asm_program.specs.Programs.{rom_size}
 use Rattle.std.proofs.lemmas.List.Elements.{All-head, All-tail}
-use Rattle.pac_asm_program.specs.Rom.{covers, rom_byte_at, rom_of, AreApart, ApartItemsLie, IsZeroElsewhere}
+use Rattle.pac_asm_program.specs.Rom.{covers, rom_byte_at, rom_of}
+use Rattle.pac_asm_program.specs.RomLaws.{AreApart, ApartItemsLie}
+use Rattle.pac_asm_program.specs.RomProofs.{IsZeroElsewhere}
 
 -- the byte at an address is that of the item that covers it
 byte-is : (items : List Item) → AreApart items → (k : ℕ) (d : Item) → k < length items → (cell : ℕ)

@@ -4,7 +4,8 @@ use Rattle.std.proofs.Common.{ap, sym, ◌∙◌}
 use Rattle.std.specs.Prelude.{bytes_eq, if◌then◌else◌, is_some}
 use Rattle.std.specs.Map.{lookup, keys_of}
 use Rattle.std.specs.List.{IsDistinct, AllByRecursion}
-use Rattle.pac_asm_program.specs.Names.{Symbol, number_of_symbol, with_symbol, AreDistinct}
+use Rattle.pac_asm_program.specs.Names.{Symbol, number_of_symbol, with_symbol}
+use Rattle.pac_asm_program.specs.NamesProofs.{AreDistinct}
 
 module _ {K : Type 0} (name_of : K → List ℕ) where
   -- the names and their numbers

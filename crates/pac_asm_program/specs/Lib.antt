@@ -1,4 +1,7 @@
 pub mod Content
 pub mod Names
+pub mod NamesProofs
 pub mod Programs
 pub mod Rom
+pub mod RomProofs
+pub mod RomLaws

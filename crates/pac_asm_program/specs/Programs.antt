@@ -1,4 +1,4 @@
--- To be believed: what a source becomes: what each of its lines puts into the program, the symbols, and the program ROM.
+-- Believed: what a source becomes: what each of its lines puts into the program, the symbols, and the program ROM.
 use Rattle.std.specs.Prelude.{ℕ, List, [], ◌∷◌, flat_map}
 use Rattle.pac_code.specs.Items.{Item}
 use Rattle.pac_asm_program.specs.declared.line.Line.{Line}

@@ -3,7 +3,9 @@
 ghost use Rattle.std.specs.Prelude.{◌≡◌, ◌<◌, length, drop, flat_map, map, slice_index, IfOk};
 ghost use Rattle.std.specs.List.{range_with_len};
 ghost use Rattle.pac_asm_program.specs.Programs.{items_in, rom_size};
-ghost use Rattle.pac_asm_program.specs.Rom.{byte_over, rom_of, ApartItemsLie, IsZeroElsewhere};
+ghost use Rattle.pac_asm_program.specs.Rom.{byte_over, rom_of};
+ghost use Rattle.pac_asm_program.specs.RomLaws.{ApartItemsLie};
+ghost use Rattle.pac_asm_program.specs.RomProofs.{IsZeroElsewhere};
 
 use crate::line::{Item, Line};
 use std::alloc::{AllocError, Global};

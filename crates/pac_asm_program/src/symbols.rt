@@ -1,7 +1,8 @@
 //! Symbols: names that stand for numbers.
 
 ghost use Rattle.std.specs.Prelude.{◌≡◌, [], length, ◌==◌, slice_get, is_none, option_map, IfOk, OnErr};
-ghost use Rattle.pac_asm_program.specs.Names.{number_of_symbol, with_symbol, AreDistinct};
+ghost use Rattle.pac_asm_program.specs.Names.{number_of_symbol, with_symbol};
+ghost use Rattle.pac_asm_program.specs.NamesProofs.{AreDistinct};
 
 use crate::seeded::Seeded;
 use indexmap::IndexMap;

@@ -16,7 +16,8 @@ use Rattle.pac_board_model.specs.Laws.{IsTimely}
 use Rattle.pac_board_model.specs.Output.{Output}
 use Rattle.pac_board_model.specs.Step.{Moment, Next, Goes, Ends, step}
 use Rattle.pac_board_model.specs.Trace.{by_view}
-use Rattle.pac_board_model.specs.Walk.{Walk, walk, walk_onward, walk_after_step, has_ended}
+use Rattle.pac_board_model.specs.Walk.{Walk, walk, walk_onward, walk_after_step}
+use Rattle.pac_board_model.specs.WalkLaws.{has_ended}
 use Rattle.pac_board_model.proofs.HostCarried.{hosts-agree}
 use Rattle.pac_board_model.proofs.HostKeeps.{hosts-are-line-exact}
 use Rattle.pac_board_model.proofs.Told.{view-tells}
@@ -26,11 +27,12 @@ use Rattle.pac_board.specs.declared.exec.Ran.{Ran}
 use Rattle.pac_board.specs.declared.fault.Fault.{Fault}
 use Rattle.pac_board.specs.declared.fault.Fault.TheVariants.{TooFar, Refused}
 use Rattle.pac_board.specs.declared.fault.Idle.{Idle}
-use Rattle.pac_board.specs.Sinks.{Giving}
+use Rattle.pac_board.specs.SinksLaws.{Giving}
 use Rattle.pac_board.specs.State.{BoardValue, BoardState, due_outputs, nothing_due, time_of}
-use Rattle.pac_board.specs.Calls.{Executes, StepsOnce, Offers, Advances, IsOfferRefused, IsStepRefused, outputs_given, next_of}
-use Rattle.pac_board.specs.Calls.{outputs_in, board_after_step}
-use Rattle.pac_board.specs.Calls.{with_due}
+use Rattle.pac_board.specs.CallsLaws.{Executes, StepsOnce, Offers, Advances, IsOfferRefused, IsStepRefused, next_of}
+use Rattle.pac_board.specs.Calls.{outputs_given}
+use Rattle.pac_board.specs.CallsLaws.{outputs_in, board_after_step}
+use Rattle.pac_board.specs.CallsLaws.{with_due}
 use Rattle.pac_board.specs.Hosts.{Call, Exec, StepOnce, Advance, Offer, GoTo, Rest, CountAsked, Reset, InputSet, InputClear, Snapshot}
 use Rattle.pac_board.specs.Hosts.{Restore, PutFields, PutRoms, HostedBoard}
 use Rattle.pac_board.specs.Hosts.{run_took, refused_took, step_took, offer_took, way_took, IsCall, acts_of, stays_within, steps_between}

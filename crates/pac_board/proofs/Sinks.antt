@@ -2,7 +2,8 @@
 use Rattle.std.proofs.Common.{◌≡◌, List, [], ◌∷◌, ◌++◌, refl, sym, ap, subst, ◌∙◌, append_assoc}
 use mathlib.Core.List.{IsPrefix}
 use Rattle.pac_board_model.specs.Output.{Output}
-use Rattle.pac_board.specs.Sinks.{Giving, Then, TookAll, RefusesAt, Cut}
+use Rattle.pac_board.specs.SinksLaws.{Giving, RefusesAt, Cut}
+use Rattle.pac_board.specs.Sinks.{Then, TookAll}
 
 -- ---- taking some outputs, and then others
 

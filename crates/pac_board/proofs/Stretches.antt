@@ -8,12 +8,15 @@ use Rattle.pac_board_model.specs.Laws.{IsTimely}
 use Rattle.pac_board_model.specs.Output.{Output}
 use Rattle.pac_board_model.specs.Step.{Moment, Next, Goes, Ends, step}
 use Rattle.pac_board_model.specs.Trace.{by_view}
-use Rattle.pac_board_model.specs.Walk.{Walk, walk, walk_at_start, walk_after_step, has_ended}
+use Rattle.pac_board_model.specs.Walk.{Walk, walk, walk_at_start, walk_after_step}
+use Rattle.pac_board_model.specs.WalkLaws.{has_ended}
 use Rattle.pac_board_model.proofs.Walks.{not-both, open-goes-on, going-is-early, going-steps, walk-to-ends, ended-whole, on-the-way}
 use Rattle.pac_board_model.proofs.Walks.{more-joined, step-timely}
-use Rattle.pac_board.specs.Sinks.{Giving, by, TookAll}
+use Rattle.pac_board.specs.SinksLaws.{Giving, by}
+use Rattle.pac_board.specs.Sinks.{TookAll}
 use Rattle.pac_board.specs.State.{BoardValue, nothing_due, due_outputs}
-use Rattle.pac_board.specs.Calls.{next_of, next_from_moment, board_after_step, once_at, outputs_in, with_due, IsOfferRefused}
+use Rattle.pac_board.specs.CallsLaws.{next_of, board_after_step, once_at, outputs_in, with_due, IsOfferRefused}
+use Rattle.pac_board.specs.Calls.{next_from_moment}
 use Rattle.pac_board.specs.Turns.{way_at, board_after_walk, HasGone, IsWayRefused}
 use Rattle.pac_machine.specs.Bursts.{stretch_end}
 use Rattle.pac_board.specs.Stretches.{stretch_of, IsStretched, IsQuietUntil, IsLastTurn, HasStretched, IsStretchRefused}

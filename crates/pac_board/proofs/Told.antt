@@ -6,7 +6,7 @@ use Rattle.pac_board_model.specs.Step.{Moment, step}
 use Rattle.pac_board_model.specs.Trace.{by_view}
 use Rattle.pac_machine.specs.declared.trail.PastStep.{PastStep}
 use Rattle.pac_machine.specs.Bursts.{stretch_end}
-use Rattle.pac_machine.specs.Standing.{BoardStanding}
+use Rattle.pac_machine.specs.StandingProofs.{BoardStanding}
 use Rattle.pac_machine.specs.Trails.{IsNoted}
 use Rattle.pac_machine.proofs.Noted.{noted-sooner, noted-more}
 use Rattle.pac_board.specs.State.{BoardValue}

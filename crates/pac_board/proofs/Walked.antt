@@ -2,7 +2,8 @@
 use Rattle.std.proofs.Common.{◌≡◌, ℕ, zero, suc, ◌≤◌, Bool, true, false, refl, subst, sym, arith}
 use Rattle.pac_board_model.specs.Laws.{IsTimely}
 use Rattle.pac_board_model.specs.Step.{Moment, Next, Goes, Ends}
-use Rattle.pac_board_model.specs.Walk.{Walk, walk, walk_onward, walk_after_step, has_ended}
+use Rattle.pac_board_model.specs.Walk.{Walk, walk, walk_onward, walk_after_step}
+use Rattle.pac_board_model.specs.WalkLaws.{has_ended}
 use Rattle.pac_board_model.proofs.Walks.{ended-stays, going-steps}
 
 pub record IsAfter {Board : Type 0} (before after : Moment Board) : Type 0 where

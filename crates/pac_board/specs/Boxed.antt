@@ -1,4 +1,4 @@
--- To be believed: an answer whose value stands in a block of memory, by that value.
+-- Law: an answer whose value stands in a block of memory, by that value.
 use Rattle.std.specs.Prelude.{Result, box_value}
 use Rattle.std.specs.Result.{result_map_both}
 use Rattle.std.specs.Global.{Box}

@@ -1,125 +1,24 @@
--- To be believed: what the calls that make steps do, by their answers.
-use Rattle.std.specs.Prelude.{◌≡◌, ◌≢◌, ℕ, suc, ◌+◌, ◌-◌, ◌<◌, ◌≤◌, List, [], ◌++◌, Result, Ok, Err, ◌⊎◌}
-use mathlib.Core.List.{IsPrefix}
-use Rattle.pac_cpu.specs.declared.once.Once.{Once}
-use Rattle.pac_cpu.specs.declared.once.Once.TheVariants.{Stepped, Stopped}
+-- Believed: what the calls that make steps do, by their answers.
+use Rattle.std.specs.Prelude.{ℕ, ◌+◌, ◌-◌, List, ◌++◌}
 use Rattle.pac_board_model.specs.BoardView.{BoardView}
-use Rattle.pac_board_model.specs.Output.{Output, Image}
-use Rattle.pac_board_model.specs.Step.{Next, Goes, Ends, step}
+use Rattle.pac_board_model.specs.Output.{Output}
+use Rattle.pac_board_model.specs.Step.{step}
 use Rattle.pac_board_model.specs.Trace.{by_view}
-use Rattle.pac_board_model.specs.Walk.{Walk, walk, walk_to}
-use Rattle.pac_machine.specs.declared.due.Due.{Due}
-pub use Rattle.pac_machine.specs.Standing.{next_from_moment, now_after}
-use Rattle.pac_board.specs.declared.fault.Fault.{Fault}
-use Rattle.pac_board.specs.declared.fault.Fault.TheVariants.{TooFar, Refused}
-use Rattle.pac_board.specs.declared.fault.Idle.{Idle}
-use Rattle.pac_board.specs.declared.fault.Idle.TheVariants.{OutputsDue, TimeIsOver}
-use Rattle.pac_board.specs.declared.exec.Ran.{Ran}
-use Rattle.pac_board.specs.Sinks.{Giving, TookAll, RefusesAt, Cut}
-use Rattle.pac_board.specs.State.{BoardValue, due_with, due_outputs, nothing_due, latest, most_asked}
+use Rattle.pac_board_model.specs.Walk.{Walk, walk_to}
+pub use Rattle.pac_machine.specs.StandingLaws.{next_from_moment}
+pub use Rattle.pac_machine.specs.StandingProofs.{now_after}
+use Rattle.pac_board.specs.State.{BoardValue, due_outputs, nothing_due}
 use Rattle.pac_board.specs.State.{time_of, steps_counted}
 
 -- ---- one step
 
--- what the next step of a board comes to
-abbrev pub next_of : BoardValue → Next BoardView
-next_of board = next_from_moment board.set board.state.now
-
-abbrev pub outputs_in : Next BoardView → List Output
-outputs_in (Goes now outputs kind) = outputs
-outputs_in (Ends stop) = []
-
--- the answer to whoever asked for the step, at this time
-abbrev pub once_at : Next BoardView → ℕ → Once
-once_at (Goes now outputs kind) time = Stepped (now.time - time) kind
-once_at (Ends stop) time = Stopped stop
-
-abbrev pub once_of_board : BoardValue → Once
-once_of_board board = once_at (next_of board) board.state.now.time
-
--- the board after a step, with what is due then; a stop changes nothing
-abbrev pub board_after_step : Next BoardView → BoardValue → Due → BoardValue
-board_after_step (Goes now outputs kind) board due =
-    record { set = board.set; state = record { now = now; asked = board.state.asked; due = due }; made = steps_counted board.made 1 }
-board_after_step (Ends stop) board due = board
-
 -- ---- offering what is due
-
--- the board with something else due
-abbrev pub with_due : BoardValue → Due → BoardValue
-with_due board due =
-    record { set = board.set; state = record { now = board.state.now; asked = board.state.asked; due = due }; made = board.made }
-
--- what is due is offered, while this is the picture; what is refused is due still
-abbrev pub OffersDue : {S A E : Type 0} → Giving S → Image → Due → S → Result A E → Due → S → Type 0
-OffersDue to image old sink (Ok done) new later = (new ≡ nothing_due) × TookAll to.took sink (due_with image old) later
-OffersDue to image old sink (Err refusal) new later = Cut to sink (due_with image old) (due_with image new) later
-
--- part of what is due, at most one output, is offered alone; `without` is what is due without it
-abbrev pub OffersPart : {S A E : Type 0} → Giving S → List Output → Due → Due → S → Result A E → Due → S → Type 0
-OffersPart to part old without sink (Ok done) new later = (new ≡ without) × TookAll to.took sink part later
-OffersPart to part old without sink (Err refusal) new later = (new ≡ old) × RefusesAt to sink [] part later
-
--- a board offered what was due, and part of it was refused, which is due still
-pub record IsOfferRefused {S : Type 0} (to : Giving S) (old : BoardValue) (sink : S) (new : BoardValue) (later : S) : Type 0 where
-  pub board : new ≡ with_due old new.state.due
-  pub cut : Cut to sink (due_outputs old) (due_outputs new) later
-
-abbrev pub Offers : {S A E : Type 0} → Giving S → BoardValue → S → Result A E → BoardValue → S → Type 0
-Offers to old sink (Ok done) new later = (new ≡ with_due old nothing_due) × TookAll to.took sink (due_outputs old) later
-Offers to old sink (Err refusal) new later = IsOfferRefused to old sink new later
 
 -- ---- one step whose outputs become due
 
-pub record IsAdvanced (old : BoardValue) (once : Once) (new : BoardValue) : Type 0 where
-  pub early : old.state.now.time < latest
-  pub nothing : due_outputs old ≡ []
-  pub board : new ≡ board_after_step (next_of old) old new.state.due
-  pub outputs : due_outputs new ≡ outputs_in (next_of old)
-  pub once_is : once ≡ once_of_board old
-
-abbrev pub WasIdle : BoardValue → Idle → Type 0
-WasIdle old OutputsDue = due_outputs old ≢ []
-WasIdle old TimeIsOver = (due_outputs old ≡ []) × (latest ≤ old.state.now.time)
-
-abbrev pub Advances : BoardValue → Result Once Idle → BoardValue → Type 0
-Advances old (Ok once) new = IsAdvanced old once new
-Advances old (Err why) new = (new ≡ old) × WasIdle old why
-
 -- ---- what is due, and then one step
 
--- all was taken: what was due, and what the step gave
-pub record IsOneStep {S : Type 0} (took : S → Output → S → Type 0) (old : BoardValue) (sink : S) (once : Once) (new : BoardValue)
-    (later : S)
-    : Type 0 where
-  pub early : old.state.now.time < latest
-  pub board : new ≡ board_after_step (next_of old) (with_due old nothing_due) nothing_due
-  pub once_is : once ≡ once_of_board old
-  pub sink_is : TookAll took sink (due_outputs old ++ outputs_in (next_of old)) later
-
--- the step was done, after all that was due was taken, and part of what it gave was refused
-pub record IsStepRefused {S : Type 0} (to : Giving S) (old : BoardValue) (sink : S) (new : BoardValue) (later : S) : Type 0 where
-  pub board : new ≡ board_after_step (next_of old) (with_due old nothing_due) new.state.due
-  pub cut : Cut to sink (due_outputs old ++ outputs_in (next_of old)) (due_outputs new) later
-  pub of_step : IsPrefix (due_outputs old) cut.taken
-
--- board and sink were left as they were
-pub record IsUnchanged {S : Type 0} (old : BoardValue) (sink : S) (new : BoardValue) (later : S) : Type 0 where
-  pub board : new ≡ old
-  pub sink_is : later ≡ sink
-
-abbrev pub StepsOnce : {S : Type 0} → Giving S → BoardValue → S → Result Once Fault → BoardValue → S → Type 0
-StepsOnce to old sink (Ok once) new later = IsOneStep to.took old sink once new later
-StepsOnce to old sink (Err TooFar) new later = (latest ≤ old.state.now.time) × IsUnchanged old sink new later
-StepsOnce to old sink (Err Refused) new later =
-    (old.state.now.time < latest) × (IsOfferRefused to old sink new later ⊎ IsStepRefused to old sink new later)
-
 -- ---- steps for so many microseconds
-
--- the walk that a call for so many microseconds makes: after so many tries, and to its end
-abbrev pub course_at : BoardValue → ℕ → ℕ → Walk BoardView
-course_at board microseconds tries =
-    walk (step (by_view board.set)) (time_of (board.state.asked + microseconds)) board.state.now tries
 
 abbrev pub course : BoardValue → ℕ → Walk BoardView
 course board microseconds = walk_to (step (by_view board.set)) (time_of (board.state.asked + microseconds)) board.state.now
@@ -140,30 +39,6 @@ board_after_course board microseconds walked = record {
 abbrev pub board_after_run : BoardValue → ℕ → BoardValue
 board_after_run board microseconds = board_after_course board microseconds (course board microseconds)
 
--- a call for so many microseconds came to its end: by the time, or by a stop
-pub record HasRun {S : Type 0} (took : S → Output → S → Type 0) (old : BoardValue) (microseconds : ℕ) (sink : S) (answer : Ran)
-    (new : BoardValue) (later : S)
-    : Type 0 where
-  pub within : old.state.asked + microseconds ≤ most_asked
-  pub board : new ≡ board_after_run old microseconds
-  pub sink_is : TookAll took sink (outputs_given old microseconds) later
-  pub ticks : answer.ticks ≡ new.state.now.time - old.state.now.time
-  pub stop : answer.stop ≡ (course old microseconds).stop
-
--- The sink refused an output: the call ended after the step that gave it, and that output and the later one of its step are due.
--- All that was given before was taken.
-pub record IsRunRefused {S : Type 0} (to : Giving S) (old : BoardValue) (microseconds : ℕ) (sink : S) (new : BoardValue) (later : S)
-    : Type 0 where
-  pub within : old.state.asked + microseconds ≤ most_asked
-  pub steps : ℕ
-  pub board : new ≡ with_due (board_after_course old microseconds (course_at old microseconds steps)) new.state.due
-  pub all_steps : new.state.now.steps ≡ old.state.now.steps + steps
-  pub cut : Cut to sink (due_outputs old ++ (course_at old microseconds steps).outputs) (due_outputs new) later
-  pub of_last :
-      (before : ℕ) → steps ≡ suc before → IsPrefix (due_outputs old ++ (course_at old microseconds before).outputs) cut.taken
-
-abbrev pub Executes : {S : Type 0} → Giving S → BoardValue → ℕ → S → Result Ran Fault → BoardValue → S → Type 0
-Executes to old microseconds sink (Ok answer) new later = HasRun to.took old microseconds sink answer new later
-Executes to old microseconds sink (Err TooFar) new later =
-    (most_asked < old.state.asked + microseconds) × IsUnchanged old sink new later
-Executes to old microseconds sink (Err Refused) new later = IsRunRefused to old microseconds sink new later
+-- the T-states that a call for so many microseconds takes
+abbrev pub run_ticks : BoardValue → ℕ → ℕ
+run_ticks board microseconds = (board_after_run board microseconds).state.now.time - board.state.now.time

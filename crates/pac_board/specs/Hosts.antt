@@ -1,4 +1,4 @@
--- To be believed: a host's calls on one board, one after another, whatever its sinks take and refuse, each of which does what
+-- Law: a host's calls on one board, one after another, whatever its sinks take and refuse, each of which does what
 -- its contract says. Over the history they are acts, and the board stands where these acts bring it.
 use Rattle.std.specs.Prelude.{◌≡◌, ◌-◌, ℕ, nat_le, Bool, true, false, ◌&&◌, List, [], ◌∷◌, ◌++◌, map, replicate, length, take, drop}
 use Rattle.std.specs.Prelude.{slice_index_or, Option, Result, Ok, Err, ◌⊎◌}
@@ -22,12 +22,14 @@ use Rattle.pac_board.specs.declared.fault.Fault.{Fault}
 use Rattle.pac_board.specs.declared.fault.Fault.TheVariants.{TooFar, Refused}
 use Rattle.pac_board.specs.declared.fault.Idle.{Idle}
 use Rattle.pac_board.specs.declared.sink.Refused as sinks
-use Rattle.pac_board.specs.Sinks.{Giving}
-use Rattle.pac_board.specs.State.{BoardValue, BoardState, due_outputs, board_after_reset, board_with_inputs, restored_board}
-use Rattle.pac_board.specs.State.{with_more_asked}
+use Rattle.pac_board.specs.SinksLaws.{Giving}
+use Rattle.pac_board.specs.State.{BoardValue, BoardState, due_outputs, board_after_reset, board_with_inputs}
+use Rattle.pac_board.specs.StateLaws.{restored_board}
+use Rattle.pac_board.specs.StateLaws.{with_more_asked}
 use Rattle.pac_board.specs.Rests.{HasRested}
 use Rattle.pac_board.specs.Turns.{GoesTo, way}
-use Rattle.pac_board.specs.Calls.{Executes, StepsOnce, Offers, Advances, IsOfferRefused, IsStepRefused, outputs_given, next_of, outputs_in}
+use Rattle.pac_board.specs.CallsLaws.{Executes, StepsOnce, Offers, Advances, IsOfferRefused, IsStepRefused, next_of, outputs_in}
+use Rattle.pac_board.specs.Calls.{outputs_given}
 
 -- the calls that change a board, but for `recompose`, which is for a state that was saved without its lines
 pub data Call : Type 0 where

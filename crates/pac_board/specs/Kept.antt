@@ -1,4 +1,4 @@
--- To be believed: a sink for tests: it keeps what it takes, and refuses one offer. Where there isn't the memory for an output
+-- For proofs: a sink for tests: it keeps what it takes, and refuses one offer. Where there isn't the memory for an output
 -- it refuses too.
 use Rattle.std.specs.Prelude.{◌≡◌, ◌≢◌, ℕ, ◌-◌, List, [], ◌∷◌, ◌++◌, slice_index, slice_index_or}
 use Rattle.pac_board_model.specs.Output.{Output, Sound, Show, Image}

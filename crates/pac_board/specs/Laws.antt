@@ -1,15 +1,14 @@
--- To be believed: laws of the calls, each proved on a public function of the crate.
-use Rattle.std.specs.Prelude.{◌≡◌, ℕ, zero, suc, ◌+◌, ◌-◌, ◌<◌, List, [], ◌++◌}
+-- Law: laws of the calls, each proved on a public function of the crate.
+use Rattle.std.specs.Prelude.{◌≡◌, ℕ, zero, suc, ◌+◌, ◌<◌, List, [], ◌++◌}
 use Rattle.pac_cpu.specs.declared.once.Once.{Once}
 use Rattle.pac_board_model.specs.Output.{Output}
-use Rattle.pac_board.specs.Sinks.{Giving}
-use Rattle.pac_board.specs.State.{BoardValue, due_outputs, nothing_due, restored_board, time_of}
-use Rattle.pac_board.specs.Calls.{course, outputs_given, board_after_run, next_of, outputs_in, with_due}
-use Rattle.pac_board.specs.Calls.{IsAdvanced, IsOneStep, IsStepRefused, IsOfferRefused, IsRunRefused}
-
--- the T-states that a call for so many microseconds takes
-abbrev pub run_ticks : BoardValue → ℕ → ℕ
-run_ticks board microseconds = (board_after_run board microseconds).state.now.time - board.state.now.time
+use Rattle.pac_board.specs.SinksLaws.{Giving}
+use Rattle.pac_board.specs.State.{BoardValue, due_outputs, nothing_due, time_of}
+use Rattle.pac_board.specs.StateLaws.{restored_board}
+use Rattle.pac_board.specs.Calls.{course, outputs_given, board_after_run}
+use Rattle.pac_board.specs.CallsLaws.{next_of, outputs_in, with_due}
+use Rattle.pac_board.specs.CallsLaws.{IsAdvanced, IsOneStep, IsStepRefused, IsOfferRefused, IsRunRefused}
+use Rattle.pac_board.specs.Calls.{run_ticks}
 
 -- Time in pieces is time at once: the board is the same, what is given is the same in the same order, and the ticks add up.
 pub record IsCut (board : BoardValue) (first second : ℕ) : Type 0 where

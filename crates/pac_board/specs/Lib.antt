@@ -1,10 +1,17 @@
 pub mod Sinks
+pub mod SinksProofs
+pub mod SinksLaws
 pub mod State
+pub mod StateLaws
 pub mod Boxed
 pub mod Calls
+pub mod CallsProofs
+pub mod CallsLaws
 pub mod Turns
+pub mod TurnsProofs
 pub mod Stretches
 pub mod Rests
+pub mod RestsProofs
 pub mod Laws
 pub mod Kept
 pub mod Hosts
@@ -49,3 +56,7 @@ pub use Rattle.pac_machine.specs.Trails
 pub use Rattle.pac_machine.specs.declared.due.Due
 pub use Rattle.pac_machine.specs.declared.fields.Fields as BoardFields
 pub use Rattle.pac_machine.specs.declared.trail.PastStep
+pub use Rattle.pac_machine.specs.BurstsProofs
+pub use Rattle.pac_board_model.specs.WalkLaws
+pub use Rattle.pac_board_model.specs.TraceLaws
+pub use Rattle.pac_map.specs.PartsProofs

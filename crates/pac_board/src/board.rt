@@ -3,10 +3,12 @@
 ghost use Rattle.std.specs.Prelude.{◌≡◌, ◌≤◌, ◌+◌, IfOk, IfErr};
 ghost use Rattle.pac_map.specs.Inputs.{mask};
 ghost use Rattle.pac_map.specs.Contents.{read_of};
-ghost use Rattle.pac_map.specs.RomParts.{IsWhole, parts_of, zero_parts};
+ghost use Rattle.pac_map.specs.RomParts.{IsWhole};
+ghost use Rattle.pac_map.specs.PartsProofs.{parts_of, zero_parts};
 ghost use Rattle.pac_map.specs.View.{held_with, held_without};
 ghost use Rattle.pac_picture.specs.State.{palette_of};
 ghost use Rattle.pac_board.specs.State as state;
+ghost use Rattle.pac_board.specs.StateLaws as state_laws;
 
 use crate::fault::InitRefused;
 use pac_cpu::Regs;
@@ -122,7 +124,7 @@ impl Board {
     /// Counts these microseconds as asked, and makes no step: for a caller that goes by time or by steps where another one calls `exec`.
     pub fn count_asked(&mut self, microseconds: u64)
         requires { self.old.state.asked + microseconds ≤ state.most_asked }
-        ensures { self.new ≡ state.with_more_asked self.old microseconds }
+        ensures { self.new ≡ state_laws.with_more_asked self.old microseconds }
     {
         self.asked += microseconds;
     }

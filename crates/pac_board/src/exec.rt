@@ -3,11 +3,13 @@
 ghost use Rattle.std.specs.Prelude.{◌≡◌, ◌<◌, ◌≤◌, ◌^◌, [], true, None, is_some};
 ghost use Rattle.pac_machine.specs.Standing.{latest, nothing_due};
 ghost use Rattle.pac_board.specs.State.{due_outputs};
-ghost use Rattle.pac_board.specs.Calls.{with_due, Offers, IsAdvanced, Advances, StepsOnce, Executes};
-ghost use Rattle.pac_board.specs.Sinks.{by};
-ghost use Rattle.pac_board.specs.Turns.{Turns, GoesTo};
+ghost use Rattle.pac_board.specs.CallsLaws.{with_due, Offers, IsAdvanced, Advances, StepsOnce, Executes};
+ghost use Rattle.pac_board.specs.SinksLaws.{by};
+ghost use Rattle.pac_board.specs.TurnsProofs.{Turns};
+ghost use Rattle.pac_board.specs.Turns.{GoesTo};
 ghost use Rattle.pac_board.specs.Stretches.{IsStretched, Stretches, IsTold};
-ghost use Rattle.pac_board.specs.Rests.{waits, HasRested};
+ghost use Rattle.pac_board.specs.RestsProofs.{waits};
+ghost use Rattle.pac_board.specs.Rests.{HasRested};
 
 use crate::board::Board;
 use crate::fault::{Fault, Idle};

@@ -1,7 +1,8 @@
 //! A board made from its fields, as a save file has them, and told by them.
 
 ghost use Rattle.std.specs.Prelude.{◌≡◌, IfOk, IfErr};
-ghost use Rattle.pac_board.specs.State.{passed_lines, recomposed_view, restored_board, with_view};
+ghost use Rattle.pac_board.specs.State.{passed_lines, recomposed_view, with_view};
+ghost use Rattle.pac_board.specs.StateLaws.{restored_board};
 ghost use Rattle.pac_machine.specs.Fields.{state_of, AreBoardFields};
 
 use crate::board::Board;

@@ -2,7 +2,7 @@
 
 ghost use Rattle.std.specs.Prelude.{◌≡◌, ◌<◌, ◌==◌, [], IfOk, map};
 ghost use Rattle.pac_picture.specs.Tiles as tile;
-ghost use Rattle.pac_board.specs.Sinks.{offered_image};
+ghost use Rattle.pac_board.specs.SinksLaws.{offered_image};
 ghost use Rattle.pac_board.specs.Kept.{Keeps, Declines, sink_after_offer, output_of, pixel_number, pixel_colour};
 
 use crate::sink::{Refused, Sink};

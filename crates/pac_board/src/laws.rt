@@ -2,7 +2,7 @@
 
 ghost use Rattle.pac_board.specs.Laws.{TimeCanBeCut, RefusalsAreTakenUp, StepsAreDoneAgain, StepsArePartsOfRuns};
 ghost use Rattle.pac_board.specs.Hosts.{CallsAreOfTheHistory, ListsAreCut, RestoresGiveAgain};
-ghost use Rattle.pac_board.specs.Sinks.{by};
+ghost use Rattle.pac_board.specs.SinksLaws.{by};
 
 use crate::sink::Sink;
 

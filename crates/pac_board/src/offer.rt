@@ -1,8 +1,8 @@
 //! What is due is offered to a sink.
 
 ghost use Rattle.std.specs.Prelude.{◌≡◌, None, false};
-ghost use Rattle.pac_board.specs.Calls.{OffersDue, OffersPart};
-ghost use Rattle.pac_board.specs.Sinks.{by, offered_image};
+ghost use Rattle.pac_board.specs.CallsProofs.{OffersDue, OffersPart};
+ghost use Rattle.pac_board.specs.SinksLaws.{by, offered_image};
 ghost use Rattle.pac_board.specs.State.{sounds_of, shows_of};
 
 use crate::sink::{Refused, Sink};

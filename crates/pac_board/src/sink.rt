@@ -1,7 +1,8 @@
 //! Where samples and pictures go.
 
 ghost use Rattle.pac_board_model.specs.Output.{Output, Sound, Show};
-ghost use Rattle.pac_board.specs.Sinks.{by, IsOffer, offered_image, lent_sink_took, lent_sink_refused};
+ghost use Rattle.pac_board.specs.SinksLaws.{by, IsOffer, offered_image};
+ghost use Rattle.pac_board.specs.SinksProofs.{lent_sink_took, lent_sink_refused};
 
 use pac_picture::Picture;
 use thiserror::Error;

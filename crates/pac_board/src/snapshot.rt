@@ -1,7 +1,7 @@
 //! A board's state, kept beside it and put back.
 
 ghost use Rattle.std.specs.Prelude.{◌≡◌, IfOk};
-ghost use Rattle.pac_board.specs.State.{restored_board};
+ghost use Rattle.pac_board.specs.StateLaws.{restored_board};
 
 use crate::board::Board;
 use pac_machine::{Due, Frozen};

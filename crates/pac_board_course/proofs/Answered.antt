@@ -4,14 +4,15 @@ use Rattle.std.proofs.Common.{refl, sym, ap, subst, ◌∙◌, arith}
 use mathlib.Core.List.{IsPrefix}
 use Rattle.pac_board.specs.Stop.{Stop}
 use Rattle.pac_board.specs.BoardView.{BoardView}
-use Rattle.pac_board.specs.Calls.{with_due}
+use Rattle.pac_board.specs.CallsLaws.{with_due}
 use Rattle.pac_board.specs.Step.{Moment, step}
 use Rattle.pac_board.specs.Trace.{by_view}
 use Rattle.pac_board.specs.Walk.{Walk, walk}
 use Rattle.pac_board.specs.Due.{Due}
 use Rattle.pac_board.proofs.Walks.{open-is-late, walk-to-ends, step-timely, play-timely}
 use Rattle.pac_board.proofs.Sinks.{cut-along, cut-something}
-use Rattle.pac_board.specs.Sinks.{Giving, TookAll}
+use Rattle.pac_board.specs.SinksLaws.{Giving}
+use Rattle.pac_board.specs.Sinks.{TookAll}
 use Rattle.pac_board.specs.State.{BoardValue, board_with_inputs, due_outputs, nothing_due, steps_counted}
 use Rattle.pac_board.specs.Turns.{GoesTo, HasGone, IsWayRefused, board_after_walk}
 use Rattle.pac_inputs.specs.Stretches.{held}
@@ -20,7 +21,8 @@ use Rattle.pac_board_course.proofs.Counted.{counted, going-if-counted, going-sam
 use Rattle.pac_board_course.proofs.Framed.{frame_walk, frame_closed, frames_ended, frame-stops, frame-now, frame-closed, on-the-way-on}
 use Rattle.pac_board_course.proofs.Framed.{closed-outputs, closed-stop}
 use Rattle.pac_board_course.proofs.Whole.{frame-within, held-after, not-held-yet}
-use Rattle.pac_board_course.specs.Course.{CourseValue, end_of, next_in, held_in, way_walked, course_after, course_with_due}
+use Rattle.pac_board_course.specs.Course.{CourseValue, end_of, next_in, held_in, way_walked, course_after}
+use Rattle.pac_board_course.specs.CourseProofs.{course_with_due}
 use Rattle.pac_board_course.specs.Frames.{IsUnderway, IsFrameDone, PlaysFrameOn, frame_end}
 use Rattle.pac_board_course.specs.Plays.{IsCourseHeldUp}
 

@@ -2,7 +2,8 @@
 use Rattle.std.proofs.Common.{◌≡◌, ℕ, zero, suc, ◌+◌, ◌≤◌, None, Bool, true, false, refl, sym, ap, subst, ◌∙◌, arith}
 use Rattle.pac_board.specs.ModelLaws.{IsTimely}
 use Rattle.pac_board.specs.Step.{Moment, Next, Goes, Ends}
-use Rattle.pac_board.specs.Walk.{Walk, walk, walk_onward, walk_after_step, has_ended}
+use Rattle.pac_board.specs.Walk.{Walk, walk, walk_onward, walk_after_step}
+use Rattle.pac_board.specs.WalkLaws.{has_ended}
 use Rattle.pac_board.proofs.Walks.{ended-stays, going-steps, going-before, going-counted, goes-further}
 
 -- ---- steps and tries

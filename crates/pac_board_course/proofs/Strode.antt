@@ -6,18 +6,21 @@ use Rattle.std.proofs.lemmas.Bool.Decides.{nat_tests}
 use mathlib.Core.List.{IsPrefix}
 use Rattle.pac_board.specs.Stop.{Stop}
 use Rattle.pac_board.specs.BoardView.{BoardView}
-use Rattle.pac_board.specs.Calls.{now_after, with_due}
+use Rattle.pac_board.specs.Calls.{now_after}
+use Rattle.pac_board.specs.CallsLaws.{with_due}
 use Rattle.pac_board.specs.ModelLaws.{IsTimely}
 use Rattle.pac_board.specs.Step.{Moment, Next, Goes, Ends, step, frame_ticks}
 use Rattle.pac_board.specs.Trace.{by_view, next_with_inputs, moment_with_inputs}
 use Rattle.pac_board.specs.Trails.{noted_step, stepped, noted, IsNoted}
 use Rattle.pac_board.specs.Turns.{GoesTo, HasGone, IsWayRefused, board_after_walk}
-use Rattle.pac_board.specs.Walk.{Walk, walk, walk_after_step, has_ended}
+use Rattle.pac_board.specs.Walk.{Walk, walk, walk_after_step}
+use Rattle.pac_board.specs.WalkLaws.{has_ended}
 use Rattle.pac_board.specs.PastStep.{PastStep}
 use Rattle.pac_board.proofs.Noted.{walk-stepped}
 use Rattle.pac_board.proofs.Walks.{not-both, ended-stays, going-steps, going-is-early, on-the-way, open-is-late, walk-to-ends}
 use Rattle.pac_board.proofs.Walks.{step-timely, play-timely}
-use Rattle.pac_board.specs.Sinks.{Giving, TookAll}
+use Rattle.pac_board.specs.SinksLaws.{Giving}
+use Rattle.pac_board.specs.Sinks.{TookAll}
 use Rattle.pac_board.specs.State.{BoardValue}
 use Rattle.pac_board.proofs.Sinks.{cut-along}
 use Rattle.pac_inputs.specs.declared.line.Stretch.{Stretch}

@@ -2,7 +2,7 @@
 use Rattle.std.proofs.Common.{ℕ, List, ◌++◌, sym, ap, ◌∙◌}
 use mathlib.Core.List.{IsPrefix}
 use Rattle.pac_board.specs.Output.{Output}
-use Rattle.pac_board.specs.Sinks.{Giving, Cut}
+use Rattle.pac_board.specs.SinksLaws.{Giving, Cut}
 use Rattle.pac_board_course.specs.Course.{CourseValue, way_on, way_walked, course_after}
 use Rattle.pac_board_course.proofs.Whole.{courses-go-on}
 

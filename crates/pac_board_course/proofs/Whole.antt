@@ -15,11 +15,13 @@ use Rattle.pac_board.proofs.Sinks.{took-both, cut-along, cut-after, cut-somethin
 use Rattle.pac_board.proofs.Walked.{walked-after}
 use Rattle.pac_board.proofs.Walks.{joined, more-joined, goes-on, ended-whole, late-has-ended, step-timely, play-timely}
 use Rattle.pac_board.specs.ModelLaws.{IsTimely}
-use Rattle.pac_board.specs.Sinks.{Giving, TookAll}
+use Rattle.pac_board.specs.SinksLaws.{Giving}
+use Rattle.pac_board.specs.Sinks.{TookAll}
 use Rattle.pac_board.specs.State.{BoardValue, nothing_due, steps_counted}
 use Rattle.pac_inputs.specs.Stretches.{held}
 use Rattle.pac_board_course.proofs.Framed.{frame_walk, moment_after, frames_ended}
-use Rattle.pac_board_course.specs.Course.{CourseValue, held_in, end_of, next_in, way_on, way_walked, course_after, course_with_due}
+use Rattle.pac_board_course.specs.Course.{CourseValue, held_in, end_of, next_in, way_on, way_walked, course_after}
+use Rattle.pac_board_course.specs.CourseProofs.{course_with_due}
 use Rattle.pac_board_course.specs.Frames.{IsUnderway, IsFrameDone, frame_end}
 use Rattle.pac_board_course.specs.Laws.{CoursesGoOn}
 use Rattle.pac_board_course.specs.Plays.{IsOver, IsCourseHeldUp}

@@ -1,5 +1,5 @@
--- To be believed: a course: a script that is played on a board, and what is left of its run.
-use Rattle.std.specs.Prelude.{◌≤◌, ℕ, ◌+◌, ◌-◌, ◌*◌, ◌/◌, min, List, Option}
+-- Law: a course: a script that is played on a board, and what is left of its run.
+use Rattle.std.specs.Prelude.{ℕ, ◌+◌, ◌-◌, ◌*◌, ◌/◌, List, Option}
 use Rattle.pac_inputs.specs.Stretches.{total_frames, held}
 use Rattle.pac_inputs.specs.declared.line.Stretch.{Stretch}
 use Rattle.pac_board.specs.BoardView.{BoardView}
@@ -8,9 +8,7 @@ use Rattle.pac_board.specs.Step.{Moment, Next, frame_ticks}
 use Rattle.pac_board.specs.Trace.{by_view, play_step}
 use Rattle.pac_board.specs.Walk.{Walk, walk, walk_to}
 pub use Rattle.pac_board.specs.State.{frame_microseconds}
-use Rattle.pac_board.specs.State.{BoardValue, board_with_inputs, with_more_asked, nothing_due, steps_counted, latest, most_asked}
-use Rattle.pac_board.specs.Due.{Due}
-use Rattle.pac_board.specs.Calls.{with_due}
+use Rattle.pac_board.specs.State.{BoardValue, board_with_inputs, nothing_due, steps_counted}
 use Rattle.pac_board_course.specs.declared.outcome.Outcome.{Outcome}
 
 -- a board, the script that is played on it, and the frames that had gone by before the script's first
@@ -31,9 +29,6 @@ end_of course = frame_ticks * (course.gone + total_frames course.script)
 abbrev pub next_in : CourseValue → Moment BoardView → Next BoardView
 next_in course = play_step (by_view course.board.set) (held_in course)
 
-abbrev pub next_on : CourseValue → Next BoardView
-next_on course = next_in course course.board.state.now
-
 -- what is left of the run: the walk from where the board is to the last frame's blank, or to a stop; and that walk after so many tries
 abbrev pub way_on : CourseValue → Walk BoardView
 way_on course = walk_to (next_in course) (end_of course) course.board.state.now
@@ -53,9 +48,6 @@ course_after course walked = record {
   gone = course.gone;
 }
 
-abbrev pub course_with_due : CourseValue → Due → CourseValue
-course_with_due course due = record { board = with_due course.board due; script = course.script; gone = course.gone }
-
 -- a course at its beginning: the inputs of the script's first frame are held
 abbrev pub begun : BoardValue → List Stretch → CourseValue
 begun board script = record {
@@ -64,10 +56,6 @@ begun board script = record {
   gone = board.state.now.time / frame_ticks;
 }
 
--- the run ends while the board still makes steps
-abbrev pub FitsTime : BoardValue → List Stretch → Type 0
-FitsTime board script = frame_ticks * (board.state.now.time / frame_ticks + total_frames script) ≤ latest
-
 -- ---- what a run came to
 
 -- a run that ended at this moment, with this stop, if it met one
@@ -75,15 +63,3 @@ abbrev pub outcome_at : Moment BoardView → Option Stop → Outcome
 outcome_at now stop = record { frames = now.time / frame_ticks; steps = now.steps; ticks = now.time; stop = stop }
 
 -- ---- microseconds asked
-
--- so many frames can be asked of the board
-abbrev pub FitsAsked : BoardValue → List Stretch → Type 0
-FitsAsked board script = board.state.asked + frame_microseconds * total_frames script ≤ most_asked
-
--- the frames of the script that have begun, the one under way too
-abbrev pub frames_begun : CourseValue → ℕ
-frames_begun course = min (total_frames course.script) (course.board.state.now.time / frame_ticks + 1 - course.gone)
-
--- the board of a course, of which each frame that has begun was asked
-abbrev pub board_asked : CourseValue → BoardValue
-board_asked course = with_more_asked course.board (frame_microseconds * frames_begun course)

@@ -3,10 +3,12 @@ use Rattle.std.specs.Prelude.{◌≡◌, ◌<◌, ◌≤◌, ℕ, suc, ◌+◌, 
 use Rattle.pac_board.specs.Stop.{Stop}
 use Rattle.pac_board.specs.Output.{Output}
 use Rattle.pac_board.specs.Step.{frame_ticks}
-use Rattle.pac_board.specs.Sinks.{Giving, TookAll}
+use Rattle.pac_board.specs.SinksLaws.{Giving}
+use Rattle.pac_board.specs.Sinks.{TookAll}
 use Rattle.pac_board.specs.State.{latest}
 use Rattle.pac_inputs.specs.Stretches.{total_frames, most_frames}
-use Rattle.pac_board_course.specs.Course.{CourseValue, FitsAsked, end_of, way_walked, course_after}
+use Rattle.pac_board_course.specs.Course.{CourseValue, end_of, way_walked, course_after}
+use Rattle.pac_board_course.specs.CourseProofs.{FitsAsked}
 use Rattle.pac_board_course.specs.Plays.{IsOver, IsCourseHeldUp}
 
 -- what holds of each course

@@ -1,4 +1,4 @@
--- To be believed: laws of courses, each proved on a public function of the crate.
+-- Law: laws of courses, each proved on a public function of the crate.
 use Rattle.std.specs.Prelude.{◌≡◌, ℕ, ◌++◌, List}
 use Rattle.pac_board.specs.BoardView.{power_on_board_view}
 use Rattle.pac_board.specs.RomParts.{Parts}

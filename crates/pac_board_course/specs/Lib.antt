@@ -1,4 +1,5 @@
 pub mod Course
+pub mod CourseProofs
 pub mod Plays
 pub mod Frames
 pub mod Rests
@@ -42,3 +43,9 @@ pub use Rattle.pac_board.specs.declared.fault.Idle
 pub use Rattle.pac_board.specs.declared.fault.Idle.TheVariants as IdleVariants
 pub use Rattle.pac_board.specs.declared.sink.Refused
 pub use Rattle.pac_board.specs.PastStep
+pub use Rattle.pac_board.specs.CallsLaws
+pub use Rattle.pac_board.specs.SinksLaws
+pub use Rattle.pac_board.specs.BurstsProofs
+pub use Rattle.pac_board.specs.WalkLaws
+pub use Rattle.pac_board.specs.StateLaws
+pub use Rattle.pac_board.specs.TraceLaws

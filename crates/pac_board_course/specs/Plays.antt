@@ -1,15 +1,17 @@
--- To be believed: what playing a course leaves of it and of the sink.
+-- For proofs: what playing a course leaves of it and of the sink.
 use Rattle.std.specs.Prelude.{◌≡◌, ◌≢◌, ◌<◌, ◌≤◌, ℕ, suc, ◌+◌, [], Option, Result, Ok, Err}
 use mathlib.Core.List.{IsPrefix}
 use Rattle.pac_board.specs.Stop.{Stop}
 use Rattle.pac_board.specs.Output.{Output}
-use Rattle.pac_board.specs.Calls.{Offers, board_after_step, once_at, outputs_in}
+use Rattle.pac_board.specs.CallsLaws.{Offers, board_after_step, once_at, outputs_in}
 use Rattle.pac_board.specs.Once.{Once}
 use Rattle.pac_board.specs.declared.fault.Idle.{Idle}
 use Rattle.pac_board.specs.declared.fault.Idle.TheVariants.{OutputsDue, TimeIsOver}
-use Rattle.pac_board.specs.Sinks.{Giving, TookAll, Cut}
+use Rattle.pac_board.specs.SinksLaws.{Giving, Cut}
+use Rattle.pac_board.specs.Sinks.{TookAll}
 use Rattle.pac_board.specs.State.{due_outputs}
-use Rattle.pac_board_course.specs.Course.{CourseValue, end_of, next_on, way_on, way_walked, course_after, course_with_due}
+use Rattle.pac_board_course.specs.Course.{CourseValue, end_of, way_on, way_walked, course_after}
+use Rattle.pac_board_course.specs.CourseProofs.{next_on, course_with_due}
 
 -- ---- what is due
 

@@ -2,7 +2,7 @@
 use Rattle.std.specs.Prelude.{◌≡◌, ◌<◌, Option, None, Some, Result, Ok, Err}
 use Rattle.pac_board.specs.Stop.{Stop}
 use Rattle.pac_board.specs.Output.{Output}
-use Rattle.pac_board.specs.Sinks.{Giving}
+use Rattle.pac_board.specs.SinksLaws.{Giving}
 use Rattle.pac_board.specs.Step.{Ends}
 use Rattle.pac_board_course.specs.Course.{CourseValue, next_in}
 use Rattle.pac_board_course.specs.Frames.{IsUnderway}

@@ -2,11 +2,12 @@
 
 ghost use Rattle.std.specs.Prelude.{◌≡◌, ◌<◌, ◌≤◌, ◌+◌, ◌*◌};
 ghost use Rattle.pac_board.specs.Inputs.{mask};
-ghost use Rattle.pac_board.specs.Sinks.{by};
+ghost use Rattle.pac_board.specs.SinksLaws.{by};
 ghost use Rattle.pac_board.specs.State as state;
 ghost use Rattle.pac_board.specs.Step.{frame_ticks};
 ghost use Rattle.pac_inputs.specs.Stretches.{most_frames, total_frames};
-ghost use Rattle.pac_board_course.specs.Course.{FitsTime, FitsAsked, begun, board_asked, end_of, frames_begun};
+ghost use Rattle.pac_board_course.specs.CourseProofs.{FitsTime, FitsAsked, board_asked, frames_begun};
+ghost use Rattle.pac_board_course.specs.Course.{begun, end_of};
 ghost use Rattle.pac_board_course.specs.Frames.{PlaysFrameOn};
 ghost use Rattle.pac_board_course.specs.Plays.{CourseAdvances, CourseOffers, RunsToEnd};
 

@@ -1,7 +1,7 @@
 //! Halted steps of a script's run, in one go.
 
 ghost use Rattle.std.specs.Prelude.{◌≡◌, ◌<◌, ◌≤◌, ◌+◌, ◌*◌, [], true};
-ghost use Rattle.pac_board.specs.Rests.{waits};
+ghost use Rattle.pac_board.specs.RestsProofs.{waits};
 ghost use Rattle.pac_board.specs.State as state;
 ghost use Rattle.pac_board.specs.Step.{frame_ticks};
 ghost use Rattle.pac_inputs.specs.Stretches.{most_frames, total_frames};

@@ -1,7 +1,7 @@
 //! Steps of a script's run in one go, each of which is told.
 
 ghost use Rattle.std.specs.Prelude.{◌≡◌, ◌<◌, ◌≤◌, ◌+◌, ◌*◌, min};
-ghost use Rattle.pac_board.specs.Sinks.{by};
+ghost use Rattle.pac_board.specs.SinksLaws.{by};
 ghost use Rattle.pac_board.specs.State as state;
 ghost use Rattle.pac_board.specs.Step.{frame_ticks};
 ghost use Rattle.pac_board.specs.Trails.{IsNoted};

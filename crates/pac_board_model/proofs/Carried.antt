@@ -18,8 +18,10 @@ use Rattle.pac_board_model.specs.Step.{line_event, reset_event, watchdog_event}
 use Rattle.pac_board_model.specs.Step.{blank_event, at_moment, through, next_after_events, progress_after_cpu, after_cpu_step, step}
 use Rattle.pac_board_model.specs.Walk.{Walk, walk, walk_onward, onward_if, walk_after_step}
 use Rattle.pac_board_model.specs.Trace.{Play, moment_with_inputs, next_with_inputs, play_step, power_on_moment, run_at}
-use Rattle.pac_board_model.specs.Trace.{frames_gone, resumed_start, resumed_step, resumed_end, resumed_at}
-use Rattle.pac_board_model.specs.Carried.{Carries, moment_view, next_view, walk_view}
+use Rattle.pac_board_model.specs.Trace.{frames_gone, resumed_start, resumed_step, resumed_end}
+use Rattle.pac_board_model.specs.TraceLaws.{resumed_at}
+use Rattle.pac_board_model.specs.CarriedProofs.{Carries}
+use Rattle.pac_board_model.specs.Carried.{moment_view, next_view, walk_view}
 
 -- a walk over any steps that carry over
 module _ {From To : Type 0} (view : From → To) (one : Moment From → Next From) (other : Moment To → Next To)

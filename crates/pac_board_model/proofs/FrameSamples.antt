@@ -4,8 +4,9 @@ use Rattle.pac_cpu.specs.PlacedItems.{Item}
 use Rattle.pac_map.specs.RomParts.{Parts}
 use Rattle.pac_map.specs.Entry.{Entry, Blank}
 use Rattle.pac_board_model.specs.BoardView.{BoardView, power_on_board_view}
-use Rattle.pac_board_model.specs.Laws.{FramesHaveTheirSamples, frame_samples}
-use Rattle.pac_board_model.specs.Shown.{sample_count}
+use Rattle.pac_board_model.specs.Laws.{FramesHaveTheirSamples}
+use Rattle.pac_board_model.specs.Step.{frame_samples}
+use Rattle.pac_board_model.specs.ShownLaws.{sample_count}
 use Rattle.pac_board_model.specs.Step.{Questions, StepProgress, sample_event, line_event, at_moment, sample_ticks, frame_ticks}
 use Rattle.pac_board_model.specs.Trace.{by_history}
 use Rattle.pac_board_model.proofs.Outputs.{quiet-samples, sample-lasts}

@@ -5,7 +5,8 @@ use Rattle.pac_map.specs.Entry.{Entry, Reset, Hold}
 use Rattle.pac_map.specs.View.{held_with, held_without}
 use Rattle.pac_cpu.proofs.CodeLengths.{length-code}
 use Rattle.pac_cpu.proofs.RoundTrip.{decodes-prefix}
-use Rattle.pac_board_model.specs.Carried.{Carries, moment_view, next_view}
+use Rattle.pac_board_model.specs.CarriedProofs.{Carries}
+use Rattle.pac_board_model.specs.Carried.{moment_view, next_view}
 use Rattle.pac_board_model.specs.History.{board_after_entries}
 use Rattle.pac_board_model.specs.Host.{Act, StepOn, ResetBoard, HoldToo, LetGo, Keep, GoBack, Account, Host, with_step, put_now}
 use Rattle.pac_board_model.specs.Host.{after_act, after_acts, host_view, account_by_history, account_by_view}

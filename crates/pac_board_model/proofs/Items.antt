@@ -27,7 +27,7 @@ use Rattle.pac_board_model.specs.History.{board_after_entries}
 use Rattle.pac_board_model.specs.Output.{image_of}
 use Rattle.pac_board_model.specs.Shown.{sound_enable, sample_at}
 use Rattle.pac_board_model.specs.Trace.{item_in, by_history, by_view}
-use Rattle.pac_board_model.specs.Carried.{Carries}
+use Rattle.pac_board_model.specs.CarriedProofs.{Carries}
 use Rattle.pac_board_model.specs.Laws.{TellsHistory}
 use Rattle.pac_board_model.proofs.Told.{view-answers, view-tells}
 

@@ -10,7 +10,7 @@ use Rattle.pac_map.specs.declared.bus_table.BusPlace.{BusPlace}
 use Rattle.pac_map.specs.declared.bus_table.BusPlace.TheVariants.{Latch, Kick}
 use Rattle.pac_map.specs.View.{View}
 use Rattle.pac_map.specs.Entry.{Entry, Write, Vector, Blank, Accept, Reset, view_after_write}
-use Rattle.pac_board_model.specs.History.{view_after_entries}
+use Rattle.pac_board_model.specs.HistoryProofs.{view_after_entries}
 use Rattle.pac_board_model.specs.Queries.{lowest, is_latch, last_bit, bit_at, history_vector, takes_back, is_requested, history_request}
 use Rattle.pac_board_model.specs.Queries.{blanks_since, is_reset_due}
 

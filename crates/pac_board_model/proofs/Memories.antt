@@ -4,7 +4,8 @@ use Rattle.pac_map.specs.RomParts.{Parts}
 use Rattle.pac_map.specs.Entry.{Entry, Sample, Line, view_after}
 use Rattle.pac_map.specs.View.{IsWellFormed}
 use Rattle.pac_board_model.specs.BoardView.{BoardView, video_memory}
-use Rattle.pac_board_model.specs.History.{board_after_entries, view_after_entries, history_registers}
+use Rattle.pac_board_model.specs.History.{board_after_entries, history_registers}
+use Rattle.pac_board_model.specs.HistoryProofs.{view_after_entries}
 use Rattle.pac_board_model.specs.Queries.{bit_at}
 use Rattle.pac_board_model.specs.Shown.{memory_at, sound_enable, flip}
 use Rattle.pac_board_model.proofs.Latches.{bit-viewed}

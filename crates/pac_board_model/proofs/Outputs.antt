@@ -9,7 +9,8 @@ use Rattle.pac_board_model.specs.BoardView.{BoardView, power_on_board_view}
 use Rattle.pac_board_model.specs.Laws.{OutputsAreOfTheHistory, OutputsAreTimed}
 use Rattle.pac_board_model.specs.Output.{Output, Sound, Show}
 use Rattle.pac_board_model.specs.Resumed.{ResumedOutputsAreOfTheHistory}
-use Rattle.pac_board_model.specs.Shown.{history_outputs, sample_count, blank_count}
+use Rattle.pac_board_model.specs.ShownLaws.{history_outputs, sample_count}
+use Rattle.pac_board_model.specs.Shown.{blank_count}
 use Rattle.pac_board_model.specs.Step.{Questions, StepProgress, sample_event, line_event, at_moment}
 use Rattle.pac_board_model.specs.Step.{sample_ticks, frame_ticks}
 use Rattle.pac_board_model.specs.Trace.{by_history}

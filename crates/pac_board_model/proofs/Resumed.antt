@@ -10,8 +10,10 @@ use Rattle.pac_board_model.specs.Output.{Output}
 use Rattle.pac_board_model.specs.Resumed.{RunsBegin, ResumedRunsEnd, JoinsPlays, LastIsHeld, RunsAreContinued, PlaysJoin, StoppedRunsStay}
 use Rattle.pac_board_model.specs.Step.{Questions, Moment, Next, Goes, Ends, frame_ticks, step}
 use Rattle.pac_board_model.specs.Trace.{Play, by_view, moment_with_inputs, next_with_inputs, play_step, power_on_moment, frame_steps}
-use Rattle.pac_board_model.specs.Trace.{run_at, frames_gone, resumed_start, resumed_step, resumed_end, resumed_at, resumed, plays_joined}
-use Rattle.pac_board_model.specs.Walk.{Walk, walk, walk_to, walk_at_start, walk_onward, walk_after_step, has_ended}
+use Rattle.pac_board_model.specs.Trace.{run_at, frames_gone, resumed_start, resumed_step, resumed_end, resumed}
+use Rattle.pac_board_model.specs.TraceLaws.{resumed_at, plays_joined}
+use Rattle.pac_board_model.specs.Walk.{Walk, walk, walk_to, walk_at_start, walk_onward, walk_after_step}
+use Rattle.pac_board_model.specs.WalkLaws.{has_ended}
 use Rattle.pac_board_model.proofs.Runs.{walk-below}
 use Rattle.pac_board_model.proofs.Walks.{stopped-has-ended, late-has-ended, open-is-late, going-far, ended-stays, going-steps}
 use Rattle.pac_board_model.proofs.Walks.{walk-ends, walk-to-ends, ended-whole, joined, on-the-way, walks-joined, stopped-is-early}

@@ -8,7 +8,8 @@ use Rattle.pac_map.specs.Entry.{Hold}
 use Rattle.pac_board_model.specs.Laws.{IsTimely, RunsEnd, RunsAreJoined, RunsGoByFrames, with_frame, next_frame}
 use Rattle.pac_board_model.specs.Step.{Questions, Moment, Next, Goes, Ends, frame_ticks, step}
 use Rattle.pac_board_model.specs.Trace.{Play, moment_with_inputs, next_with_inputs, play_step, power_on_moment, trace, frame_steps}
-use Rattle.pac_board_model.specs.Walk.{Walk, walk, walk_to, walk_at_start, walk_onward, onward_if, walk_after_step, has_ended}
+use Rattle.pac_board_model.specs.Walk.{Walk, walk, walk_to, walk_at_start, walk_onward, onward_if, walk_after_step}
+use Rattle.pac_board_model.specs.WalkLaws.{has_ended}
 use Rattle.pac_board_model.proofs.Walks.{stopped-has-ended, open-is-late, going-is-early, going-far, ended-same, ended-stays, going-steps}
 use Rattle.pac_board_model.proofs.Walks.{walk-ends, walk-to-ends, goes-on, joined, on-the-way, outputs-prefix, step-timely, play-timely}
 use Rattle.pac_board_model.proofs.Walks.{not-both}

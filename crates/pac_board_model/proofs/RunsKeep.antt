@@ -18,7 +18,8 @@ use Rattle.pac_board_model.specs.Step.{surroundings, after_cpu_step, step, note,
 use Rattle.pac_board_model.specs.Step.{watchdog_event, blank_event}
 use Rattle.pac_board_model.specs.Step.{scan_line, scan_frame, sample_ticks, line_ticks, frame_ticks, hidden_lines}
 use Rattle.pac_board_model.specs.Trace.{Play, moment_with_inputs, next_with_inputs, play_step, power_on_moment, run_at}
-use Rattle.pac_board_model.specs.Trace.{frames_gone, resumed_start, resumed_end, resumed_at}
+use Rattle.pac_board_model.specs.Trace.{frames_gone, resumed_start, resumed_end}
+use Rattle.pac_board_model.specs.TraceLaws.{resumed_at}
 use Rattle.pac_board_model.specs.Walk.{Walk, walk, onward_if, walk_after_step}
 
 -- whether an entry is none of the three that the clock makes

@@ -8,7 +8,8 @@ use borrow.Author.Tests.{ltb-true}
 use Rattle.pac_map.specs.declared.bus_table.BusPlace.{BusPlace}
 use Rattle.pac_map.specs.declared.bus_table.BusPlace.TheVariants.{Program, Tile, Colour, Work, Nothing, Inputs0, Inputs1, Switches, Kick}
 use Rattle.pac_map.specs.declared.bus_table.BusPlace.TheVariants.{Wave, Coordinate}
-use Rattle.pac_map.specs.Place.{read_place, ram_place, read_port, IsPlaceInRange, ram_size, coordinates_size, registers_size}
+use Rattle.pac_map.specs.Place.{read_place, ram_place, read_port, ram_size, coordinates_size, registers_size}
+use Rattle.pac_map.specs.PlaceProofs.{IsPlaceInRange}
 use Rattle.pac_map.specs.Lookups.{answer}
 use Rattle.pac_map.specs.Entry.{Entry, Write, Vector, Blank, Accept, Reset, Hold, view_after_write}
 use Rattle.pac_map.specs.Latched.{Latched, latched_after_vector, latched_after_blank, latched_after_accept, latched_after_reset}
@@ -17,7 +18,8 @@ use Rattle.pac_map.specs.Contents.{lookups_of, read_of}
 use Rattle.pac_map.proofs.WellFormed.{view-after-well-formed}
 use Rattle.pac_board_model.specs.History.{is_same_place, last_written, tile_at, colour_at, work_at, history_inputs}
 use Rattle.pac_board_model.specs.History.{history_lookups, read}
-use Rattle.pac_board_model.specs.History.{view_after_entries, coordinate_at, register_at}
+use Rattle.pac_board_model.specs.HistoryProofs.{view_after_entries}
+use Rattle.pac_board_model.specs.History.{coordinate_at, register_at}
 
 pub view-of-well-formed : (start : View) (entries : List Entry) → IsWellFormed start → IsWellFormed (view_after_entries start entries)
 view-of-well-formed start [] sized = sized

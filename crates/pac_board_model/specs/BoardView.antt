@@ -1,4 +1,4 @@
--- To be believed: the board as plain data, its ROM set aside: what its memory keeps, where the voices of the wave generator
+-- Believed: the board as plain data, its ROM set aside: what its memory keeps, where the voices of the wave generator
 -- stand, and the lines of the picture as they were last composed (Namco Pac-Man service schematics; what this profile adds is
 -- named).
 use Rattle.std.specs.Prelude.{ℕ, List, slice_set}

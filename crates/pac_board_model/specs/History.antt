@@ -1,10 +1,10 @@
--- To be believed: what has happened to the board: a start view and the list of entries since, the newest first. Whatever the
+-- Believed: what has happened to the board: a start view and the list of entries since, the newest first. Whatever the
 -- board answers is asked of these two: the last entry that decides, and where none does, the start view.
 use Rattle.std.specs.Prelude.{ℕ, ◌+◌, ◌-◌, List, [], ◌∷◌, ◌==◌, Bool, false, Option, Some, None, unwrap_or, if◌then◌else◌, slice_index}
 use Rattle.pac_map.specs.declared.bus_table.BusPlace.{BusPlace}
 use Rattle.pac_map.specs.declared.bus_table.BusPlace.TheVariants.{Tile, Colour, Work, Wave, Coordinate}
 use Rattle.pac_map.specs.Lookups.{Lookups, answer_at}
-use Rattle.pac_map.specs.Entry.{Entry, Write, Hold, view_after}
+use Rattle.pac_map.specs.Entry.{Entry, Write, Hold}
 use Rattle.pac_map.specs.Place.{ram_size, coordinates_size, registers_size}
 use Rattle.pac_map.specs.View.{View, kept_nibble, attributes_size}
 use Rattle.pac_cpu.specs.Tabulate.{tabulate}
@@ -81,7 +81,3 @@ read program start entries address = answer_at (history_lookups program start en
 abbrev pub board_after_entries : Parts → BoardView → List Entry → BoardView
 board_after_entries set start [] = start
 board_after_entries set start (entry ∷ older) = board_after set (board_after_entries set start older) entry
-
-abbrev pub view_after_entries : View → List Entry → View
-view_after_entries start [] = start
-view_after_entries start (entry ∷ older) = view_after (view_after_entries start older) entry

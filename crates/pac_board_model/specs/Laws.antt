@@ -1,4 +1,4 @@
--- To be believed: laws of the board's definitions, each proved on a public function of the crate.
+-- Law: laws of the board's definitions, each proved on a public function of the crate.
 use Rattle.std.specs.Prelude.{◌≡◌, ◌≢◌, ◌<◌, ◌≤◌, ℕ, zero, suc, ◌+◌, ◌-◌, ◌*◌, ◌/◌, Option, None, Some, true, min}
 use Rattle.std.specs.Prelude.{List, [], ◌++◌, ◌∷◌, slice_index, slice_index_or}
 use mathlib.Core.List.{IsPrefix}
@@ -20,13 +20,16 @@ use Rattle.pac_board_model.specs.History.{read, board_after_entries, tile_at, co
 use Rattle.pac_board_model.specs.History.{history_registers, history_inputs}
 use Rattle.pac_board_model.specs.Queries.{bit_at, history_vector, history_request, blanks_since, is_reset_due}
 use Rattle.pac_board_model.specs.Output.{sound_count, picture_count}
-use Rattle.pac_board_model.specs.Shown.{accumulators_at, memory_at, lines_at, history_outputs, sample_count, blank_count}
+use Rattle.pac_board_model.specs.Shown.{accumulators_at, memory_at, lines_at, blank_count}
+use Rattle.pac_board_model.specs.ShownLaws.{history_outputs, sample_count}
 use Rattle.pac_board_model.specs.Step.{Questions, Moment, Next, Goes, Ends, StepProgress, note, line_event, step, line_ticks, frame_ticks}
 use Rattle.pac_board_model.specs.Step.{sample_ticks}
-use Rattle.pac_board_model.specs.Walk.{Walk, walk, walk_to, walk_at_start, has_ended}
+use Rattle.pac_board_model.specs.Walk.{Walk, walk, walk_to, walk_at_start}
+use Rattle.pac_board_model.specs.WalkLaws.{has_ended}
 use Rattle.pac_board_model.specs.Carried.{moment_view, next_view, walk_view}
 use Rattle.pac_board_model.specs.Host.{Host, Act, account_by_history, account_by_view, host_at, after_acts, host_view}
 use Rattle.pac_board_model.specs.Trace.{Play, by_history, by_view, run_at, trace, power_on_moment, moment_with_inputs, play_step}
+use Rattle.pac_board_model.specs.Step.{frame_samples}
 
 -- ---- history and view
 
@@ -121,10 +124,6 @@ pub record AreTimed (set : Parts) (items : List Item) (switches index : ℕ) (pl
 abbrev pub OutputsAreTimed : Type 0
 OutputsAreTimed =
     (set : Parts) (items : List Item) (switches index : ℕ) (play : Play) → AreTimed set items switches index play
-
--- the samples of a frame, one for each 32 of its 50,688 T-states
-abbrev pub frame_samples : ℕ
-frame_samples = 1584
 
 -- When a frame's blank comes, each frame so far has had its samples: 1,584 of them.
 abbrev pub FramesHaveTheirSamples : Type 0

@@ -1,12 +1,17 @@
 pub mod BoardView
 pub mod Output
 pub mod History
+pub mod HistoryProofs
 pub mod Queries
 pub mod Shown
+pub mod ShownLaws
 pub mod Step
 pub mod Walk
+pub mod WalkLaws
 pub mod Carried
+pub mod CarriedProofs
 pub mod Trace
+pub mod TraceLaws
 pub mod Host
 pub mod Laws
 pub mod Resumed

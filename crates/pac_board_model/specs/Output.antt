@@ -1,4 +1,4 @@
--- To be believed: what a board gives out: sound samples and pictures.
+-- Believed: what a board gives out: sound samples and pictures.
 use Rattle.std.specs.Prelude.{ℕ, ℤ, suc, List, [], ◌∷◌}
 use Rattle.pac_map.specs.RomParts.{Parts}
 use Rattle.pac_picture.specs.State.{palette_of}

@@ -1,4 +1,4 @@
--- To be believed: what a history says of the output latch, the interrupt request and the watchdog (Namco Pac-Man service
+-- Believed: what a history says of the output latch, the interrupt request and the watchdog (Namco Pac-Man service
 -- schematics; the order at a blank and what a reset leaves are this profile's).
 use Rattle.std.specs.Prelude.{ℕ, suc, ◌%◌, List, [], ◌∷◌, ◌==◌, Bool, false, ◌||◌, nat_le, Option, Some, None, unwrap_or, if◌then◌else◌}
 use Rattle.pac_map.specs.Latched.{is_latch_bit_set, latch_place, withdraws, watchdog_limit}

@@ -1,4 +1,4 @@
--- To be believed: laws of plays that are taken up, at whichever moment, each proved on a public function of the crate: a run that is
+-- Law: laws of plays that are taken up, at whichever moment, each proved on a public function of the crate: a run that is
 -- cut in two and taken up again is the run at once.
 use Rattle.std.specs.Prelude.{◌≡◌, ◌<◌, ℕ, ◌+◌, ◌*◌, ◌/◌, ◌%◌, true, None, Some, List, ◌++◌}
 use Rattle.pac_cpu.specs.PlacedItems.{Item, AllLie}
@@ -8,13 +8,14 @@ use Rattle.pac_map.specs.Entry.{Entry, Hold}
 use Rattle.pac_board_model.specs.BoardView.{BoardView, IsBoard}
 use Rattle.pac_board_model.specs.Carried.{moment_view, walk_view}
 use Rattle.pac_board_model.specs.History.{board_after_entries}
-use Rattle.pac_board_model.specs.Laws.{frame_samples}
+use Rattle.pac_board_model.specs.Step.{frame_samples}
 use Rattle.pac_board_model.specs.Output.{sound_count, picture_count}
-use Rattle.pac_board_model.specs.Shown.{history_outputs}
+use Rattle.pac_board_model.specs.ShownLaws.{history_outputs}
 use Rattle.pac_board_model.specs.Step.{Questions, Moment, sample_ticks, frame_ticks}
 use Rattle.pac_board_model.specs.Trace.{Play, by_history, by_view, power_on_moment, run_at, trace, frame_steps}
-use Rattle.pac_board_model.specs.Trace.{frames_gone, resumed_end, resumed_at, resumed, plays_joined}
-use Rattle.pac_board_model.specs.Walk.{has_ended}
+use Rattle.pac_board_model.specs.Trace.{frames_gone, resumed_end, resumed}
+use Rattle.pac_board_model.specs.TraceLaws.{resumed_at, plays_joined}
+use Rattle.pac_board_model.specs.WalkLaws.{has_ended}
 
 -- ---- where runs begin and end
 

@@ -1,6 +1,6 @@
--- To be believed: what a history sounds and shows: the voices' accumulators as sums over all samples, and each line of the
+-- Believed: what a history sounds and shows: the voices' accumulators as sums over all samples, and each line of the
 -- picture as it was last composed. No loop and no buffer stands here.
-use Rattle.std.specs.Prelude.{ℕ, ℤ, suc, ◌+◌, ◌%◌, ◌==◌, if◌then◌else◌, List, [], ◌∷◌, ◌++◌, slice_index_or}
+use Rattle.std.specs.Prelude.{ℕ, ℤ, suc, ◌+◌, ◌%◌, ◌==◌, if◌then◌else◌, List, [], ◌∷◌, slice_index_or}
 use Rattle.pac_map.specs.RomParts.{Parts}
 use Rattle.pac_cpu.specs.Tabulate.{tabulate}
 use Rattle.pac_picture.specs.Tiles.{height}
@@ -13,7 +13,7 @@ use Rattle.pac_wave.specs.Wave.{Accumulators, accumulator, accumulator_range, fr
 use Rattle.pac_picture.specs.Picture.{VideoMemory, picture_line}
 use Rattle.pac_board_model.specs.BoardView.{BoardView, video_roms}
 use Rattle.pac_board_model.specs.History.{tile_at, colour_at, history_attributes, history_coordinates, history_registers}
-use Rattle.pac_board_model.specs.Output.{Output, Sound, Show, Image, image_of}
+use Rattle.pac_board_model.specs.Output.{Image, image_of}
 use Rattle.pac_board_model.specs.Queries.{bit_at}
 
 -- the places of two bits of the latch
@@ -74,19 +74,6 @@ abbrev pub image_at : Parts → BoardView → List Entry → Image
 image_at set start entries = image_of set (lines_at set start entries)
 
 -- ---- all that was given out
-
--- the outputs of a history in order: each sample and each picture is that of the entries before it
-abbrev pub history_outputs : Parts → BoardView → List Entry → List Output
-history_outputs set start [] = []
-history_outputs set start (Sample number ∷ older) = history_outputs set start older ++ Sound (sample_at set start older) ∷ []
-history_outputs set start (Blank frame ∷ older) = history_outputs set start older ++ Show (image_at set start older) ∷ []
-history_outputs set start (entry ∷ older) = history_outputs set start older
-
--- how many samples and how many blanks a history has
-abbrev pub sample_count : List Entry → ℕ
-sample_count [] = 0
-sample_count (Sample number ∷ older) = suc (sample_count older)
-sample_count (entry ∷ older) = sample_count older
 
 abbrev pub blank_count : List Entry → ℕ
 blank_count [] = 0

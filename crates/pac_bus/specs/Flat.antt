@@ -1,4 +1,4 @@
--- To be believed: a bus of memory alone, for whoever takes the processor by itself: 65,536 bytes, each one writable, and 256
+-- For proofs: a bus of memory alone, for whoever takes the processor by itself: 65,536 bytes, each one writable, and 256
 -- ports, each of which gives back what was last given to it.
 use Rattle.std.specs.Prelude.{◌≡◌, ◌+◌, ◌++◌, ℕ, List, length, take, drop, slice_index, slice_set}
 use Rattle.pac_bus.specs.Action.{Action, Write, Output}

@@ -1,3 +1,4 @@
 pub mod Action
+pub mod ActionLaws
 pub mod Flat
 pub mod Reads

@@ -1,4 +1,4 @@
--- To be believed: the items of a source: what stands at which address, and when it stands in a program ROM. An instruction's
+-- Believed: the items of a source: what stands at which address, and when it stands in a program ROM. An instruction's
 -- bytes are its code (Zilog Z80 CPU User Manual UM0080, "Z80 Instruction Description").
 use Rattle.std.specs.Prelude.{◌≡◌, ℕ, ◌+◌, ◌≤◌, ◌==◌, if◌then◌else◌, Option, None, Some, List, [], ◌∷◌, length, take, drop, All}
 use Rattle.std.specs.Option.{option_or}

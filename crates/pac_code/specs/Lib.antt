@@ -1,3 +1,4 @@
 pub mod Codes
+pub mod CodesProofs
 pub mod Items
 pub use Rattle.pac_table.specs.Instructions

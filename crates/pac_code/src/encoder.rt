@@ -1,7 +1,8 @@
 //! Instructions to bytes.
 
 ghost use Rattle.std.specs.Prelude.{◌≡◌, ◌+◌, ◌≤◌, ◌++◌, ◌<◌, ◌∷◌, [], ◌==◌, length};
-ghost use Rattle.pac_table.specs.Patterns.{IsDisplacement, immediate_bytes, longest_code, page_prefix, word_limit};
+ghost use Rattle.pac_table.specs.Patterns.{IsDisplacement, immediate_bytes, page_prefix, word_limit};
+ghost use Rattle.pac_table.specs.PatternsLaws.{longest_code};
 ghost use Rattle.pac_table.specs.Instructions.{code};
 
 use arrayvec::ArrayVec;

@@ -1,11 +1,7 @@
--- To be believed: colours of the picture (Namco Pac-Man service schematics: the lookup PROM, and the colour PROM with its
+-- Believed: colours of the picture (Namco Pac-Man service schematics: the lookup PROM, and the colour PROM with its
 -- output resistors; the resistors' weights are this profile's).
 use Rattle.std.specs.Prelude.{ℕ, ◌+◌, ◌*◌, ◌%◌, List, [], ◌∷◌, slice_index}
 use Rattle.pac_num.specs.Numbers.{bit}
-
--- the bytes of the lookup PROM, and how many colour numbers there are
-abbrev pub lookup_size : ℕ
-lookup_size = 256
 
 abbrev pub numbers : ℕ
 numbers = 16

@@ -3,6 +3,7 @@
 
 ghost use Rattle.std.specs.Prelude.{◌≡◌, ◌<◌, ◌+◌, length};
 ghost use Rattle.pac_colour.specs.Colours as colours;
+ghost use Rattle.pac_colour.specs.ColoursProofs as colours_proofs;
 
 use pac_num::bit;
 
@@ -10,7 +11,7 @@ use pac_num::bit;
 /// The high three bits of the colour byte are not wired.
 #[inline]
 pub fn index(lookup: &[u8], colour: u8, pixel: u8) -> u8
-    requires lookup { length lookup.now ≡ colours.lookup_size }
+    requires lookup { length lookup.now ≡ colours_proofs.lookup_size }
     requires pixel { pixel < 4 }
     ensures index { result ≡ colours.index_of lookup.now colour pixel }
     ensures below { result < colours.numbers }

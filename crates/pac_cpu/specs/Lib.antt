@@ -1,5 +1,7 @@
 pub mod Power
 pub mod Step
+pub mod StepProofs
+pub mod StepLaws
 pub use Rattle.pac_num.specs.Tabulate
 pub use Rattle.pac_table.specs.Instructions
 pub use Rattle.pac_table.specs.declared.effects.InterruptMode
@@ -9,3 +11,4 @@ pub use Rattle.pac_code.specs.Items as PlacedItems
 pub use Rattle.pac_bus.specs.Action
 pub use Rattle.pac_bus.specs.Reads
 pub use Rattle.pac_exec.specs.declared.regs.Regs
+pub use Rattle.pac_bus.specs.ActionLaws

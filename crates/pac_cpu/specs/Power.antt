@@ -1,4 +1,4 @@
--- To be believed: the registers at power-on and after a reset (UM0080, "RESET"). That all are 0 at power-on, and that a reset
+-- Believed: the registers at power-on and after a reset (UM0080, "RESET"). That all are 0 at power-on, and that a reset
 -- keeps what it doesn't clear, is this profile's.
 use Rattle.std.specs.Prelude.{false}
 use Rattle.pac_table.specs.declared.effects.InterruptMode.TheVariants.{Zero}

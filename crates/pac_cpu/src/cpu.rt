@@ -3,7 +3,9 @@
 ghost use Rattle.std.specs.Prelude.{◌≡◌, ◌≤◌};
 ghost use Rattle.pac_table.specs.Instructions.{least_ticks, most_ticks};
 ghost use Rattle.pac_cpu.specs.Power.{power_on_regs, reset_regs};
-ghost use Rattle.pac_cpu.specs.Step.{Stops, cpu_step, surroundings_of, DoesCpuStep, IfStepped, IfStopped};
+ghost use Rattle.pac_cpu.specs.Step.{Stops, cpu_step};
+ghost use Rattle.pac_cpu.specs.StepLaws.{surroundings_of};
+ghost use Rattle.pac_cpu.specs.StepProofs.{DoesCpuStep, IfStepped, IfStopped};
 
 use crate::once::Once;
 use crate::power::blank;

@@ -3,7 +3,8 @@
 ghost use Rattle.std.specs.Prelude.{◌≡◌, ℕ, Option};
 ghost use Rattle.pac_bus.specs.Action.{Action};
 ghost use Rattle.pac_exec.specs.declared.regs.Regs.{Regs};
-ghost use Rattle.pac_cpu.specs.Step.{CpuStepRestsOnAnswers, EachCpuStepIsInTime, cpu_step, surroundings_of};
+ghost use Rattle.pac_cpu.specs.StepLaws.{CpuStepRestsOnAnswers, EachCpuStepIsInTime, surroundings_of};
+ghost use Rattle.pac_cpu.specs.Step.{cpu_step};
 
 use pac_bus::Bus;
 

@@ -1,5 +1,4 @@
--- To be believed: A reset (UM0080, "Pin Functions"; this profile where it names no register). Made by tools/make-vectors from
--- tools/vectors.txt.
+-- Law: A reset (UM0080, "Pin Functions"; this profile where it names no register). Made by tools/make-vectors from tools/vectors.txt.
 use Rattle.std.specs.Prelude.{true, false, List, [], ◌∷◌}
 use Rattle.pac_table.specs.declared.effects.InterruptMode.TheVariants.{Zero, One, Two}
 use Rattle.pac_exec.specs.declared.regs.Regs.{Regs}

@@ -1,4 +1,4 @@
--- To be believed: each line of DAA's table holds.
+-- Law: each line of DAA's table holds.
 use Rattle.std.specs.Prelude.{◌≡◌, true}
 use Rattle.std.specs.List.{list_all}
 use Rattle.pac_cpu_vectors.specs.Decimals.{is_as_printed, passes_below}

@@ -1,4 +1,4 @@
--- To be believed: DAA, once by the lines of the table that UM0080 prints (DAA), and once for each A and F by the bits of its correction.
+-- Law: DAA, once by the lines of the table that UM0080 prints (DAA), and once for each A and F by the bits of its correction.
 use Rattle.std.specs.Prelude.{◌≡◌, ℕ, zero, suc, ◌+◌, ◌-◌, ◌*◌, ◌/◌, ◌%◌, ◌<◌, Bool, true, ◌==◌, ◌&&◌, ◌||◌, not, nat_le, bit_xor}
 use Rattle.std.specs.Prelude.{if◌then◌else◌}
 use Rattle.pac_num.specs.Numbers.{bit, has_even_parity}

@@ -1,5 +1,4 @@
--- To be believed: Displacements, over the ends of memory too (UM0080, "Indexed Addressing"). Made by tools/make-vectors from
--- tools/vectors.txt.
+-- Law: Displacements, over the ends of memory too (UM0080, "Indexed Addressing"). Made by tools/make-vectors from tools/vectors.txt.
 use Rattle.std.specs.Prelude.{List, [], ◌∷◌, None}
 use Rattle.pac_bus.specs.Action.{Write}
 use Rattle.pac_exec.specs.declared.regs.Regs.{Regs}

@@ -1,4 +1,4 @@
--- To be believed: pages of the manual UM0080 as one equation each, where the definitions say an instruction in several: blocks, DAA,
+-- Law: pages of the manual UM0080 as one equation each, where the definitions say an instruction in several: blocks, DAA,
 -- rotations of A, and what an interrupt does.
 use Rattle.std.specs.Prelude.{◌≡◌, ℕ, ◌+◌, ◌-◌, ◌*◌, ◌/◌, ◌%◌, ◌<◌, Bool, true, false, not, ◌==◌, ◌&&◌, nat_lt, if◌then◌else◌}
 use Rattle.std.specs.Prelude.{List, [], ◌∷◌, Some, option_map}

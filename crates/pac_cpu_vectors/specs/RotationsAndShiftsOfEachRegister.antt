@@ -1,5 +1,4 @@
--- To be believed: Rotations and shifts of each register (UM0080, "Rotate and Shift Group"). Made by tools/make-vectors from
--- tools/vectors.txt.
+-- Law: Rotations and shifts of each register (UM0080, "Rotate and Shift Group"). Made by tools/make-vectors from tools/vectors.txt.
 use Rattle.std.specs.Prelude.{List, [], ◌∷◌, None}
 use Rattle.pac_exec.specs.declared.regs.Regs.{Regs}
 use Rattle.pac_cpu.specs.Power.{power_on_regs}

@@ -1,4 +1,4 @@
--- To be believed: Stops (this profile): bytes that are no documented instruction, and in mode 0 a vector byte that is no RST. Made by
+-- Law: Stops (this profile): bytes that are no documented instruction, and in mode 0 a vector byte that is no RST. Made by
 -- tools/make-vectors from tools/vectors.txt.
 use Rattle.std.specs.Prelude.{true, List, [], ◌∷◌, Some, None}
 use Rattle.pac_bus.specs.Action.{Write}

@@ -1,4 +1,4 @@
--- To be believed: The accumulator and F (UM0080, "General-Purpose Arithmetic and CPU Control Groups"). Made by tools/make-vectors from
+-- Law: The accumulator and F (UM0080, "General-Purpose Arithmetic and CPU Control Groups"). Made by tools/make-vectors from
 -- tools/vectors.txt.
 use Rattle.std.specs.Prelude.{List, [], ◌∷◌, None}
 use Rattle.pac_bus.specs.Action.{Write}

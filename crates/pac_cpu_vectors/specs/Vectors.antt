@@ -1,14 +1,16 @@
--- To be believed: what a line of tools/vectors.txt says, of the definition of a step of the processor. The lines are in files of
+-- Law: what a line of tools/vectors.txt says, of the definition of a step of the processor. The lines are in files of
 -- their own, which tools/make-vectors makes of that table.
 use Rattle.std.specs.Prelude.{◌≡◌, ℕ, zero, suc, ◌+◌, ◌==◌, List, [], ◌∷◌, ◌++◌, length, Option, None, if◌then◌else◌}
 use Rattle.pac_num.specs.Numbers.{wrapped_address}
-use Rattle.pac_bus.specs.Action.{Action, Write, Output, bus_after_actions}
+use Rattle.pac_bus.specs.Action.{Action, Write, Output}
+use Rattle.pac_bus.specs.ActionLaws.{bus_after_actions}
 use Rattle.pac_exec.specs.declared.regs.Regs.{Regs}
 use Rattle.pac_cpu.specs.declared.once.StepKind.{StepKind}
 use Rattle.pac_cpu.specs.declared.once.StepKind.TheVariants.{Ran, Halted, Accepted}
 use Rattle.pac_cpu.specs.declared.once.Cause.{Cause}
 use Rattle.pac_cpu.specs.Power.{reset_regs}
-use Rattle.pac_cpu.specs.Step.{Surroundings, surroundings_of, CpuStep, Steps, Stops, cpu_step}
+use Rattle.pac_cpu.specs.Step.{Surroundings, CpuStep, Steps, Stops, cpu_step}
+use Rattle.pac_cpu.specs.StepLaws.{surroundings_of}
 
 -- the byte at an address of a memory where each byte is 0 but those that were written, the last write first in the list
 abbrev pub written_byte : List Action → ℕ → ℕ

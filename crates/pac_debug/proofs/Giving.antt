@@ -3,7 +3,8 @@ use Rattle.std.proofs.Common.{◌≡◌, ℕ, ◌+◌, ◌≤◌, Bool, true, fa
 use Rattle.std.proofs.Common.{refl, sym, ap, subst, ◌∙◌, append_assoc, append-nil, arith}
 use mathlib.Core.Logic.{inl, inr}
 use Rattle.pac_board.specs.Output.{Output}
-use Rattle.pac_board.specs.Sinks.{Giving, TookAll, Cut}
+use Rattle.pac_board.specs.SinksLaws.{Giving, Cut}
+use Rattle.pac_board.specs.Sinks.{TookAll}
 use Rattle.pac_board.specs.State.{nothing_due, due_outputs_in}
 use Rattle.pac_board.proofs.Sinks.{took-both, cut-along, cut-after}
 use Rattle.pac_debug_text.specs.declared.command.Command.{Command}
@@ -14,18 +15,24 @@ use Rattle.pac_debug_text.specs.declared.refusal.Refusal.TheVariants as refusals
 use Rattle.pac_debug_text.specs.Commands.{command_of}
 use Rattle.pac_debug_text.specs.Slots.{slot_index}
 use Rattle.pac_debug_session.specs.declared.motion.Motion.{Motion}
-use Rattle.pac_debug_session.specs.Motions.{IsFinishRefused}
-use Rattle.pac_debug_session.specs.Running.{Setting, now_at, outputs_between, outputs_from}
-use Rattle.pac_debug_session.specs.Session.{SessionValue, IsSessionOfferRefused, session_at_command, session_due_outputs, has_breakpoint}
+use Rattle.pac_debug_session.specs.MotionsLaws.{IsFinishRefused}
+use Rattle.pac_debug_session.specs.Running.{Setting, now_at, outputs_between}
+use Rattle.pac_debug_session.specs.RunningLaws.{outputs_from}
+use Rattle.pac_debug_session.specs.Session.{SessionValue, has_breakpoint}
+use Rattle.pac_debug_session.specs.SessionLaws.{IsSessionOfferRefused, session_at_command, session_due_outputs}
 use Rattle.pac_debug_session.proofs.Forwards.{between-joined, between-self, joined-to-end}
 use Rattle.pac_debug.specs.declared.answer.Answer.{Answer}
 use Rattle.pac_debug.specs.declared.answer.Answer.TheVariants as answers
 use Rattle.pac_debug.specs.declared.line.CommandFault.{CommandFault}
 use Rattle.pac_debug.specs.declared.line.CommandFault.TheVariants as faults
-use Rattle.pac_debug.specs.Obeying.{AnswersBack, AnswersReturn, SetsBreakpoint, Stays, IsCommandPerformed, IsCommandObeyed, IsCommandDone}
-use Rattle.pac_debug.specs.Obeying.{IsCommandRefused, session_without_due, kept_at}
-use Rattle.pac_debug.specs.Obeying.{Scene, Asks, ObeysLines, motion_of}
-use Rattle.pac_debug.specs.Watched.{IsFurther, GaveAll, GaveSome, LinesGive, outputs_until, outputs_to_give}
+use Rattle.pac_debug.specs.Obeying.{AnswersBack, AnswersReturn, SetsBreakpoint, Stays, IsCommandPerformed, IsCommandObeyed}
+use Rattle.pac_debug.specs.ObeyingLaws.{IsCommandDone}
+use Rattle.pac_debug.specs.ObeyingLaws.{IsCommandRefused}
+use Rattle.pac_debug.specs.Obeying.{session_without_due, kept_at}
+use Rattle.pac_debug.specs.ObeyingLaws.{Scene, Asks, ObeysLines}
+use Rattle.pac_debug.specs.Obeying.{motion_of}
+use Rattle.pac_debug.specs.WatchedLaws.{IsFurther, GaveAll, GaveSome, outputs_until, outputs_to_give}
+use Rattle.pac_debug.specs.WatchedProofs.{LinesGive}
 
 -- ---- commands that don't move on
 

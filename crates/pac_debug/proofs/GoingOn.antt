@@ -4,9 +4,10 @@ use Rattle.std.proofs.Common.{refl, sym, ap, subst, ◌∙◌, append_assoc, app
 use Rattle.std.proofs.lemmas.List.{append_cancel_left}
 use mathlib.Core.Logic.{inl, inr}
 use Rattle.pac_board.specs.Output.{Output}
-use Rattle.pac_board.specs.Sinks.{Giving, TookAll}
+use Rattle.pac_board.specs.SinksLaws.{Giving}
+use Rattle.pac_board.specs.Sinks.{TookAll}
 use Rattle.pac_out.specs.declared.counted.Counted.{Counted}
-use Rattle.pac_out.specs.Counted.{Refuses}
+use Rattle.pac_out.specs.CountedLaws.{Refuses}
 use Rattle.pac_debug_text.specs.declared.command.Command.{Command}
 use Rattle.pac_debug_text.specs.declared.command.NoCommand.{NoCommand}
 use Rattle.pac_debug_text.specs.Commands.{command_of}
@@ -14,14 +15,17 @@ use Rattle.pac_debug_session.specs.declared.motion.Motion.{Motion}
 use Rattle.pac_debug_session.specs.declared.motion.Motion.TheVariants as motions
 use Rattle.pac_debug_session.specs.Motions.{rests}
 use Rattle.pac_debug_session.specs.Running.{Setting, outputs_between}
-use Rattle.pac_debug_session.specs.Session.{SessionValue, session_due_outputs}
+use Rattle.pac_debug_session.specs.Session.{SessionValue}
+use Rattle.pac_debug_session.specs.SessionLaws.{session_due_outputs}
 use Rattle.pac_debug_session.proofs.Forwards.{between-joined, between-self}
 use Rattle.pac_debug.specs.declared.line.CommandFault.{CommandFault}
 use Rattle.pac_debug.specs.declared.line.CommandFault.TheVariants as faults
 use Rattle.pac_debug.specs.GoingOn.{LineAnswer, AnswersEach, Offered, WasTaken, WasRefused, WasOffered, AreInOrder, IsHeldUpAfter}
 use Rattle.pac_debug.specs.GoingOn.{AreDoneInTurn, EndIn, IsHeldUpAt, NoneIsTold, GoesIntoFile, ComesTo, LinesGoOn, TextsAreLines}
-use Rattle.pac_debug.specs.Obeying.{Scene, Commands, IsHeldUp, IsLineAnswered, session_without_due}
-use Rattle.pac_debug.specs.Watched.{IsFurther, LinesGive, RefusedOf, outputs_until}
+use Rattle.pac_debug.specs.ObeyingLaws.{Scene, Commands, IsHeldUp, IsLineAnswered}
+use Rattle.pac_debug.specs.Obeying.{session_without_due}
+use Rattle.pac_debug.specs.WatchedLaws.{IsFurther, RefusedOf, outputs_until}
+use Rattle.pac_debug.specs.WatchedProofs.{LinesGive}
 use Rattle.pac_debug.proofs.Giving.{further-on, line-given}
 use Rattle.pac_debug.proofs.Telling.{line-told, line-refused, line-untold}
 

@@ -4,7 +4,7 @@ use Rattle.std.proofs.Common.{append-nil, length, ◌⊎◌, refl, sym, ap, subs
 use Rattle.std.proofs.lemmas.Bool.Decides.{nat_tests}
 use mathlib.Core.Logic.{inl, inr}
 use Rattle.pac_board.specs.Output.{Output}
-use Rattle.pac_board.specs.Sinks.{Giving}
+use Rattle.pac_board.specs.SinksLaws.{Giving}
 use Rattle.pac_board.proofs.Walks.{not-both}
 use Rattle.pac_board.specs.State.{nothing_due}
 use Rattle.pac_out.specs.declared.WriteFault.{WriteFault}
@@ -12,15 +12,19 @@ use Rattle.pac_debug_text.specs.declared.command.NoCommand.{NoCommand}
 use Rattle.pac_debug_text.specs.declared.command.Command.{Command}
 use Rattle.pac_debug_text.specs.Commands.{command_of}
 use Rattle.pac_debug_session.specs.declared.motion.Motion.{Motion}
-use Rattle.pac_debug_session.specs.Motions.{IsTravelRefused, IsFinishRefused}
-use Rattle.pac_debug_session.specs.Running.{Setting, run, whole_run, outputs_between, outputs_from}
-use Rattle.pac_debug_session.specs.Session.{SessionValue, IsSessionOfferRefused, session_at_start, session_at_command, session_due_outputs}
+use Rattle.pac_debug_session.specs.MotionsLaws.{IsTravelRefused, IsFinishRefused}
+use Rattle.pac_debug_session.specs.Running.{Setting, run, outputs_between}
+use Rattle.pac_debug_session.specs.RunningLaws.{whole_run, outputs_from}
+use Rattle.pac_debug_session.specs.Session.{SessionValue, session_at_start}
+use Rattle.pac_debug_session.specs.SessionLaws.{IsSessionOfferRefused, session_at_command, session_due_outputs}
 use Rattle.pac_debug_session.proofs.Forwards.{between-joined, joined-to-end}
 use Rattle.pac_debug.specs.declared.answer.Answer.TheVariants as answers
 use Rattle.pac_debug.specs.Answers.{ending_of, answer_text}
-use Rattle.pac_debug.specs.Obeying.{Scene, IsCommandPerformed, IsCommandObeyed, session_without_due}
-use Rattle.pac_debug.specs.Watched.{takes_all, TellsOfCommand, TellsAll, outputs_until, RefusedOf, RefusedAt, IsWatchRefused}
-use Rattle.pac_debug.specs.Watched.{IsWatchUntold}
+use Rattle.pac_debug.specs.ObeyingLaws.{Scene}
+use Rattle.pac_debug.specs.Obeying.{IsCommandPerformed, IsCommandObeyed, session_without_due}
+use Rattle.pac_debug.specs.Watched.{takes_all, TellsOfCommand, TellsAll}
+use Rattle.pac_debug.specs.WatchedLaws.{outputs_until, RefusedOf, RefusedAt, IsWatchRefused}
+use Rattle.pac_debug.specs.WatchedLaws.{IsWatchUntold}
 use Rattle.pac_debug.specs.Watched.{given_by, FirstGivesMore, ToldUpTo}
 use Rattle.pac_debug.proofs.Giving.{nothing-given, obeyed}
 use Rattle.pac_debug.proofs.Resting.{ComesToRest, comes-to-rest}

@@ -2,9 +2,9 @@
 use Rattle.std.proofs.Common.{◌≡◌, ℕ, List, [], ◌∷◌, refl, sym, subst}
 use Rattle.std.specs.Prelude.{Result, Ok, Err}
 use mathlib.Core.Logic.{inl, inr}
-use Rattle.pac_board.specs.Sinks.{Giving}
+use Rattle.pac_board.specs.SinksLaws.{Giving}
 use Rattle.pac_debug.specs.declared.line.CommandFault.{CommandFault}
-use Rattle.pac_debug.specs.Obeying.{Scene, Commands, IsLineAnswered, ObeysLines}
+use Rattle.pac_debug.specs.ObeyingLaws.{Scene, Commands, IsLineAnswered, ObeysLines}
 
 module _ {S W : Type 0} (to : Giving S) (wrote : W → List ℕ → W → Type 0) (balked : W → W → Type 0) where
   abbrev pub Leads : (whole left : List (List ℕ)) → (old now : Scene S W) → Type 0

@@ -9,7 +9,8 @@ use Rattle.pac_board.specs.Stop.{Stop}
 use Rattle.pac_board.specs.BoardView.{BoardView, power_on_board_view}
 use Rattle.pac_board.specs.Step.{Next, Goes, Ends}
 use Rattle.pac_board.specs.Trace.{by_view, frame_steps}
-use Rattle.pac_board.specs.Walk.{Walk, walk_after_step, onward_if, has_ended}
+use Rattle.pac_board.specs.Walk.{Walk, walk_after_step, onward_if}
+use Rattle.pac_board.specs.WalkLaws.{has_ended}
 use Rattle.pac_board.proofs.Runs.{runs-end}
 use Rattle.pac_board.proofs.Walks.{ended-for-good, not-both}
 use Rattle.pac_debug_session.specs.Stretches.{total_frames}

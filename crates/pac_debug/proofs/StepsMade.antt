@@ -3,7 +3,7 @@ use Rattle.std.proofs.Common.{◌≡◌, ℕ, zero, suc, ◌+◌, ◌-◌, ◌%�
 use Rattle.std.proofs.Common.{Option, None, Some, Result, Ok, Err, List, [], ◌∷◌, ◌++◌, refl, sym, ap, subst, ◌∙◌, arith}
 use Rattle.std.proofs.lemmas.Bool.Decides.{nat_tests}
 use mathlib.Core.Logic.{inl, inr}
-use Rattle.pac_board.specs.Sinks.{Giving}
+use Rattle.pac_board.specs.SinksLaws.{Giving}
 use Rattle.pac_board.specs.Step.{Moment}
 use Rattle.pac_board.specs.BoardView.{BoardView}
 use Rattle.pac_board.proofs.Walks.{not-both}
@@ -17,8 +17,10 @@ use Rattle.pac_debug_text.specs.Slots.{slot_index}
 use Rattle.pac_debug_session.specs.declared.motion.Motion.{Motion}
 use Rattle.pac_debug_session.specs.Motions.{has_met, rests, session_with_slot}
 use Rattle.pac_debug_session.specs.Outcome.{Outcome}
-use Rattle.pac_debug_session.specs.Running.{goes_at, whole_run}
-use Rattle.pac_debug_session.specs.Session.{AreSeen, IsSeen, IsSession, SessionValue, has_breakpoint}
+use Rattle.pac_debug_session.specs.Running.{goes_at}
+use Rattle.pac_debug_session.specs.RunningLaws.{whole_run}
+use Rattle.pac_debug_session.specs.SessionLaws.{AreSeen, IsSeen, IsSession}
+use Rattle.pac_debug_session.specs.Session.{SessionValue, has_breakpoint}
 use Rattle.pac_debug_session.proofs.Ends.{run-ends}
 use Rattle.pac_debug_session.proofs.Indices.{open-up-to}
 use Rattle.pac_debug_session.proofs.Steppings.{all-seen-later}
@@ -29,9 +31,11 @@ use Rattle.pac_debug.specs.declared.line.CommandFault.{CommandFault}
 use Rattle.pac_debug.specs.declared.line.CommandFault.TheVariants as faults
 use Rattle.pac_debug.specs.GoingOn.{LineAnswer, IsHeldUpAt, LeavesLine, LeavesEach}
 use Rattle.pac_debug.specs.Obeying.{AnswersBack, AnswersReturn, SetsBreakpoint, Stays, IsCommandPerformed, IsCommandObeyed, kept_at}
-use Rattle.pac_debug.specs.Obeying.{Scene, motion_of, session_without_due}
+use Rattle.pac_debug.specs.ObeyingLaws.{Scene}
+use Rattle.pac_debug.specs.Obeying.{motion_of, session_without_due}
 use Rattle.pac_debug.specs.StepsMade.{steps_again, all_steps_again, MakesNoMore, LinesMakeNoMore, SessionsMakeNoMore}
-use Rattle.pac_debug.specs.Watched.{takes_all, TellsOfCommand, TellsAll, RefusedAt, WatchesSession}
+use Rattle.pac_debug.specs.Watched.{takes_all, TellsOfCommand, TellsAll}
+use Rattle.pac_debug.specs.WatchedLaws.{RefusedAt, WatchesSession}
 use Rattle.pac_debug.proofs.GoingOn.{comes-to, held-at}
 
 -- ---- where a session stands

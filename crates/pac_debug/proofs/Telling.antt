@@ -4,11 +4,12 @@ use Rattle.std.proofs.Common.{true, true≢false}
 use Rattle.std.proofs.lemmas.List.Elements.{All-nil, All-cons}
 use mathlib.Core.Logic.{inl, inr}
 use Rattle.pac_board.specs.Output.{Output}
-use Rattle.pac_board.specs.Sinks.{Giving, TookAll}
+use Rattle.pac_board.specs.SinksLaws.{Giving}
+use Rattle.pac_board.specs.Sinks.{TookAll}
 use Rattle.pac_board.specs.State.{nothing_due}
 use Rattle.pac_out.specs.declared.counted.Counted.{Counted}
 use Rattle.pac_out.specs.declared.WriteFault.{WriteFault}
-use Rattle.pac_out.specs.Counted.{Takes, Refuses}
+use Rattle.pac_out.specs.CountedLaws.{Takes, Refuses}
 use Rattle.pac_out.proofs.Files.{takes-nothing, takes-joined}
 use Rattle.pac_debug_text.specs.declared.command.Command.{Command}
 use Rattle.pac_debug_text.specs.declared.command.NoCommand.{NoCommand}
@@ -18,9 +19,11 @@ use Rattle.pac_debug_session.specs.Session.{SessionValue}
 use Rattle.pac_debug.specs.declared.answer.Answer.{Answer}
 use Rattle.pac_debug.specs.declared.line.CommandFault.TheVariants as faults
 use Rattle.pac_debug.specs.Answers.{answer_text}
-use Rattle.pac_debug.specs.Obeying.{HasMoved, IsCommandPerformed, IsCommandObeyed, IsCommandDone, Scene, Asks, ObeysLines}
+use Rattle.pac_debug.specs.Obeying.{HasMoved, IsCommandPerformed, IsCommandObeyed}
+use Rattle.pac_debug.specs.ObeyingLaws.{IsCommandDone, Scene, Asks, ObeysLines}
 use Rattle.pac_debug.specs.Obeying.{session_without_due, motion_of}
-use Rattle.pac_debug.specs.Watched.{takes_all, WordsTell, TellsOfCommand, TellsAll, TookTold, RefusedOf, RefusedAt}
+use Rattle.pac_debug.specs.Watched.{takes_all, WordsTell, TellsOfCommand, TellsAll}
+use Rattle.pac_debug.specs.WatchedLaws.{TookTold, RefusedOf, RefusedAt}
 use Rattle.pac_debug.proofs.Giving.{obeyed as done-after}
 
 -- ---- any sink for another

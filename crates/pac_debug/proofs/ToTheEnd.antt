@@ -3,19 +3,24 @@ use Rattle.std.proofs.Common.{◌≡◌, ℕ, ◌/◌, not, Ok, Err, List, [], �
 use mathlib.Core.List.{IsPrefix}
 use Rattle.pac_board.specs.Output.{Output}
 use Rattle.pac_board.specs.Step.{frame_ticks}
-use Rattle.pac_board.specs.Sinks.{Giving, TookAll}
+use Rattle.pac_board.specs.SinksLaws.{Giving}
+use Rattle.pac_board.specs.Sinks.{TookAll}
 use Rattle.pac_board.proofs.Sinks.{took-both}
 use Rattle.pac_out.specs.declared.counted.Counted.{Counted}
 use Rattle.pac_debug_session.specs.Outcome.{Outcome}
-use Rattle.pac_debug_session.specs.Motions.{IsOutcome, IsFinished, IsFinishRefused}
-use Rattle.pac_debug_session.specs.Running.{IsLeast, Setting, whole_run, goes_at, outputs_from}
-use Rattle.pac_debug_session.specs.Session.{SessionValue, IsSessionOfferRefused, session_at_command, session_due_outputs}
+use Rattle.pac_debug_session.specs.MotionsLaws.{IsOutcome, IsFinishRefused}
+use Rattle.pac_debug_session.specs.MotionsProofs.{IsFinished}
+use Rattle.pac_debug_session.specs.Running.{IsLeast, Setting, goes_at}
+use Rattle.pac_debug_session.specs.RunningLaws.{whole_run, outputs_from}
+use Rattle.pac_debug_session.specs.Session.{SessionValue}
+use Rattle.pac_debug_session.specs.SessionLaws.{IsSessionOfferRefused, session_at_command, session_due_outputs}
 use Rattle.pac_debug.specs.declared.line.CommandFault.{CommandFault}
 use Rattle.pac_debug.specs.declared.line.CommandFault.TheVariants as faults
-use Rattle.pac_debug.specs.Obeying.{Scene, ObeysLines}
-use Rattle.pac_debug.specs.Watched.{IsFurther, GaveAll, LinesGive, outputs_until, TookTold, outputs_to_give, IsSessionWatched}
-use Rattle.pac_debug.specs.Watched.{IsWatchRefused}
-use Rattle.pac_debug.specs.Watched.{WatchesSession}
+use Rattle.pac_debug.specs.ObeyingLaws.{Scene, ObeysLines}
+use Rattle.pac_debug.specs.WatchedLaws.{IsFurther, GaveAll, outputs_until, TookTold, outputs_to_give, IsSessionWatched}
+use Rattle.pac_debug.specs.WatchedProofs.{LinesGive}
+use Rattle.pac_debug.specs.WatchedLaws.{IsWatchRefused}
+use Rattle.pac_debug.specs.WatchedLaws.{WatchesSession}
 use Rattle.pac_debug.proofs.Giving.{all-to-give, some-after, finish-given, lines-given}
 use Rattle.pac_debug.proofs.Telling.{lines-told, lines-refused, lines-untold}
 

@@ -1,4 +1,4 @@
--- To be believed: what a command is answered with, as a text of the session as the command left it.
+-- Believed: what a command is answered with, as a text of the session as the command left it.
 use Rattle.std.specs.Prelude.{ℕ, ◌-◌, List, [], ◌∷◌, ◌++◌, length, drop, map}
 use Rattle.pac_board.specs.StepKind.{StepKind}
 use Rattle.pac_board.specs.StepKindVariants as kinds

@@ -1,21 +1,25 @@
--- To be believed: the laws of command lines that go on after one that wasn't answered, each proved on a public function of the crate.
+-- Law: the laws of command lines that go on after one that wasn't answered, each proved on a public function of the crate.
 -- A sink or a text may refuse at any of the lines, and the next line is done all the same.
 use Rattle.std.specs.Prelude.{◌≡◌, ◌<◌, ◌≤◌, ℕ, ◌+◌, true, false, List, [], ◌∷◌, ◌++◌, length, Option, None, Some, Result, Ok, Err, ◌⊎◌}
 use Rattle.pac_board.specs.Output.{Output}
-use Rattle.pac_board.specs.Sinks.{Giving, Then}
+use Rattle.pac_board.specs.SinksLaws.{Giving}
+use Rattle.pac_board.specs.Sinks.{Then}
 use Rattle.pac_out.specs.declared.counted.Counted.{Counted}
-use Rattle.pac_out.specs.Counted.{Takes, Refuses}
+use Rattle.pac_out.specs.CountedLaws.{Takes, Refuses}
 use Rattle.pac_debug_text.specs.declared.command.Command.{Command}
 use Rattle.pac_debug_text.specs.declared.command.NoCommand.{NoCommand}
 use Rattle.pac_debug_text.specs.Commands.{command_of}
 use Rattle.pac_debug_session.specs.declared.motion.Motion.{Motion}
 use Rattle.pac_debug_session.specs.Motions.{moved_to, rests}
 use Rattle.pac_debug_session.specs.Running.{outputs_between}
-use Rattle.pac_debug_session.specs.Session.{SessionValue, session_at_command, session_due_outputs}
+use Rattle.pac_debug_session.specs.Session.{SessionValue}
+use Rattle.pac_debug_session.specs.SessionLaws.{session_at_command, session_due_outputs}
 use Rattle.pac_debug.specs.declared.line.CommandFault.{CommandFault}
 use Rattle.pac_debug.specs.declared.line.CommandFault.TheVariants as faults
-use Rattle.pac_debug.specs.Obeying.{Scene, Commands, ObeysLines, motion_of, session_without_due}
-use Rattle.pac_debug.specs.Watched.{TellsOfLine, IsFurther, outputs_until}
+use Rattle.pac_debug.specs.ObeyingLaws.{Scene, Commands, ObeysLines}
+use Rattle.pac_debug.specs.Obeying.{motion_of, session_without_due}
+use Rattle.pac_debug.specs.Watched.{TellsOfLine}
+use Rattle.pac_debug.specs.WatchedLaws.{IsFurther, outputs_until}
 
 -- how a line was answered
 abbrev pub LineAnswer : Type 0

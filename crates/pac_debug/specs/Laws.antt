@@ -1,4 +1,4 @@
--- To be believed: laws of what lines tell, each proved on a public function of the crate.
+-- Law: laws of what lines tell, each proved on a public function of the crate.
 use Rattle.std.specs.Prelude.{◌≡◌, ◌≤◌, ℕ, List, length}
 use Rattle.pac_debug_session.specs.Session.{SessionValue, most_breakpoints}
 use Rattle.pac_debug.specs.Watched.{TellsAll}

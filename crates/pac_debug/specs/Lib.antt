@@ -1,6 +1,10 @@
 pub mod Answers
 pub mod Obeying
+pub mod ObeyingProofs
+pub mod ObeyingLaws
 pub mod Watched
+pub mod WatchedProofs
+pub mod WatchedLaws
 pub mod Laws
 pub mod GoingOn
 pub mod StepsMade
@@ -8,3 +12,7 @@ pub use Rattle.pac_debug_session.specs.Motions
 pub use Rattle.pac_debug_session.specs.Outcome
 pub use Rattle.pac_debug_session.specs.Running
 pub use Rattle.pac_debug_session.specs.Session
+pub use Rattle.pac_debug_session.specs.RunningLaws
+pub use Rattle.pac_debug_session.specs.MotionsLaws
+pub use Rattle.pac_debug_session.specs.SessionLaws
+pub use Rattle.pac_debug_session.specs.SessionProofs

@@ -1,29 +1,23 @@
--- To be believed: what a command line does to a session, and what it is answered with.
-use Rattle.std.specs.Prelude.{◌≡◌, ◌<◌, ℕ, Bool, true, false, List, [], ◌∷◌, ◌++◌, length, Option, None, Some, Result, Ok, Err, ◌⊎◌}
+-- Believed: what a command line does to a session, and what it is answered with.
+use Rattle.std.specs.Prelude.{◌≡◌, ◌<◌, ℕ, Bool, true, false, [], ◌∷◌, ◌++◌, length, Option, None, Some, Result, Ok, Err}
 use Rattle.std.specs.Prelude.{slice_index_or}
 use Rattle.pac_board.specs.Output.{Output}
-use Rattle.pac_board.specs.Sinks.{Giving, TookAll, Then}
 use Rattle.pac_board.specs.State.{nothing_due}
-use Rattle.pac_out.specs.declared.counted.Counted.{Counted}
-use Rattle.pac_out.specs.Counted.{HasPut, Refuses}
 use Rattle.pac_debug_text.specs.declared.command.Command.{Command}
 use Rattle.pac_debug_text.specs.declared.command.Command.TheVariants as commands
 use Rattle.pac_debug_text.specs.declared.command.NoCommand.{NoCommand}
 use Rattle.pac_debug_text.specs.declared.place.Ending.TheVariants as endings
 use Rattle.pac_debug_text.specs.declared.refusal.Refusal.TheVariants as refusals
-use Rattle.pac_debug_text.specs.Commands.{command_of}
 use Rattle.pac_debug_text.specs.Slots.{slot_index}
 use Rattle.pac_debug_session.specs.declared.motion.MotionEnd.{MotionEnd}
 use Rattle.pac_debug_session.specs.declared.motion.Motion.{Motion}
 use Rattle.pac_debug_session.specs.declared.motion.Motion.TheVariants as motions
-use Rattle.pac_debug_session.specs.Motions.{HasTravelled, IsTravelRefused, IsBack, IsTooOld, session_with_slot}
-use Rattle.pac_debug_session.specs.Session.{SessionValue, IsSessionOfferRefused, session_at_command, session_due_outputs, has_breakpoint}
+use Rattle.pac_debug_session.specs.Motions.{HasTravelled, IsBack, IsTooOld, session_with_slot}
+use Rattle.pac_debug_session.specs.Session.{SessionValue, has_breakpoint}
 use Rattle.pac_debug_session.specs.Session.{without_breakpoint, most_breakpoints}
 use Rattle.pac_debug.specs.declared.answer.Answer.{Answer}
 use Rattle.pac_debug.specs.declared.answer.Answer.TheVariants as answers
-use Rattle.pac_debug.specs.declared.line.CommandFault.{CommandFault}
-use Rattle.pac_debug.specs.declared.line.CommandFault.TheVariants as faults
-use Rattle.pac_debug.specs.Answers.{ending_of, answer_text}
+use Rattle.pac_debug.specs.Answers.{ending_of}
 
 -- ---- what is done, with nothing due
 
@@ -79,11 +73,6 @@ motion_of commands.Continue = Some motions.Continue
 motion_of (commands.Frames count) = Some (motions.Frames count)
 motion_of others = None
 
--- moving on; where the sink refused, there is no answer
-abbrev pub Moves : {S E : Type 0} → Giving S → SessionValue → Motion → S → Result Answer E → SessionValue → S → Type 0
-Moves to old motion sink (Ok answer) new later = HasMoved to.took old motion sink answer new later
-Moves to old motion sink (Err refusal) new later = IsTravelRefused to old motion sink new later
-
 -- a command, by its motion
 abbrev pub IsCommandPerformed : {S : Type 0} → (S → Output → S → Type 0) → SessionValue → Command → Option Motion → S → Answer →
     SessionValue → S
@@ -99,106 +88,12 @@ IsCommandObeyed took old (Ok command) sink answer new later = IsCommandPerformed
 IsCommandObeyed took old (Err none) sink answer new later =
     (answer ≡ answers.Refused refusals.NoCommand) × (new ≡ old) × (later ≡ sink)
 
--- the sink refused an output on the way
-pub record IsHeldUp {S : Type 0} (to : Giving S) (old : SessionValue) (asked : Result Command NoCommand) (sink : S) (new : SessionValue)
-    (later : S)
-    : Type 0 where
-  pub command : Command
-  pub asked_is : asked ≡ Ok command
-  pub motion : Motion
-  pub motion_is : motion_of command ≡ Some motion
-  pub held_up : IsTravelRefused to old motion sink new later
-
-abbrev pub Obeys : {S E : Type 0} → Giving S → SessionValue → Result Command NoCommand → S → Result Answer E → SessionValue → S → Type 0
-Obeys to old asked sink (Ok answer) new later = IsCommandObeyed to.took old asked sink answer new later
-Obeys to old asked sink (Err refusal) new later = IsHeldUp to old asked sink new later
-
 -- ---- a line with words
 
 -- the session when what was due was taken
 abbrev pub session_without_due : SessionValue → SessionValue
 session_without_due s = record s { due = nothing_due; replayed = 0 }
 
--- The line was done: what was due was taken first.
-pub record IsCommandDone {S : Type 0} (took : S → Output → S → Type 0) (old : SessionValue) (asked : Result Command NoCommand) (sink : S)
-    (answer : Answer) (new : SessionValue) (later : S)
-    : Type 0 where
-  pub between : S
-  pub offered : TookAll took sink (session_due_outputs old) between
-  pub obeyed : IsCommandObeyed took (session_without_due old) asked between answer new later
-
--- The sink took what was due, and refused an output on the way.
-pub record IsRefusedLater {S : Type 0} (to : Giving S) (old : SessionValue) (asked : Result Command NoCommand) (sink : S)
-    (new : SessionValue) (later : S)
-    : Type 0 where
-  pub between : S
-  pub offered : TookAll to.took sink (session_due_outputs old) between
-  pub held_up : IsHeldUp to (session_without_due old) asked between new later
-
--- the sink refused what was due, or an output on the way
-abbrev pub IsCommandRefused : {S : Type 0} → Giving S → SessionValue → Result Command NoCommand → S → SessionValue → S → Type 0
-IsCommandRefused to old asked sink new later =
-    IsSessionOfferRefused to (session_at_command old) sink new later ⊎ IsRefusedLater to old asked sink new later
-
-abbrev pub DoesCommand : {S E : Type 0} → Giving S → SessionValue → Result Command NoCommand → S → Result Answer E → SessionValue → S
-    → Type 0
-DoesCommand to old asked sink (Ok answer) new later = IsCommandDone to.took old asked sink answer new later
-DoesCommand to old asked sink (Err refusal) new later = IsCommandRefused to old asked sink new later
-
 -- ---- a command line
 
--- what is before a command line, and after it: the session, the sink of its outputs, and the file of its texts
-pub record Scene (S W : Type 0) : Type 0 where
-  pub session : SessionValue
-  pub sink : S
-  pub text : Counted W
-
--- The line was done, and this became of its answer's text: the command is done whether that could be written or not.
-pub record HasAnswered {S W : Type 0} (took : S → Output → S → Type 0) (Told : Counted W → List ℕ → Counted W → Type 0)
-    (asked : Result Command NoCommand) (old new : Scene S W)
-    : Type 0 where
-  pub answer : Answer
-  pub did : IsCommandDone took old.session asked old.sink answer new.session new.sink
-  pub told : Told old.text (answer_text new.session answer) new.text
-
--- a line with words: it is answered; or the sink refused, and nothing is told; or its text's writer refused, now or before
-abbrev pub AnswersWords : {S W A : Type 0} → Giving S → (wrote : W → List ℕ → W → Type 0) → (balked : W → W → Type 0)
-    → Result Command NoCommand → Scene S W → Result A CommandFault → Scene S W → Type 0
-AnswersWords to wrote balked asked old (Ok done) new = HasAnswered to.took (HasPut wrote) asked old new
-AnswersWords to wrote balked asked old (Err faults.Refused) new =
-    IsCommandRefused to old.session asked old.sink new.session new.sink × (new.text ≡ old.text)
-AnswersWords to wrote balked asked old (Err (faults.Text fault)) new =
-    HasAnswered to.took (λ before text after. Refuses wrote balked before text fault after) asked old new
-
--- a line without words, which does nothing
-abbrev pub Skips : {S W A : Type 0} → Scene S W → Result A CommandFault → Scene S W → Type 0
-Skips old (Ok done) new = (new.session ≡ old.session) × (new.sink ≡ old.sink) × (new.text ≡ old.text)
-Skips old (Err fault) new = ⊥
-
--- a command line, by what it asks
-abbrev pub Asks : {S W A : Type 0} → Giving S → (wrote : W → List ℕ → W → Type 0) → (balked : W → W → Type 0)
-    → Option (Result Command NoCommand) → Scene S W → Result A CommandFault → Scene S W → Type 0
-Asks to wrote balked None old result new = Skips old result new
-Asks to wrote balked (Some asked) old result new = AnswersWords to wrote balked asked old result new
-
-abbrev pub Commands : {S W A : Type 0} → Giving S → (wrote : W → List ℕ → W → Type 0) → (balked : W → W → Type 0) → (line : List ℕ)
-    → Scene S W → Result A CommandFault → Scene S W → Type 0
-Commands to wrote balked line old result new = Asks to wrote balked (command_of line) old result new
-
 -- ---- a text of commands
-
--- a line that is answered, or that has no words
-abbrev pub IsLineAnswered : {S W : Type 0} → Giving S → (wrote : W → List ℕ → W → Type 0) → (balked : W → W → Type 0) → (line : List ℕ)
-    → (old new : Scene S W) → Type 0
-IsLineAnswered to wrote balked line old new = Commands {A = Unit {0}} to wrote balked line old (Ok tt) new
-
--- the lines of a text, one after another, up to the first that isn't answered
-abbrev pub ObeysLines : {S W : Type 0} → Giving S → (wrote : W → List ℕ → W → Type 0) → (balked : W → W → Type 0)
-    → (lines : List (List ℕ)) → Scene S W → Result (Unit {0}) CommandFault → Scene S W → Type 0
-ObeysLines to wrote balked [] old (Ok done) new = new ≡ old
-ObeysLines to wrote balked [] old (Err fault) new = ⊥
-ObeysLines to wrote balked (line ∷ more) old (Ok done) new =
-    Then (IsLineAnswered to wrote balked line old) (λ between. ObeysLines to wrote balked more between (Ok done) new)
-ObeysLines to wrote balked (line ∷ more) old (Err fault) new =
-    Commands {A = Unit {0}} to wrote balked line old (Err fault) new
-    ⊎ Then (IsLineAnswered to wrote balked line old) (λ between. ObeysLines to wrote balked more between (Err fault) new)

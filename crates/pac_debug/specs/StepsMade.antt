@@ -1,18 +1,19 @@
--- To be believed: the laws of the steps that a session's board makes, each proved on a public function of the crate.
+-- Law: the laws of the steps that a session's board makes, each proved on a public function of the crate.
 use Rattle.std.specs.Prelude.{◌≤◌, ℕ, ◌+◌, ◌-◌, List, [], ◌∷◌, Option, Some, Result, Ok}
-use Rattle.pac_board.specs.Sinks.{Giving}
+use Rattle.pac_board.specs.SinksLaws.{Giving}
 use Rattle.pac_debug_text.specs.declared.command.Command.TheVariants as commands
 use Rattle.pac_debug_text.specs.declared.command.Command.{Command}
 use Rattle.pac_debug_text.specs.declared.command.NoCommand.{NoCommand}
 use Rattle.pac_debug_text.specs.Commands.{command_of}
 use Rattle.pac_debug_session.specs.Motions.{checkpoint_steps}
 use Rattle.pac_debug_session.specs.Outcome.{Outcome}
-use Rattle.pac_debug_session.specs.Running.{whole_run}
-use Rattle.pac_debug_session.specs.Session.{SessionValue, IsSession}
+use Rattle.pac_debug_session.specs.RunningLaws.{whole_run}
+use Rattle.pac_debug_session.specs.Session.{SessionValue}
+use Rattle.pac_debug_session.specs.SessionLaws.{IsSession}
 use Rattle.pac_debug.specs.declared.line.CommandFault.{CommandFault}
 use Rattle.pac_debug.specs.GoingOn.{LineAnswer, AnswersEach}
-use Rattle.pac_debug.specs.Obeying.{Scene}
-use Rattle.pac_debug.specs.Watched.{WatchesSession}
+use Rattle.pac_debug.specs.ObeyingLaws.{Scene}
+use Rattle.pac_debug.specs.WatchedLaws.{WatchesSession}
 
 -- The steps for which a line is the cause that the board makes them once more, at most. Going back by n makes those from the checkpoint
 -- before the index again, and those n may be gone through again. Going to a slot makes none, and all up to the furthest index may be

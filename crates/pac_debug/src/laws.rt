@@ -1,6 +1,6 @@
 //! Laws of what a session tells, gives and does.
 
-ghost use Rattle.pac_board.specs.Sinks.{by};
+ghost use Rattle.pac_board.specs.SinksLaws.{by};
 ghost use Rattle.pac_debug.specs.GoingOn.{LinesGoOn, TextsAreLines};
 ghost use Rattle.pac_debug.specs.Laws.{TellsOneThing, AllLinesTell};
 ghost use Rattle.pac_debug.specs.StepsMade.{LinesMakeNoMore, SessionsMakeNoMore};

@@ -1,8 +1,8 @@
 //! Command lines.
 
 ghost use Rattle.std.specs.Prelude.{◌≡◌};
-ghost use Rattle.pac_board.specs.Sinks.{by};
-ghost use Rattle.pac_debug.specs.Obeying.{Commands};
+ghost use Rattle.pac_board.specs.SinksLaws.{by};
+ghost use Rattle.pac_debug.specs.ObeyingLaws.{Commands};
 
 use crate::obey::perform;
 use crate::tell::tell;

@@ -1,9 +1,9 @@
 //! Command texts.
 
 ghost use Rattle.std.specs.Str.Lines.{lines};
-ghost use Rattle.pac_board.specs.Sinks.{by};
-ghost use Rattle.pac_debug.specs.Obeying.{ObeysLines};
-ghost use Rattle.pac_debug.specs.Watched.{LinesGive};
+ghost use Rattle.pac_board.specs.SinksLaws.{by};
+ghost use Rattle.pac_debug.specs.ObeyingLaws.{ObeysLines};
+ghost use Rattle.pac_debug.specs.WatchedProofs.{LinesGive};
 
 use crate::line::{CommandFault, command};
 use pac_board::Sink;

@@ -1,12 +1,13 @@
 //! Commands, done on a session.
 
 ghost use Rattle.std.specs.Prelude.{◌≡◌, ◌≤◌, IfOk, IfSome, None, Some, Ok, Err};
-ghost use Rattle.pac_board.specs.Sinks.{by};
+ghost use Rattle.pac_board.specs.SinksLaws.{by};
 ghost use Rattle.pac_board.specs.State as state;
-ghost use Rattle.pac_debug_text.specs.Commands.{IsCommandInRange};
+ghost use Rattle.pac_debug_text.specs.CommandsProofs.{IsCommandInRange};
 ghost use Rattle.pac_debug_text.specs.Slots.{slot_index};
 ghost use Rattle.pac_debug_session.specs.Session.{has_breakpoint};
-ghost use Rattle.pac_debug.specs.Obeying.{AnswersBack, AnswersReturn, SetsBreakpoint, Stays, Obeys, DoesCommand, Moves, kept_at, motion_of};
+ghost use Rattle.pac_debug.specs.Obeying.{AnswersBack, AnswersReturn, SetsBreakpoint, Stays, kept_at, motion_of};
+ghost use Rattle.pac_debug.specs.ObeyingProofs.{Obeys, DoesCommand, Moves};
 
 use crate::answer::{Answer, ending_of};
 use pac_board::{Refused, Sink};

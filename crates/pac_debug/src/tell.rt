@@ -1,7 +1,7 @@
 //! The texts of answers.
 
 ghost use Rattle.std.specs.Prelude.{◌≡◌};
-ghost use Rattle.pac_out.specs.Counted.{Puts};
+ghost use Rattle.pac_out.specs.CountedProofs.{Puts};
 ghost use Rattle.pac_debug_text.specs.Texts.{history_text};
 ghost use Rattle.pac_debug.specs.Answers.{answer_text, last_steps};
 

@@ -1,8 +1,8 @@
 //! Whole sessions.
 
 ghost use Rattle.std.specs.Str.Lines.{lines};
-ghost use Rattle.pac_board.specs.Sinks.{by};
-ghost use Rattle.pac_debug.specs.Watched.{WatchesThrough};
+ghost use Rattle.pac_board.specs.SinksLaws.{by};
+ghost use Rattle.pac_debug.specs.WatchedProofs.{WatchesThrough};
 
 use crate::line::CommandFault;
 use crate::lines::commands;

@@ -6,9 +6,11 @@ use Rattle.pac_board_course.specs.Step.{Goes}
 use Rattle.pac_board_course.specs.State.{nothing_due, steps_counted}
 use Rattle.pac_debug_session.specs.declared.kept.SessionSnapshot.{SessionSnapshot}
 use Rattle.pac_debug_session.specs.Keeping.{IsKeptAt, AreCheckpoints}
-use Rattle.pac_debug_session.specs.Motions.{checkpoint_steps, checkpoint_count, replayed_to}
+use Rattle.pac_debug_session.specs.Motions.{checkpoint_steps, checkpoint_count}
+use Rattle.pac_debug_session.specs.MotionsProofs.{replayed_to}
 use Rattle.pac_debug_session.specs.Running.{Setting, stop_in, goes_at}
-use Rattle.pac_debug_session.specs.Session.{SessionValue, IsSession}
+use Rattle.pac_debug_session.specs.Session.{SessionValue}
+use Rattle.pac_debug_session.specs.SessionLaws.{IsSession}
 use Rattle.pac_debug_session.specs.Strides.{MakesStride, MakesSteps}
 use Rattle.pac_debug_session.proofs.Indices.{goes-on}
 use Rattle.pac_debug_session.proofs.Travelled.{counted-sum}

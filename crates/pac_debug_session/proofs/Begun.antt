@@ -14,7 +14,9 @@ use Rattle.pac_debug_session.specs.Keeping.{Ring, mark_of, mark_if, AreCheckpoin
 use Rattle.pac_debug_session.specs.Motions.{checkpoint_count}
 use Rattle.pac_debug_session.specs.Past.{told_at}
 use Rattle.pac_debug_session.specs.Running.{Setting, now_at}
-use Rattle.pac_debug_session.specs.Session.{IsNew, session_at_start, AreSeen, slot_count}
+use Rattle.pac_debug_session.specs.SessionProofs.{IsNew}
+use Rattle.pac_debug_session.specs.Session.{session_at_start}
+use Rattle.pac_debug_session.specs.SessionLaws.{AreSeen, slot_count}
 use Rattle.pac_debug_session.proofs.Steppings.{with_board}
 
 -- ---- nothing is kept yet

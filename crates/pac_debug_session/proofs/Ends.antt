@@ -6,7 +6,8 @@ use Rattle.pac_board_course.specs.Stretches.{total_frames}
 use Rattle.pac_board_course.specs.BoardView.{BoardView, power_on_board_view}
 use Rattle.pac_board_course.specs.Step.{Moment, Next, Goes, Ends}
 use Rattle.pac_board_course.specs.Trace.{by_view, frame_steps}
-use Rattle.pac_board_course.specs.Walk.{Walk, walk_after_step, has_ended}
+use Rattle.pac_board_course.specs.Walk.{Walk, walk_after_step}
+use Rattle.pac_board_course.specs.WalkLaws.{has_ended}
 use Rattle.pac_board_course.proofs.Runs.{runs-end}
 use Rattle.pac_board_course.proofs.Walks.{going-before, going-far, going-is-early, going-steps, ended-for-good, open-is-late}
 use Rattle.pac_board_course.proofs.Walks.{stopped-has-ended}

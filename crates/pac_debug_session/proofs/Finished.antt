@@ -4,16 +4,21 @@ use Rattle.std.proofs.Common.{◌∙◌, arith}
 use Rattle.std.proofs.lemmas.Bool.Decides.{nat_tests}
 use Rattle.pac_board_course.proofs.Walks.{not-both}
 use Rattle.pac_board_course.proofs.Sinks.{took-both, cut-after, prefix-after}
-use Rattle.pac_board_course.specs.Sinks.{Giving, TookAll}
+use Rattle.pac_board_course.specs.SinksLaws.{Giving}
+use Rattle.pac_board_course.specs.Sinks.{TookAll}
 use Rattle.pac_board_course.specs.State.{nothing_due}
 use Rattle.pac_board_course.specs.Course.{outcome_at}
 use Rattle.pac_board_course.specs.declared.outcome.Outcome.{Outcome}
 use Rattle.pac_debug_session.specs.declared.motion.MotionEnd.{MotionEnd}
 use Rattle.pac_debug_session.specs.declared.motion.MotionEnd.TheVariants.{AtStop, AtEnd, AtBreakpoint, AtFrame, AtStep}
 use Rattle.pac_debug_session.specs.declared.motion.Motion.TheVariants.{ToEnd}
-use Rattle.pac_debug_session.specs.Motions.{rests, RestsBy, moved_to, HasTravelled, IsTravelRefused, IsOutcome, IsFinished, IsFinishRefused}
-use Rattle.pac_debug_session.specs.Running.{Setting, run, whole_run, goes_at, outputs_between, outputs_from}
-use Rattle.pac_debug_session.specs.Session.{SessionValue, IsSession, session_due_outputs}
+use Rattle.pac_debug_session.specs.Motions.{rests, RestsBy, moved_to, HasTravelled}
+use Rattle.pac_debug_session.specs.MotionsLaws.{IsTravelRefused, IsOutcome, IsFinishRefused}
+use Rattle.pac_debug_session.specs.MotionsProofs.{IsFinished}
+use Rattle.pac_debug_session.specs.Running.{Setting, run, goes_at, outputs_between}
+use Rattle.pac_debug_session.specs.RunningLaws.{whole_run, outputs_from}
+use Rattle.pac_debug_session.specs.Session.{SessionValue}
+use Rattle.pac_debug_session.specs.SessionLaws.{IsSession, session_due_outputs}
 use Rattle.pac_debug_session.proofs.Travelled.{never-met, whole-there}
 
 -- nothing but the run's end ends it

@@ -20,14 +20,18 @@ use Rattle.pac_board_course.specs.Walk.{Walk}
 use Rattle.pac_board_course.proofs.Runs.{runs-are-joined, runs-end}
 use Rattle.pac_board_course.proofs.Sinks.{cut-along, cut-something}
 use Rattle.pac_board_course.proofs.Walks.{ended-for-good}
-use Rattle.pac_board_course.specs.Calls.{once_at, outputs_in}
-use Rattle.pac_board_course.specs.Sinks.{Giving, TookAll}
+use Rattle.pac_board_course.specs.CallsLaws.{once_at, outputs_in}
+use Rattle.pac_board_course.specs.SinksLaws.{Giving}
+use Rattle.pac_board_course.specs.Sinks.{TookAll}
 use Rattle.pac_board_course.specs.State.{nothing_due, steps_counted}
-use Rattle.pac_debug_session.specs.Motions.{session_after_step, MakesStep, PassesOn, moved_to}
-use Rattle.pac_debug_session.specs.Running.{Setting, play_of, run, whole_run, now_at, next_from, next_at, limit, is_late, stop_in, stop_at}
+use Rattle.pac_debug_session.specs.MotionsProofs.{session_after_step, MakesStep, PassesOn}
+use Rattle.pac_debug_session.specs.Motions.{moved_to}
+use Rattle.pac_debug_session.specs.Running.{Setting, play_of, run, now_at, next_from, next_at, limit, is_late, stop_in, stop_at}
+use Rattle.pac_debug_session.specs.RunningLaws.{whole_run}
 use Rattle.pac_debug_session.specs.Running.{goes_at, blanks_at, outputs_between}
-use Rattle.pac_debug_session.specs.Running.{outputs_from}
-use Rattle.pac_debug_session.specs.Session.{SessionValue, IsSession}
+use Rattle.pac_debug_session.specs.RunningLaws.{outputs_from}
+use Rattle.pac_debug_session.specs.Session.{SessionValue}
+use Rattle.pac_debug_session.specs.SessionLaws.{IsSession}
 use Rattle.pac_debug_session.specs.Strides.{AreAlike, MeetNothing, MakesStride, MakesNoStep, MakesSteps, HasStrode, HasMetStop}
 use Rattle.pac_debug_session.specs.Strides.{IsStrideRefused, StepsOn}
 use Rattle.pac_debug_session.proofs.Indices.{IsOpen, IsOneMore, open-up-to, one-more, between}

@@ -13,7 +13,8 @@ use Rattle.pac_board_course.specs.Course.{CourseValue, next_in, way_walked}
 use Rattle.pac_board_course.specs.Frames.{frame_end}
 use Rattle.pac_board_course.specs.ModelLaws.{IsTimely}
 use Rattle.pac_board_course.specs.PastStep.{PastStep}
-use Rattle.pac_board_course.specs.Sinks.{Giving, TookAll}
+use Rattle.pac_board_course.specs.SinksLaws.{Giving}
+use Rattle.pac_board_course.specs.Sinks.{TookAll}
 use Rattle.pac_board_course.specs.State.{BoardValue, nothing_due, due_outputs, due_outputs_in, steps_counted}
 use Rattle.pac_board_course.specs.Step.{Moment, Next, Goes, frame_ticks}
 use Rattle.pac_board_course.specs.Stop.{Stop}
@@ -29,7 +30,8 @@ use Rattle.pac_debug_session.specs.Motions.{checkpoint_steps, moved_to}
 use Rattle.pac_debug_session.specs.Past.{past_steps, past_of, told_at, told_step_count}
 use Rattle.pac_debug_session.specs.Playing.{course_of}
 use Rattle.pac_debug_session.specs.Running.{Setting, now_at, next_from, stop_in, stop_at, goes_at, outputs_between}
-use Rattle.pac_debug_session.specs.Session.{SessionValue, IsSession, session_due_outputs}
+use Rattle.pac_debug_session.specs.Session.{SessionValue}
+use Rattle.pac_debug_session.specs.SessionLaws.{IsSession, session_due_outputs}
 use Rattle.pac_debug_session.specs.Strides.{MeetNothing, IsLeap, LeapEnds, IsLeapt, IsLeapRefused, Leaps, IsStrideRefused, StepsOn}
 use Rattle.pac_board_course.specs.Trails.{told_of}
 use Rattle.pac_debug_session.proofs.Ends.{goes-if-counted}

@@ -13,16 +13,21 @@ use Rattle.pac_board_course.specs.Walk.{Walk, walk, walk_to}
 use Rattle.pac_board_course.proofs.Runs.{runs-end}
 use Rattle.pac_board_course.proofs.Sinks.{took-both, cut-along, cut-after, cut-something, prefix-after}
 use Rattle.pac_board_course.proofs.Walks.{joined, more-joined, goes-on, walk-to-ends}
-use Rattle.pac_board_course.specs.Sinks.{Giving, TookAll}
+use Rattle.pac_board_course.specs.SinksLaws.{Giving}
+use Rattle.pac_board_course.specs.Sinks.{TookAll}
 use Rattle.pac_board_course.specs.State.{nothing_due, due_outputs, due_outputs_in}
 use Rattle.pac_board_course.proofs.Begun.{walk-same, play-same}
 use Rattle.pac_board_course.specs.Course.{CourseValue, end_of, held_in, next_in, way_on, way_walked, outcome_at}
 use Rattle.pac_board_course.specs.declared.outcome.Outcome.{Outcome}
 use Rattle.pac_board_course.specs.Plays.{IsOver, IsCourseHeldUp}
-use Rattle.pac_debug_session.specs.Motions.{IsFinished, IsFinishRefused, moved_to, replayed_to}
+use Rattle.pac_debug_session.specs.MotionsProofs.{IsFinished, replayed_to}
+use Rattle.pac_debug_session.specs.MotionsLaws.{IsFinishRefused}
+use Rattle.pac_debug_session.specs.Motions.{moved_to}
 use Rattle.pac_debug_session.specs.Playing.{course_of}
-use Rattle.pac_debug_session.specs.Running.{play_of, run, whole_run, now_at, next_from, limit, outputs_between, outputs_from}
-use Rattle.pac_debug_session.specs.Session.{SessionValue, IsSession, session_due_outputs}
+use Rattle.pac_debug_session.specs.Running.{play_of, run, now_at, next_from, limit, outputs_between}
+use Rattle.pac_debug_session.specs.RunningLaws.{whole_run, outputs_from}
+use Rattle.pac_debug_session.specs.Session.{SessionValue}
+use Rattle.pac_debug_session.specs.SessionLaws.{IsSession, session_due_outputs}
 use Rattle.pac_debug_session.proofs.Ends.{start, run-ends, goes-if-counted}
 use Rattle.pac_debug_session.proofs.Indices.{IsOpen, open-up-to, timely, between}
 use Rattle.pac_debug_session.proofs.Travelled.{time-near}

@@ -5,7 +5,8 @@ use Rattle.std.proofs.lemmas.List.{map-set, length-set}
 use Rattle.pac_board_course.specs.Stretch.{Stretch}
 use Rattle.pac_board_course.specs.BoardView.{BoardView}
 use Rattle.pac_board_course.specs.Step.{Moment}
-use Rattle.pac_board_course.specs.State.{BoardValue, nothing_due, restored_board}
+use Rattle.pac_board_course.specs.State.{BoardValue, nothing_due}
+use Rattle.pac_board_course.specs.StateLaws.{restored_board}
 use Rattle.pac_board_course.specs.PastStep.{PastStep}
 use Rattle.pac_debug_session.specs.declared.kept.SessionSnapshot.{SessionSnapshot}
 use Rattle.pac_debug_session.specs.declared.kept.SlotContents.{SlotContents}
@@ -13,7 +14,7 @@ use Rattle.pac_debug_session.specs.Inside.{IsStanding, AreSlotsRight}
 use Rattle.pac_debug_session.specs.Keeping.{Ring, mark_of, mark_if, IsKeptAt, IsSlot, AreSlots}
 use Rattle.pac_debug_session.specs.Past.{told_at}
 use Rattle.pac_debug_session.specs.Running.{Setting, now_at}
-use Rattle.pac_debug_session.specs.Session.{IsSeen, AreSeen}
+use Rattle.pac_debug_session.specs.SessionLaws.{IsSeen, AreSeen}
 use Rattle.pac_debug_session.proofs.Indices.{open-up-to}
 use Rattle.pac_debug_session.proofs.Steppings.{with_board}
 

@@ -13,11 +13,12 @@ use Rattle.pac_board_course.specs.Output.{Output}
 use Rattle.pac_board_course.specs.Step.{Moment, Next, Goes, Ends}
 use Rattle.pac_board_course.specs.Due.{Due}
 use Rattle.pac_board_course.specs.State.{BoardValue, nothing_due, steps_counted, due_outputs_in}
-use Rattle.pac_board_course.specs.Calls.{board_after_step, once_at, outputs_in}
+use Rattle.pac_board_course.specs.CallsLaws.{board_after_step, once_at, outputs_in}
 use Rattle.pac_board_course.specs.Trace.{by_view}
 use Rattle.pac_board_course.specs.Stretches.{held}
 use Rattle.pac_board_course.proofs.Begun.{play-same}
-use Rattle.pac_board_course.specs.Course.{CourseValue, held_in, next_on}
+use Rattle.pac_board_course.specs.Course.{CourseValue, held_in}
+use Rattle.pac_board_course.specs.CourseProofs.{next_on}
 use Rattle.pac_board_course.specs.Plays.{IsCourseAdvanced}
 use Rattle.pac_board_course.specs.PastStep.{PastStep}
 use Rattle.pac_debug_session.specs.declared.kept.SessionSnapshot.{SessionSnapshot}
@@ -25,10 +26,12 @@ use Rattle.pac_debug_session.specs.declared.kept.SlotContents.{SlotContents}
 use Rattle.pac_debug_session.specs.Inside.{IsStanding, AreSlotsRight}
 use Rattle.pac_debug_session.specs.Keeping.{Ring, mark_of, kept_of, ring_with_checkpoint, ring_after_index, IsKeptAt, AreCheckpoints}
 use Rattle.pac_debug_session.specs.Told.{told_after}
-use Rattle.pac_debug_session.specs.Motions.{checkpoint_steps, checkpoint_count, session_after_step}
+use Rattle.pac_debug_session.specs.Motions.{checkpoint_steps, checkpoint_count}
+use Rattle.pac_debug_session.specs.MotionsProofs.{session_after_step}
 use Rattle.pac_debug_session.specs.Past.{past_steps, past_of, told_at, told_step_count}
 use Rattle.pac_debug_session.specs.Running.{Setting, now_at, next_from, next_at, is_late, stop_in, stop_at, goes_at}
-use Rattle.pac_debug_session.specs.Session.{SessionValue, IsSeen, AreSeen}
+use Rattle.pac_debug_session.specs.Session.{SessionValue}
+use Rattle.pac_debug_session.specs.SessionLaws.{IsSeen, AreSeen}
 use Rattle.pac_debug_session.proofs.Indices.{open-up-to, one-more}
 
 -- ---- the steps that are told

@@ -10,21 +10,27 @@ use Rattle.pac_board_course.specs.Instructions.{most_ticks}
 use Rattle.pac_board_course.specs.BoardView.{BoardView, power_on_board_view, board_after}
 use Rattle.pac_board_course.specs.Step.{Next, Goes, Ends}
 use Rattle.pac_board_course.specs.Trace.{by_view, power_on_moment}
-use Rattle.pac_board_course.specs.Walk.{Walk, walk_after_step, has_ended}
+use Rattle.pac_board_course.specs.Walk.{Walk, walk_after_step}
+use Rattle.pac_board_course.specs.WalkLaws.{has_ended}
 use Rattle.pac_board_course.proofs.Runs.{runs-end, walk-near}
 use Rattle.pac_board_course.proofs.Walks.{not-both, late-has-ended, stopped-has-ended}
 use Rattle.pac_board_course.proofs.Sinks.{took-both, cut-along, cut-after, prefix-after}
-use Rattle.pac_board_course.specs.Sinks.{Giving, TookAll}
+use Rattle.pac_board_course.specs.SinksLaws.{Giving}
+use Rattle.pac_board_course.specs.Sinks.{TookAll}
 use Rattle.pac_board_course.specs.State.{nothing_due, steps_counted}
 use Rattle.pac_debug_session.specs.declared.motion.MotionEnd.{MotionEnd}
 use Rattle.pac_debug_session.specs.declared.motion.MotionEnd.TheVariants.{AtStop, AtEnd, AtBreakpoint, AtFrame, AtStep}
 use Rattle.pac_debug_session.specs.declared.motion.Motion.{Motion}
 use Rattle.pac_debug_session.specs.declared.motion.Motion.TheVariants.{Steps, Continue, Frames, ToEnd}
-use Rattle.pac_debug_session.specs.Motions.{is_done, has_met, rests, motion_ending, stop_of, RestsBy, moved_to}
-use Rattle.pac_debug_session.specs.Motions.{HasTravelled, IsTravelRefused}
-use Rattle.pac_debug_session.specs.Running.{Setting, play_of, run, whole_run, now_at, next_from, next_at, limit, is_late, stop_in, stop_at}
+use Rattle.pac_debug_session.specs.Motions.{is_done, has_met, rests, motion_ending, RestsBy, moved_to}
+use Rattle.pac_debug_session.specs.MotionsProofs.{stop_of}
+use Rattle.pac_debug_session.specs.Motions.{HasTravelled}
+use Rattle.pac_debug_session.specs.MotionsLaws.{IsTravelRefused}
+use Rattle.pac_debug_session.specs.Running.{Setting, play_of, run, now_at, next_from, next_at, limit, is_late, stop_in, stop_at}
+use Rattle.pac_debug_session.specs.RunningLaws.{whole_run}
 use Rattle.pac_debug_session.specs.Running.{goes_at, blanks_at, outputs_between}
-use Rattle.pac_debug_session.specs.Session.{SessionValue, IsSession, breaks_at}
+use Rattle.pac_debug_session.specs.Session.{SessionValue, breaks_at}
+use Rattle.pac_debug_session.specs.SessionLaws.{IsSession}
 use Rattle.pac_debug_session.specs.Strides.{MeetNothing, steps_left, longest_stride, HasStrode, HasMetStop, IsStrideRefused}
 use Rattle.pac_debug_session.proofs.Indices.{IsOpen, open-up-to, next-index, timely, early-time, times-grow}
 use Rattle.pac_debug_session.proofs.Forwards.{between-joined, between-self}

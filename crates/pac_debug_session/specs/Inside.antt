@@ -10,7 +10,8 @@ use Rattle.pac_debug_session.specs.Keeping.{Ring, AreCheckpoints, AreSlots, mark
 use Rattle.pac_debug_session.specs.Motions.{checkpoint_steps, checkpoint_count}
 use Rattle.pac_debug_session.specs.Past.{told_at}
 use Rattle.pac_debug_session.specs.Running.{Setting, now_at, limit, goes_at}
-use Rattle.pac_debug_session.specs.Session.{SessionValue, AreSeen, slot_count, most_breakpoints}
+use Rattle.pac_debug_session.specs.Session.{SessionValue, most_breakpoints}
+use Rattle.pac_debug_session.specs.SessionLaws.{AreSeen, slot_count}
 
 abbrev pub session_setting : Inside → Setting
 session_setting inside = record { set = inside.board.value.set; switches = inside.switches; script = inside.script }

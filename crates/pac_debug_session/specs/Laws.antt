@@ -1,6 +1,7 @@
--- To be believed: laws of what a session gives, each proved on a public function of the crate.
+-- Law: laws of what a session gives, each proved on a public function of the crate.
 use Rattle.std.specs.Prelude.{◌≡◌, ◌≤◌, ℕ, ◌++◌}
-use Rattle.pac_debug_session.specs.Running.{Setting, whole_run, outputs_between, outputs_from}
+use Rattle.pac_debug_session.specs.Running.{Setting, outputs_between}
+use Rattle.pac_debug_session.specs.RunningLaws.{whole_run, outputs_from}
 
 -- From the first index on all of a run's outputs are given.
 abbrev pub AllIsGiven : Type 0

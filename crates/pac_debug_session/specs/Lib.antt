@@ -1,8 +1,13 @@
 pub mod Running
+pub mod RunningLaws
 pub mod Past
 pub mod Told
 pub mod Session
+pub mod SessionProofs
+pub mod SessionLaws
 pub mod Motions
+pub mod MotionsProofs
+pub mod MotionsLaws
 pub mod Strides
 pub mod Keeping
 pub mod Inside

@@ -1,4 +1,4 @@
--- To be believed: what a run has done: its steps, one after another.
+-- Believed: what a run has done: its steps, one after another.
 use Rattle.std.specs.Prelude.{ℕ, zero, suc, List, [], ◌∷◌, ◌++◌}
 use Rattle.circular_buffer.specs.Buffer.{keep_last}
 use Rattle.pac_board_course.specs.BoardView.{BoardView}

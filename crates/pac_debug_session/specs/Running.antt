@@ -1,4 +1,4 @@
--- To be believed: the run that a session looks at: the trace of a script on a board from power-on, state by state. A session is
+-- Believed: the run that a session looks at: the trace of a script on a board from power-on, state by state. A session is
 -- a place in it.
 use Rattle.std.specs.Prelude.{◌≡◌, ◌<◌, ◌≤◌, ℕ, ◌*◌, ◌/◌, Bool, true, false, ◌&&◌, not, is_none, nat_le, List, length, drop, Option}
 use Rattle.std.specs.Prelude.{None, Some}
@@ -9,7 +9,7 @@ use Rattle.pac_board_course.specs.RomParts.{Parts}
 use Rattle.pac_board_course.specs.BoardView.{BoardView, power_on_board_view}
 use Rattle.pac_board_course.specs.Output.{Output}
 use Rattle.pac_board_course.specs.Step.{Moment, Next, Goes, Ends, frame_ticks}
-use Rattle.pac_board_course.specs.Trace.{Play, by_view, play_step, run_at, trace}
+use Rattle.pac_board_course.specs.Trace.{Play, by_view, play_step, run_at}
 use Rattle.pac_board_course.specs.Walk.{Walk}
 
 -- what a run is determined by: the ROM set, the byte of the DIP switches, and the script
@@ -25,9 +25,6 @@ play_of script = record { frames = total_frames script; held = held script }
 -- the run up to an index, which is the number of its steps, and the whole of it
 abbrev pub run : Setting → ℕ → Walk BoardView
 run setting index = run_at (by_view setting.set) (play_of setting.script) (power_on_board_view setting.switches) index
-
-abbrev pub whole_run : Setting → Walk BoardView
-whole_run setting = trace (by_view setting.set) (play_of setting.script) (power_on_board_view setting.switches)
 
 -- the moment at an index, and what the next step from a moment comes to
 abbrev pub now_at : Setting → ℕ → Moment BoardView
@@ -67,10 +64,6 @@ blanks_at setting index = (now_at setting index).time / frame_ticks
 -- what the run gives out from one index up to another
 abbrev pub outputs_between : Setting → (from index : ℕ) → List Output
 outputs_between setting from index = drop (length (run setting from).outputs) (run setting index).outputs
-
--- what the run gives out from an index on to its end
-abbrev pub outputs_from : Setting → (from : ℕ) → List Output
-outputs_from setting from = drop (length (run setting from).outputs) (whole_run setting).outputs
 
 -- ---- the least index
 

@@ -3,15 +3,17 @@ use Rattle.std.specs.Prelude.{◌≡◌, ◌<◌, ◌≤◌, ℕ, suc, ◌+◌, 
 use Rattle.std.specs.Prelude.{true, if◌then◌else◌, List, [], Option, None, Some, Result, Ok, Err}
 use Rattle.std.specs.List.{list_any}
 use mathlib.Core.List.{IsPrefix}
-use Rattle.pac_board_course.specs.Bursts.{is_waiting}
+use Rattle.pac_board_course.specs.BurstsProofs.{is_waiting}
 use Rattle.pac_board_course.specs.Output.{Output}
-use Rattle.pac_board_course.specs.Sinks.{Giving, TookAll, Cut}
+use Rattle.pac_board_course.specs.SinksLaws.{Giving, Cut}
+use Rattle.pac_board_course.specs.Sinks.{TookAll}
 use Rattle.pac_board_course.specs.Stop.{Stop}
 use Rattle.pac_debug_session.specs.declared.motion.Motion.{Motion}
 use Rattle.pac_debug_session.specs.declared.motion.Motion.TheVariants.{Steps}
 use Rattle.pac_debug_session.specs.Motions.{moved_to, checkpoint_steps}
 use Rattle.pac_debug_session.specs.Running.{Setting, now_at, stop_at, goes_at, blanks_at, outputs_between}
-use Rattle.pac_debug_session.specs.Session.{SessionValue, session_due_outputs}
+use Rattle.pac_debug_session.specs.Session.{SessionValue}
+use Rattle.pac_debug_session.specs.SessionLaws.{session_due_outputs}
 
 -- whether the processor is halted at an index, and no interrupt is accepted before the next events
 abbrev pub waits_at : Setting → ℕ → Bool

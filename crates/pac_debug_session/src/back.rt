@@ -2,7 +2,8 @@
 
 ghost use Rattle.std.specs.Prelude.{◌≡◌, ◌≤◌, ◌<◌, ◌*◌, ◌-◌};
 ghost use Rattle.pac_board_course.specs.State as state;
-ghost use Rattle.pac_debug_session.specs.Motions.{GoesBack, oldest_index, replayed_to, checkpoint_steps};
+ghost use Rattle.pac_debug_session.specs.MotionsProofs.{GoesBack, replayed_to};
+ghost use Rattle.pac_debug_session.specs.Motions.{oldest_index, checkpoint_steps};
 
 use crate::session::Session;
 use crate::travel::CHECKPOINT_STEPS;

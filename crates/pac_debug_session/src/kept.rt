@@ -1,7 +1,7 @@
 //! What is kept of a session's moment, to go back to.
 
 ghost use Rattle.std.specs.Prelude.{◌≡◌, IfOk, false, []};
-ghost use Rattle.pac_board_course.specs.State.{restored_board};
+ghost use Rattle.pac_board_course.specs.StateLaws.{restored_board};
 ghost use Rattle.pac_debug_session.specs.Keeping.{kept_of};
 
 use crate::history::History;

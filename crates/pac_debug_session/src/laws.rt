@@ -1,7 +1,7 @@
 //! Laws of what a session is, and gives.
 
 ghost use Rattle.pac_debug_session.specs.Laws.{AllIsGiven, EachIsGivenOnce};
-ghost use Rattle.pac_debug_session.specs.Session.{IsSession};
+ghost use Rattle.pac_debug_session.specs.SessionLaws.{IsSession};
 
 use crate::session::Session;
 

@@ -1,7 +1,7 @@
 //! Steps of any kind in one go, where no breakpoint is set.
 
 ghost use Rattle.std.specs.Prelude.{◌≡◌, ◌+◌, ◌≤◌, [], None, false, if◌then◌else◌, nat_lt};
-ghost use Rattle.pac_board_course.specs.Sinks.{by};
+ghost use Rattle.pac_board_course.specs.SinksLaws.{by};
 ghost use Rattle.pac_board_course.specs.State as state;
 ghost use Rattle.pac_debug_session.specs.Running.{is_late};
 ghost use Rattle.pac_debug_session.specs.Strides.{IsLeapt, Leaps, StepsOn};

@@ -1,7 +1,8 @@
 //! How a session moves forwards, and why it rests.
 
 ghost use Rattle.std.specs.Prelude.{◌≡◌};
-ghost use Rattle.pac_debug_session.specs.Motions.{motion_ending, stop_of};
+ghost use Rattle.pac_debug_session.specs.Motions.{motion_ending};
+ghost use Rattle.pac_debug_session.specs.MotionsProofs.{stop_of};
 ghost use Rattle.pac_debug_session.specs.Strides.{longest_stride};
 
 use crate::travel::CHECKPOINT_STEPS;

@@ -1,10 +1,10 @@
 //! What is left of a session's run, at once: as a course, which keeps no history and takes no checkpoint.
 
 ghost use Rattle.std.specs.Prelude.{◌≡◌, ◌≤◌, ◌*◌, ◌+◌};
-ghost use Rattle.pac_board_course.specs.Sinks.{by};
+ghost use Rattle.pac_board_course.specs.SinksLaws.{by};
 ghost use Rattle.pac_board_course.specs.Step.{frame_ticks};
 ghost use Rattle.pac_board_course.specs.Stretches.{most_frames};
-ghost use Rattle.pac_debug_session.specs.Motions.{PlaysOn};
+ghost use Rattle.pac_debug_session.specs.MotionsProofs.{PlaysOn};
 ghost use Rattle.pac_board_course.specs.Course.{outcome_at};
 
 use crate::session::Session;

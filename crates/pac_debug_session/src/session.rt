@@ -7,8 +7,11 @@ ghost use Rattle.pac_board_course.specs.Stretches.{most_frames, total_frames};
 ghost use Rattle.pac_debug_session.specs.Keeping.{AreEmpty};
 ghost use Rattle.pac_debug_session.specs.Running.{now_at};
 ghost use Rattle.pac_debug_session.specs.Past.{told_at, told_step_count};
-ghost use Rattle.pac_debug_session.specs.Session.{IsSession, IsNew, session_at_start, IsSet, has_breakpoint, without_breakpoint, slot_count};
-ghost use Rattle.pac_debug_session.specs.Motions.{checkpoint_count, ReturnsTo, session_with_slot};
+ghost use Rattle.pac_debug_session.specs.SessionLaws.{IsSession, slot_count};
+ghost use Rattle.pac_debug_session.specs.SessionProofs.{IsNew, IsSet};
+ghost use Rattle.pac_debug_session.specs.Session.{session_at_start, has_breakpoint, without_breakpoint};
+ghost use Rattle.pac_debug_session.specs.Motions.{checkpoint_count, session_with_slot};
+ghost use Rattle.pac_debug_session.specs.MotionsProofs.{ReturnsTo};
 ghost use Rattle.pac_debug_session.specs.Playing.{course_of};
 
 use crate::checkpoints::Checkpoints;

@@ -1,13 +1,17 @@
 //! The motions of a session.
 
 ghost use Rattle.std.specs.Prelude.{◌≡◌, ℕ, ◌+◌, ◌==◌, ◌<◌, ◌≤◌, ◌^◌, false, min, if◌then◌else◌};
-ghost use Rattle.pac_board_course.specs.Sinks.{by};
+ghost use Rattle.pac_board_course.specs.SinksLaws.{by};
 ghost use Rattle.pac_board_course.specs.State as state;
 ghost use Rattle.pac_debug_session.specs.declared.motion.Motion.TheVariants.{ToEnd};
 ghost use Rattle.pac_debug_session.specs.Running.{is_late, blanks_at};
 ghost use Rattle.pac_debug_session.specs.Keeping.{kept_of, ring_after_index};
-ghost use Rattle.pac_debug_session.specs.Session.{SessionOffers, session_at_command, breaks_at};
-ghost use Rattle.pac_debug_session.specs.Motions.{has_met, Travels, MakesStep, PassesOn, FinishesRun, RestsBy, IsOutcome};
+ghost use Rattle.pac_debug_session.specs.SessionProofs.{SessionOffers};
+ghost use Rattle.pac_debug_session.specs.SessionLaws.{session_at_command};
+ghost use Rattle.pac_debug_session.specs.Session.{breaks_at};
+ghost use Rattle.pac_debug_session.specs.Motions.{has_met, RestsBy};
+ghost use Rattle.pac_debug_session.specs.MotionsProofs.{Travels, MakesStep, PassesOn, FinishesRun};
+ghost use Rattle.pac_debug_session.specs.MotionsLaws.{IsOutcome};
 ghost use Rattle.pac_debug_session.specs.Strides.{StepsOn};
 
 use crate::checkpoints::Checkpoints;

@@ -3,7 +3,8 @@ use Rattle.std.proofs.Common.{ap, inl, inr, true, get_or, length, ◌≡◌, ℕ
 use Rattle.std.specs.Char.{is_ascii_hexdigit}
 use Rattle.std.proofs.lemmas.Bool.{cond-false, cond-true, cases_Bool}
 use Rattle.pac_lex.specs.Numbers.{value_of_digit}
-use Rattle.pac_debug_text.specs.Numbers.{hex_digit_number, address_of}
+use Rattle.pac_debug_text.specs.NumbersProofs.{hex_digit_number}
+use Rattle.pac_debug_text.specs.Numbers.{address_of}
 
 -- a hexadecimal digit, by what it counts
 record IsDigit (c n : ℕ) : Type 0 where

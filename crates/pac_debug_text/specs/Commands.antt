@@ -1,5 +1,5 @@
--- To be believed: the commands of the debugger, and how a line tells one (this profile).
-use Rattle.std.specs.Prelude.{ℕ, ◌≤◌, ⊤, ◌==◌, List, [], ◌∷◌, codes, Option, Some, None, Result, Ok, Err, option_map, option_and_then}
+-- Believed: the commands of the debugger, and how a line tells one (this profile).
+use Rattle.std.specs.Prelude.{ℕ, ◌==◌, List, [], ◌∷◌, codes, Option, Some, None, Result, Ok, Err, option_map, option_and_then}
 use Rattle.std.specs.Prelude.{if◌then◌else◌}
 use Rattle.std.specs.Map.{lookup}
 use Rattle.std.specs.Str.{bytes_eq}
@@ -68,19 +68,6 @@ command_named verbs.Regs operands = without_words commands.Regs operands
 command_named verbs.Mem operands = option_map (λ found. commands.Mem found.0 found.1) (address_and_count operands)
 command_named verbs.Dis operands = option_map (λ found. commands.Dis found.0 found.1) (address_and_count operands)
 command_named verbs.History operands = option_map commands.History (single_word (number_within most_shown) operands)
-
--- the ranges of a command's numbers
-abbrev pub IsWithin : ℕ → ℕ → Type 0
-IsWithin most n = (1 ≤ n) × (n ≤ most)
-
-abbrev pub IsCommandInRange : Command → Type 0
-IsCommandInRange (commands.Step n) = IsWithin most_steps n
-IsCommandInRange (commands.Frames n) = IsWithin most_command_frames n
-IsCommandInRange (commands.Back n) = IsWithin most_steps n
-IsCommandInRange (commands.Mem at count) = IsWithin most_shown count
-IsCommandInRange (commands.Dis at count) = IsWithin most_shown count
-IsCommandInRange (commands.History n) = IsWithin most_shown n
-IsCommandInRange others = ⊤
 
 -- the command of a line's words; a line without words tells none and is no fault
 abbrev pub command_result : Option Command → Result Command NoCommand

@@ -1,8 +1,8 @@
--- To be believed: the numbers of a command line (this profile): decimal ones with a range, and addresses.
+-- Believed: the numbers of a command line (this profile): decimal ones with a range, and addresses.
 use Rattle.std.specs.Prelude.{ℕ, ◌&&◌, ◌==◌, List, length, Option, Some, None, nat_le, if◌then◌else◌}
 use Rattle.std.specs.List.{list_all}
 use Rattle.std.specs.Char.{is_ascii_digit, is_ascii_hexdigit}
-use Rattle.pac_lex.specs.Numbers.{value_of_digit, value_in_base}
+use Rattle.pac_lex.specs.Numbers.{value_in_base}
 use Rattle.pac_inputs.specs.Words.{value_of_decimal}
 
 -- a decimal number from 1 to the most, with leading zeros or without
@@ -10,10 +10,6 @@ abbrev pub number_within : ℕ → List ℕ → Option ℕ
 number_within most word =
     if list_all is_ascii_digit word && nat_le 1 (value_of_decimal word) && nat_le (value_of_decimal word) most
     then Some (value_of_decimal word) else None
-
--- what one hexadecimal digit counts, in either case
-abbrev pub hex_digit_number : ℕ → Option ℕ
-hex_digit_number c = if is_ascii_hexdigit c then Some (value_of_digit c) else None
 
 -- an address: four hexadecimal digits, in either case
 abbrev pub address_of : List ℕ → Option ℕ

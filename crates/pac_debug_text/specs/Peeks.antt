@@ -1,4 +1,4 @@
--- To be believed: memory as a debugger shows it (this profile): bytes in rows of sixteen, and instructions in lines. `byte` is
+-- Believed: memory as a debugger shows it (this profile): bytes in rows of sixteen, and instructions in lines. `byte` is
 -- the byte that the processor would read at an address; addresses wrap at 65,536.
 use Rattle.std.specs.Prelude.{ℕ, zero, suc, ◌+◌, ◌-◌, ◌/◌, min, List, [], ◌∷◌, ◌++◌, codes}
 use Rattle.std.specs.List.{flat_map}

@@ -1,4 +1,4 @@
--- To be believed: the four slots of a session (this profile).
+-- Believed: the four slots of a session (this profile).
 use Rattle.std.specs.Prelude.{ℕ}
 use Rattle.pac_debug_text.specs.declared.slot.Slot.{Slot}
 use Rattle.pac_debug_text.specs.declared.slot.Slot.TheVariants.{First, Second, Third, Fourth}

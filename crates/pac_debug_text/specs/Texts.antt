@@ -1,4 +1,4 @@
--- To be believed: the texts that answer a command (this profile). A text is the join of its pieces.
+-- Believed: the texts that answer a command (this profile). A text is the join of its pieces.
 use Rattle.std.specs.Prelude.{ℕ, Bool, true, false, List, [], ◌∷◌, codes, decimal}
 use Rattle.std.specs.List.{flat_map}
 use Rattle.pac_dis.specs.Hexadecimal.{hex_byte, hex_word}

@@ -4,6 +4,7 @@ ghost use Rattle.std.specs.Prelude.{◌≡◌, option_map, option_and_then, IfSo
 ghost use Rattle.pac_lex.specs.Words.{words_of_line};
 ghost use Rattle.pac_debug_text.specs.Numbers as number;
 ghost use Rattle.pac_debug_text.specs.Commands as spec;
+ghost use Rattle.pac_debug_text.specs.CommandsProofs as commands_proofs;
 
 use crate::numbers::{address_of, number_within};
 use crate::slot::Slot;
@@ -86,7 +87,7 @@ fn alone(line: &[u8], command: Command) -> Option<Command>
 /// A number from 1 to the most, as the only word of a line.
 fn only_number(line: &[u8], most: u32) -> Option<u32>
     ensures exact { result ≡ spec.single_word (number.number_within most) (words_of_line line.now) }
-    ensures within { IfSome result (spec.IsWithin most) }
+    ensures within { IfSome result (commands_proofs.IsWithin most) }
 {
     number_within(only_word(line)?, most)
 }
@@ -94,7 +95,7 @@ fn only_number(line: &[u8], most: u32) -> Option<u32>
 /// A number from 1 to 256, as the only word of a line.
 fn only_count(line: &[u8]) -> Option<u16>
     ensures exact { result ≡ spec.single_word (number.number_within spec.most_shown) (words_of_line line.now) }
-    ensures within { IfSome result (spec.IsWithin spec.most_shown) }
+    ensures within { IfSome result (commands_proofs.IsWithin spec.most_shown) }
 {
     Some(only_number(line, MOST_SHOWN)? as u16)
 }
@@ -121,7 +122,7 @@ fn only_slot(line: &[u8]) -> Option<Slot>
 /// An address and a count from 1 to 256, as the only words of a line.
 fn stretch(line: &[u8]) -> Option<(u16, u16)>
     ensures exact { result ≡ spec.address_and_count (words_of_line line.now) }
-    ensures within { IfSome result (λ found. spec.IsWithin spec.most_shown found.1) }
+    ensures within { IfSome result (λ found. commands_proofs.IsWithin spec.most_shown found.1) }
 {
     let (first, rest) = next_word(line)?;
     let at = address_of(first)?;
@@ -132,7 +133,7 @@ fn stretch(line: &[u8]) -> Option<(u16, u16)>
 /// The command of a verb and what follows its name.
 fn command_named(verb: Verb, line: &[u8]) -> Option<Command>
     ensures exact { result ≡ spec.command_named verb (words_of_line line.now) }
-    ensures ranges { IfSome result spec.IsCommandInRange }
+    ensures ranges { IfSome result commands_proofs.IsCommandInRange }
 {
     Some(match verb {
         Verb::Step => Command::Step(only_number(line, MOST_STEPS)?),
@@ -163,7 +164,7 @@ fn command_named(verb: Verb, line: &[u8]) -> Option<Command>
 #[tactic(auto, unfolding(crate::specs::Commands::command_of))]
 pub fn read_command(line: &[u8]) -> Option<Result<Command, NoCommand>>
     ensures exact { result ≡ spec.command_of line.now }
-    ensures ranges { IfSome result (λ answer. IfOk answer spec.IsCommandInRange) }
+    ensures ranges { IfSome result (λ answer. IfOk answer commands_proofs.IsCommandInRange) }
 {
     let (name, operands) = next_word(line)?;
     let Some(verb) = verb_of(name) else {

@@ -2,6 +2,7 @@
 
 ghost use Rattle.std.specs.Prelude.{◌≡◌, ◌<◌, ◌≤◌, IfSome};
 ghost use Rattle.pac_debug_text.specs.Numbers as number;
+ghost use Rattle.pac_debug_text.specs.NumbersProofs as numbers_proofs;
 
 /// The number from 1 to the most that a word of decimal digits says. The word may be of any length.
 pub(crate) fn number_within(word: &[u8], most: u32) -> Option<u32>
@@ -27,7 +28,7 @@ pub(crate) fn number_within(word: &[u8], most: u32) -> Option<u32>
 
 /// What a hexadecimal digit counts, in either case.
 fn hex_digit(byte: u8) -> Option<u8>
-    ensures value { result ≡ number.hex_digit_number byte }
+    ensures value { result ≡ numbers_proofs.hex_digit_number byte }
     ensures below { IfSome result (λ n. n < 16) }
 {
     match byte {

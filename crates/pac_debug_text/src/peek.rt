@@ -3,7 +3,7 @@
 ghost use Rattle.std.specs.Prelude.{◌≡◌, ◌≤◌, ◌-◌, ℕ, min};
 ghost use Rattle.std.specs.List.{flat_map};
 ghost use Rattle.pac_dis.specs.Numbers.{wrapped_address};
-ghost use Rattle.pac_out.specs.Counted.{Puts};
+ghost use Rattle.pac_out.specs.CountedProofs.{Puts};
 ghost use Rattle.pac_out.specs.Pending.{Gathers};
 ghost use Rattle.pac_debug_text.specs.Peeks as text;
 

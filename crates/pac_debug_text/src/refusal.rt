@@ -1,6 +1,6 @@
 //! The answers of commands that show nothing.
 
-ghost use Rattle.pac_out.specs.Counted.{Puts};
+ghost use Rattle.pac_out.specs.CountedProofs.{Puts};
 ghost use Rattle.pac_debug_text.specs.Texts as text;
 
 use itoa::Buffer;

@@ -3,7 +3,8 @@ use Rattle.std.proofs.Common.{◌≡◌, ◌∙◌, ◌≤◌, ℕ, List, length
 use Rattle.std.specs.Prelude.{slice_index}
 use Rattle.pac_code.specs.Codes.{Begins}
 use Rattle.pac_table.specs.Instructions.{Instruction, IsInstruction, code}
-use Rattle.pac_dis.specs.Texts.{Disassembles, data_text, instruction_text}
+use Rattle.pac_dis.specs.TextsProofs.{Disassembles}
+use Rattle.pac_dis.specs.Texts.{data_text, instruction_text}
 use Rattle.pac_dis.proofs.Fronts.{begins-within}
 
 -- an instruction, which is the only one

@@ -1,4 +1,4 @@
--- To be believed: what some bytes begin with: the instruction of the one row that matches within them, if there is one.
+-- Believed: what some bytes begin with: the instruction of the one row that matches within them, if there is one.
 use Rattle.std.specs.Prelude.{ℕ, nat_le, if◌then◌else◌, Option, Some, None, option_and_then, List, [], ◌∷◌, length, slice_index}
 use Rattle.pac_table.specs.Instructions.{Instruction, code, decoded_instruction}
 

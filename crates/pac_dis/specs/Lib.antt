@@ -1,6 +1,8 @@
 pub mod Numerals
 pub mod Front
 pub mod Texts
+pub mod TextsProofs
+pub mod TextsLaws
 pub mod Ranges
 pub mod Lines
 pub use Rattle.pac_num.specs.Hexadecimal

@@ -1,4 +1,4 @@
--- To be believed: the lines of a disassembly (this profile): the address of what stands there, its bytes and its text.
+-- Believed: the lines of a disassembly (this profile): the address of what stands there, its bytes and its text.
 use Rattle.std.specs.Prelude.{ℕ, zero, suc, ◌+◌, ◌-◌, List, [], ◌∷◌, ◌++◌, take, codes}
 use Rattle.pac_num.specs.Numbers.{wrapped_address}
 use Rattle.pac_num.specs.Hexadecimal.{hex_word}

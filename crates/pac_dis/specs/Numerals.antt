@@ -1,4 +1,4 @@
--- To be believed: the numbers in an instruction's text (this profile): upper-case hexadecimal digits, as many as the number
+-- Believed: the numbers in an instruction's text (this profile): upper-case hexadecimal digits, as many as the number
 -- has, and an H; a 0 before a leading letter, so that the word reads as a number and no name.
 use Rattle.std.specs.Prelude.{ℕ, ℤ, pos, negsuc, ◌+◌, ◌/◌, nat_lt, if◌then◌else◌, List, [], ◌∷◌, ◌++◌, codes}
 use Rattle.pac_num.specs.Hexadecimal.{hex_byte, hex_word}

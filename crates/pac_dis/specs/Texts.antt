@@ -1,7 +1,7 @@
--- To be believed: the text of an instruction (Zilog Z80 CPU User Manual UM0080 for the names; the form of the numbers is this
+-- Believed: the text of an instruction (Zilog Z80 CPU User Manual UM0080 for the names; the form of the numbers is this
 -- profile's): the name of the operation in capitals, a blank, and the operands with commas between them, as `LD (IX+05H),0FFH`.
 -- Names and what is written for an operand are those of the table, which sources are read by.
-use Rattle.std.specs.Prelude.{◌≡◌, ℕ, ◌+◌, ◌*◌, ◌<◌, ◌≤◌, Option, unwrap_or, List, [], ◌∷◌, ◌++◌, length, map, slice_index, codes}
+use Rattle.std.specs.Prelude.{ℕ, ◌+◌, ◌*◌, Option, unwrap_or, List, [], ◌∷◌, ◌++◌, length, map, slice_index, codes}
 use Rattle.std.specs.Option.{option_map_or}
 use Rattle.pac_table.specs.declared.operands.Shape.{Shape}
 use Rattle.pac_table_names.specs.declared.names.Name.{Name}
@@ -12,9 +12,8 @@ use Rattle.pac_table_names.specs.declared.writing.Writing.TheVariants.{Nothing, 
 use Rattle.pac_table_names.specs.declared.writing.Writing.TheVariants.{Indexed, Number, AtNumber}
 use Rattle.pac_table.specs.Mnemonics.{operation_name}
 use Rattle.pac_table_names.specs.Names.{text_of_name, name_at, writing_of, written_operands}
-use Rattle.pac_table.specs.Instructions.{Instruction, IsInstruction, operands_of, code}
+use Rattle.pac_table.specs.Instructions.{Instruction, operands_of, code}
 use Rattle.pac_num.specs.Numbers.{wrapped_address, displaced_address}
-use Rattle.pac_code.specs.Codes.{Begins}
 use Rattle.pac_dis.specs.Numerals.{byte_text, word_text, digit_text, displacement_text}
 use Rattle.pac_dis.specs.Front.{front_instruction}
 
@@ -88,24 +87,3 @@ text_at at bytes = option_map_or (instruction_text at) (front_instruction bytes)
 
 abbrev pub size_at : List ℕ → ℕ
 size_at bytes = option_map_or (λ instruction. length (code instruction)) (front_instruction bytes) 1
-
--- the text of what bytes begin with, told without a search: they begin with the code of an instruction, which is shown, or of none
-abbrev pub BeginsWith : Instruction → List ℕ → Type 0
-BeginsWith instruction bytes = IsInstruction instruction × Begins (code instruction) bytes
-
-pub record Disassembles (at : ℕ) (bytes text : List ℕ) (size : ℕ) : Type 0 where
-  pub found :
-      (instruction : Instruction) → BeginsWith instruction bytes →
-      (text ≡ instruction_text at instruction) × (size ≡ length (code instruction))
-  pub alone :
-      ((instruction : Instruction) → BeginsWith instruction bytes → ⊥) →
-      (text ≡ data_text (slice_index bytes 0)) × (size ≡ 1)
-
--- the most bytes that a text has, as `LD (IX+05H),0FFH` does
-abbrev pub longest_text : ℕ
-longest_text = 16
-
-abbrev pub TextsFit : Type 0
-TextsFit =
-    (at : ℕ) (instruction : Instruction) → IsInstruction instruction →
-    (0 < length (instruction_text at instruction)) × (length (instruction_text at instruction) ≤ longest_text)

@@ -3,9 +3,10 @@
 ghost use Rattle.std.specs.Prelude.{◌≡◌, ◌≤◌, ◌<◌, ◌+◌, ◌++◌, length};
 ghost use Rattle.arrayvec.specs.ArrayString.{array_string_len};
 ghost use Rattle.pac_table.specs.Instructions.{IsInstruction};
-ghost use Rattle.pac_table.specs.Patterns.{longest_code};
+ghost use Rattle.pac_table.specs.PatternsLaws.{longest_code};
 ghost use Rattle.pac_dis.specs.Texts as spec;
-ghost use Rattle.pac_dis.specs.Texts.{Disassembles, longest_text};
+ghost use Rattle.pac_dis.specs.TextsProofs.{Disassembles};
+ghost use Rattle.pac_dis.specs.TextsLaws.{longest_text};
 
 use crate::front::front;
 use crate::numerals::put_byte;

@@ -3,7 +3,7 @@
 ghost use Rattle.std.specs.Prelude.{◌≡◌, ◌≤◌, IfSome, Some, option_map, length, slice_index};
 ghost use Rattle.pac_table.specs.Instructions.{Instruction, IsInstruction, code};
 ghost use Rattle.pac_code.specs.Codes.{Begins};
-ghost use Rattle.pac_table.specs.Patterns.{longest_code};
+ghost use Rattle.pac_table.specs.PatternsLaws.{longest_code};
 ghost use Rattle.pac_dis.specs.Front.{front_instruction, first_four};
 
 use pac_code::decode;

@@ -1,7 +1,7 @@
 //! Instructions as text: what bytes begin with, as an assembler takes it (UM0080's mnemonics), and a line for each of them.
 #![tactic(auto)]
 
-ghost use Rattle.pac_dis.specs.Texts.{TextsFit};
+ghost use Rattle.pac_dis.specs.TextsLaws.{TextsFit};
 
 mod disassembly;
 mod front;

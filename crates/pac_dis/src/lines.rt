@@ -1,7 +1,7 @@
 //! The lines of a disassembly.
 
 ghost use Rattle.std.specs.Prelude.{◌≡◌, ◌<◌, ◌≤◌, length, IfOk};
-ghost use Rattle.pac_out.specs.Counted.{Puts};
+ghost use Rattle.pac_out.specs.CountedProofs.{Puts};
 ghost use Rattle.pac_out.specs.Pending.{Gathers};
 ghost use Rattle.pac_dis.specs.Texts.{size_at};
 ghost use Rattle.pac_dis.specs.Lines.{line_text, disassembly};

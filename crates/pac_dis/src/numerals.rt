@@ -3,7 +3,7 @@
 ghost use Rattle.std.specs.Prelude.{◌≡◌, ◌<◌, ◌≤◌, ◌+◌, ◌++◌, ◌∷◌, [], length};
 ghost use Rattle.pac_num.specs.Hexadecimal.{hex_byte, hex_word};
 ghost use Rattle.pac_dis.specs.Numerals as spec;
-ghost use Rattle.pac_dis.specs.Texts.{longest_text};
+ghost use Rattle.pac_dis.specs.TextsLaws.{longest_text};
 ghost use Rattle.arrayvec.specs.ArrayString.{array_string_len};
 
 use crate::text::{Text, put_character};

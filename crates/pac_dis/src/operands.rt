@@ -7,7 +7,7 @@ ghost use Rattle.pac_table.specs.Instructions.{IsInstruction};
 ghost use Rattle.pac_dis.specs.Numerals.{displacement_text};
 ghost use Rattle.pac_dis.specs.Texts as spec;
 ghost use Rattle.pac_dis.specs.Ranges.{IsShown, ShowsEach, ShowsNumbers};
-ghost use Rattle.pac_dis.specs.Texts.{longest_text};
+ghost use Rattle.pac_dis.specs.TextsLaws.{longest_text};
 
 use crate::numerals::{put_byte, put_digit, put_displacement, put_word};
 use crate::text::{Text, put_character};

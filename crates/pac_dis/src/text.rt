@@ -2,7 +2,7 @@
 
 ghost use Rattle.std.specs.Prelude.{◌≡◌, ◌<◌, ◌++◌, ◌∷◌, []};
 ghost use Rattle.arrayvec.specs.ArrayString.{array_string_len};
-ghost use Rattle.pac_dis.specs.Texts.{longest_text};
+ghost use Rattle.pac_dis.specs.TextsLaws.{longest_text};
 
 use arrayvec::ArrayString;
 

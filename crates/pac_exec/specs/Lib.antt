@@ -1,5 +1,6 @@
 pub mod Registers
 pub mod Transition
+pub mod TransitionProofs
 pub mod Places
 pub mod Pairs
 pub mod Control
@@ -14,6 +15,7 @@ pub mod Jumps
 pub mod Calls
 pub mod Ports
 pub mod Blocks
+pub mod BlocksProofs
 pub mod Effect
 pub use Rattle.pac_table.specs.declared.effects.InterruptMode
 pub use Rattle.pac_table.specs.declared.effects.InterruptMode.TheVariants as InterruptModeVariants

@@ -1,7 +1,7 @@
 //! Single bits of registers and cells (UM0080, "Bit Set, Reset, and Test Group").
 
 ghost use Rattle.pac_exec.specs.BitOperations.{bit_operation_effect};
-ghost use Rattle.pac_exec.specs.Transition.{DoesTransition, DoesInRegisters};
+ghost use Rattle.pac_exec.specs.TransitionProofs.{DoesTransition, DoesInRegisters};
 
 use crate::places::{get, put_byte};
 use crate::regs::Regs;

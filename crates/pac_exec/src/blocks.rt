@@ -4,8 +4,8 @@ ghost use Rattle.std.specs.Prelude.{◌≡◌, [], ◌∷◌};
 ghost use Rattle.pac_bus.specs.Action.{Write, Output};
 ghost use Rattle.pac_exec.specs.Registers.{hl};
 ghost use Rattle.pac_exec.specs.Blocks as blocks;
-ghost use Rattle.pac_exec.specs.Blocks.{DoesIteration};
-ghost use Rattle.pac_exec.specs.Transition.{DoesTransition};
+ghost use Rattle.pac_exec.specs.BlocksProofs.{DoesIteration};
+ghost use Rattle.pac_exec.specs.TransitionProofs.{DoesTransition};
 
 use crate::regs::{Regs, b_left};
 use pac_alu::decrement_word;

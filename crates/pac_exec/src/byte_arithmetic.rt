@@ -3,7 +3,8 @@
 ghost use Rattle.pac_table.specs.Instructions.{ticks_of};
 ghost use Rattle.pac_alu.specs.Arithmetic.{decimal_of, complement_of, negation_of, carry_set_of, carry_flipped_of};
 ghost use Rattle.pac_exec.specs.ByteArithmetic.{byte_arithmetic_effect, outcome_in_accumulator, outcome_in_place};
-ghost use Rattle.pac_exec.specs.Transition.{DoesTransition, DoesInRegisters, registers_alone};
+ghost use Rattle.pac_exec.specs.TransitionProofs.{DoesTransition, DoesInRegisters};
+ghost use Rattle.pac_exec.specs.Transition.{registers_alone};
 
 use crate::places::{get, put};
 use crate::regs::Regs;

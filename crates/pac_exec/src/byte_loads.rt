@@ -3,7 +3,8 @@
 ghost use Rattle.pac_table.specs.Instructions.{ticks_of};
 ghost use Rattle.pac_alu.specs.Transfer.{control_load_flags_of};
 ghost use Rattle.pac_exec.specs.ByteLoads.{byte_load_effect, special_value, with_special};
-ghost use Rattle.pac_exec.specs.Transition.{DoesTransition, DoesInRegisters, registers_alone};
+ghost use Rattle.pac_exec.specs.TransitionProofs.{DoesTransition, DoesInRegisters};
+ghost use Rattle.pac_exec.specs.Transition.{registers_alone};
 
 use crate::places::{get, put_byte};
 use crate::regs::Regs;

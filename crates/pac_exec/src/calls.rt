@@ -2,7 +2,7 @@
 
 ghost use Rattle.std.specs.Prelude.{◌*◌};
 ghost use Rattle.pac_exec.specs.Calls.{call_effect, call_to_address, return_transition};
-ghost use Rattle.pac_exec.specs.Transition.{DoesTransition, DoesInRegisters};
+ghost use Rattle.pac_exec.specs.TransitionProofs.{DoesTransition, DoesInRegisters};
 
 use crate::jumps::meets_condition;
 use crate::pairs::{pop_word, push_word};

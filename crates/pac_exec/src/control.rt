@@ -2,7 +2,8 @@
 
 ghost use Rattle.pac_table.specs.Instructions.{ticks_of};
 ghost use Rattle.pac_exec.specs.Control.{control_effect, controlled_regs};
-ghost use Rattle.pac_exec.specs.Transition.{DoesInRegisters, registers_alone};
+ghost use Rattle.pac_exec.specs.TransitionProofs.{DoesInRegisters};
+ghost use Rattle.pac_exec.specs.Transition.{registers_alone};
 
 use crate::regs::Regs;
 use pac_table::{Control, Instr, InterruptMode};

@@ -3,7 +3,8 @@
 ghost use Rattle.pac_table.specs.Instructions.{ticks_of};
 ghost use Rattle.pac_exec.specs.Registers.{with_other_af, with_other_bank};
 ghost use Rattle.pac_exec.specs.Exchanges.{exchange_effect};
-ghost use Rattle.pac_exec.specs.Transition.{DoesTransition, DoesInRegisters, registers_alone};
+ghost use Rattle.pac_exec.specs.TransitionProofs.{DoesTransition, DoesInRegisters};
+ghost use Rattle.pac_exec.specs.Transition.{registers_alone};
 
 use crate::pairs::{get_pair, read_word, set_pair};
 use crate::regs::Regs;

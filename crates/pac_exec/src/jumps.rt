@@ -3,7 +3,7 @@
 ghost use Rattle.std.specs.Prelude.{◌≡◌};
 ghost use Rattle.pac_alu.specs.Flags.{field_condition, is_met};
 ghost use Rattle.pac_exec.specs.Jumps.{jump_effect, jump_transition, jump_relative_transition};
-ghost use Rattle.pac_exec.specs.Transition.{DoesInRegisters};
+ghost use Rattle.pac_exec.specs.TransitionProofs.{DoesInRegisters};
 
 use crate::pairs::get_pair;
 use crate::regs::{Regs, b_left};

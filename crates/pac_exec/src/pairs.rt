@@ -1,7 +1,7 @@
 //! Registers and cells of 16 bits, and the stack.
 
 ghost use Rattle.std.specs.Prelude.{◌≡◌};
-ghost use Rattle.pac_bus.specs.Action.{bus_after_actions};
+ghost use Rattle.pac_bus.specs.ActionLaws.{bus_after_actions};
 ghost use Rattle.pac_exec.specs.Pairs as pairs;
 
 use crate::regs::Regs;

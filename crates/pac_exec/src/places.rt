@@ -1,9 +1,9 @@
 //! The places of 8 bits that instructions read and write.
 
 ghost use Rattle.std.specs.Prelude.{◌≡◌};
-ghost use Rattle.pac_bus.specs.Action.{bus_after_actions};
+ghost use Rattle.pac_bus.specs.ActionLaws.{bus_after_actions};
 ghost use Rattle.pac_exec.specs.Places.{place_address, place_byte, regs_with, writes_to, byte_put};
-ghost use Rattle.pac_exec.specs.Transition.{DoesTransition};
+ghost use Rattle.pac_exec.specs.TransitionProofs.{DoesTransition};
 
 use crate::regs::Regs;
 use pac_bus::Bus;

@@ -1,7 +1,7 @@
 //! Input and output (UM0080, "Input and Output Group"), without the block instructions.
 
 ghost use Rattle.pac_exec.specs.Ports.{port_effect};
-ghost use Rattle.pac_exec.specs.Transition.{DoesTransition, DoesInRegisters};
+ghost use Rattle.pac_exec.specs.TransitionProofs.{DoesTransition, DoesInRegisters};
 
 use crate::regs::Regs;
 use pac_bus::Bus;

@@ -4,7 +4,7 @@ ghost use Rattle.std.specs.Prelude.{◌≡◌};
 ghost use Rattle.pac_alu.specs.Rotate.{accumulator_rotation_of};
 ghost use Rattle.pac_exec.specs.ByteArithmetic.{outcome_in_accumulator};
 ghost use Rattle.pac_exec.specs.Shifts.{rotate_and_shift_effect, named_after, in_digits};
-ghost use Rattle.pac_exec.specs.Transition.{DoesTransition, DoesInRegisters};
+ghost use Rattle.pac_exec.specs.TransitionProofs.{DoesTransition, DoesInRegisters};
 
 use crate::byte_arithmetic::{put_in_accumulator, put_in_place};
 use crate::places::get;

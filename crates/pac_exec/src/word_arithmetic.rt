@@ -2,7 +2,7 @@
 
 ghost use Rattle.std.specs.Prelude.{◌≡◌};
 ghost use Rattle.pac_exec.specs.WordArithmetic.{word_arithmetic_effect, addend, outcome_in_pair};
-ghost use Rattle.pac_exec.specs.Transition.{DoesInRegisters};
+ghost use Rattle.pac_exec.specs.TransitionProofs.{DoesInRegisters};
 
 use crate::pairs::{get_pair, set_pair};
 use crate::regs::Regs;

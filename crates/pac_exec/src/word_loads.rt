@@ -3,7 +3,8 @@
 ghost use Rattle.pac_table.specs.Instructions.{ticks_of};
 ghost use Rattle.pac_exec.specs.Pairs.{pair_value, with_pair};
 ghost use Rattle.pac_exec.specs.WordLoads.{word_load_effect};
-ghost use Rattle.pac_exec.specs.Transition.{DoesTransition, DoesInRegisters, registers_alone};
+ghost use Rattle.pac_exec.specs.TransitionProofs.{DoesTransition, DoesInRegisters};
+ghost use Rattle.pac_exec.specs.Transition.{registers_alone};
 
 use crate::pairs::{
     get_pair, get_stack_pair, pop_word, push_word, read_word, set_pair, set_stack_pair,

@@ -8,12 +8,15 @@ use Rattle.pac_expr.specs.declared.expr.Operator.{Operator}
 use Rattle.pac_expr.specs.declared.expr.Operator.TheVariants.{Add, Subtract, Multiply, Divide}
 use Rattle.pac_expr.specs.Trees.{Tree, atom, group, signed, joined, Mark, closing, sign_mark, operator_mark, spelling, rank_of_operator}
 use Rattle.pac_expr.specs.Trees.{sum_rank}
-use Rattle.pac_expr.specs.Trees.{IsRanked, IsExpression, token_marks}
-use Rattle.pac_expr.specs.Values.{ValueResult, HasValue, tree_value}
+use Rattle.pac_expr.specs.Trees.{IsRanked}
+use Rattle.pac_expr.specs.TreesProofs.{IsExpression, token_marks}
+use Rattle.pac_expr.specs.Values.{ValueResult, tree_value}
+use Rattle.pac_expr.specs.ValuesProofs.{HasValue}
 use Rattle.pac_lex.specs.declared.token.Token.{Token}
-use Rattle.pac_expr.specs.Parsing.{Waiting, sign, left, parenthesis, settled_operand, needs, stands, state_after_operator, closed_group}
-use Rattle.pac_expr.specs.Parsing.{whole_tree, tree_onward, tree_of}
-use Rattle.pac_expr.specs.Parsing.{completed_tree, waiting_rank}
+use Rattle.pac_expr.specs.ParsingProofs.{Waiting, sign, left, parenthesis, settled_operand, needs, stands, state_after_operator}
+use Rattle.pac_expr.specs.ParsingProofs.{closed_group}
+use Rattle.pac_expr.specs.ParsingProofs.{whole_tree, tree_onward, tree_of}
+use Rattle.pac_expr.specs.ParsingProofs.{completed_tree, waiting_rank}
 use Rattle.pac_expr.specs.Reading.{highest_rank}
 use Rattle.pac_expr.proofs.Sound.{found}
 

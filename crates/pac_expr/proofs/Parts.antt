@@ -8,8 +8,9 @@ use Rattle.pac_expr.specs.declared.expr.Sign.TheVariants as signs
 use Rattle.pac_expr.specs.declared.expr.Operator.{Operator}
 use Rattle.pac_expr.specs.declared.expr.Operator.TheVariants.{Add, Subtract, Multiply, Divide}
 use Rattle.pac_expr.specs.Trees.{Atom, Tree, atom, group, signed, joined, Mark, single, opening, closing, plus, minus, star, slash, other}
-use Rattle.pac_expr.specs.Trees.{sign_mark, operator_mark, token_marks, rank_of_operator, sum_rank}
-use Rattle.pac_expr.specs.Parsing.{Waiting, sign, left, parenthesis, needs, stands, tree_onward, tree_of}
+use Rattle.pac_expr.specs.Trees.{sign_mark, operator_mark, rank_of_operator, sum_rank}
+use Rattle.pac_expr.specs.TreesProofs.{token_marks}
+use Rattle.pac_expr.specs.ParsingProofs.{Waiting, sign, left, parenthesis, needs, stands, tree_onward, tree_of}
 use Rattle.pac_expr.specs.Values.{ValueResult, atom_value, sign_value, joined_value, tree_value}
 use Rattle.pac_expr.specs.Reading.{highest_rank, BeginsWithTree, BeginsNoTree, EndsTree, atom_in}
 use Rattle.pac_expr.proofs.Complete.{settled-stays, sign-runs, operator-runs, some-rank}

@@ -5,9 +5,9 @@ use Rattle.std.proofs.Common.{sym, ap, ◌∙◌, arith}
 use Rattle.std.proofs.lemmas.Bool.{leb-true, ne_eqb}
 use Rattle.pac_expr.specs.declared.expr.Operator.TheVariants.{Add, Subtract, Multiply, Divide}
 use Rattle.pac_expr.specs.Trees.{Tree, Mark, single, closing, plus, minus, star, slash, product_rank, sum_rank}
-use Rattle.pac_expr.specs.Parsing.{Waiting, sign, left, parenthesis, completed_tree, waiting_rank, settled_operand, ParseState, needs}
-use Rattle.pac_expr.specs.Parsing.{stands}
-use Rattle.pac_expr.specs.Parsing.{closed_group, state_after_mark, whole_tree, finished_tree, tree_onward, tree_of}
+use Rattle.pac_expr.specs.ParsingProofs.{Waiting, sign, left, parenthesis, completed_tree, waiting_rank, settled_operand, ParseState, needs}
+use Rattle.pac_expr.specs.ParsingProofs.{stands}
+use Rattle.pac_expr.specs.ParsingProofs.{closed_group, state_after_mark, whole_tree, finished_tree, tree_onward, tree_of}
 use Rattle.pac_expr.specs.Shape.{ParseShape, open_parentheses, shape_of, continued_shape, next_shape, ends_expression}
 
 -- settling leaves the open parentheses

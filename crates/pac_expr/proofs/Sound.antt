@@ -7,10 +7,10 @@ use Rattle.pac_expr.specs.declared.expr.Operator.TheVariants.{Add, Subtract, Mul
 use Rattle.pac_expr.specs.Trees.{Tree, Mark, single, opening, closing, plus, minus, star, slash, sign_mark, operator_mark, spelling}
 use Rattle.pac_expr.specs.Trees.{rank_of_operator}
 use Rattle.pac_expr.specs.Trees.{sum_rank, IsRanked}
-use Rattle.pac_expr.specs.Parsing.{Waiting, sign, left, parenthesis, completed_tree, waiting_rank, settled_operand, ParseState, needs}
-use Rattle.pac_expr.specs.Parsing.{stands, state_after_operator}
+use Rattle.pac_expr.specs.ParsingProofs.{Waiting, sign, left, parenthesis, completed_tree, waiting_rank, settled_operand, ParseState, needs}
+use Rattle.pac_expr.specs.ParsingProofs.{stands, state_after_operator}
 use Rattle.pac_expr.specs.Reading.{highest_rank}
-use Rattle.pac_expr.specs.Parsing.{closed_group, state_after_mark, whole_tree, finished_tree, tree_onward, tree_of}
+use Rattle.pac_expr.specs.ParsingProofs.{closed_group, state_after_mark, whole_tree, finished_tree, tree_onward, tree_of}
 
 -- the tokens that it was read from
 abbrev own_marks : Waiting → List Mark

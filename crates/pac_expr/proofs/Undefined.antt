@@ -11,7 +11,7 @@ use Rattle.pac_expr.specs.declared.expr.Operator.TheVariants.{Add, Subtract, Mul
 use Rattle.pac_expr.specs.declared.evaluation.ValueError.TheVariants.{Undefined, OutOfRange, DivisionByZero}
 use Rattle.pac_expr.specs.Trees.{number, character, name, here, Tree, atom, group, signed, joined}
 use Rattle.pac_expr.specs.Values.{ValueResult, value_in_range, defined_value, operator_value, sign_value, joined_value, tree_value}
-use Rattle.pac_expr.specs.Values.{HasUndefined}
+use Rattle.pac_expr.specs.ValuesLaws.{HasUndefined}
 
 abbrev IsUndefined : ValueResult → Type 0
 IsUndefined answer = answer ≡ Err Undefined

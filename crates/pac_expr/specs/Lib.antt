@@ -1,6 +1,10 @@
 pub mod Trees
+pub mod TreesProofs
 pub mod Values
+pub mod ValuesProofs
+pub mod ValuesLaws
 pub mod Parsing
+pub mod ParsingProofs
 pub mod Codes
 pub mod Shape
 pub mod Reading

@@ -4,7 +4,7 @@ use Rattle.std.specs.Prelude.{◌≡◌, ◌≤◌, ◌<◌, ◌-◌, ℕ, ℤ, 
 use Rattle.pac_expr.specs.declared.expr.Operator.{Operator}
 use Rattle.pac_expr.specs.declared.expr.Operator.TheVariants.{Add, Subtract, Multiply, Divide}
 use Rattle.pac_expr.specs.Trees.{Atom, Tree, Mark, single, closing, plus, minus, star, slash, rank_of_operator, sum_rank}
-use Rattle.pac_expr.specs.Parsing.{Waiting, sign, left, parenthesis, needs, stands, tree_onward}
+use Rattle.pac_expr.specs.ParsingProofs.{Waiting, sign, left, parenthesis, needs, stands, tree_onward}
 use Rattle.pac_expr.specs.Values.{ValueResult, tree_value}
 
 -- the highest rank that the operand which is waited for may have

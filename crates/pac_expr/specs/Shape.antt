@@ -2,7 +2,7 @@
 -- parentheses are open.
 use Rattle.std.specs.Prelude.{ℕ, ◌+◌, ◌-◌, ◌==◌, ◌&&◌, Bool, true, false, List, [], ◌∷◌, Option, Some, None, if◌then◌else◌}
 use Rattle.pac_expr.specs.Trees.{Mark, single, opening, closing, plus, minus, star, slash}
-use Rattle.pac_expr.specs.Parsing.{Waiting, parenthesis, ParseState, needs, stands}
+use Rattle.pac_expr.specs.ParsingProofs.{Waiting, parenthesis, ParseState, needs, stands}
 
 abbrev pub open_parentheses : List Waiting → ℕ
 open_parentheses [] = 0

@@ -1,13 +1,10 @@
--- To be believed: expressions as trees, and the tokens that spell them: the assembler's notation of this profile, whose
+-- Believed: expressions as trees, and the tokens that spell them: the assembler's notation of this profile, whose
 -- operators bind as in arithmetic.
-use Rattle.std.specs.Prelude.{◌≡◌, ℕ, ◌-◌, ◌≤◌, List, [], ◌∷◌, ◌++◌, Option, Some, None, map}
+use Rattle.std.specs.Prelude.{ℕ, ◌-◌, ◌≤◌, List, [], ◌∷◌, ◌++◌, Option, Some, None, map}
 use Rattle.pac_lex.specs.declared.token.TokenKind.{TokenKind}
 use Rattle.pac_lex.specs.declared.token.TokenKind.TheVariants as kinds
-use Rattle.pac_lex.specs.declared.token.Token.{Token}
-use Rattle.pac_lex.specs.Texts.{one_character}
-use Rattle.pac_lex.specs.Tokens.{Lexeme, views}
-use Rattle.pac_expr.specs.declared.expr.Primary.{Primary}
-use Rattle.pac_expr.specs.declared.expr.Primary.TheVariants as operands
+use Rattle.pac_lex.specs.TextsProofs.{one_character}
+use Rattle.pac_lex.specs.Tokens.{Lexeme}
 use Rattle.pac_expr.specs.declared.expr.Sign.{Sign}
 use Rattle.pac_expr.specs.declared.expr.Sign.TheVariants as signs
 use Rattle.pac_expr.specs.declared.expr.Operator.{Operator}
@@ -26,12 +23,6 @@ pub data Tree : Type 0 where
   group : Tree → Tree
   signed : Sign → Tree → Tree
   joined : Operator → Tree → Tree → Tree
-
-abbrev pub atom_of : Primary → Atom
-atom_of (operands.Number n) = number n
-atom_of (operands.Character c) = character c
-atom_of (operands.Name text) = name text.now
-atom_of operands.Here = here
 
 -- what the tokens of an expression are to its grammar
 pub data Mark : Type 0 where
@@ -67,12 +58,6 @@ lexeme_mark lexeme = kind_mark lexeme.kind lexeme.text
 
 abbrev pub marks_of : List Lexeme → List Mark
 marks_of lexemes = map lexeme_mark lexemes
-
-abbrev pub token_mark : Token → Mark
-token_mark token = kind_mark token.kind token.text.now
-
-abbrev pub token_marks : List Token → List Mark
-token_marks tokens = marks_of (views tokens)
 
 abbrev pub sign_mark : Sign → Mark
 sign_mark signs.Plus = plus
@@ -113,7 +98,3 @@ IsRanked n (group t) = IsRanked sum_rank t
 IsRanked n (signed sign t) = IsRanked 0 t
 IsRanked n (joined operator left right) = (rank_of_operator operator ≤ n) × IsRanked (rank_of_operator operator) left
     × IsRanked (rank_of_operator operator - 1) right
-
--- an expression of the source: a tree with its parentheses where they are needed, and its tokens
-abbrev pub IsExpression : List Token → Tree → Type 0
-IsExpression tokens t = IsRanked sum_rank t × (token_marks tokens ≡ spelling t)

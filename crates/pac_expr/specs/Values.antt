@@ -1,5 +1,5 @@
--- To be believed: the value of an expression, in whole numbers of 32 bits, and why there is none: E1, E2 or E3 (this profile).
-use Rattle.std.specs.Prelude.{◌≡◌, ◌⊎◌, ℕ, ℤ, pos, negsuc, ◌+ℤ◌, ◌-ℤ◌, ◌*ℤ◌, neg_ℤ, int_le, int_div, ◌&&◌, List, Option, Some, None, Result}
+-- Believed: the value of an expression, in whole numbers of 32 bits, and why there is none: E1, E2 or E3 (this profile).
+use Rattle.std.specs.Prelude.{ℕ, ℤ, pos, negsuc, ◌+ℤ◌, ◌-ℤ◌, ◌*ℤ◌, neg_ℤ, int_le, int_div, ◌&&◌, List, Option, Some, None, Result}
 use Rattle.std.specs.Prelude.{Ok, Err, if◌then◌else◌}
 use Rattle.std.specs.Ordering.{int_eq}
 use Rattle.pac_expr.specs.declared.expr.Sign.{Sign}
@@ -8,8 +8,7 @@ use Rattle.pac_expr.specs.declared.expr.Operator.{Operator}
 use Rattle.pac_expr.specs.declared.expr.Operator.TheVariants.{Add, Subtract, Multiply, Divide}
 use Rattle.pac_expr.specs.declared.evaluation.ValueError.{ValueError}
 use Rattle.pac_expr.specs.declared.evaluation.ValueError.TheVariants.{Undefined, OutOfRange, DivisionByZero}
-use Rattle.pac_lex.specs.declared.token.Token.{Token}
-use Rattle.pac_expr.specs.Trees.{Atom, number, character, name, here, Tree, atom, group, signed, joined, IsExpression}
+use Rattle.pac_expr.specs.Trees.{Atom, number, character, name, here, Tree, atom, group, signed, joined}
 
 -- a number, or why there is none
 abbrev pub ValueResult : Type 0
@@ -63,19 +62,3 @@ tree_value names line (atom a) = atom_value names line a
 tree_value names line (group t) = tree_value names line t
 tree_value names line (signed sign t) = sign_value sign (tree_value names line t)
 tree_value names line (joined operator left right) = joined_value operator (tree_value names line left) (tree_value names line right)
-
--- a name of the tree isn't defined
-abbrev pub HasUndefined : (List ℕ → Option ℤ) → Tree → Type 0
-HasUndefined names (atom (number n)) = ⊥
-HasUndefined names (atom (character c)) = ⊥
-HasUndefined names (atom (name text)) = names text ≡ None
-HasUndefined names (atom here) = ⊥
-HasUndefined names (group t) = HasUndefined names t
-HasUndefined names (signed sign t) = HasUndefined names t
-HasUndefined names (joined operator left right) = HasUndefined names left ⊎ HasUndefined names right
-
--- the tokens of an expression have this value: they spell a tree of it
-pub record HasValue (names : List ℕ → Option ℤ) (line : ℕ) (tokens : List Token) (answer : ValueResult) : Type 0 where
-  pub tree : Tree
-  pub is_spelled : IsExpression tokens tree
-  pub is_value : tree_value names line tree ≡ answer

@@ -1,7 +1,7 @@
 //! The values of operands, and what signs and operators make of them.
 
 ghost use Rattle.std.specs.Prelude.{◌≡◌, ℕ, ℤ, List, Option, Some};
-ghost use Rattle.pac_expr.specs.Trees.{atom_of};
+ghost use Rattle.pac_expr.specs.TreesProofs.{atom_of};
 ghost use Rattle.pac_expr.specs.Values.{atom_value, sign_value, joined_value, operator_value, first_value_error};
 
 use crate::expr::{Operator, Primary, Sign};

@@ -1,10 +1,13 @@
 //! The value of an expression, straight from its tokens.
 
 ghost use Rattle.std.specs.Prelude.{◌≡◌, ◌↔◌, ◌<◌, ◌≤◌, ◌-◌, ◌∷◌, List, Some, Err, length, option_map, IfSome, MatchOption};
-ghost use Rattle.pac_lex.specs.Tokens.{views};
-ghost use Rattle.pac_expr.specs.Trees.{Mark, Tree, IsExpression, atom_of, closing, token_mark, token_marks, operator_mark, rank_of_operator};
+ghost use Rattle.pac_lex.specs.TokensProofs.{views};
+ghost use Rattle.pac_expr.specs.Trees.{Mark, Tree, closing, operator_mark, rank_of_operator};
+ghost use Rattle.pac_expr.specs.TreesProofs.{IsExpression, atom_of, token_mark, token_marks};
 ghost use Rattle.pac_expr.specs.Parsing.{tree_in};
-ghost use Rattle.pac_expr.specs.Values.{tree_value, HasUndefined, HasValue};
+ghost use Rattle.pac_expr.specs.Values.{tree_value};
+ghost use Rattle.pac_expr.specs.ValuesLaws.{HasUndefined};
+ghost use Rattle.pac_expr.specs.ValuesProofs.{HasValue};
 ghost use Rattle.pac_expr.specs.Reading.{BeginsWithTree, EndsTree, BeginsNoTree, atom_in, is_closing, operator_in};
 
 use crate::evaluation::{SymbolLookup, ValueError, joined, operand_value, signed};

@@ -1,8 +1,8 @@
 //! Whether tokens spell an expression.
 
 ghost use Rattle.std.specs.Prelude.{◌≡◌, ◌<◌, ◌^◌, is_some, Some, false};
-ghost use Rattle.pac_lex.specs.Tokens.{views};
-ghost use Rattle.pac_expr.specs.Trees.{token_marks, token_mark};
+ghost use Rattle.pac_lex.specs.TokensProofs.{views};
+ghost use Rattle.pac_expr.specs.TreesProofs.{token_marks, token_mark};
 ghost use Rattle.pac_expr.specs.Parsing.{tree_in};
 ghost use Rattle.pac_expr.specs.Shape.{begun_shape, continued_shape, next_shape, ends_expression};
 

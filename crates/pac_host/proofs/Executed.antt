@@ -2,7 +2,7 @@
 use Rattle.std.proofs.Common.{◌≡◌, ◌≤◌, ◌<◌, ◌+◌, ◌-◌, ◌^◌, min, ℕ, ℤ, List, ◌++◌, length, drop, Ok, Err, ap, subst, ◌∙◌}
 use Rattle.pac_board.specs.RomParts.{Parts}
 use Rattle.pac_board.specs.Calls.{course, outputs_given, board_after_run}
-use Rattle.pac_board.specs.Laws.{run_ticks}
+use Rattle.pac_board.specs.Calls.{run_ticks}
 use Rattle.pac_board.specs.Output.{sound_count, picture_count}
 use Rattle.pac_board.specs.State.{BoardState, BoardValue, most_asked}
 use Rattle.pac_state.specs.Block.{IsBlock}

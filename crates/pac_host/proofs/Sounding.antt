@@ -12,10 +12,12 @@ use Rattle.pac_board_model.specs.Output.{Output, Sound, Show, Image, image_of, s
 use Rattle.pac_board_model.specs.Step.{Moment, sample_ticks, frame_ticks}
 use Rattle.pac_board_model.specs.Trace.{by_view}
 use Rattle.pac_board_model.proofs.WalkTimes.{walks-are-timed}
-use Rattle.pac_board.specs.Calls.{Executes, course_at, outputs_given}
+use Rattle.pac_board.specs.CallsLaws.{Executes, course_at}
+use Rattle.pac_board.specs.Calls.{outputs_given}
 use Rattle.pac_board.specs.declared.fault.Fault.{Fault}
 use Rattle.pac_board.specs.declared.fault.Fault.TheVariants.{TooFar, Refused}
-use Rattle.pac_board.specs.Sinks.{by, TookAll, Cut}
+use Rattle.pac_board.specs.SinksLaws.{by, Cut}
+use Rattle.pac_board.specs.Sinks.{TookAll}
 use Rattle.pac_board.specs.State.{BoardValue, due_with, due_outputs, most_asked, time_of}
 use Rattle.pac_host.specs.Host.{samples_given, samples_due, most_samples}
 use Rattle.pac_host.specs.Sounding.{IsSameBuffer, sounding_took, sounding_refused}

@@ -3,7 +3,8 @@ use Rattle.std.proofs.Common.{◌≡◌, ◌≤◌, ◌<◌, ℕ, ℤ, ◌+◌, 
 use Rattle.std.proofs.Common.{List, [], ◌∷◌, ◌++◌, take, drop, Option, None, Some, refl, sym, ap, subst, ◌∙◌, arith}
 use Rattle.std.proofs.lemmas.Bool.Decides.{nat_tests}
 use Rattle.pac_board.specs.Calls.{course, outputs_given, board_after_run}
-use Rattle.pac_board.specs.Laws.{run_ticks, TimeCanBeCut}
+use Rattle.pac_board.specs.Calls.{run_ticks}
+use Rattle.pac_board.specs.Laws.{TimeCanBeCut}
 use Rattle.pac_board.specs.Output.{Output, Sound, Show, sound_count, picture_count}
 use Rattle.pac_board.specs.Step.{sample_ticks}
 use Rattle.pac_board.specs.State.{BoardState, BoardValue, time_of}

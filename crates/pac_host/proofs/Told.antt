@@ -4,7 +4,7 @@ use Rattle.std.proofs.lemmas.Nat.{from_le_bytes-to_le_bytes_4}
 use Rattle.pac_board.specs.Calls.{course, outputs_given}
 use Rattle.pac_board.specs.Cause.{Cause}
 use Rattle.pac_board.specs.CauseVariants.{Opcode, Vector}
-use Rattle.pac_board.specs.Laws.{run_ticks}
+use Rattle.pac_board.specs.Calls.{run_ticks}
 use Rattle.pac_board.specs.Output.{sound_count, picture_count}
 use Rattle.pac_board.specs.State.{time_of}
 use Rattle.pac_board.specs.Stop.{Stop}

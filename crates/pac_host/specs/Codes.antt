@@ -1,4 +1,4 @@
--- To be believed: the numbers that a host's calls answer, and how a run is told (this profile).
+-- Believed: the numbers that a host's calls answer, and how a run is told (this profile).
 use Rattle.std.specs.Prelude.{◌≡◌, ℕ, List, [], ◌∷◌, ◌++◌, Option, None, Some, Result, Ok, Err}
 use Rattle.std.specs.Int.{w16, w32, w64, to_le_bytes}
 use Rattle.pac_board.specs.Cause.{Cause}

@@ -1,9 +1,9 @@
--- To be believed: a host that plays frame by frame, what it hears and what it sees, and the laws of its film, each proved on a public
+-- Law: a host that plays frame by frame, what it hears and what it sees, and the laws of its film, each proved on a public
 -- function of the crate.
 use Rattle.std.specs.Prelude.{◌≡◌, ◌≤◌, ℕ, zero, suc, ℤ, ◌+◌, List, [], ◌∷◌, ◌++◌, map, take, length, slice_index, None}
 use Rattle.pac_board_model.specs.Trace.{Play, by_history, trace}
 use Rattle.pac_board.specs.BoardView.{power_on_board_view}
-use Rattle.pac_board.specs.ModelLaws.{frame_samples}
+use Rattle.pac_board.specs.Step.{frame_samples}
 use Rattle.pac_board.specs.Output.{Output, Image, Sound, Show}
 use Rattle.pac_board.specs.PlacedItems.{Item, AllLie}
 use Rattle.pac_board.specs.State.{frame_microseconds, most_asked, time_of}

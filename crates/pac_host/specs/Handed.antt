@@ -2,7 +2,8 @@
 use Rattle.std.specs.Prelude.{◌≡◌, ◌≢◌, ◌≤◌, ◌<◌, ◌+◌, ◌-◌, ◌^◌, List, ℕ, length, min, slice_index_or, EachIndex, [], Result, Ok, Err}
 use Rattle.pac_board.specs.BoardFields.{Fields}
 use Rattle.pac_board.specs.Fields.{state_of, AreBoardFields}
-use Rattle.pac_board.specs.State.{BoardState, BoardValue, most_asked, restored_board}
+use Rattle.pac_board.specs.State.{BoardState, BoardValue, most_asked}
+use Rattle.pac_board.specs.StateLaws.{restored_board}
 use Rattle.pac_state.specs.Block.{IsBlock}
 use Rattle.pac_state.specs.Reading.{state_in}
 use Rattle.pac_host.specs.declared.codes.HostFault.{HostFault}

@@ -1,4 +1,4 @@
--- To be believed: what a host's calls do. A host keeps its board's state as a block, hands it in with each call, and hands in its
+-- Believed: what a host's calls do. A host keeps its board's state as a block, hands it in with each call, and hands in its
 -- ROMs and its buffers where a call needs them; nothing else is kept.
 use Rattle.std.specs.Prelude.{◌≡◌, ◌≢◌, ◌<◌, ◌≤◌, ℕ, ℤ, ◌+◌, ◌-◌, ◌*◌, ◌/◌, ◌^◌, min, nat_lt, if◌then◌else◌, ◌⊎◌}
 use Rattle.std.specs.Prelude.{List, [], ◌∷◌, ◌++◌, length, drop, slice_index_or, Option, None, Some, Result, Ok, Err}
@@ -12,7 +12,7 @@ use Rattle.pac_board.specs.RomParts.{colour_prom_size, lookup_prom_size, wave_pr
 use Rattle.pac_board.specs.Step.{sample_ticks}
 use Rattle.pac_board.specs.Tiles.{width, height}
 use Rattle.pac_board.specs.Calls.{course, outputs_given, board_after_run}
-use Rattle.pac_board.specs.Laws.{run_ticks}
+use Rattle.pac_board.specs.Calls.{run_ticks}
 use Rattle.pac_board.specs.State.{BoardState, BoardValue, most_asked, time_of, power_on_board, board_with_inputs}
 use Rattle.pac_state.specs.declared.fault.LoadFault.TheVariants.{NoMemory}
 use Rattle.pac_state.specs.Block.{IsBlock, block_text}

@@ -1,4 +1,4 @@
--- To be believed: laws of a host's calls, each proved on a public function of the crate.
+-- Law: laws of a host's calls, each proved on a public function of the crate.
 use Rattle.std.specs.Prelude.{◌≡◌, ◌≤◌, ℕ, ℤ, ◌+◌, ◌*◌, ◌/◌, None, List, [], ◌∷◌, ◌++◌, take}
 use Rattle.pac_board.specs.Calls.{board_after_run}
 use Rattle.pac_board.specs.State.{BoardState, BoardValue, time_of, power_on_board, board_after_reset}

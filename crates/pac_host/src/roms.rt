@@ -1,7 +1,8 @@
 //! The ROMs that a host hands in.
 
 ghost use Rattle.std.specs.Prelude.{◌≡◌, ◌≤◌, ◌+◌, length};
-ghost use Rattle.pac_board.specs.RomParts.{IsWhole, parts_of};
+ghost use Rattle.pac_board.specs.RomParts.{IsWhole};
+ghost use Rattle.pac_board.specs.PartsProofs.{parts_of};
 ghost use Rattle.pac_host.specs.Handed.{HaveLength};
 ghost use Rattle.pac_host.specs.Host as host;
 ghost use Rattle.pac_state.specs.Reading.{bytes_at_place};

@@ -1,7 +1,7 @@
 //! The sink of a call for some time: a host's buffer.
 
 ghost use Rattle.pac_board.specs.Output.{Sound};
-ghost use Rattle.pac_board.specs.Sinks.{IsOffer, by};
+ghost use Rattle.pac_board.specs.SinksLaws.{IsOffer, by};
 ghost use Rattle.pac_host.specs.Sounding.{sounding_took, sounding_refused};
 
 use pac_board::{Picture, Refused, Sink};

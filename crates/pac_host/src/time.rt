@@ -3,7 +3,7 @@
 ghost use Rattle.std.specs.Prelude.{◌≡◌, ◌≤◌, ◌+◌, ◌++◌, drop};
 ghost use Rattle.pac_board.specs.Calls.{course, outputs_given, board_after_run};
 ghost use Rattle.pac_board.specs.Fields.{state_of, AreBoardFields};
-ghost use Rattle.pac_board.specs.Laws.{run_ticks};
+ghost use Rattle.pac_board.specs.Calls.{run_ticks};
 ghost use Rattle.pac_board.specs.Output.{sound_count, picture_count};
 ghost use Rattle.pac_board.specs.State.{most_asked};
 ghost use Rattle.pac_host.specs.Codes.{ran_of};

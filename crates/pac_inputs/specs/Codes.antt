@@ -1,11 +1,9 @@
--- To be believed: what is printed for a script's fault (this profile).
+-- Believed: what is printed for a script's fault (this profile).
 use Rattle.std.specs.Prelude.{ℕ, List, ◌++◌, codes}
 use Rattle.std.specs.Fmt.{decimal}
 use Rattle.pac_inputs.specs.declared.fault.ScriptCode.{ScriptCode}
 use Rattle.pac_inputs.specs.declared.fault.ScriptCode.TheVariants.{Names, Count, Length}
 use Rattle.pac_inputs.specs.declared.fault.ScriptFault.{ScriptFault}
-use Rattle.pac_inputs.specs.declared.fault.ScriptError.{ScriptError}
-use Rattle.pac_inputs.specs.declared.fault.ScriptError.TheVariants.{Memory, Fault}
 
 -- what is wrong, as a code
 abbrev pub script_code_text : ScriptCode → List ℕ
@@ -16,8 +14,3 @@ script_code_text Length = codes "I3"
 -- a fault: its code, and its line as a decimal number
 abbrev pub script_fault_text : ScriptFault → List ℕ
 script_fault_text fault = script_code_text fault.code ++ codes " line " ++ decimal fault.line
-
--- why there is no script
-abbrev pub script_error_text : ScriptError → List ℕ
-script_error_text Memory = codes "out of memory"
-script_error_text (Fault fault) = script_fault_text fault

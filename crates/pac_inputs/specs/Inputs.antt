@@ -1,4 +1,4 @@
--- To be believed: the inputs of the board: a word with a bit for each, which is set while it is held (Namco Pac-Man service
+-- Believed: the inputs of the board: a word with a bit for each, which is set while it is held (Namco Pac-Man service
 -- schematics, ports IN0 and IN1; their order in the word is this profile's).
 use Rattle.std.specs.Prelude.{ℕ, List, [], ◌∷◌, codes}
 use Rattle.pac_inputs.specs.declared.inputs.Inputs.{Inputs}

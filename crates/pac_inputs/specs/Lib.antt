@@ -1,7 +1,9 @@
 pub mod Codes
+pub mod CodesProofs
 pub mod Entries
 pub mod Inputs
 pub mod Ports
 pub mod Script
+pub mod ScriptProofs
 pub mod Stretches
 pub mod Words

@@ -1,4 +1,4 @@
--- To be believed: the bytes of the two input ports (Namco Pac-Man service schematics, ports IN0 and IN1), by the word that says
+-- Believed: the bytes of the two input ports (Namco Pac-Man service schematics, ports IN0 and IN1), by the word that says
 -- which inputs are held.
 use Rattle.std.specs.Prelude.{ℕ, ◌-◌}
 use Rattle.pac_num.specs.Numbers.{low_byte, high_byte}

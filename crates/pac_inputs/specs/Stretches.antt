@@ -1,4 +1,4 @@
--- To be believed: what a script says of each frame. Its lines follow one another, and frames count from 1.
+-- Believed: what a script says of each frame. Its lines follow one another, and frames count from 1.
 use Rattle.std.specs.Prelude.{ℕ, ◌+◌, ◌&&◌, List, [], ◌∷◌, nat_lt, nat_le, if◌then◌else◌}
 use Rattle.pac_inputs.specs.declared.line.Stretch.{Stretch}
 use Rattle.pac_inputs.specs.Inputs.{mask}

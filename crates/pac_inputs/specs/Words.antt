@@ -1,4 +1,4 @@
--- To be believed: what the words of a script's line say: a count of frames, and names of inputs (this profile).
+-- Believed: what the words of a script's line say: a count of frames, and names of inputs (this profile).
 use Rattle.std.specs.Prelude.{ℕ, Bool, ◌+◌, ◌-◌, ◌*◌, ◌&&◌, ◌==◌, false, List, [], ◌∷◌, fold}
 use Rattle.std.specs.Prelude.{Option, Some, None, nat_le, if◌then◌else◌, is_some, unwrap_or}
 use Rattle.std.specs.List.{list_all, slice_split}

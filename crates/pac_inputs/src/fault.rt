@@ -64,7 +64,7 @@ impl fmt::Display for ScriptFault {
 }
 
 impl fmt::Display for ScriptError {
-    ghost use Rattle.pac_inputs.specs.Codes.{script_error_text};
+    ghost use Rattle.pac_inputs.specs.CodesProofs.{script_error_text};
 
     ghost output = { λ error. Some (script_error_text error) };
 

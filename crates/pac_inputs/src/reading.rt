@@ -4,7 +4,8 @@ ghost use Rattle.std.specs.Prelude.{◌≡◌, ◌≤◌, [], ◌∷◌, ◌++�
 ghost use Rattle.pac_inputs.specs.declared.fault.ScriptError.TheVariants as errors;
 ghost use Rattle.pac_inputs.specs.declared.fault.ScriptFault.{ScriptFault};
 ghost use Rattle.pac_inputs.specs.declared.line.Stretch.{Stretch};
-ghost use Rattle.pac_inputs.specs.Script.{with_line, with_line_number, ScriptFails, ScriptGives, OnScriptFault, IsScript, HasScriptFault, script_of};
+ghost use Rattle.pac_inputs.specs.Script.{with_line, with_line_number, script_of};
+ghost use Rattle.pac_inputs.specs.ScriptProofs.{ScriptFails, ScriptGives, OnScriptFault, IsScript, HasScriptFault};
 
 use crate::fault::{ScriptCode, ScriptError, ScriptFault};
 use crate::line::{FRAME_LIMIT, meaning};

@@ -1,4 +1,4 @@
--- To be believed: what the board keeps beside its memories: the eight bits of the output latch, the interrupt vector, the
+-- Believed: what the board keeps beside its memories: the eight bits of the output latch, the interrupt vector, the
 -- interrupt request and the watchdog's count (Namco Pac-Man service schematics; that an output to port 0 sets the vector, the
 -- order at a blank, and that a count stays at its limit are this profile's).
 use Rattle.std.specs.Prelude.{ℕ, ◌+◌, ◌*◌, ◌%◌, ◌==◌, min, Bool, false, not, ◌&&◌, ◌||◌, if◌then◌else◌}

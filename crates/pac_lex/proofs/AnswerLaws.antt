@@ -4,7 +4,8 @@ use Rattle.std.specs.Global.{Vec}
 use Rattle.pac_lex.specs.declared.token.Token.{Token}
 use Rattle.pac_lex.specs.declared.fault.LexError.{LexError}
 use Rattle.pac_lex.specs.declared.fault.LexError.TheVariants as errors
-use Rattle.pac_lex.specs.Tokens.{views, IsRead, HasLexFault}
+use Rattle.pac_lex.specs.TokensProofs.{views}
+use Rattle.pac_lex.specs.Tokens.{IsRead, HasLexFault}
 use Rattle.pac_lex.specs.Scan.{LexingGives, OnLexFault, tokens_of}
 use Rattle.pac_lex.proofs.LineLaws.{tokens-read, fault-told}
 

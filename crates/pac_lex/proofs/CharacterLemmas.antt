@@ -4,7 +4,8 @@ use Rattle.std.proofs.Common.{inl, inr, append_assoc, get_or, ◌≤◌, ◌<◌
 use Rattle.std.proofs.lemmas.Bool.{cases_Bool, eqb-true}
 use Rattle.std.proofs.lemmas.List.{take_at, take_all, length-append, append-nil}
 use Rattle.pac_lex.specs.Bytes.{is_quote}
-use Rattle.pac_lex.specs.Texts.{quoted_character, quoted_text, after_character, unquoted_characters, characters_of}
+use Rattle.pac_lex.specs.Texts.{quoted_character, quoted_text}
+use Rattle.pac_lex.specs.TextsProofs.{after_character, unquoted_characters, characters_of}
 
 pub unquoted-cons : (b : ℕ) (bytes : List ℕ) → unquoted_characters (b ∷ bytes) ≡ b ∷ unquoted_characters (after_character b bytes)
 unfolding unquoted_characters

@@ -4,7 +4,8 @@ use Rattle.std.specs.Prelude.{if◌then◌else◌}
 use Rattle.std.proofs.lemmas.Bool.{cases_Bool, eqb-true}
 use Rattle.std.proofs.lemmas.Option.{same_Some, none-some}
 use Rattle.pac_lex.specs.Bytes.{is_quote}
-use Rattle.pac_lex.specs.Texts.{quoted_text, one_character}
+use Rattle.pac_lex.specs.Texts.{quoted_text}
+use Rattle.pac_lex.specs.TextsProofs.{one_character}
 use Rattle.pac_lex.specs.OneReading.{EachLineHasOneReading, TextsHaveTheirCharacters}
 use Rattle.pac_lex.proofs.CharacterLemmas.{characters-again}
 use Rattle.pac_lex.proofs.LineLaws.{tokens-read, read-again, fault-told, fault-found}

@@ -5,7 +5,8 @@ use Rattle.std.specs.List.{list_all}
 use Rattle.std.proofs.lemmas.Bool.{cases_Bool, eqb-true}
 use Rattle.std.proofs.lemmas.Option.{same_Some, none-some}
 use Rattle.pac_lex.specs.Bytes.{is_quote, is_printable}
-use Rattle.pac_lex.specs.Texts.{quoted_character, closing_length}
+use Rattle.pac_lex.specs.Texts.{quoted_character}
+use Rattle.pac_lex.specs.TextsProofs.{closing_length}
 use Rattle.pac_lex.specs.Tokens.{begins}
 use Rattle.pac_lex.proofs.ByteLemmas.{chosen}
 use Rattle.pac_lex.proofs.QuoteLemmas.{more, closing-other, closing-doubled, closing-single}

@@ -15,7 +15,8 @@ use Rattle.pac_lex.specs.declared.fault.LexFault.{LexFault}
 use Rattle.pac_lex.specs.declared.fault.LexFault.TheVariants.{NoToken, WrongNumber, OpenText, LongLine}
 use Rattle.pac_lex.specs.Bytes.{is_blank, is_comment_start, is_quote, is_name_start, is_name_byte, is_printable}
 use Rattle.pac_lex.specs.Numbers.{numeral}
-use Rattle.pac_lex.specs.Texts.{quoted_character, quoted_text, closing_length}
+use Rattle.pac_lex.specs.Texts.{quoted_character, quoted_text}
+use Rattle.pac_lex.specs.TextsProofs.{closing_length}
 use Rattle.pac_lex.specs.Tokens.{one_byte_kind, is_af, begins, begins_nothing, IsToken, IsTokenFault}
 use Rattle.pac_lex.specs.Scan.{name_token_at, number_token_at, text_token_at, quoted_token, one_byte_token, numeral_token, token_at}
 use Rattle.pac_lex.proofs.Prefixes.{prefix-of-all, begins-after, begins-take}

@@ -1,4 +1,4 @@
--- To be believed: the bytes of a line, by what they can begin or go on with. Codes are ASCII.
+-- Believed: the bytes of a line, by what they can begin or go on with. Codes are ASCII.
 use Rattle.std.specs.Prelude.{ℕ, Bool, List, drop, ◌||◌, ◌&&◌, ◌==◌, nat_le}
 use Rattle.std.specs.List.{prefix_len}
 use Rattle.std.specs.Char.{is_ascii_alphabetic, is_ascii_alphanumeric}

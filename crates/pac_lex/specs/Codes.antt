@@ -1,4 +1,4 @@
--- To be believed: the codes that are printed for a fault (this profile).
+-- Believed: the codes that are printed for a fault (this profile).
 use Rattle.std.specs.Prelude.{ℕ, List, codes}
 use Rattle.pac_lex.specs.declared.fault.LexFault.{LexFault}
 use Rattle.pac_lex.specs.declared.fault.LexFault.TheVariants.{NoToken, WrongNumber, OpenText, LongLine}

@@ -2,9 +2,12 @@ pub mod Bytes
 pub mod Lines
 pub mod Numbers
 pub mod Texts
+pub mod TextsProofs
 pub mod Words
+pub mod WordsProofs
 pub mod Codes
 pub mod Results
 pub mod Tokens
+pub mod TokensProofs
 pub mod Scan
 pub mod OneReading

@@ -1,4 +1,4 @@
--- To be believed: numbers of the source: digits, and a last letter for the base (this profile's source language).
+-- Believed: numbers of the source: digits, and a last letter for the base (this profile's source language).
 use Rattle.std.specs.Prelude.{ℕ, ◌+◌, ◌-◌, ◌*◌, ◌||◌, ◌&&◌, ◌==◌, List, length, take, slice_index, fold}
 use Rattle.std.specs.Prelude.{Option, Some, None, nat_lt, if◌then◌else◌}
 use Rattle.std.specs.List.{list_all}

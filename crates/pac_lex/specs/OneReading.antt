@@ -1,8 +1,9 @@
--- To be believed: the law that one answer is right for each line, and which: so a reader takes what is read from the relations of
+-- Believed: the law that one answer is right for each line, and which: so a reader takes what is read from the relations of
 -- Tokens.antt and from how a text is written, and needn't know how Scan.antt and Texts.antt find it.
 use Rattle.std.specs.Prelude.{◌≡◌, ◌↔◌, ℕ, List, [], ◌∷◌, Some, Result, Ok, Err}
 use Rattle.pac_lex.specs.declared.fault.LexFault.{LexFault}
-use Rattle.pac_lex.specs.Texts.{quoted_text, characters_of, one_character}
+use Rattle.pac_lex.specs.Texts.{quoted_text}
+use Rattle.pac_lex.specs.TextsProofs.{characters_of, one_character}
 use Rattle.pac_lex.specs.Tokens.{Lexeme, IsRead, HasLexFault}
 use Rattle.pac_lex.specs.Scan.{tokens_of}
 

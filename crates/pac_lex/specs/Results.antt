@@ -1,4 +1,4 @@
--- To be believed: one question after another, as Rust's `?` does it.
+-- Believed: one question after another, as Rust's `?` does it.
 use Rattle.std.specs.Prelude.{Result, Ok, Err}
 
 -- the first of two questions that is refused, or the answer to the second, which is put to the answer of the first

@@ -13,7 +13,7 @@ use Rattle.pac_lex.specs.declared.fault.LexError.TheVariants as errors
 use Rattle.pac_lex.specs.Bytes.{is_blank, is_comment_start, is_quote, is_name_start, is_name_byte, is_printable}
 use Rattle.pac_lex.specs.Numbers.{numeral}
 use Rattle.pac_lex.specs.Results.{◌>>=◌}
-use Rattle.pac_lex.specs.Texts.{closing_length}
+use Rattle.pac_lex.specs.TextsProofs.{closing_length}
 use Rattle.pac_lex.specs.Tokens.{Lexeme, one_byte_kind, is_af, begins, most_line_bytes}
 
 -- What a function returned, seen by view, is what reading gives, unless memory ran out.

@@ -1,13 +1,12 @@
--- To be believed: what a token is, and what a line of tokens is (this profile's source language).
+-- Believed: what a token is, and what a line of tokens is (this profile's source language).
 use Rattle.std.specs.Prelude.{◌≡◌, ◌<◌, ◌≤◌, length, ℕ, Bool, List, [], ◌∷◌, ◌++◌, ◌==◌, ◌||◌, ◌&&◌, not, false, IsTrue, IsFalse}
-use Rattle.std.specs.Prelude.{Option, Some, None, ◌⊎◌, map, is_some}
+use Rattle.std.specs.Prelude.{Option, Some, None, ◌⊎◌, is_some}
 use Rattle.std.specs.Map.{lookup}
 use Rattle.std.specs.List.{list_all}
 use Rattle.std.specs.Char.{is_ascii_digit, is_ascii_alphanumeric}
 use Rattle.pac_lex.specs.declared.token.TokenKind.{TokenKind}
 use Rattle.pac_lex.specs.declared.token.TokenKind.TheVariants.{Name, Number, Text, AlternateAf}
 use Rattle.pac_lex.specs.declared.token.TokenKind.TheVariants.{Dollar, Colon, Comma, Open, Close, Plus, Minus, Star, Slash}
-use Rattle.pac_lex.specs.declared.token.Token.{Token}
 use Rattle.pac_lex.specs.declared.fault.LexFault.{LexFault}
 use Rattle.pac_lex.specs.declared.fault.LexFault.TheVariants.{NoToken, WrongNumber, OpenText, LongLine}
 use Rattle.pac_lex.specs.Bytes.{is_blank, is_comment_start, is_quote, is_name_start, is_name_byte, is_printable}
@@ -18,12 +17,6 @@ use Rattle.pac_lex.specs.Texts.{quoted_text}
 pub record Lexeme : Type 0 where
   pub kind : TokenKind
   pub text : List ℕ
-
-abbrev pub view : Token → Lexeme
-view token = record { kind = token.kind; text = token.text.now }
-
-abbrev pub views : List Token → List Lexeme
-views tokens = map view tokens
 
 -- the tokens of one byte: `$`, `:`, `,`, `(`, `)`, `+`, `-`, `*` and `/`
 abbrev pub one_byte_kinds : List (ℕ × TokenKind)

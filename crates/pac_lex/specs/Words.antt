@@ -1,7 +1,7 @@
--- To be believed: the words of a line, as input scripts and debugger commands have them, and the word that a source line begins
+-- Believed: the words of a line, as input scripts and debugger commands have them, and the word that a source line begins
 -- with.
-use Rattle.std.specs.Prelude.{ℕ, Bool, false, true, not, ◌==◌, List, [], ◌∷◌, length, drop, Option, Some, None, if◌then◌else◌}
-use Rattle.std.specs.List.{slice_split, filter, take_while, prefix_len}
+use Rattle.std.specs.Prelude.{ℕ, Bool, false, true, List, [], ◌∷◌}
+use Rattle.std.specs.List.{slice_split, filter, take_while}
 use Rattle.pac_lex.specs.Bytes.{is_blank, is_name_byte, after_gap}
 
 abbrev pub is_nonempty_word : List ℕ → Bool
@@ -11,14 +11,6 @@ is_nonempty_word (b ∷ word) = true
 -- the words of a line: what stands between its blanks, where that isn't empty
 abbrev pub words_of_line : List ℕ → List (List ℕ)
 words_of_line line = filter is_nonempty_word (slice_split is_blank line)
-
--- bytes cut before their first blank
-abbrev pub cut_word : List ℕ → List ℕ × List ℕ
-cut_word bytes = (take_while (λ b. not (is_blank b)) bytes, drop (prefix_len (λ b. not (is_blank b)) bytes) bytes)
-
--- the first of the words of a line and what follows it, if there is one
-abbrev pub next_word : List ℕ → Option (List ℕ × List ℕ)
-next_word line = if length (after_gap line) == 0 then None else Some (cut_word (after_gap line))
 
 -- the first word of a source line: after its blanks, the longest run of letters, digits and `_`, which may be empty
 abbrev pub first_word : List ℕ → List ℕ

@@ -1,7 +1,9 @@
 //! Texts of the source, in single quotes.
 
 ghost use Rattle.std.specs.Prelude.{◌≡◌, ◌≤◌, ℕ, List, [], ◌∷◌, length, IfSome, IfOk, Some};
-ghost use Rattle.pac_lex.specs.Texts.{quoted_text, closing_length, unquoted_characters, after_character, inside_quotes, characters_of, one_character};
+ghost use Rattle.pac_lex.specs.Texts.{quoted_text};
+ghost use Rattle.pac_lex.specs.TextsProofs.{closing_length, unquoted_characters, after_character, inside_quotes, characters_of};
+ghost use Rattle.pac_lex.specs.TextsProofs.{one_character};
 
 use std::alloc::{AllocError, Global};
 

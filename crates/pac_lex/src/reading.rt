@@ -5,7 +5,8 @@ ghost use Rattle.std.specs.Prelude.{MatchResult, MatchOption, List, IfErr};
 ghost use Rattle.std.specs.List.{prefix_len, list_all};
 ghost use Rattle.std.specs.Char.{is_ascii_digit, is_ascii_alphanumeric};
 ghost use Rattle.pac_lex.specs.Bytes.{is_quote, is_name_start, is_printable};
-ghost use Rattle.pac_lex.specs.Tokens.{Lexeme, view, views, IsRead, HasLexFault, one_byte_kind, is_af, begins};
+ghost use Rattle.pac_lex.specs.Tokens.{Lexeme, IsRead, HasLexFault, one_byte_kind, is_af, begins};
+ghost use Rattle.pac_lex.specs.TokensProofs.{view, views};
 ghost use Rattle.pac_lex.specs.Scan.{LexingGives, OnLexFault, is_end, token_before, name_token_at, number_token_at, text_token_at, token_at, scan, tokens_of};
 
 use crate::bytes::{after_gap, is_name_start, is_printable, name_len};

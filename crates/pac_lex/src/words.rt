@@ -3,7 +3,8 @@
 ghost use Rattle.std.specs.Prelude.{◌≡◌, ◌<◌, ◌≤◌, [], ◌∷◌, length, slice_get, IfSome, IfNone, not, option_map};
 ghost use Rattle.std.specs.List.{prefix_len};
 ghost use Rattle.pac_lex.specs.Bytes.{is_blank, after_gap};
-ghost use Rattle.pac_lex.specs.Words.{words_of_line, next_word, first_word};
+ghost use Rattle.pac_lex.specs.Words.{words_of_line, first_word};
+ghost use Rattle.pac_lex.specs.WordsProofs.{next_word};
 
 use crate::bytes::{after_gap, is_blank, name_len};
 

@@ -1,4 +1,4 @@
--- To be believed: the listing of a program: each line of the source with its address and its bytes, and then the symbols (this
+-- Believed: the listing of a program: each line of the source with its address and its bytes, and then the symbols (this
 -- profile).
 use Rattle.std.specs.Prelude.{ℕ, zero, suc, ◌+◌, ◌-◌, ◌/◌, ◌%◌, ◌^◌, List, [], ◌∷◌, ◌++◌, length, drop, flat_map, codes}
 use Rattle.std.specs.Fmt.{signed_decimal}

@@ -1,4 +1,4 @@
--- To be believed: the number of a line as digits in ASCII (this profile).
+-- Believed: the number of a line as digits in ASCII (this profile).
 use Rattle.std.specs.Prelude.{ℕ, ◌+◌, ◌/◌, ◌%◌, List, [], ◌∷◌}
 
 -- the last five decimal digits of a line's number

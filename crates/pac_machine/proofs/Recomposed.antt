@@ -6,7 +6,8 @@ use Rattle.pac_cpu.proofs.Tabulated.{length-tabulate}
 use Rattle.pac_map.specs.Entry.{Line}
 use Rattle.pac_picture.specs.Picture.{picture_line}
 use Rattle.pac_board_model.specs.BoardView.{video_roms, video_memory}
-use Rattle.pac_machine.specs.Standing.{BoardStanding, recomposed_view}
+use Rattle.pac_machine.specs.StandingProofs.{BoardStanding}
+use Rattle.pac_machine.specs.Standing.{recomposed_view}
 use Rattle.pac_machine.specs.Events.{standing_after_entry}
 
 -- none yet, and one more

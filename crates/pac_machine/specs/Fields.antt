@@ -1,11 +1,12 @@
--- To be believed: a board by its fields, as a save file has them.
+-- Law: a board by its fields, as a save file has them.
 use Rattle.std.specs.Prelude.{◌*◌, ◌≤◌, ◌<◌}
 use Rattle.pac_map.specs.Latched.{watchdog_limit}
 use Rattle.pac_map.specs.Fields.{view_of_fields}
 use Rattle.pac_map.specs.View.{HoldWhatTheyCan}
 use Rattle.pac_cpu.specs.Instructions.{least_ticks}
 use Rattle.pac_picture.specs.State.{IsPicture}
-use Rattle.pac_wave.specs.Wave.{Fit20Bits, accumulators_of_list}
+use Rattle.pac_wave.specs.Wave.{Fit20Bits}
+use Rattle.pac_wave.specs.WaveLaws.{accumulators_of_list}
 use Rattle.pac_board_model.specs.BoardView.{BoardView}
 use Rattle.pac_board_model.specs.Step.{Moment}
 use Rattle.pac_machine.specs.declared.fields.Fields.{Fields}

@@ -1,6 +1,9 @@
 pub mod Standing
+pub mod StandingProofs
+pub mod StandingLaws
 pub mod Events
 pub mod Bursts
+pub mod BurstsProofs
 pub mod Trails
 pub mod Fields
 pub use Rattle.pac_wave.specs.Wave

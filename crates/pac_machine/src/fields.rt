@@ -2,7 +2,8 @@
 
 ghost use Rattle.std.specs.Prelude.{◌≡◌, ◌≤◌, ◌<◌, ◌↔◌, true, length};
 ghost use Rattle.pac_picture.specs.State.{IsPicture};
-ghost use Rattle.pac_wave.specs.Wave.{Fit20Bits, accumulators_of_list};
+ghost use Rattle.pac_wave.specs.Wave.{Fit20Bits};
+ghost use Rattle.pac_wave.specs.WaveLaws.{accumulators_of_list};
 ghost use Rattle.pac_machine.specs.Standing.{most_asked, passed_lines, recomposed_view};
 ghost use Rattle.pac_machine.specs.Fields.{moment_of, state_of, AreBoardFields};
 ghost use Rattle.pac_machine.specs.Events.{IsUndrawn};

@@ -1,7 +1,7 @@
 //! What is noted of a step that is told.
 
 ghost use Rattle.std.specs.Prelude.{◌≡◌};
-ghost use Rattle.pac_machine.specs.Bursts.{kind_found};
+ghost use Rattle.pac_machine.specs.BurstsProofs.{kind_found};
 ghost use Rattle.pac_machine.specs.Trails.{kind_noted, step_noted};
 
 use crate::trail::PastStep;

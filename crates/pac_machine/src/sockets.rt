@@ -1,7 +1,8 @@
 //! A machine that is made with its sockets empty, and the ROMs that are put into them: so none of its large parts is moved.
 
 ghost use Rattle.std.specs.Prelude.{◌≡◌};
-ghost use Rattle.pac_map.specs.RomParts.{IsWhole, parts_of, zero_parts};
+ghost use Rattle.pac_map.specs.RomParts.{IsWhole};
+ghost use Rattle.pac_map.specs.PartsProofs.{parts_of, zero_parts};
 ghost use Rattle.pac_board_model.specs.BoardView.{power_on_board_view};
 ghost use Rattle.pac_board_model.specs.Trace.{power_on_moment};
 

@@ -1,4 +1,4 @@
--- To be believed: what can happen to the board, one entry each, and what it leaves of the board's view.
+-- Believed: what can happen to the board, one entry each, and what it leaves of the board's view.
 use Rattle.std.specs.Prelude.{ℕ, ◌%◌, List, [], ◌∷◌, ◌==◌, if◌then◌else◌, slice_set}
 use Rattle.pac_bus.specs.Action.{Action, Write as Written, Output}
 use Rattle.pac_latch.specs.Latched.{latched_after_bit, latched_after_vector, latched_after_kick, latched_after_accept}

@@ -1,15 +1,8 @@
--- To be believed: the board's memory by its fields, as a save file has them.
-use Rattle.std.specs.Prelude.{◌≤◌}
+-- Law: the board's memory by its fields, as a save file has them.
 use Rattle.pac_inputs.specs.Inputs.{mask}
-use Rattle.pac_latch.specs.Latched.{watchdog_limit, latched_of}
+use Rattle.pac_latch.specs.Latched.{latched_of}
 use Rattle.pac_map.specs.declared.memory.fields.MemoryFields.{MemoryFields}
-use Rattle.pac_map.specs.View.{View, HoldWhatTheyCan}
-
--- fields that a board can have: the registers of the wave generator hold what they can, and the watchdog's count is at most
--- the one at which it resets the board
-pub record AreMemoryFields (fields : MemoryFields) : Type 0 where
-  pub registers : HoldWhatTheyCan fields.registers
-  pub count : fields.count ≤ watchdog_limit
+use Rattle.pac_map.specs.View.{View}
 
 -- the view that has these fields
 abbrev pub view_of_fields : MemoryFields → View

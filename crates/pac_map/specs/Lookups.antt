@@ -1,4 +1,4 @@
--- To be believed: what the places of the bus give, over what a read asks of the board, however that is kept (Namco Pac-Man
+-- Believed: what the places of the bus give, over what a read asks of the board, however that is kept (Namco Pac-Man
 -- service schematics; what this profile adds is named).
 use Rattle.std.specs.Prelude.{ℕ}
 use Rattle.pac_inputs.specs.Ports.{in0, in1}

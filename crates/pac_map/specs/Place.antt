@@ -1,8 +1,7 @@
--- To be believed: what the board's address decoder selects (Namco Pac-Man service schematics, CPU board). A15 isn't wired. A14
+-- Believed: what the board's address decoder selects (Namco Pac-Man service schematics, CPU board). A15 isn't wired. A14
 -- low is the program ROM. A14 high leaves out A13: A12 low is the RAM page, A12 high the port page, which leaves out A11 to A8
 -- too.
-use Rattle.std.specs.Prelude.{ℕ, ◌-◌, ◌%◌, ◌<◌, nat_lt, if◌then◌else◌}
-use Rattle.pac_roms.specs.Parts.{program_size}
+use Rattle.std.specs.Prelude.{ℕ, ◌-◌, ◌%◌, nat_lt, if◌then◌else◌}
 use Rattle.pac_map.specs.declared.bus_table.BusPlace.{BusPlace}
 use Rattle.pac_map.specs.declared.bus_table.BusPlace.TheVariants.{Program, Tile, Colour, Work, Nothing}
 use Rattle.pac_map.specs.declared.bus_table.BusPlace.TheVariants.{Inputs0, Inputs1, Switches, Kick, Latch, Wave, Coordinate}
@@ -17,9 +16,6 @@ coordinates_size = 16
 
 abbrev pub registers_size : ℕ
 registers_size = 32
-
-abbrev pub latch_size : ℕ
-latch_size = 8
 
 -- the RAM page, 4,096 bytes: 000-3FF, 400-7FF, 800-BFF, C00-FFF
 abbrev pub ram_place : ℕ → BusPlace
@@ -60,14 +56,3 @@ read_place address = place read_port address
 -- the place that a write to an address reaches
 abbrev pub write_place : ℕ → BusPlace
 write_place address = place write_port address
-
--- the cell, bit, register or byte lies in its place
-abbrev pub IsPlaceInRange : BusPlace → Type 0
-IsPlaceInRange (Program cell) = cell < program_size
-IsPlaceInRange (Tile cell) = cell < ram_size
-IsPlaceInRange (Colour cell) = cell < ram_size
-IsPlaceInRange (Work cell) = cell < ram_size
-IsPlaceInRange (Latch bit) = bit < latch_size
-IsPlaceInRange (Wave register) = register < registers_size
-IsPlaceInRange (Coordinate byte) = byte < coordinates_size
-IsPlaceInRange _ = Unit {0}

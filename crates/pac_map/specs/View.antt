@@ -1,4 +1,4 @@
--- To be believed: what the board keeps beside its ROMs, as plain data (Namco Pac-Man service schematics; what this profile adds
+-- Believed: what the board keeps beside its ROMs, as plain data (Namco Pac-Man service schematics; what this profile adds
 -- is named): the view. Whatever the board answers is a function of its ROMs, of its view, and of the wave generator's
 -- accumulators and the picture, which the crates above join.
 use Rattle.std.specs.Prelude.{ℕ, ◌%◌, ◌-◌, ◌≤◌, ◌≡◌, ◌==◌, Bool, ◌||◌, nat_le, if◌then◌else◌}

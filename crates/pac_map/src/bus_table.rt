@@ -2,6 +2,7 @@
 
 ghost use Rattle.std.specs.Prelude.{◌≡◌, ◌%◌, ◌<◌, IfSome, unwrap_or};
 ghost use Rattle.pac_map.specs.Place as spec;
+ghost use Rattle.pac_map.specs.PlaceProofs as place_proofs;
 
 /// A place on the bus (Namco Pac-Man service schematics). Numbers are cells, bits or registers of the place.
 #[derive(Clone, Copy, PartialEq, Debug)]
@@ -37,7 +38,7 @@ pub enum BusPlace {
 fn ram_place(offset: u16) -> BusPlace
     requires { offset < 0x1000 }
     ensures place { result ≡ spec.ram_place offset }
-    ensures in_range { spec.IsPlaceInRange result }
+    ensures in_range { place_proofs.IsPlaceInRange result }
 {
     if offset < 0x400 {
         BusPlace::Tile(offset)
@@ -54,7 +55,7 @@ fn ram_place(offset: u16) -> BusPlace
 #[inline(always)]
 fn read_port(offset: u8) -> BusPlace
     ensures place { result ≡ spec.read_port offset }
-    ensures in_range { spec.IsPlaceInRange result }
+    ensures in_range { place_proofs.IsPlaceInRange result }
 {
     if offset < 0x40 {
         BusPlace::Inputs0
@@ -71,7 +72,7 @@ fn read_port(offset: u8) -> BusPlace
 #[inline(always)]
 fn write_port(offset: u8) -> BusPlace
     ensures place { result ≡ spec.write_port offset }
-    ensures in_range { spec.IsPlaceInRange result }
+    ensures in_range { place_proofs.IsPlaceInRange result }
 {
     if offset < 0x40 {
         BusPlace::Latch(offset % 8)
@@ -91,7 +92,7 @@ fn write_port(offset: u8) -> BusPlace
 pub(crate) fn memory_place(address: u16) -> Option<BusPlace>
     ensures read { unwrap_or result (spec.read_port (address % 0x100)) ≡ spec.read_place address }
     ensures written { unwrap_or result (spec.write_port (address % 0x100)) ≡ spec.write_place address }
-    ensures in_range { IfSome result spec.IsPlaceInRange }
+    ensures in_range { IfSome result place_proofs.IsPlaceInRange }
 {
     if address % 0x8000 < 0x4000 {
         Some(BusPlace::Program(address % 0x8000))
@@ -106,7 +107,7 @@ pub(crate) fn memory_place(address: u16) -> Option<BusPlace>
 #[inline(always)]
 pub fn read_place(address: u16) -> BusPlace
     ensures place { result ≡ spec.read_place address }
-    ensures in_range { spec.IsPlaceInRange result }
+    ensures in_range { place_proofs.IsPlaceInRange result }
 {
     match memory_place(address) {
         Some(place) => place,
@@ -118,7 +119,7 @@ pub fn read_place(address: u16) -> BusPlace
 #[inline(always)]
 pub fn write_place(address: u16) -> BusPlace
     ensures place { result ≡ spec.write_place address }
-    ensures in_range { spec.IsPlaceInRange result }
+    ensures in_range { place_proofs.IsPlaceInRange result }
 {
     match memory_place(address) {
         Some(place) => place,

@@ -8,7 +8,7 @@ ghost use Rattle.pac_map.specs.Cleared.{zero_ram};
 ghost use Rattle.pac_map.specs.Contents.{lookups_of};
 ghost use Rattle.pac_map.specs.Entry.{Vector, Blank, Accept, Reset, Hold, view_after_write, view_after};
 ghost use Rattle.pac_map.specs.Lookups.{answer};
-ghost use Rattle.pac_map.specs.Place.{IsPlaceInRange};
+ghost use Rattle.pac_map.specs.PlaceProofs.{IsPlaceInRange};
 ghost use Rattle.pac_map.specs.View as spec;
 
 mod fields;

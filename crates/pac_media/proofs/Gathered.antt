@@ -5,7 +5,8 @@ use Rattle.std.proofs.lemmas.List.{flat_map_more, replicate_more, replicate-appe
 use Rattle.std.proofs.lemmas.Grind.{flat_map-append}
 use Rattle.pac_out.specs.declared.WriteFault.{WriteFault}
 use Rattle.pac_out.specs.declared.counted.Counted.{Counted}
-use Rattle.pac_out.specs.Counted.{HasTaken, HasStopped, Refuses, Stops}
+use Rattle.pac_out.specs.CountedLaws.{HasTaken, HasStopped, Refuses}
+use Rattle.pac_out.specs.CountedProofs.{Stops}
 use Rattle.pac_out.proofs.Files.{Joins, stops-after, stops-within}
 use Rattle.pac_out.specs.Writes.{StopsAfter}
 use Rattle.pac_media.specs.Samples.{sample_text, samples_text}

@@ -1,7 +1,6 @@
--- To be believed: the text of an image: binary PPM (Netpbm, "PPM Format Specification", P6).
-use Rattle.std.specs.Prelude.{ℕ, ◌+◌, ◌*◌, List, [], ◌++◌, slice_index_or, codes}
+-- Believed: the text of an image: binary PPM (Netpbm, "PPM Format Specification", P6).
+use Rattle.std.specs.Prelude.{ℕ, List, [], ◌++◌, slice_index_or, codes}
 use Rattle.std.specs.List.{flat_map}
-use Rattle.pac_tiles.specs.Tiles.{width, height}
 
 -- width, height and the greatest value of a colour
 abbrev pub header : List ℕ
@@ -14,7 +13,3 @@ palette_colour palette number = slice_index_or palette number []
 -- the image of 224 lines of 288 colour numbers each, from the left of the top line on
 unfoldable pub ppm_of : List (List ℕ) → List (List ℕ) → List ℕ
 ppm_of lines palette = header ++ flat_map (flat_map (palette_colour palette)) lines
-
--- the bytes of an image: the header, and three of each pixel
-abbrev pub image_size : ℕ
-image_size = 15 + 3 * (width * height)

@@ -1,4 +1,4 @@
--- To be believed: the text of a wave file: RIFF WAVE with PCM samples (IBM and Microsoft, "Multimedia Programming Interface and
+-- Believed: the text of a wave file: RIFF WAVE with PCM samples (IBM and Microsoft, "Multimedia Programming Interface and
 -- Data Specifications 1.0"), here on one channel, 96,000 of 16 bits a second. All numbers stand low byte first.
 use Rattle.std.specs.Prelude.{ℕ, ℤ, ◌+◌, ◌*◌, List, [], ◌∷◌, codes}
 use Rattle.std.specs.List.{flat_map}

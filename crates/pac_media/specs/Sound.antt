@@ -2,7 +2,7 @@
 use Rattle.std.specs.Prelude.{◌≡◌, ℕ, ◌≤◌, List, [], ◌++◌, length, Result, Ok, Err}
 use Rattle.pac_out.specs.declared.counted.Counted.{Counted}
 use Rattle.pac_out.specs.declared.WriteFault.{WriteFault}
-use Rattle.pac_out.specs.Counted.{HasTaken, HasStopped}
+use Rattle.pac_out.specs.CountedLaws.{HasTaken, HasStopped}
 
 -- the file, the bytes that wait for it, and how many of the samples that its header announces are still to come
 pub record Sound (W : Type 0) : Type 0 where

@@ -1,7 +1,8 @@
 //! The film of a run.
 
 ghost use Rattle.std.specs.Prelude.{◌≡◌, [], false, OnErr};
-ghost use Rattle.pac_out.specs.Counted.{HasTaken, Puts, Stops};
+ghost use Rattle.pac_out.specs.CountedLaws.{HasTaken};
+ghost use Rattle.pac_out.specs.CountedProofs.{Puts, Stops};
 ghost use Rattle.pac_media.specs.Images.{ppm_of};
 
 use crate::image::Image;

@@ -6,7 +6,8 @@ ghost use Rattle.std.specs.Int.{w64, to_le_bytes};
 ghost use Rattle.std.specs.List.{flat_map};
 ghost use Rattle.pac_tiles.specs.Tiles as tile;
 ghost use Rattle.pac_colour.specs.Colours.{numbers as colour_numbers};
-ghost use Rattle.pac_media.specs.Images.{image_size, palette_colour, ppm_of};
+ghost use Rattle.pac_media.specs.ImagesProofs.{image_size};
+ghost use Rattle.pac_media.specs.Images.{palette_colour, ppm_of};
 ghost use Rattle.pac_picture.specs.State.{IsPicture, black};
 ghost use Rattle.pac_media.specs.Drawn.{AreColours, IsImageOf, IsDrawnTo};
 
@@ -219,7 +220,7 @@ impl Drop for Image {
 impl Model for Image {
     ghost use Rattle.std.specs.Prelude.{ℕ, List, ◌≤◌, vec_capacity};
     ghost use Rattle.pac_picture.specs.State.{IsPicture};
-    ghost use Rattle.pac_media.specs.Images.{image_size};
+    ghost use Rattle.pac_media.specs.ImagesProofs.{image_size};
     ghost use Rattle.pac_media.specs.Drawn.{IsImageOf};
 
     ghost Value = { List ℕ };

@@ -1,4 +1,4 @@
--- To be believed: bytes as digits in the columns of a row, as the listing, the disassembler and the debugger print them (this profile).
+-- Believed: bytes as digits in the columns of a row, as the listing, the disassembler and the debugger print them (this profile).
 use Rattle.std.specs.Prelude.{ℕ, ◌-◌, List, ◌++◌, length, replicate, take, flat_map}
 use Rattle.pac_num.specs.Hexadecimal.{hex_byte}
 

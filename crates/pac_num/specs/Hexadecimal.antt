@@ -1,4 +1,4 @@
--- To be believed: upper-case hexadecimal digits, as listings, reports and the debugger print them; codes are ASCII.
+-- Believed: upper-case hexadecimal digits, as listings, reports and the debugger print them; codes are ASCII.
 use Rattle.std.specs.Prelude.{ℕ, ◌+◌, ◌/◌, ◌%◌, List, [], ◌∷◌, nat_lt, if◌then◌else◌}
 
 -- the digit of a number below 16

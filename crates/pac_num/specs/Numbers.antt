@@ -1,4 +1,4 @@
--- To be believed: bits, bytes and words as whole numbers. Words are stored low byte first (UM0080, "Z80 CPU Register
+-- Believed: bits, bytes and words as whole numbers. Words are stored low byte first (UM0080, "Z80 CPU Register
 -- Configuration"); signed bytes are two's complement.
 use Rattle.std.specs.Prelude.{ℕ, ℤ, pos, negsuc, Bool, ◌+◌, ◌-◌, ◌*◌, ◌/◌, ◌%◌, ◌^◌, ◌==◌, nat_lt, if◌then◌else◌, count_ones}
 

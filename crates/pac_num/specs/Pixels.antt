@@ -1,4 +1,4 @@
--- To be believed: four pixels in a byte of the tile and the sprite ROM (Namco Pac-Man service schematics; the order of the bits
+-- Believed: four pixels in a byte of the tile and the sprite ROM (Namco Pac-Man service schematics; the order of the bits
 -- is this profile's).
 use Rattle.std.specs.Prelude.{ℕ, ◌+◌, ◌-◌, ◌*◌, ◌%◌}
 use Rattle.pac_num.specs.Numbers.{bit}

@@ -1,4 +1,4 @@
--- To be believed: a list by its places.
+-- Believed: a list by its places.
 use Rattle.std.specs.Prelude.{ℕ, zero, suc, List, [], ◌∷◌, ◌++◌}
 
 -- the values of a function at 0, 1 and so on, this many

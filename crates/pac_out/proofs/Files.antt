@@ -5,9 +5,11 @@ use Rattle.std.proofs.Math.Seq.{take-append-add}
 use Rattle.std.proofs.lemmas.List.{take-append-le}
 use Rattle.pac_out.specs.declared.counted.Counted.{Counted}
 use Rattle.pac_out.specs.declared.WriteFault.{WriteFault}
-use Rattle.pac_out.specs.Counted.{HasTaken, HasStopped, Takes, HasPut, Refuses, Puts}
+use Rattle.pac_out.specs.CountedLaws.{HasTaken, HasStopped, Takes, HasPut, Refuses}
+use Rattle.pac_out.specs.CountedProofs.{Puts}
 use Rattle.std.specs.Borrow.{MutBor}
-use Rattle.pac_out.specs.Writes.{StopsAfter, lent_took, lent_refused}
+use Rattle.pac_out.specs.Writes.{StopsAfter}
+use Rattle.pac_out.specs.WritesProofs.{lent_took, lent_refused}
 
 -- taking some bytes and then others is taking all of them
 abbrev pub Joins : {W : Type 0} → (W → List ℕ → W → Type 0) → Type 0

@@ -2,7 +2,8 @@
 use Rattle.std.proofs.Common.{◌≡◌, ℕ, List, [], ◌++◌, sym, ap, subst, ◌∙◌, append_assoc, append-nil, refl, Result, Ok, Err}
 use Rattle.pac_out.specs.declared.counted.Counted.{Counted}
 use Rattle.pac_out.specs.declared.WriteFault.{WriteFault}
-use Rattle.pac_out.specs.Counted.{Takes, HasPut, Refuses, Puts}
+use Rattle.pac_out.specs.CountedLaws.{Takes, HasPut, Refuses}
+use Rattle.pac_out.specs.CountedProofs.{Puts}
 use Rattle.pac_out.specs.Pending.{Holds, Gathers}
 use Rattle.pac_out.proofs.Files.{takes-nothing, takes-joined, put-after, refuses-after, refuses-within}
 

@@ -1,4 +1,4 @@
--- To be believed: a writer for tests, over memory: it takes at most `most` bytes a call, and refuses one call.
+-- For proofs: a writer for tests, over memory: it takes at most `most` bytes a call, and refuses one call.
 use Rattle.std.specs.Prelude.{◌≡◌, ℕ, ◌-◌, ◌<◌, ◌≤◌, List, ◌⊎◌}
 use Rattle.pac_out.specs.Memory.{Space, Adds}
 

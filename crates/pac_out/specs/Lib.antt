@@ -1,7 +1,10 @@
 pub mod Counted
+pub mod CountedProofs
+pub mod CountedLaws
 pub mod Faulty
 pub mod Laws
 pub mod Memory
 pub mod Pending
 pub mod Pieces
 pub mod Writes
+pub mod WritesProofs

@@ -1,4 +1,4 @@
--- To be believed: a writer over memory: the bytes that it took, and the room that is left for more.
+-- For proofs: a writer over memory: the bytes that it took, and the room that is left for more.
 use Rattle.std.specs.Prelude.{◌≡◌, ℕ, ◌+◌, List, ◌++◌, length}
 
 pub record Space : Type 0 where

@@ -2,7 +2,7 @@
 use Rattle.std.specs.Prelude.{◌≡◌, ℕ, List, ◌++◌, Result, Ok, Err}
 use Rattle.pac_out.specs.declared.counted.Counted.{Counted}
 use Rattle.pac_out.specs.declared.WriteFault.{WriteFault}
-use Rattle.pac_out.specs.Counted.{Takes, Refuses}
+use Rattle.pac_out.specs.CountedLaws.{Takes, Refuses}
 
 -- Of this text the file took a prefix, and the rest waits.
 pub record Holds {W : Type 0} (took : W → List ℕ → W → Type 0) (old : Counted W) (text waiting : List ℕ) (new : Counted W) : Type 0 where

@@ -1,4 +1,4 @@
--- To be believed: a text in pieces.
+-- Believed: a text in pieces.
 use Rattle.std.specs.Prelude.{ℕ, List, flat_map}
 
 -- a text is the join of its pieces

@@ -1,7 +1,6 @@
--- To be believed: what a writer took. A writer says by two relations between its value before and after what taking some bytes
+-- Believed: what a writer took. A writer says by two relations between its value before and after what taking some bytes
 -- leaves of it, `took`, and what a refusal leaves of it, `refused`.
 use Rattle.std.specs.Prelude.{◌≡◌, ⊤, ℕ, ◌<◌, ◌≤◌, List, length, take, Option, Some, None, Result, Ok, Err}
-use Rattle.std.specs.Borrow.{MutBor}
 
 -- One write of these bytes, by its answer: the writer took a prefix of them, and taking none of some is a refusal;
 -- or it refused.
@@ -21,14 +20,6 @@ pub record StopsAfter {W : Type 0} (took : W → List ℕ → W → Type 0) (ref
   pub asked : W
   pub before : took old (take count bytes) asked
   pub refusal : refused asked new
-
--- What a writer that is lent took, or its refusal. The reference stays the same one, so what the last write leaves is what
--- the writer's owner has when the loan ends.
-abbrev pub lent_took : {W : Type 0} → (W → List ℕ → W → Type 0) → MutBor W → List ℕ → MutBor W → Type 0
-lent_took took old bytes new = (new.ghost_name ≡ old.ghost_name) × took old.now bytes new.now
-
-abbrev pub lent_refused : {W : Type 0} → (W → W → Type 0) → MutBor W → MutBor W → Type 0
-lent_refused refused old new = (new.ghost_name ≡ old.ghost_name) × refused old.now new.now
 
 -- What a writer that may not be there took, or its refusal: where there is none, all bytes are taken, and none are kept.
 abbrev pub took_if_there : {W : Type 0} → (W → List ℕ → W → Type 0) → Option W → List ℕ → Option W → Type 0

@@ -17,7 +17,9 @@ pub struct Counted<W> {
 }
 
 impl<W: Out> Counted<W> {
-    ghost use Rattle.pac_out.specs.Counted.{HasTaken, Puts, Stops, file_count};
+    ghost use Rattle.pac_out.specs.CountedLaws.{HasTaken};
+    ghost use Rattle.pac_out.specs.CountedProofs.{Puts, Stops};
+    ghost use Rattle.pac_out.specs.Counted.{file_count};
 
     /// A file of no bytes yet.
     pub fn new(writer: W) -> Counted<W>

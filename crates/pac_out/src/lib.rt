@@ -3,7 +3,8 @@
 #![tactic(auto)]
 
 ghost use Rattle.std.specs.Prelude.{◌≡◌, ℕ, List, [], ◌++◌, IfErr, OnOk};
-ghost use Rattle.pac_out.specs.Writes.{IsWrite, StopsAfter, lent_took, lent_refused, took_if_there, refused_if_there};
+ghost use Rattle.pac_out.specs.Writes.{IsWrite, StopsAfter, took_if_there, refused_if_there};
+ghost use Rattle.pac_out.specs.WritesProofs.{lent_took, lent_refused};
 
 pub mod counted;
 pub mod faulty;

@@ -2,7 +2,7 @@
 
 ghost use Rattle.std.specs.Prelude.{◌≡◌, ◌≤◌, [], ◌++◌, length, OnOk, MatchBool};
 ghost use Rattle.std.specs.List.{flat_map};
-ghost use Rattle.pac_out.specs.Counted.{Puts};
+ghost use Rattle.pac_out.specs.CountedProofs.{Puts};
 ghost use Rattle.pac_out.specs.Pending.{Gathers};
 
 use crate::counted::Counted;

@@ -11,8 +11,9 @@ use Rattle.pac_num.proofs.Tabulated.{tabulate-same}
 use Rattle.pac_sprites.specs.Sprites.{is_in_box}
 use Rattle.pac_picture.specs.declared.shadow.Shadow.{Shadow}
 use Rattle.pac_picture.specs.Picture.{VideoRoms, VideoMemory, sprite_at, sprite_dot, tile_dot, dot, picture_line}
-use Rattle.pac_picture.specs.Layer.{drawn_from, kept_dot, made_stale, shadow_at, shadow_from, differing_in, differing_cells, cell_differs}
-use Rattle.pac_picture.specs.State.{source_of}
+use Rattle.pac_picture.specs.Layer.{drawn_from, shadow_at, shadow_from, differing_in, differing_cells, cell_differs}
+use Rattle.pac_picture.specs.LayerProofs.{kept_dot, made_stale}
+use Rattle.pac_picture.specs.StateLaws.{source_of}
 use Rattle.pac_picture.specs.BareLines.{unflipped_line, row_line, AreBare}
 use Rattle.pac_picture.proofs.Painted.{none-painted}
 use Rattle.pac_picture.proofs.Dots.{dot-off}

@@ -13,10 +13,13 @@ use Rattle.pac_num.proofs.Tabulated.{length-tabulate, get_or-tabulate, tabulate-
 use Rattle.pac_sprites.specs.declared.Sprite.{Sprite}
 use Rattle.pac_sprites.specs.Sprites.{covers_of}
 use Rattle.pac_picture.specs.Picture.{VideoRoms, VideoMemory, is_opaque, tile_number, sprite_number}
-use Rattle.pac_picture.specs.Picture.{tile_dot, sprite_at, sprite_dot, dot, picture_line, picture_of}
-use Rattle.pac_picture.specs.Layer.{drawn_from, kept_dot}
+use Rattle.pac_picture.specs.Picture.{tile_dot, sprite_at, sprite_dot, dot, picture_line}
+use Rattle.pac_picture.specs.PictureLaws.{picture_of}
+use Rattle.pac_picture.specs.Layer.{drawn_from}
+use Rattle.pac_picture.specs.LayerProofs.{kept_dot}
 use Rattle.pac_picture.specs.Painting.{painted_number}
-use Rattle.pac_picture.specs.State.{IsPicture, black, source_of}
+use Rattle.pac_picture.specs.State.{IsPicture, black}
+use Rattle.pac_picture.specs.StateLaws.{source_of}
 use Rattle.pac_picture.proofs.Painted.{painted, painted-first}
 use Rattle.pac_picture.proofs.Layers.{dot-drawn}
 

@@ -12,8 +12,9 @@ use Rattle.pac_num.proofs.Tabulated.{length-tabulate, get_or-tabulate, tabulate-
 use Rattle.pac_picture.specs.declared.layer.Strip.{Strip}
 use Rattle.pac_picture.specs.declared.shadow.Shadow.{Shadow}
 use Rattle.pac_picture.specs.Picture.{VideoRoms, VideoMemory, tile_number, tile_dot}
-use Rattle.pac_picture.specs.Layer.{shadow_from, shadow_at, drawn_from, cells_of, differing_in, tile_pattern}
-use Rattle.pac_picture.specs.Layer.{kept_dot, made_stale, stale_rows, stale_row, IsDrawn, IsLayer, LayerState}
+use Rattle.pac_picture.specs.Layer.{shadow_from, shadow_at, drawn_from, cells_of, differing_in}
+use Rattle.pac_picture.specs.LayerProofs.{tile_pattern}
+use Rattle.pac_picture.specs.LayerProofs.{kept_dot, made_stale, stale_rows, stale_row, IsDrawn, IsLayer, LayerState}
 use Rattle.pac_picture.specs.Painting.{cell_dot}
 
 -- one row more that is stale

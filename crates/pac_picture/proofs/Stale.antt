@@ -8,9 +8,11 @@ use Rattle.pac_num.specs.Tabulate.{tabulate}
 use Rattle.pac_picture.specs.declared.layer.Strip.{Strip}
 use Rattle.pac_picture.specs.declared.shadow.Shadow.{Shadow}
 use Rattle.pac_picture.specs.Picture.{VideoMemory, VideoRoms}
-use Rattle.pac_picture.specs.Layer.{AreStale, cells_of, cell_differs, differing_cells, differing_in, all_differing, drawn_from, made_stale}
+use Rattle.pac_picture.specs.Layer.{AreStale, cells_of, cell_differs, differing_cells, differing_in, all_differing, drawn_from}
+use Rattle.pac_picture.specs.LayerProofs.{made_stale}
 use Rattle.pac_picture.specs.Layer.{shadow_at}
-use Rattle.pac_picture.specs.Layer.{shadow_from, stale_rows, IsLayer}
+use Rattle.pac_picture.specs.Layer.{shadow_from}
+use Rattle.pac_picture.specs.LayerProofs.{stale_rows, IsLayer}
 use Rattle.pac_picture.specs.Laws.{StaleCellsAreDrawn, cell_row_of}
 use Rattle.pac_picture.proofs.Counts.{count-more, count-none}
 use Rattle.pac_picture.proofs.Layers.{sum-more, sum-none, stale-at, length-stale}

@@ -4,7 +4,8 @@ use Rattle.pac_num.specs.Tabulate.{tabulate}
 use Rattle.pac_tiles.specs.Tiles.{width, height, tile_side}
 use Rattle.pac_picture.specs.declared.shadow.Shadow.{Shadow}
 use Rattle.pac_picture.specs.Picture.{VideoRoms}
-use Rattle.pac_picture.specs.Layer.{kept_dot, shadow_at}
+use Rattle.pac_picture.specs.LayerProofs.{kept_dot}
+use Rattle.pac_picture.specs.Layer.{shadow_at}
 
 -- the line of the picture that isn't flipped which line y of the shown one has
 abbrev pub unflipped_line : Bool → ℕ → ℕ

@@ -1,10 +1,10 @@
--- To be believed: how many cells a composing draws where all cells count as differing, as they do in a picture that is new and
+-- Law: how many cells a composing draws where all cells count as differing, as they do in a picture that is new and
 -- in one that has taken its lines from others.
 use Rattle.std.specs.Prelude.{◌≡◌, ◌≢◌, ℕ, ◌/◌, true}
 use Rattle.pac_tiles.specs.Tiles.{tile_side}
 use Rattle.pac_picture.specs.Layer.{AreStale, shadow_at}
 use Rattle.pac_picture.specs.Picture.{VideoMemory}
-use Rattle.pac_picture.specs.State.{PictureState, source_of, composed_picture, picture_with_line}
+use Rattle.pac_picture.specs.StateLaws.{PictureState, source_of, composed_picture, picture_with_line}
 
 -- the row of cells that line y of the shown picture has
 abbrev pub cell_row_of : VideoMemory → ℕ → ℕ

@@ -1,7 +1,11 @@
 pub mod Picture
+pub mod PictureProofs
+pub mod PictureLaws
 pub mod Layer
+pub mod LayerProofs
 pub mod Decoded
 pub mod State
+pub mod StateLaws
 pub mod Painting
 pub mod BareLines
 pub mod Laws

@@ -1,4 +1,4 @@
--- To be believed: the picture (Namco Pac-Man service schematics; where the choice is this profile's, the definitions of tiles,
+-- Believed: the picture (Namco Pac-Man service schematics; where the choice is this profile's, the definitions of tiles,
 -- sprites and colours say so). It is 288 pixels wide and 224 high, not rotated; each of its pixels, from (0, 0) at the left of
 -- the top line on, is a colour number from 0 to 15.
 use Rattle.std.specs.Prelude.{ℕ, ◌+◌, ◌-◌, ◌*◌, ◌/◌, ◌%◌, ◌==◌, Bool, not, if◌then◌else◌, List, slice_index, find, unwrap_or}
@@ -43,9 +43,6 @@ tile_dot roms memory x y =
 abbrev pub sprites_count : ℕ
 sprites_count = 8
 
-abbrev pub sprite_bytes : ℕ
-sprite_bytes = 16
-
 -- a sprite, 0 to 7, as its bytes say
 abbrev pub sprite_at : VideoMemory → ℕ → Sprite
 sprite_at memory k =
@@ -73,7 +70,3 @@ dot roms memory x y =
 unfoldable pub picture_line : VideoRoms → VideoMemory → ℕ → List ℕ
 picture_line roms memory y =
     tabulate width (λ x. if memory.flip then dot roms memory (width - 1 - x) (height - 1 - y) else dot roms memory x y)
-
--- the picture as it is shown, line by line from the top
-unfoldable pub picture_of : VideoRoms → VideoMemory → List (List ℕ)
-picture_of roms memory = tabulate height (picture_line roms memory)

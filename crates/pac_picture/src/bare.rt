@@ -3,6 +3,7 @@
 
 ghost use Rattle.std.specs.Prelude.{◌≡◌, ◌<◌, ◌/◌, ◌&&◌, ℕ, not, true, false, slice_index_or, slice_set};
 ghost use Rattle.pac_tiles.specs.Tiles as tile;
+ghost use Rattle.pac_tiles.specs.TilesLaws as tiles_laws;
 
 use crate::size::HEIGHT;
 
@@ -59,7 +60,7 @@ impl Bare {
     /// Forgets the eight lines of a row of cells where some of its cells were drawn again.
     #[inline]
     pub(crate) fn redrawn(&mut self, row: u8, cells: u32)
-        requires { row < tile.rows }
+        requires { row < tiles_laws.rows }
         ensures flip { self.new.flip ≡ self.old.flip }
         ensures lines { (line : ℕ) → slice_index_or self.new.lines line false ≡ true →
             slice_index_or self.old.lines line false ≡ true }
@@ -73,7 +74,7 @@ impl Bare {
 
 /// Forgets the eight lines of a row of cells.
 fn forget(lines: &mut [bool; HEIGHT as usize], row: u8)
-    requires { row < tile.rows }
+    requires { row < tiles_laws.rows }
     ensures lines { (line : ℕ) → slice_index_or lines.new line false ≡ true → slice_index_or lines.old line false ≡ true }
     ensures row { (line : ℕ) → line / 8 ≡ row → slice_index_or lines.new line false ≡ false }
 {

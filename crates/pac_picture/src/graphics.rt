@@ -6,9 +6,10 @@ ghost use Rattle.pac_num.specs.Tabulate.{tabulate};
 ghost use Rattle.pac_num.specs.Pixels.{pixel_value};
 ghost use Rattle.pac_tiles.specs.Tiles as tile;
 ghost use Rattle.pac_sprites.specs.Sprites as sprite;
+ghost use Rattle.pac_sprites.specs.SpritesProofs as sprites_proofs;
 ghost use Rattle.pac_colour.specs.Colours as colour_of;
 ghost use Rattle.pac_picture.specs.Picture.{sprite_number};
-ghost use Rattle.pac_picture.specs.Layer.{tile_pattern, zero_roms};
+ghost use Rattle.pac_picture.specs.LayerProofs.{tile_pattern, zero_roms};
 ghost use Rattle.pac_picture.specs.Decoded.{tile_pair, sprite_values, ArePlaces, AreValues, AreNumbersOf};
 
 use std::marker::Model;
@@ -84,7 +85,7 @@ fn tile_values(rom: &[u8; 4096], code: u8, pair: u8) -> [u8; 16]
 /// The bytes that have the pixels on line y of a sprite, from left to right.
 #[inline]
 fn sprite_bytes(rom: &[u8; 4096], code: u8, y: u8) -> [u8; 16]
-    requires code { code < sprite.sprite_codes }
+    requires code { code < sprites_proofs.sprite_codes }
     requires y { y < 16 }
     ensures { (x : ℕ) → x < 16 → slice_index result x ≡ slice_index rom.now (64 * code + sprite.pixel_byte_index x y) }
 {
@@ -99,7 +100,7 @@ fn sprite_bytes(rom: &[u8; 4096], code: u8, y: u8) -> [u8; 16]
 /// The pixel values on line y of a sprite.
 #[inline]
 fn sprite_values(rom: &[u8; 4096], code: u8, y: u8) -> [u8; 16]
-    requires code { code < sprite.sprite_codes }
+    requires code { code < sprites_proofs.sprite_codes }
     requires y { y < 16 }
     ensures { result ≡ sprite_values rom.now code y }
 {
@@ -134,7 +135,7 @@ pub struct Graphics {
 
 impl Model for Graphics {
     ghost use Rattle.pac_picture.specs.Picture.{VideoRoms};
-    ghost use Rattle.pac_picture.specs.Layer.{AreSized};
+    ghost use Rattle.pac_picture.specs.LayerProofs.{AreSized};
 
     ghost Value = { VideoRoms };
 
@@ -161,7 +162,7 @@ impl Graphics {
     }
 
     /// Graphics of zeros, over which others are put.
-    #[tactic(auto, unfolding(crate::specs::Layer::zero_roms))]
+    #[tactic(auto, unfolding(crate::specs::LayerProofs::zero_roms))]
     pub(crate) fn zeroed() -> Graphics
         ensures { result ≡ zero_roms }
     {
@@ -199,7 +200,7 @@ impl Graphics {
     /// The colour numbers on line y of a sprite, 0 to 63, in a colour.
     #[inline]
     pub(crate) fn sprite_line(&self, colour: u8, code: u8, y: u8) -> [u8; 16]
-        requires code { code < sprite.sprite_codes }
+        requires code { code < sprites_proofs.sprite_codes }
         requires y { y < 16 }
         ensures { result ≡ tabulate 16 (λ x. sprite_number self.now colour code x y) }
     {

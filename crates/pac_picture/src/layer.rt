@@ -4,9 +4,12 @@ ghost use Rattle.std.specs.Prelude.{◌≡◌, ◌<◌, ◌≤◌, ◌-◌, ◌/
 ghost use Rattle.std.specs.Prelude.{false, if◌then◌else◌, [], length, map, count_by, slice_index, slice_index_or, slice_set};
 ghost use Rattle.pac_num.specs.Tabulate.{tabulate};
 ghost use Rattle.pac_tiles.specs.Tiles as tile;
+ghost use Rattle.pac_tiles.specs.TilesLaws as tiles_laws;
 ghost use Rattle.pac_picture.specs.Layer.{cells_of, cell_differs, differing_cells, differing_in, drawn_from, shadow_at};
-ghost use Rattle.pac_picture.specs.Layer.{shadow_from, tile_pattern};
-ghost use Rattle.pac_picture.specs.Layer.{IsDrawn, all_differing, kept_dot, made_stale, stale_rows, zero_roms};
+ghost use Rattle.pac_picture.specs.Layer.{shadow_from};
+ghost use Rattle.pac_picture.specs.LayerProofs.{tile_pattern};
+ghost use Rattle.pac_picture.specs.LayerProofs.{IsDrawn, kept_dot, made_stale, stale_rows, zero_roms};
+ghost use Rattle.pac_picture.specs.Layer.{all_differing};
 
 use crate::graphics::Graphics;
 use crate::laws::{changed, is_same};
@@ -19,7 +22,7 @@ use std::marker::Model;
 /// For each cell of a row whether all count, or one of two lists has the place.
 #[inline]
 fn either(all: bool, one: &[bool; COLUMNS], other: &[bool; COLUMNS]) -> [bool; COLUMNS]
-    ensures { (k : ℕ) → k < tile.columns → slice_index_or result k false
+    ensures { (k : ℕ) → k < tiles_laws.columns → slice_index_or result k false
         ≡ (all || slice_index_or one.now k false || slice_index_or other.now k false) }
 {
     let mut any = [false; COLUMNS];
@@ -32,7 +35,7 @@ fn either(all: bool, one: &[bool; COLUMNS], other: &[bool; COLUMNS]) -> [bool; C
 /// Which cells of a row differ from these bytes.
 #[inline]
 fn differing(shadow: &Shadow, tiles: &RowBytes, colours: &RowBytes) -> [bool; COLUMNS]
-    ensures { (column : ℕ) → column < tile.columns → slice_index_or result column false
+    ensures { (column : ℕ) → column < tiles_laws.columns → slice_index_or result column false
         ≡ cell_differs shadow.now tiles.now colours.now column }
 {
     let mut by_tile = [false; COLUMNS];
@@ -45,7 +48,7 @@ fn differing(shadow: &Shadow, tiles: &RowBytes, colours: &RowBytes) -> [bool; CO
 /// Whether a cell of a mask has the tile and the colour of the cell to its left, which is of the mask too.
 #[inline]
 fn is_like_left(tiles: &RowBytes, colours: &RowBytes, mask: &[bool; COLUMNS], column: usize) -> bool
-    requires { column < tile.columns }
+    requires { column < tiles_laws.columns }
     ensures place { result ≡ true → 1 ≤ column }
     ensures masked { result ≡ true → slice_index_or mask.now (column - 1) false ≡ true }
     ensures code { result ≡ true → slice_index tiles.now column ≡ slice_index tiles.now (column - 1) }
@@ -69,7 +72,7 @@ fn redraw_cell(
     differs: bool,
     is_like_left: bool,
 ) -> u32
-    requires place { column < tile.columns }
+    requires place { column < tiles_laws.columns }
     requires place_left { is_like_left ≡ true → 1 ≤ column }
     requires left { is_like_left ≡ true → slice_index_or cells.old (column - 1) [] ≡ tile_pattern graphics.now colour code }
     ensures cells { cells.new ≡ (if differs then slice_set cells.old column (tile_pattern graphics.now colour code) else cells.old) }
@@ -95,12 +98,12 @@ fn redraw(
     colours: &RowBytes,
     mask: &[bool; COLUMNS],
 ) -> u32
-    ensures cells { (k : ℕ) → k < tile.columns → slice_index_or cells.new k []
+    ensures cells { (k : ℕ) → k < tiles_laws.columns → slice_index_or cells.new k []
         ≡ (if slice_index_or mask.now k false
         then tile_pattern graphics.now (slice_index colours.now k) (slice_index tiles.now k)
         else slice_index_or cells.old k []) }
-    ensures count { result ≡ count_by (λ k. slice_index_or mask.now k false) (tabulate tile.columns (λ k. k)) }
-    ensures bound { result ≤ tile.columns }
+    ensures count { result ≡ count_by (λ k. slice_index_or mask.now k false) (tabulate tiles_laws.columns (λ k. k)) }
+    ensures bound { result ≤ tiles_laws.columns }
 {
     let mut count = 0;
     for column in 0..COLUMNS {
@@ -131,7 +134,7 @@ fn refresh_cells(
     ensures drawn { IsDrawn graphics.now shadow.new cells.new }
     ensures shadow { shadow.new ≡ shadow_from tiles.now colours.now }
     ensures count { result ≡ differing_cells shadow.old tiles.now colours.now }
-    ensures bound { result ≤ tile.columns }
+    ensures bound { result ≤ tiles_laws.columns }
 {
     let mask = differing(shadow, tiles, colours);
     let drawn = redraw(cells, graphics, tiles, colours, &mask);
@@ -162,7 +165,7 @@ fn refresh(
     ensures drawn { IsDrawn graphics.now shadow.new cells.new }
     ensures shadow { shadow.new ≡ shadow_from tiles.now colours.now }
     ensures count { result ≡ differing_cells shadow.old tiles.now colours.now }
-    ensures bound { result ≤ tile.columns }
+    ensures bound { result ≤ tiles_laws.columns }
 {
     if is_current(shadow, tiles, colours) {
         return 0;
@@ -207,7 +210,7 @@ pub(crate) struct Layer {
 }
 
 impl Model for Layer {
-    ghost use Rattle.pac_picture.specs.Layer.{LayerState, IsLayer};
+    ghost use Rattle.pac_picture.specs.LayerProofs.{LayerState, IsLayer};
 
     ghost Value = { LayerState };
 
@@ -246,7 +249,7 @@ impl Layer {
           roms = record { tiles = tiles.now; sprites = sprites.now; lookup = lookup.now };
           shadows = map made_stale self.old.shadows;
         } }
-        ensures high { length self.old.shadows ≡ tile.rows }
+        ensures high { length self.old.shadows ≡ tiles_laws.rows }
     {
         self.graphics.put(tiles, sprites, lookup);
         make_stale(&mut self.shadows);
@@ -263,7 +266,7 @@ impl Layer {
     /// Makes every cell count as differing.
     pub(crate) fn set_stale(&mut self)
         ensures layer { self.new ≡ record self.old { shadows = map made_stale self.old.shadows } }
-        ensures high { length self.old.shadows ≡ tile.rows }
+        ensures high { length self.old.shadows ≡ tiles_laws.rows }
     {
         make_stale(&mut self.shadows);
     }
@@ -271,11 +274,11 @@ impl Layer {
     /// Draws those cells of a row again that differ from what the screen has, and says how many they are.
     #[inline]
     pub(crate) fn refresh(&mut self, row: u8, screen: &Screen<'_>) -> u32
-        requires { row < tile.rows }
+        requires { row < tiles_laws.rows }
         ensures layer { self.new ≡ record self.old { shadows = slice_set self.old.shadows row (drawn_from screen.now row) } }
         ensures count { result ≡ differing_in self.old.shadows screen.now row }
-        ensures bound { result ≤ tile.columns }
-        ensures high { length self.old.shadows ≡ tile.rows }
+        ensures bound { result ≤ tiles_laws.columns }
+        ensures high { length self.old.shadows ≡ tiles_laws.rows }
     {
         let tiles = screen.tiles(row);
         let colours = screen.colours(row);
@@ -291,7 +294,7 @@ impl Layer {
 
     /// Draws those cells of the picture again that differ from what the screen has, and says how many they are.
     pub(crate) fn refresh_all(&mut self, screen: &Screen<'_>) -> u32
-        ensures layer { self.new ≡ record self.old { shadows = tabulate tile.rows (drawn_from screen.now) } }
+        ensures layer { self.new ≡ record self.old { shadows = tabulate tiles_laws.rows (drawn_from screen.now) } }
         ensures count { result ≡ all_differing self.old.shadows screen.now }
     {
         let mut drawn = 0;

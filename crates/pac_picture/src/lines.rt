@@ -4,10 +4,13 @@ ghost use Rattle.std.specs.Prelude.{◌≡◌, ◌<◌, ◌/◌, ◌-◌, ℕ, [
 ghost use Rattle.std.specs.Prelude.{length, reverse, if◌then◌else◌, slice_index, slice_index_or, slice_set, EachIndex};
 ghost use Rattle.pac_num.specs.Tabulate.{tabulate};
 ghost use Rattle.pac_tiles.specs.Tiles as tile;
+ghost use Rattle.pac_tiles.specs.TilesLaws as tiles_laws;
 ghost use Rattle.pac_colour.specs.Colours as colour;
-ghost use Rattle.pac_picture.specs.Picture.{picture_line, picture_of};
+ghost use Rattle.pac_picture.specs.Picture.{picture_line};
+ghost use Rattle.pac_picture.specs.PictureLaws.{picture_of};
 ghost use Rattle.pac_picture.specs.Layer.{shadow_at, drawn_from};
-ghost use Rattle.pac_picture.specs.State.{IsPicture, black, source_of};
+ghost use Rattle.pac_picture.specs.State.{IsPicture, black};
+ghost use Rattle.pac_picture.specs.StateLaws.{source_of};
 ghost use Rattle.pac_picture.specs.BareLines.{AreBare};
 
 use crate::bare::Bare;
@@ -141,7 +144,7 @@ impl Lines {
 
     /// Composes all lines, through a layer that is drawn from the screen.
     pub(crate) fn compose(&mut self, layer: &Layer, screen: &Screen<'_>)
-        requires { layer.now.shadows ≡ tabulate tile.rows (drawn_from screen.now) }
+        requires { layer.now.shadows ≡ tabulate tiles_laws.rows (drawn_from screen.now) }
         ensures { self.new ≡ picture_of layer.now.roms screen.now }
     {
         for y in 0..HEIGHT {

@@ -4,6 +4,7 @@ ghost use Rattle.std.specs.Prelude.{◌≡◌, ◌<◌, ℕ, ◌/◌, ◌%◌, [
 ghost use Rattle.pac_num.specs.Tabulate.{tabulate};
 ghost use Rattle.pac_tiles.specs.Tiles as tile;
 ghost use Rattle.pac_sprites.specs.Sprites as sprites;
+ghost use Rattle.pac_sprites.specs.SpritesProofs as sprites_proofs;
 ghost use Rattle.pac_picture.specs.Picture.{is_opaque, sprite_at, sprite_dot};
 ghost use Rattle.pac_picture.specs.Painting.{painted_number, over_line, cell_dot};
 
@@ -59,7 +60,7 @@ fn paint_line(line: &[u8; 16], sprite: &Sprite, out: &mut [u8; WIDTH])
 /// Paints a sprite over line y of the picture.
 #[inline]
 fn paint(graphics: &Graphics, sprite: &Sprite, y: u8, out: &mut [u8; WIDTH])
-    requires { sprite.now.code < sprites.sprite_codes }
+    requires { sprite.now.code < sprites_proofs.sprite_codes }
     ensures dots { (x : ℕ) → x < tile.width →
         slice_index out.new x ≡ painted_number (sprite_dot graphics.now sprite.now x y) (slice_index out.old x) }
 {

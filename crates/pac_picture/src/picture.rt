@@ -3,8 +3,10 @@
 ghost use Rattle.std.specs.Prelude.{◌≡◌, ◌<◌, ◌/◌, ℕ, [], false, length, map, replicate, slice_index, slice_index_or, slice_set, EachIndex};
 ghost use Rattle.pac_tiles.specs.Tiles as tile;
 ghost use Rattle.pac_colour.specs.Colours as colour;
-ghost use Rattle.pac_picture.specs.Layer.{AreStale, made_stale, stale_rows, cell_differs, shadow_at, cells_of, zero_roms};
-ghost use Rattle.pac_picture.specs.State.{IsPicture, black, palette_of, composed_picture, picture_with_line};
+ghost use Rattle.pac_picture.specs.Layer.{AreStale, cell_differs, shadow_at, cells_of};
+ghost use Rattle.pac_picture.specs.LayerProofs.{made_stale, stale_rows, zero_roms};
+ghost use Rattle.pac_picture.specs.State.{IsPicture, black, palette_of};
+ghost use Rattle.pac_picture.specs.StateLaws.{composed_picture, picture_with_line};
 
 use crate::bare::Bare;
 use crate::graphics::Graphics;
@@ -29,7 +31,7 @@ pub struct Picture {
 impl Model for Picture {
     ghost use Rattle.std.specs.Prelude.{◌≡◌, length};
     ghost use Rattle.pac_colour.specs.Colours.{numbers};
-    ghost use Rattle.pac_picture.specs.State.{PictureState};
+    ghost use Rattle.pac_picture.specs.StateLaws.{PictureState};
     ghost use Rattle.pac_picture.specs.BareLines.{AreBare};
 
     ghost Value = { PictureState };

@@ -2,10 +2,14 @@
 
 ghost use Rattle.std.specs.Prelude.{◌≡◌, ◌<◌, ◌*◌, ◌-ℤ◌, ℕ, pos, false, length, slice_index, if◌then◌else◌};
 ghost use Rattle.pac_tiles.specs.Tiles as tile;
+ghost use Rattle.pac_tiles.specs.TilesLaws as tiles_laws;
+ghost use Rattle.pac_tiles.specs.TilesProofs as tiles_proofs;
 ghost use Rattle.pac_sprites.specs.Sprites as sprite;
-ghost use Rattle.pac_picture.specs.Picture.{sprite_at, sprite_bytes};
+ghost use Rattle.pac_sprites.specs.SpritesProofs as sprites_proofs;
+ghost use Rattle.pac_picture.specs.Picture.{sprite_at};
+ghost use Rattle.pac_picture.specs.PictureProofs.{sprite_bytes};
 ghost use Rattle.pac_picture.specs.Layer.{cells_of};
-ghost use Rattle.pac_picture.specs.State.{source_of};
+ghost use Rattle.pac_picture.specs.StateLaws.{source_of};
 
 use crate::size::{COLUMNS, HEIGHT, RowBytes};
 use pac_sprites::Sprite;
@@ -28,8 +32,9 @@ pub struct Screen<'a> {
 
 impl<'a> Model for Screen<'a> {
     ghost use Rattle.std.specs.Prelude.{◌≡◌, length};
-    ghost use Rattle.pac_tiles.specs.Tiles.{tile_ram_size};
-    ghost use Rattle.pac_picture.specs.Picture.{VideoMemory, sprite_bytes};
+    ghost use Rattle.pac_tiles.specs.TilesProofs.{tile_ram_size};
+    ghost use Rattle.pac_picture.specs.Picture.{VideoMemory};
+    ghost use Rattle.pac_picture.specs.PictureProofs.{sprite_bytes};
 
     ghost Value = { VideoMemory };
 
@@ -60,8 +65,8 @@ impl<'a> Screen<'a> {
         coordinates: &'a [u8],
         flip: bool,
     ) -> Screen<'a>
-        requires tile_ram { length tile_ram.now ≡ tile.tile_ram_size }
-        requires colour_ram { length colour_ram.now ≡ tile.tile_ram_size }
+        requires tile_ram { length tile_ram.now ≡ tiles_proofs.tile_ram_size }
+        requires colour_ram { length colour_ram.now ≡ tiles_proofs.tile_ram_size }
         requires attributes { length attributes.now ≡ sprite_bytes }
         requires coordinates { length coordinates.now ≡ sprite_bytes }
         ensures { result ≡ record {
@@ -104,7 +109,7 @@ impl<'a> Screen<'a> {
     pub(crate) fn sprite(&self, k: u8) -> Sprite
         requires { k < 8 }
         ensures sprite { result ≡ sprite_at self.now k }
-        ensures code { result.code < sprite.sprite_codes }
+        ensures code { result.code < sprites_proofs.sprite_codes }
     {
         let first = 2 * k as usize;
         Sprite::of(
@@ -125,7 +130,7 @@ impl<'a> Screen<'a> {
     /// The tiles of a row of cells.
     #[inline]
     pub(crate) fn tiles(&self, row: u8) -> RowBytes
-        requires { row < tile.rows }
+        requires { row < tiles_laws.rows }
         ensures { result ≡ cells_of self.now.tile_ram row }
     {
         cells(self.tile_ram, row)
@@ -134,7 +139,7 @@ impl<'a> Screen<'a> {
     /// The colours of a row of cells.
     #[inline]
     pub(crate) fn colours(&self, row: u8) -> RowBytes
-        requires { row < tile.rows }
+        requires { row < tiles_laws.rows }
         ensures { result ≡ cells_of self.now.colour_ram row }
     {
         cells(self.colour_ram, row)
@@ -157,8 +162,8 @@ fn boxes_at(coordinates: &[u8], y: u8) -> u64
 /// The bytes of 1,024 that a row of cells has: the 32 in the middle follow one another.
 #[inline]
 fn cells(ram: &[u8], row: u8) -> RowBytes
-    requires ram { length ram.now ≡ tile.tile_ram_size }
-    requires row { row < tile.rows }
+    requires ram { length ram.now ≡ tiles_proofs.tile_ram_size }
+    requires row { row < tiles_laws.rows }
     ensures { result ≡ cells_of ram.now row }
 {
     let mut cells = [0; COLUMNS];

@@ -1,7 +1,7 @@
 //! The bytes that a row of cells was drawn from.
 
 ghost use Rattle.std.specs.Prelude.{◌≡◌};
-ghost use Rattle.pac_picture.specs.Layer.{stale_row};
+ghost use Rattle.pac_picture.specs.LayerProofs.{stale_row};
 
 use crate::size::{COLUMNS, RowBytes};
 

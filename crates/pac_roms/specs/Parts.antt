@@ -1,7 +1,6 @@
--- To be believed: what stands in the sockets of the board (Namco Pac-Man service schematics): the bytes of each ROM and PROM.
+-- Believed: what stands in the sockets of the board (Namco Pac-Man service schematics): the bytes of each ROM and PROM.
 -- The timing PROM, whose work the board's own rules do, isn't among them.
-use Rattle.std.specs.Prelude.{ℕ, List, ◌≡◌, length, replicate}
-use Rattle.pac_roms.specs.declared.set.Raw.{Raw}
+use Rattle.std.specs.Prelude.{ℕ, List, ◌≡◌, length}
 
 -- the sizes of the parts in bytes: the program is four ROMs of 4,096
 abbrev pub program_size : ℕ
@@ -44,25 +43,3 @@ pub record IsWhole (parts : Parts) : Type 0 where
   pub colours : length parts.colours ≡ colour_prom_size
   pub lookup : length parts.lookup ≡ lookup_prom_size
   pub wave : length parts.wave ≡ wave_prom_size
-
--- parts of which each byte is 0
-unfoldable pub zero_parts : Parts
-zero_parts = record {
-  program = replicate program_size 0;
-  tiles = replicate tiles_size 0;
-  sprites = replicate sprites_size 0;
-  colours = replicate colour_prom_size 0;
-  lookup = replicate lookup_prom_size 0;
-  wave = replicate wave_prom_size 0;
-}
-
--- the parts that are handed in as bytes, the program beside the others
-abbrev pub parts_of : List ℕ → Raw → Parts
-parts_of program raw = record {
-  program = program;
-  tiles = raw.tiles.now;
-  sprites = raw.sprites.now;
-  colours = raw.colours.now;
-  lookup = raw.lookup.now;
-  wave = raw.wave.now;
-}

@@ -2,6 +2,7 @@
 
 ghost use Rattle.std.specs.Prelude.{◌≡◌, length};
 ghost use Rattle.pac_roms.specs.Parts as spec;
+ghost use Rattle.pac_roms.specs.PartsProofs as parts_proofs;
 
 use std::marker::Model;
 
@@ -96,9 +97,9 @@ impl RomSet {
     }
 
     /// A set of zeros, over which another is put.
-    #[tactic(auto, unfolding(crate::specs::Parts::zero_parts))]
+    #[tactic(auto, unfolding(crate::specs::PartsProofs::zero_parts))]
     pub fn zeroed() -> RomSet
-        ensures { result ≡ spec.zero_parts }
+        ensures { result ≡ parts_proofs.zero_parts }
     {
         RomSet {
             program: [0; 16384],
@@ -112,8 +113,8 @@ impl RomSet {
 
     /// Becomes the set of these bytes, in place.
     pub fn put(&mut self, program: &[u8], raw: &Raw)
-        requires { spec.IsWhole (spec.parts_of program.now raw.now) }
-        ensures { self.new ≡ spec.parts_of program.now raw.now }
+        requires { spec.IsWhole (parts_proofs.parts_of program.now raw.now) }
+        ensures { self.new ≡ parts_proofs.parts_of program.now raw.now }
     {
         self.program.copy_from_slice(program);
         self.tiles.copy_from_slice(raw.tiles);

@@ -1,11 +1,9 @@
--- To be believed: what is printed for a fault of a ROM set (this profile).
+-- Believed: what is printed for a fault of a ROM set (this profile).
 use Rattle.std.specs.Prelude.{ℕ, List, ◌++◌, codes, Option, Some, None}
 use Rattle.pac_roms_manifest.specs.Parts.{part_name_text}
 use Rattle.pac_roms_manifest.specs.declared.fault.ManifestCode.{ManifestCode}
 use Rattle.pac_roms_manifest.specs.declared.fault.ManifestCode.TheVariants.{Manifest, Unnamed, Size, Digest, Absent, TwoPrograms}
 use Rattle.pac_roms_manifest.specs.declared.fault.SetFault.{SetFault}
-use Rattle.pac_roms_manifest.specs.declared.fault.SetError.{SetError}
-use Rattle.pac_roms_manifest.specs.declared.fault.SetError.TheVariants.{Memory, Fault}
 use Rattle.pac_roms_manifest.specs.declared.part.PartName.{PartName}
 
 -- what is wrong, as a code
@@ -24,8 +22,3 @@ code_with_part code (Some part) = code ++ codes " " ++ part_name_text part
 -- a fault: its code, and the part's name, if it is of one
 abbrev pub set_fault_text : SetFault → List ℕ
 set_fault_text fault = code_with_part (set_code_text fault.code) fault.part
-
--- why there is no set
-abbrev pub set_error_text : SetError → List ℕ
-set_error_text Memory = codes "out of memory"
-set_error_text (Fault fault) = set_fault_text fault

@@ -1,4 +1,4 @@
--- To be believed: what a manifest says (this profile): a TOML document with a table for each part.
+-- Believed: what a manifest says (this profile): a TOML document with a table for each part.
 use Rattle.std.specs.Prelude.{ℕ, List, [], ◌∷◌, codes, if◌then◌else◌}
 use Rattle.std.specs.Prelude.{Option, Some, None, option_map, option_and_then, ok_or, Result, slice_get}
 use Rattle.std.specs.Result.{result_ok}

@@ -1,4 +1,4 @@
--- To be believed: the parts of a ROM set: their names, order and sizes (Namco Pac-Man service schematics; names and order are
+-- Believed: the parts of a ROM set: their names, order and sizes (Namco Pac-Man service schematics; names and order are
 -- this profile's).
 use Rattle.std.specs.Prelude.{ℕ, Bool, List, [], ◌∷◌, codes, bytes_eq}
 use Rattle.pac_roms.specs.Parts.{tiles_size, sprites_size, colour_prom_size, lookup_prom_size, wave_prom_size}

@@ -1,4 +1,4 @@
--- To be believed: the ROM set of a manifest and its files, or the first fault (this profile).
+-- Believed: the ROM set of a manifest and its files, or the first fault (this profile).
 use Rattle.std.specs.Prelude.{ℕ, List, [], ◌∷◌, ◌++◌, length, find, Bool, true, false, not, ◌&&◌, ◌==◌, bytes_eq}
 use Rattle.std.specs.Prelude.{if◌then◌else◌, Option, Some, None, option_map, unwrap_or, is_some, is_none}
 use Rattle.std.specs.Prelude.{Result, Ok, Err}

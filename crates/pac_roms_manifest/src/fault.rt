@@ -2,7 +2,8 @@
 
 ghost use Rattle.std.specs.Prelude.{◌≡◌, Some};
 ghost use Rattle.pac_roms_manifest.specs.declared.fault.SetError.TheVariants as errors;
-ghost use Rattle.pac_roms_manifest.specs.Codes.{set_code_text, set_fault_text, set_error_text};
+ghost use Rattle.pac_roms_manifest.specs.Codes.{set_code_text, set_fault_text};
+ghost use Rattle.pac_roms_manifest.specs.CodesProofs.{set_error_text};
 
 use crate::part::PartName;
 use std::alloc::AllocError;

@@ -22,7 +22,8 @@ impl Drop for PartEntry {
 }
 
 impl Model for PartEntry {
-    ghost use Rattle.pac_roms_manifest.specs.Entries.{PlainEntry, bytes_of_text};
+    ghost use Rattle.pac_roms_manifest.specs.Entries.{PlainEntry};
+    ghost use Rattle.pac_roms_manifest.specs.EntriesProofs.{bytes_of_text};
 
     ghost Value = { PlainEntry };
 

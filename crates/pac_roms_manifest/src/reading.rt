@@ -6,7 +6,7 @@ ghost use Rattle.toml.specs.View.{view, items_view, table_view};
 ghost use Rattle.pac_roms_manifest.specs.declared.reading.Misread.TheVariants as misread;
 ghost use Rattle.pac_roms_manifest.specs.Manifests.{optional, digest_form, entry_form, program_form, table_form};
 ghost use Rattle.pac_roms_manifest.specs.Manifests.{manifest_form, document_table, manifest_of};
-ghost use Rattle.pac_roms_manifest.specs.Entries.{bytes_of_text};
+ghost use Rattle.pac_roms_manifest.specs.EntriesProofs.{bytes_of_text};
 ghost use Rattle.pac_roms_manifest.specs.Results.{SetGives, ReadsValue, ReadsAs, error_of_misread};
 
 use crate::fault::{ManifestCode, SetError, SetFault};

@@ -10,14 +10,16 @@ use Rattle.pac_board_course.specs.Carried.{walk_view}
 use Rattle.pac_board_course.specs.Course.{frame_microseconds}
 use Rattle.pac_board_course.specs.Entry.{Entry}
 use Rattle.pac_board_course.specs.History.{board_after_entries}
-use Rattle.pac_board_course.specs.ModelLaws.{IsTimely, frame_samples}
+use Rattle.pac_board_course.specs.ModelLaws.{IsTimely}
+use Rattle.pac_board_course.specs.Step.{frame_samples}
 use Rattle.pac_board_course.specs.Output.{Output, Sound, Show, picture_count, sound_count}
 use Rattle.pac_board_course.specs.Resumed.{HasItsFrames, JoinsPlays}
 use Rattle.pac_board_course.specs.RomParts.{Parts, IsWhole}
 use Rattle.pac_board_course.specs.State.{BoardState, BoardValue, nothing_due}
 use Rattle.pac_board_course.specs.Step.{Moment, Next, Goes, Ends, frame_ticks, sample_ticks}
 use Rattle.pac_board_course.specs.Stop.{Stop}
-use Rattle.pac_board_course.specs.Trace.{Play, by_history, by_view, frames_gone, plays_joined}
+use Rattle.pac_board_course.specs.Trace.{Play, by_history, by_view, frames_gone}
+use Rattle.pac_board_course.specs.TraceLaws.{plays_joined}
 use Rattle.pac_board_course.specs.Trace.{resumed, resumed_end, resumed_start, resumed_step}
 use Rattle.pac_board_course.specs.Walk.{Walk, onward_if, walk, walk_after_step}
 use Rattle.pac_board_course.proofs.Agreed.{resumed-runs-agree}

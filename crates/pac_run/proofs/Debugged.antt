@@ -5,8 +5,8 @@ use Rattle.pac_board_course.specs.Stretches.{total_frames}
 use Rattle.pac_asm.specs.Assembled.{Assembled}
 use Rattle.pac_board_course.specs.Output.{Output}
 use Rattle.pac_board_course.specs.State.{BoardValue}
-use Rattle.pac_debug.specs.Motions.{IsOutcome}
-use Rattle.pac_debug.specs.Running.{whole_run}
+use Rattle.pac_debug.specs.MotionsLaws.{IsOutcome}
+use Rattle.pac_debug.specs.RunningLaws.{whole_run}
 use Rattle.pac_debug.specs.Session.{SessionValue, session_at_start}
 use Rattle.pac_run.specs.declared.fault.Output.{Output as Which}
 use Rattle.pac_run.specs.declared.fault.Output.TheVariants as which
@@ -14,7 +14,8 @@ use Rattle.pac_run.specs.declared.fault.RunFault.{RunFault}
 use Rattle.pac_run.specs.declared.fault.RunFault.TheVariants as fault
 use Rattle.pac_run.specs.declared.inputs.RunInputs.{RunInputs}
 use Rattle.pac_board_course.specs.declared.outcome.Outcome.{Outcome}
-use Rattle.pac_run.specs.Debugs.{IsReady, setting_of_plan, IsBrokenAt, Debugs}
+use Rattle.pac_run.specs.DebugsProofs.{IsReady}
+use Rattle.pac_run.specs.Debugs.{setting_of_plan, IsBrokenAt, Debugs}
 use Rattle.pac_run.specs.declared.plan.Prepared.{Prepared}
 use Rattle.pac_run.specs.Plan.{Plan, plan_with}
 use Rattle.pac_run.specs.Started.{IsPrepared, Prepares}

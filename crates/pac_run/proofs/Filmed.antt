@@ -6,7 +6,8 @@ use Rattle.std.proofs.lemmas.Grind.{flat_map-append}
 use Rattle.std.specs.List.{flat_map}
 use Rattle.std.specs.Prelude.{IfSome}
 use mathlib.Core.List.{IsPrefix}
-use Rattle.pac_media.specs.Counted.{HasTaken, HasStopped, Stops}
+use Rattle.pac_media.specs.CountedLaws.{HasTaken, HasStopped}
+use Rattle.pac_media.specs.CountedProofs.{Stops}
 use Rattle.pac_media.specs.CountedFile.{Counted}
 use Rattle.pac_media.specs.WriteFault.{WriteFault}
 use Rattle.pac_media.specs.Writes.{StopsAfter}
@@ -14,9 +15,10 @@ use Rattle.pac_media.proofs.Files.{Joins, stops-after, stops-within}
 use Rattle.pac_media.specs.Samples.{header_size, sample_text, samples_text, wav_header}
 use Rattle.pac_media.specs.Sound.{HasText, Gains, Delivers, SoundFails, FinishesSound}
 use Rattle.pac_media.specs.Sound as media
-use Rattle.pac_board_course.specs.ModelLaws.{frame_samples}
+use Rattle.pac_board_course.specs.Step.{frame_samples}
 use Rattle.pac_board_course.specs.Output.{Output, Image, Sound, Show, picture_count}
-use Rattle.pac_board_course.specs.Sinks.{TookAll, Cut}
+use Rattle.pac_board_course.specs.Sinks.{TookAll}
+use Rattle.pac_board_course.specs.SinksLaws.{Cut}
 use Rattle.pac_run.specs.declared.fault.OutputFault.{OutputFault}
 use Rattle.pac_run.specs.declared.fault.Output.{Output as Which}
 use Rattle.pac_run.specs.declared.fault.Output.TheVariants as which

@@ -13,7 +13,8 @@ use Rattle.pac_board_course.specs.Step.{frame_ticks}
 use Rattle.pac_board_course.specs.Stop.{Stop}
 use Rattle.pac_board_course.specs.Stretch.{Stretch}
 use Rattle.pac_board_course.specs.Stretches.{total_frames}
-use Rattle.pac_board_course.specs.Trace.{Play, by_history, frames_gone, frame_steps, plays_joined}
+use Rattle.pac_board_course.specs.Trace.{Play, by_history, frames_gone, frame_steps}
+use Rattle.pac_board_course.specs.TraceLaws.{plays_joined}
 use Rattle.pac_board_course.specs.Walk.{Walk}
 use Rattle.pac_board_course.proofs.Outputs.{outputs-timed}
 use Rattle.pac_board_course.proofs.Resumed.{resumed-runs-end, runs-begin, stopped-runs-stay}

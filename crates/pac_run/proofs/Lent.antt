@@ -3,8 +3,10 @@ use Rattle.std.proofs.Common.{◌≡◌, ℕ, List, [], Result, Ok, Err, inl, in
 use Rattle.std.specs.Borrow.{MutBor}
 use Rattle.pac_media.specs.CountedFile.{Counted}
 use Rattle.pac_media.specs.WriteFault.{WriteFault}
-use Rattle.pac_media.specs.Counted.{HasTaken, Puts}
-use Rattle.pac_media.specs.Writes.{StopsAfter, lent_took, lent_refused}
+use Rattle.pac_media.specs.CountedLaws.{HasTaken}
+use Rattle.pac_media.specs.CountedProofs.{Puts}
+use Rattle.pac_media.specs.Writes.{StopsAfter}
+use Rattle.pac_media.specs.WritesProofs.{lent_took, lent_refused}
 use Rattle.pac_board_course.specs.Output.{Output}
 use Rattle.pac_debug.specs.Running.{Setting}
 use Rattle.pac_run.specs.declared.fault.Output.{Output as Which}

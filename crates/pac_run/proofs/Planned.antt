@@ -25,7 +25,8 @@ use Rattle.pac_board_course.specs.State.{BoardValue}
 use Rattle.pac_run.specs.declared.inputs.RunInputs.{RunInputs}
 use Rattle.pac_run.specs.declared.fault.StateFault.{StateFault}
 use Rattle.pac_asm.specs.Results.{◌>>=◌}
-use Rattle.pac_run.specs.Plan.{set_told, set_in, fault_told, script_told, program_items, LieIn, Judges, IsStateRefused, PlaysProgram}
+use Rattle.pac_run.specs.Plan.{set_told, set_in, script_told, program_items, IsStateRefused}
+use Rattle.pac_run.specs.PlanProofs.{fault_told, LieIn, Judges, PlaysProgram}
 use Rattle.pac_run.specs.Start.{IsFirstBoard, RefusesState}
 use Rattle.pac_run.specs.Started.{IsPrepared, IsStarted, Prepares, StartsBoard}
 use Rattle.pac_run.proofs.Answered.{NoWrite, script-writes}

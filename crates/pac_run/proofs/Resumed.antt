@@ -1,6 +1,7 @@
 -- The answers of what was prepared, begun and written.
 use Rattle.std.proofs.Common.{◌≡◌, ℕ, List, Option, Ok, Err, ap, subst, ◌∙◌}
-use Rattle.pac_board_course.specs.Course.{CourseValue, begun, board_asked, course_after, way_on}
+use Rattle.pac_board_course.specs.Course.{CourseValue, begun, course_after, way_on}
+use Rattle.pac_board_course.specs.CourseProofs.{board_asked}
 use Rattle.pac_board_course.specs.State.{BoardState, BoardValue}
 use Rattle.pac_board_course.specs.declared.outcome.Outcome.{Outcome}
 use Rattle.pac_state.specs.Files.{IsState}

@@ -6,7 +6,7 @@ use Rattle.std.proofs.lemmas.Bool.{cases_Bool, false≢true, le-ltb}
 use Rattle.std.proofs.lemmas.Bool.Decides.{nat_tests}
 use Rattle.pac_board_course.specs.Stretch.{Stretch}
 use Rattle.pac_board_course.specs.Stretches.{total_frames, held, held_after}
-use Rattle.pac_board_course.specs.Trace.{plays_joined}
+use Rattle.pac_board_course.specs.TraceLaws.{plays_joined}
 use Rattle.pac_debug.specs.Running.{play_of}
 
 -- ---- frames

@@ -22,15 +22,19 @@ use Rattle.pac_board_course.proofs.Runs.{walk-below}
 use Rattle.pac_board_course.proofs.Walks.{play-timely}
 use Rattle.pac_board_course.specs.State.{BoardValue, nothing_due}
 use Rattle.pac_board_course.proofs.Begun.{courses-begin}
-use Rattle.pac_board_course.specs.Course.{CourseValue, begun, board_asked, course_after, end_of, frame_microseconds}
+use Rattle.pac_board_course.specs.Course.{CourseValue, begun, course_after, end_of, frame_microseconds}
+use Rattle.pac_board_course.specs.CourseProofs.{board_asked}
 use Rattle.pac_board_course.specs.Course.{held_in, next_in, way_on}
-use Rattle.pac_debug.specs.Motions.{IsOutcome}
-use Rattle.pac_debug.specs.Running.{play_of, whole_run}
+use Rattle.pac_debug.specs.MotionsLaws.{IsOutcome}
+use Rattle.pac_debug.specs.Running.{play_of}
+use Rattle.pac_debug.specs.RunningLaws.{whole_run}
 use Rattle.pac_debug.specs.Session.{SessionValue}
 use Rattle.pac_board_course.specs.declared.outcome.Outcome.{Outcome}
 use Rattle.pac_run.specs.declared.inputs.RunInputs.{RunInputs}
-use Rattle.pac_run.specs.Debugs.{IsReady, IsSeenThrough, setting_of_plan}
-use Rattle.pac_run.specs.Plan.{Plan, PlaysProgram, plan_with, program_items}
+use Rattle.pac_run.specs.DebugsProofs.{IsReady}
+use Rattle.pac_run.specs.Debugs.{IsSeenThrough, setting_of_plan}
+use Rattle.pac_run.specs.Plan.{Plan, plan_with, program_items}
+use Rattle.pac_run.specs.PlanProofs.{PlaysProgram}
 use Rattle.pac_run.specs.Recorded.{course_contents, outcome_between}
 use Rattle.pac_run.specs.Resumes.{contents_from, end_state, resumed_of, run_from, without_history}
 use Rattle.pac_run.specs.Run.{RunContents, trace_of, outcome_of}

@@ -1,16 +1,18 @@
 -- What film, wave file and text have after a session that was watched, by its answer.
 use Rattle.std.proofs.Common.{◌≡◌, ℕ, List, [], ◌++◌, Result, Err, sym, ap, subst, arith, ◌∙◌}
 use Rattle.pac_media.specs.WriteFault.{WriteFault}
-use Rattle.pac_media.specs.Counted.{HasTaken}
+use Rattle.pac_media.specs.CountedLaws.{HasTaken}
 use Rattle.pac_board_course.specs.Output.{Output}
-use Rattle.pac_board_course.specs.Sinks.{Giving}
-use Rattle.pac_debug.specs.Running.{Setting, whole_run}
+use Rattle.pac_board_course.specs.SinksLaws.{Giving}
+use Rattle.pac_debug.specs.Running.{Setting}
+use Rattle.pac_debug.specs.RunningLaws.{whole_run}
 use Rattle.pac_debug.specs.Session.{SessionValue, session_at_start}
 use Rattle.pac_board_course.specs.declared.outcome.Outcome.{Outcome}
 use Rattle.pac_debug.specs.declared.line.CommandFault.{CommandFault}
 use Rattle.pac_debug.specs.declared.line.CommandFault.TheVariants as faults
-use Rattle.pac_debug.specs.Obeying.{Scene}
-use Rattle.pac_debug.specs.Watched.{TellsAll, WatchesSession, IsWatchRefused, IsWatchUntold, ToldUpTo, outputs_to_give}
+use Rattle.pac_debug.specs.ObeyingLaws.{Scene}
+use Rattle.pac_debug.specs.Watched.{TellsAll, ToldUpTo}
+use Rattle.pac_debug.specs.WatchedLaws.{WatchesSession, IsWatchRefused, IsWatchUntold, outputs_to_give}
 use Rattle.pac_debug.proofs.HeldUp.{untold-gives}
 use Rattle.pac_run.specs.declared.fault.Output.{Output as Which}
 use Rattle.pac_run.specs.declared.fault.Output.TheVariants as which

@@ -1,12 +1,9 @@
--- To be believed: what a run under a debugger writes, tells and answers.
-use Rattle.std.specs.Prelude.{◌≡◌, ℕ, List, [], Option, Result, Ok, Err}
+-- Believed: what a run under a debugger writes, tells and answers.
+use Rattle.std.specs.Prelude.{◌≡◌, ℕ, List, [], Result, Ok, Err}
 use Rattle.std.specs.Str.Lines.{lines}
 use Rattle.pac_board_course.specs.Stretches.{total_frames, held}
 use Rattle.pac_board_course.specs.Entry.{Entry}
-use Rattle.pac_asm.specs.Assembled.{Assembled}
-use Rattle.pac_board_course.specs.RomParts.{IsWhole as HasAllParts}
 use Rattle.pac_debug.specs.Running.{Setting, play_of, run, next_at}
-use Rattle.pac_debug.specs.Session.{SessionValue, session_at_start}
 use Rattle.pac_board_course.specs.BoardView.{power_on_board_view}
 use Rattle.pac_board_course.specs.Carried.{next_view, walk_view}
 use Rattle.pac_board_course.specs.History.{board_after_entries}
@@ -20,7 +17,7 @@ use Rattle.pac_run.specs.declared.fault.RunFault.{RunFault}
 use Rattle.pac_run.specs.declared.fault.RunFault.TheVariants as fault
 use Rattle.pac_run.specs.declared.inputs.RunInputs.{RunInputs}
 use Rattle.pac_board_course.specs.declared.outcome.Outcome.{Outcome}
-use Rattle.pac_run.specs.Plan.{Plan, PlaysProgram, plan_of, plan_with}
+use Rattle.pac_run.specs.Plan.{Plan, plan_of}
 use Rattle.pac_run.specs.Run.{Writing, Writings, TakesText, IsUnwritten, NothingWritten, IsRunWhole, IsCutAt}
 use Rattle.pac_run.specs.Run.{WithPlan, contents_of, shown_before, trace_of}
 use Rattle.pac_run.specs.Watched.{AllTold, ToldTill, ToldAtWave, IsLineUntold}
@@ -48,15 +45,6 @@ pub record IsSeenAt (plan : Plan) (dip index : ℕ) : Type 0 where
 
 abbrev pub IsSeenThrough : Plan → ℕ → Type 0
 IsSeenThrough plan dip = (index : ℕ) → IsSeenAt plan dip index
-
--- what a session is made from, and that it stands at the beginning of its run of so many frames
-pub record IsReady (inputs : RunInputs) (program : Option Assembled) (session : SessionValue) (frames : ℕ) : Type 0 where
-  pub plan_is : plan_of inputs ≡ Ok (plan_with inputs program session.setting.set session.setting.script)
-  pub switches : session.setting.switches ≡ inputs.dip
-  pub session_is : session ≡ session_at_start session.setting 0
-  pub frames_is : frames ≡ total_frames session.setting.script
-  pub whole : HasAllParts session.setting.set
-  pub lie : PlaysProgram session.setting.set program
 
 -- ---- the text of the session
 

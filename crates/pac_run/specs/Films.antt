@@ -1,11 +1,12 @@
 -- For proofs: what the film and the wave file of a run, side by side, make of an output of the board.
 use Rattle.std.specs.Prelude.{◌≡◌, ◌⊎◌, ℕ, ℤ, ◌-◌, false, List, [], Some}
-use Rattle.pac_media.specs.Counted.{Takes, Refuses, Stops}
+use Rattle.pac_media.specs.CountedLaws.{Takes, Refuses}
+use Rattle.pac_media.specs.CountedProofs.{Stops}
 use Rattle.pac_media.specs.WriteFault.{WriteFault}
 use Rattle.pac_media.specs.Samples.{sample_text}
 use Rattle.pac_media.specs.Sound.{Gains, Delivers, SoundFails}
 use Rattle.pac_board_course.specs.Output.{Output, Image, Sound, Show}
-use Rattle.pac_board_course.specs.Sinks.{Giving, by}
+use Rattle.pac_board_course.specs.SinksLaws.{Giving, by}
 use Rattle.pac_run.specs.declared.fault.Output.TheVariants as which
 use Rattle.pac_run.specs.declared.film.Film.{Film}
 use Rattle.pac_run.specs.Texts.{image_bytes}

@@ -2,6 +2,7 @@ pub mod Names
 pub mod StateCodes
 pub mod Start
 pub mod Plan
+pub mod PlanProofs
 pub mod Started
 pub mod Texts
 pub mod Films
@@ -11,6 +12,7 @@ pub mod Parts
 pub mod Recorded
 pub mod Watched
 pub mod Debugs
+pub mod DebugsProofs
 pub mod Neutral
 pub use Rattle.pac_board_course.specs.ScriptCodes
 pub use Rattle.pac_roms_manifest.specs.Codes as SetCodes
@@ -21,3 +23,5 @@ pub use Rattle.pac_board_course.specs.declared.outcome.Outcome
 pub use Rattle.pac_media.specs.Counted
 pub use Rattle.pac_media.specs.WriteFault
 pub use Rattle.pac_media.specs.Writes
+pub use Rattle.pac_media.specs.CountedProofs
+pub use Rattle.pac_media.specs.WritesProofs

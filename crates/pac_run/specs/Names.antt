@@ -1,4 +1,4 @@
--- To be believed: the names of the outputs, as messages have them.
+-- Believed: the names of the outputs, as messages have them.
 use Rattle.std.specs.Prelude.{ℕ, List, codes}
 use Rattle.pac_run.specs.declared.fault.Output.{Output}
 use Rattle.pac_run.specs.declared.fault.Output.TheVariants.{Frames, Wave, Listing, Report, State, Text}

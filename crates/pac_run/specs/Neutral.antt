@@ -1,4 +1,4 @@
--- To be believed: the law that a debugger changes nothing, which is proved on a public function of the crate: what is so of a run under
+-- Law: the law that a debugger changes nothing, which is proved on a public function of the crate: what is so of a run under
 -- a debugger is so of the run without one.
 use Rattle.std.specs.Prelude.{ℕ, List, Result, Err}
 use Rattle.pac_board_course.specs.declared.outcome.Outcome.{Outcome}

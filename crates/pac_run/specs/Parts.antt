@@ -1,7 +1,7 @@
--- To be believed: the law of runs in parts, which is proved on a public function of the crate: a run whose end was saved, and that goes
+-- Law: the law of runs in parts, which is proved on a public function of the crate: a run whose end was saved, and that goes
 -- on from the file with another script, gives what the run of both scripts at once gives.
 use Rattle.std.specs.Prelude.{◌≡◌, ℕ, ◌+◌, ◌*◌, true, List, ◌++◌, Option, None, Some}
-use Rattle.pac_board_course.specs.ModelLaws.{frame_samples}
+use Rattle.pac_board_course.specs.Step.{frame_samples}
 use Rattle.pac_board_course.specs.State.{BoardValue}
 use Rattle.pac_board_course.specs.Stop.{Stop}
 use Rattle.pac_board_course.specs.Stretch.{Stretch}

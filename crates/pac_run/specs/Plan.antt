@@ -1,6 +1,6 @@
--- To be believed: what a run plays: the program of the source, the ROM set and the script; or the first of their faults.
+-- Believed: what a run plays: the program of the source, the ROM set and the script; or the first of their faults.
 use Rattle.std.specs.Prelude.{◌≡◌, ℕ, List, [], Option, None, Some, option_map, Result, Ok, Err}
-use Rattle.pac_asm.specs.PlacedItems.{Item, AllLie}
+use Rattle.pac_asm.specs.PlacedItems.{Item}
 use Rattle.pac_asm.specs.Programs.{program_of}
 use Rattle.pac_asm.specs.Results.{◌>>=◌}
 use Rattle.pac_asm.specs.declared.fault.AsmFault.{AsmFault}
@@ -11,8 +11,6 @@ use Rattle.pac_listing.specs.Listing.{listing, symbol_rows}
 use Rattle.pac_roms_manifest.specs.Manifests.{manifest_of}
 use Rattle.pac_roms_manifest.specs.Sets.{set_of}
 use Rattle.pac_roms_manifest.specs.declared.fault.SetFault.{SetFault}
-use Rattle.pac_roms_manifest.specs.declared.fault.SetError.{SetError}
-use Rattle.pac_roms_manifest.specs.declared.fault.SetError.TheVariants as reading
 use Rattle.pac_roms_manifest.specs.declared.part.Part.{Part}
 use Rattle.pac_asm.specs.Assembled.{Assembled, items_of}
 use Rattle.pac_board_course.specs.RomParts.{Parts}
@@ -46,11 +44,6 @@ set_told (Err refused) = Err (fault.Set refused)
 abbrev pub set_in : List ℕ → List Part → Option Assembled → Result Parts RunFault
 set_in manifest files program =
     set_told (manifest_of manifest) >>= λ read. set_told (set_of read files (option_map (λ (it : Assembled). it.rom) program))
-
--- a fault of the set, or want of memory
-abbrev pub fault_told : SetError → RunFault
-fault_told (reading.Fault refused) = fault.Set refused
-fault_told reading.Memory = fault.NoMemory
 
 -- the script of a text
 abbrev pub script_told : Result (List Stretch) ScriptFault → Result (List Stretch) RunFault
@@ -87,21 +80,6 @@ plan_of inputs = do
   Ok (plan_with inputs program set script)
 
 -- ---- what is made of them
-
--- What was returned is what the definition says, unless memory ran out.
-abbrev pub Judges : {A : Type 0} → Result A RunFault → Result A RunFault → Type 0
-Judges (Ok value) defined = defined ≡ Ok value
-Judges (Err fault.NoMemory) defined = Unit {0}
-Judges (Err refusal) defined = defined ≡ Err refusal
-
--- a program's items lie in its ROM
-abbrev pub LieIn : Option Assembled → Type 0
-LieIn None = Unit {0}
-LieIn (Some program) = AllLie program.rom (items_of program)
-
--- the set that a run has plays the items of its program
-abbrev pub PlaysProgram : Parts → Option Assembled → Type 0
-PlaysProgram set program = AllLie set.program (program_items program)
 
 -- a state file that is refused, after inputs without a fault
 pub record IsStateRefused (inputs : RunInputs) (from : Option (List ℕ)) (refusal : StateFault) : Type 0 where

@@ -2,16 +2,17 @@
 use Rattle.std.specs.Prelude.{◌≡◌, ℕ, ◌-◌, ◌*◌, ◌/◌, List, [], Option, Result, Ok, Err}
 use Rattle.pac_board_course.specs.Stop.{Stop}
 use Rattle.pac_board_course.specs.Stretches.{total_frames}
-use Rattle.pac_media.specs.Counted.{HasTaken}
+use Rattle.pac_media.specs.CountedLaws.{HasTaken}
 use Rattle.pac_media.specs.CountedFile.{Counted}
 use Rattle.pac_media.specs.WriteFault.{WriteFault}
 use Rattle.pac_media.specs.Samples.{wav_header}
 use Rattle.pac_board_course.specs.BoardView.{BoardView}
-use Rattle.pac_board_course.specs.ModelLaws.{frame_samples}
+use Rattle.pac_board_course.specs.Step.{frame_samples}
 use Rattle.pac_board_course.specs.Output.{Output}
 use Rattle.pac_board_course.specs.Step.{Moment, frame_ticks}
 use Rattle.pac_board_course.specs.Course.{CourseValue, way_on, course_after}
-use Rattle.pac_debug.specs.Running.{Setting, whole_run}
+use Rattle.pac_debug.specs.Running.{Setting}
+use Rattle.pac_debug.specs.RunningLaws.{whole_run}
 use Rattle.pac_asm.specs.Assembled.{Assembled}
 use Rattle.pac_run.specs.declared.inputs.RunInputs.{RunInputs}
 use Rattle.pac_run.specs.Plan.{Plan, IsStateRefused, listing_in, plan_of, source_in}

@@ -1,4 +1,4 @@
--- To be believed: what a run writes and answers that may begin with the board of a state file, and whose end is saved as one.
+-- Believed: what a run writes and answers that may begin with the board of a state file, and whose end is saved as one.
 use Rattle.std.specs.Prelude.{◌≡◌, ℕ, ◌+◌, ◌-◌, ◌*◌, min, List, [], Option, None, Some, Result, Ok, Err}
 use Rattle.pac_asm.specs.PlacedItems.{Item, AllLie}
 use Rattle.pac_board_course.specs.BoardView.{BoardView, IsBoard}

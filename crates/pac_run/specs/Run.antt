@@ -1,4 +1,4 @@
--- To be believed: what a run writes and answers.
+-- Believed: what a run writes and answers.
 use Rattle.std.specs.Prelude.{◌≡◌, ℕ, ◌-◌, ◌<◌, ◌≤◌, nat_le, if◌then◌else◌, List, [], ◌∷◌, length, Result, Ok, Err}
 use Rattle.pac_media.specs.Counted.{file_count}
 use Rattle.pac_media.specs.Writes.{StopsAfter}

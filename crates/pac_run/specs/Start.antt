@@ -1,4 +1,4 @@
--- To be believed: the board that a run begins with: that of power-on, or the one of a state file, which a run may begin with where it
+-- Believed: the board that a run begins with: that of power-on, or the one of a state file, which a run may begin with where it
 -- stands between two frames (this profile).
 use Rattle.std.specs.Prelude.{◌≡◌, ℕ, ◌+◌, ◌*◌, ◌%◌, Bool, not, ◌&&◌, ◌||◌, nat_le, if◌then◌else◌, is_some}
 use Rattle.std.specs.Prelude.{List, Option, None, Some}

@@ -1,7 +1,7 @@
 -- For proofs: the board that a run begins with, and what is played, by the answers of making them.
 use Rattle.std.specs.Prelude.{◌≡◌, ℕ, List, Option, Result, Ok, Err}
 use Rattle.pac_board_course.specs.BoardView.{IsBoard}
-use Rattle.pac_board_course.specs.Course.{FitsAsked, FitsTime}
+use Rattle.pac_board_course.specs.CourseProofs.{FitsAsked, FitsTime}
 use Rattle.pac_board_course.specs.RomParts.{Parts, IsWhole}
 use Rattle.pac_board_course.specs.State.{BoardValue, nothing_due}
 use Rattle.pac_board_course.specs.Stretch.{Stretch}
@@ -12,7 +12,8 @@ use Rattle.pac_run.specs.declared.fault.RunFault.TheVariants as fault
 use Rattle.pac_run.specs.declared.fault.StateFault.TheVariants.{File}
 use Rattle.pac_run.specs.declared.inputs.RunInputs.{RunInputs}
 use Rattle.pac_run.specs.declared.plan.Prepared.{Prepared}
-use Rattle.pac_run.specs.Plan.{IsStateRefused, PlaysProgram, plan_of, plan_with}
+use Rattle.pac_run.specs.Plan.{IsStateRefused, plan_of, plan_with}
+use Rattle.pac_run.specs.PlanProofs.{PlaysProgram}
 use Rattle.pac_run.specs.Start.{IsFirstBoard, IsResumable, RefusesBytes, RefusesState}
 
 -- a fault of a state file, or want of memory

@@ -1,4 +1,4 @@
--- To be believed: what is printed of a state file from which no run can be taken up (this profile).
+-- Believed: what is printed of a state file from which no run can be taken up (this profile).
 use Rattle.std.specs.Prelude.{ℕ, List, codes}
 use Rattle.pac_state.specs.Codes.{load_fault_text}
 use Rattle.pac_run.specs.declared.fault.StateFault.{StateFault}

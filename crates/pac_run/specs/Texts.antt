@@ -1,4 +1,4 @@
--- To be believed: the four texts of a run: the images of its pictures, its sound, the listing and the report.
+-- Believed: the four texts of a run: the images of its pictures, its sound, the listing and the report.
 use Rattle.std.specs.Prelude.{ℕ, ℤ, pos, ◌*◌, ◌-◌, length, replicate, Option, None, Some, slice_index, List, [], ◌∷◌, ◌++◌, codes, decimal}
 use Rattle.std.specs.List.{flat_map}
 use Rattle.pac_listing.specs.Hexadecimal.{hex_byte, hex_word}
@@ -8,7 +8,7 @@ use Rattle.pac_board_course.specs.Cause.{Cause}
 use Rattle.pac_board_course.specs.CauseVariants.{Opcode, Vector}
 use Rattle.pac_media.specs.Images.{ppm_of}
 use Rattle.pac_media.specs.Samples.{wav_header, sample_text, samples_text}
-use Rattle.pac_board_course.specs.ModelLaws.{frame_samples}
+use Rattle.pac_board_course.specs.Step.{frame_samples}
 use Rattle.pac_board_course.specs.Output.{Output, Sound, Show}
 use Rattle.pac_board_course.specs.declared.outcome.Outcome.{Outcome}
 

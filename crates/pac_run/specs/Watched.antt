@@ -1,4 +1,4 @@
--- To be believed: what a debugger's session has told where an output refused, and what the others have where its text is refused.
+-- Believed: what a debugger's session has told where an output refused, and what the others have where its text is refused.
 use Rattle.std.specs.Prelude.{◌≡◌, ◌⊎◌, ℕ, ◌<◌, ◌≤◌, List, ◌∷◌, ◌++◌, length}
 use mathlib.Core.List.{IsPrefix}
 use Rattle.pac_media.specs.Counted.{file_count}

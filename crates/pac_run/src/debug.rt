@@ -1,9 +1,11 @@
 //! A run under a debugger as one call.
 
 ghost use Rattle.std.specs.Prelude.{◌≡◌, IfOk, IfErr, None, Err};
-ghost use Rattle.pac_debug.specs.Session.{IsNew, session_at_start};
+ghost use Rattle.pac_debug.specs.SessionProofs.{IsNew};
+ghost use Rattle.pac_debug.specs.Session.{session_at_start};
 ghost use Rattle.pac_run.specs.declared.fault.RunFault.TheVariants.{NoMemory};
-ghost use Rattle.pac_run.specs.Debugs.{Debugs, IsReady};
+ghost use Rattle.pac_run.specs.Debugs.{Debugs};
+ghost use Rattle.pac_run.specs.DebugsProofs.{IsReady};
 ghost use Rattle.pac_run.specs.Run.{writing, writings};
 ghost use Rattle.pac_run.specs.Started.{Prepares};
 

@@ -2,7 +2,7 @@
 
 ghost use Rattle.std.specs.Prelude.{◌≡◌, ◌<◌, ℕ, List};
 ghost use Rattle.pac_board_course.specs.CauseVariants.{Opcode, Vector};
-ghost use Rattle.pac_media.specs.Counted.{Puts};
+ghost use Rattle.pac_media.specs.CountedProofs.{Puts};
 ghost use Rattle.pac_run.specs.Texts as text;
 
 use itoa::Buffer;

@@ -1,9 +1,10 @@
 //! The run as one call.
 
 ghost use Rattle.std.specs.Prelude.{◌≡◌, ◌+◌, ◌/◌, ◌^◌, ◌<◌, IfOk, option_copied};
-ghost use Rattle.pac_media.specs.Counted.{Puts};
+ghost use Rattle.pac_media.specs.CountedProofs.{Puts};
 ghost use Rattle.pac_board_course.specs.Step.{frame_ticks};
-ghost use Rattle.pac_board_course.specs.Course.{FitsAsked, FitsTime, begun, course_after, way_on};
+ghost use Rattle.pac_board_course.specs.CourseProofs.{FitsAsked, FitsTime};
+ghost use Rattle.pac_board_course.specs.Course.{begun, course_after, way_on};
 ghost use Rattle.pac_board_course.specs.State.{nothing_due};
 ghost use Rattle.pac_run.specs.Plan.{listing_in};
 ghost use Rattle.pac_run.specs.Recorded.{RunsTo, WritesRun, WritesWholeText, course_contents, outcome_between};

@@ -3,8 +3,8 @@
 ghost use Rattle.std.specs.Prelude.{◌≡◌, IfOk};
 ghost use Rattle.std.specs.Str.Lines.{lines};
 ghost use Rattle.pac_board_course.specs.Stretches.{total_frames};
-ghost use Rattle.pac_debug.specs.Motions.{IsOutcome};
-ghost use Rattle.pac_debug.specs.Running.{whole_run};
+ghost use Rattle.pac_debug.specs.MotionsLaws.{IsOutcome};
+ghost use Rattle.pac_debug.specs.RunningLaws.{whole_run};
 ghost use Rattle.pac_debug.specs.Session.{session_at_start};
 ghost use Rattle.pac_run.specs.Recorded.{WatchesFilm, WatchesOutputs};
 ghost use Rattle.pac_run.specs.Run.{writing};

@@ -5,7 +5,8 @@ use Rattle.pac_run.specs.Manifests.{manifest_of}
 use Rattle.pac_run.specs.Manifest.{Manifest}
 use Rattle.pac_run_options.specs.CommandLine.{AskedRun}
 use Rattle.pac_run_files.specs.Files.{FindsFile, FirstUnread}
-use Rattle.pac_run_files.specs.Read.{ReadsFiles, HasGivenFiles, HasParts, HasRead, PartUnread, manifest_part_names, part_files}
+use Rattle.pac_run_files.specs.ReadProofs.{ReadsFiles}
+use Rattle.pac_run_files.specs.Read.{HasGivenFiles, HasParts, HasRead, PartUnread, manifest_part_names, part_files}
 use Rattle.pac_run_files.specs.declared.given.Given.{Given}
 use Rattle.pac_run_files.specs.declared.given.ReadFault.{ReadFault}
 use Rattle.pac_run_files.specs.declared.given.ReadFault.TheVariants.{Unreadable, Memory}
@@ -13,10 +14,11 @@ use Rattle.pac_run_files.specs.declared.parts.NamedFile.{NamedFile}
 use Rattle.pac_run_command.specs.Endings.{IsOfReading}
 use Rattle.pac_run_command.specs.Failures as told
 use Rattle.pac_run_command.specs.declared.failure.Failure.{Failure}
+use Rattle.pac_run_command.specs.FailuresProofs as failures_proofs
 
 -- why nothing was begun, by a fault of reading
 pub unread-reason : {A : Type 0} (read : A → Type 0) (unread all : List ℕ → Type 0) (fault : ReadFault) (failure : Failure)
-    → ((name : List ℕ) → unread name → all name) → ReadsFiles read unread (Err fault) → failure ≡ told.read_failure fault
+    → ((name : List ℕ) → unread name → all name) → ReadsFiles read unread (Err fault) → failure ≡ failures_proofs.read_failure fault
     → IsOfReading all failure
 unread-reason read unread all (Unreadable name) failure onward reads failure_is =
     subst (IsOfReading all) (sym failure_is) (onward name.now reads)

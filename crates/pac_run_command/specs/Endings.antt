@@ -1,4 +1,4 @@
--- To be believed: how the program's work ends: the exit status that is answered, and what is told on the console.
+-- Believed: how the program's work ends: the exit status that is answered, and what is told on the console.
 use Rattle.std.specs.Prelude.{◌≡◌, ⊤, ℕ, List, Result, Ok, Err}
 use Rattle.clap.specs.declared.error.kind.ErrorKind.{ErrorKind}
 use Rattle.clap.specs.declared.error.kind.ErrorKind.TheVariants as kind

@@ -1,5 +1,5 @@
--- To be believed: what is told where the program can't do its work: the line that goes to standard error, and the exit status.
-use Rattle.std.specs.Prelude.{◌≡◌, ◌⊎◌, ℕ, List, ◌++◌, Option, Some, None, Result, Ok, Err, codes}
+-- Believed: what is told where the program can't do its work: the line that goes to standard error, and the exit status.
+use Rattle.std.specs.Prelude.{◌≡◌, ◌⊎◌, ℕ, List, ◌++◌, Option, Some, None, codes}
 use Rattle.std.specs.Fmt.{decimal}
 use Rattle.clap.specs.Words.{IsAmong, Kinds}
 use Rattle.clap.specs.declared.error.kind.ErrorKind.{ErrorKind}
@@ -10,8 +10,6 @@ use Rattle.pac_run.specs.ScriptCodes as inputs
 use Rattle.pac_run.specs.SetCodes as manifest
 use Rattle.pac_run.specs.StateCodes as states
 use Rattle.pac_run_files.specs.Names.{told_name}
-use Rattle.pac_run_files.specs.declared.given.ReadFault.{ReadFault}
-use Rattle.pac_run_files.specs.declared.given.ReadFault.TheVariants as reading
 use Rattle.pac_run.specs.Names.{output_name}
 use Rattle.pac_run.specs.declared.fault.RunFault.{RunFault}
 use Rattle.pac_run.specs.declared.fault.RunFault.TheVariants as run
@@ -57,17 +55,6 @@ failure_status Words = 2
 abbrev pub end_status : Option Stop → ℕ
 end_status None = 0
 end_status (Some stop) = 5
-
--- the failure that a fault of reading files is
-abbrev pub read_failure : ReadFault → Failure
-read_failure (reading.Unreadable name) = Read name
-read_failure reading.Memory = Memory
-
--- by the answer of creating outputs: all were created; or the one that couldn't be, after no byte
-abbrev pub Opens : {A : Type 0} → (A → Type 0) → (Target → Type 0) → Result A Failure → Type 0
-Opens created uncreated (Ok files) = created files
-Opens created uncreated (Err (Write output count)) = (count ≡ 0) × uncreated output
-Opens created uncreated (Err other) = ⊥
 
 -- the greatest exit status
 abbrev pub most_status : ℕ

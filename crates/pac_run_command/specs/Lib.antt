@@ -1,5 +1,6 @@
 pub mod Endings
 pub mod Failures
+pub mod FailuresProofs
 pub mod Machine
 pub mod Making
 pub mod Outputs

@@ -1,4 +1,4 @@
--- To be believed: what the program does on a machine. Of its files, its standard output and its console a contract knows what their
+-- Believed: what the program does on a machine. Of its files, its standard output and its console a contract knows what their
 -- relations say. What they were before the work and are after it nothing tells, so it is said that there are such.
 use Rattle.std.specs.Prelude.{◌⊎◌, ℕ, List, Option, Result}
 use Rattle.clap.specs.Words.{Kinds}

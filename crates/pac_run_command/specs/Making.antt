@@ -1,4 +1,4 @@
--- To be believed: what `asm` and `dis` do with files, by the answer.
+-- Believed: what `asm` and `dis` do with files, by the answer.
 use Rattle.std.specs.Prelude.{◌≡◌, ◌⊎◌, ℕ, List, [], ◌∷◌, Some, Result, Err}
 use Rattle.pac_run_options.specs.CommandLine.{AskedAsm}
 use Rattle.pac_run.specs.declared.fault.Output.TheVariants.{Listing}

@@ -1,4 +1,4 @@
--- To be believed: what the program does with the files of a run: which it reads, which it creates, what these have then, and
+-- Believed: what the program does with the files of a run: which it reads, which it creates, what these have then, and
 -- how it ends.
 use Rattle.std.specs.Prelude.{◌≡◌, ◌⊎◌, ℕ, List, [], ◌∷◌, map, Option, Some, None, option_map, option_to_list, Result, Err}
 use Rattle.pac_run_files.specs.declared.files.FileKind.TheVariants.{Any}

@@ -1,4 +1,4 @@
--- To be believed: what assembling a source leaves of its two outputs, and what a run leaves, by the answer; and the same over files.
+-- Believed: what assembling a source leaves of its two outputs, and what a run leaves, by the answer; and the same over files.
 use Rattle.std.specs.Prelude.{◌≡◌, ℕ, List, Option, None, Result, Ok, Err}
 use Rattle.pac_asm.specs.Programs.{program_of}
 use Rattle.pac_listing.specs.Listing.{listing}

@@ -1,4 +1,4 @@
--- To be believed: what disassembling bytes leaves of the text's output, by the answer.
+-- Believed: what disassembling bytes leaves of the text's output, by the answer.
 use Rattle.std.specs.Prelude.{◌≡◌, ◌<◌, ◌≤◌, ◌⊎◌, ℕ, List, length, Result, Ok, Err}
 use Rattle.pac_dis.specs.Lines.{disassembly}
 use Rattle.pac_run.specs.declared.fault.Output.TheVariants.{Text}

@@ -1,4 +1,4 @@
--- To be believed: what the program does for the words of a command line, by what they ask for: from what its files have to what
+-- Believed: what the program does for the words of a command line, by what they ask for: from what its files have to what
 -- its outputs get, what is told on the console, and the exit status.
 use Rattle.std.specs.Prelude.{◌≡◌, ◌⊎◌, ⊤, ℕ, List, [], Option, Some, Result}
 use Rattle.clap.specs.Words.{IsAmong, Kinds}

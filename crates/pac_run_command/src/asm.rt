@@ -3,8 +3,8 @@
 ghost use Rattle.std.specs.Prelude.{◌≡◌};
 ghost use Rattle.pac_listing.specs.Listing as texts;
 ghost use Rattle.pac_run.specs.Recorded.{WritesWholeText};
-ghost use Rattle.pac_run_options.specs.CommandLine.{told_asm};
-ghost use Rattle.pac_run_command.specs.Failures.{Opens};
+ghost use Rattle.pac_run_options.specs.CommandLineProofs.{told_asm};
+ghost use Rattle.pac_run_command.specs.FailuresProofs.{Opens};
 ghost use Rattle.pac_run_files.specs.Files.{AllClosed, AllCreated, FirstUncreated};
 ghost use Rattle.pac_run_command.specs.Making.{Makes, asm_outputs, asm_paths, asm_output_files};
 ghost use Rattle.pac_run.specs.Run.{writing};

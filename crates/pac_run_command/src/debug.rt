@@ -1,7 +1,7 @@
 //! `debug`: a run under a debugger, whose commands a file has.
 
 ghost use Rattle.std.specs.Prelude.{◌≡◌, ◌≤◌};
-ghost use Rattle.pac_run_options.specs.CommandLine.{told_debug, told_run};
+ghost use Rattle.pac_run_options.specs.CommandLineProofs.{told_debug, told_run};
 ghost use Rattle.pac_run_command.specs.Failures as told;
 ghost use Rattle.pac_run_command.specs.Outputs.{RecordsRun, WatchesRun, from_power_on};
 ghost use Rattle.pac_run.specs.Run.{writing, writings};

@@ -3,6 +3,7 @@
 ghost use Rattle.std.specs.Prelude.{◌≡◌, ◌≤◌, Some};
 ghost use Rattle.std.specs.Fmt.{WritesOnOk};
 ghost use Rattle.pac_run_command.specs.Failures as told;
+ghost use Rattle.pac_run_command.specs.FailuresProofs as failures_proofs;
 
 use pac_asm::AsmFault;
 use pac_run::{Output, RunFault, ScriptFault, SetFault, StateFault, Stop};
@@ -104,7 +105,7 @@ impl Failure<'_> {
 
 /// The failure that a fault of reading files is.
 pub(crate) fn read_failure<'a>(fault: ReadFault<'a>) -> Failure<'a>
-    ensures { result ≡ told.read_failure fault.entry }
+    ensures { result ≡ failures_proofs.read_failure fault.entry }
 {
     match fault {
         ReadFault::Unreadable(name) => Failure::Read(name),

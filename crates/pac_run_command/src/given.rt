@@ -3,7 +3,7 @@
 ghost use Rattle.std.specs.Prelude.{◌≡◌, List, map, option_copied, option_map};
 ghost use Rattle.pac_run_files.specs.Read.{told_file, told_part};
 ghost use Rattle.pac_run_files.specs.declared.parts.NamedFile.{NamedFile};
-ghost use Rattle.pac_run_options.specs.CommandLine.{told_run};
+ghost use Rattle.pac_run_options.specs.CommandLineProofs.{told_run};
 ghost use Rattle.pac_run_command.specs.Outputs.{IsInputs};
 
 use pac_run::{Part, RunInputs};

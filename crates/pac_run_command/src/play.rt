@@ -2,10 +2,10 @@
 //! saved.
 
 ghost use Rattle.std.specs.Prelude.{◌≡◌, ◌≤◌, ◌||◌, is_some, option_copied};
-ghost use Rattle.pac_run_options.specs.CommandLine.{told_play};
+ghost use Rattle.pac_run_options.specs.CommandLineProofs.{told_play};
 ghost use Rattle.pac_run_command.specs.Endings.{RunEnds};
 ghost use Rattle.pac_run_command.specs.Failures as told;
-ghost use Rattle.pac_run_command.specs.Failures.{Opens};
+ghost use Rattle.pac_run_command.specs.FailuresProofs.{Opens};
 ghost use Rattle.pac_run_files.specs.Files.{AllClosed, AllCreated, FirstUncreated};
 ghost use Rattle.pac_run_command.specs.Outputs.{PlaysRun, RecordsRun, run_output_files, run_outputs, run_paths};
 ghost use Rattle.pac_run.specs.Run.{writing, writings};

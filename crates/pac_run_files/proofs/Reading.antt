@@ -2,7 +2,8 @@
 use Rattle.std.proofs.Common.{ℕ, List, [], ◌∷◌, ◌++◌}
 use Rattle.std.proofs.Common.{Err, inl, inr}
 use Rattle.pac_run_files.specs.Files.{FindsFile, IsUnread, FirstUnread, standing_by}
-use Rattle.pac_run_files.specs.Read.{ReadsFiles, IsPart, HasParts, part_files}
+use Rattle.pac_run_files.specs.ReadProofs.{ReadsFiles}
+use Rattle.pac_run_files.specs.Read.{IsPart, HasParts, part_files}
 use Rattle.pac_run_files.specs.declared.given.ReadFault.{ReadFault}
 use Rattle.pac_run_files.specs.declared.given.ReadFault.TheVariants.{Unreadable, Memory}
 use Rattle.pac_run_files.specs.declared.parts.NamedFile.{NamedFile}

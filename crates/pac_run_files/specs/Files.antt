@@ -1,6 +1,6 @@
--- To be believed: what reading the files of a command line comes to, and creating its outputs. A file system says by two
+-- Believed: what reading the files of a command line comes to, and creating its outputs. A file system says by two
 -- relations what a read of a path may find, `finds`, and what creating a file of a path, or failing to, leaves, `creates`.
-use Rattle.std.specs.Prelude.{◌≡◌, ◌<◌, ◌≤◌, ◌⊎◌, ⊤, ℕ, List, [], ◌∷◌, ◌++◌, length, codes, unwrap_or, if◌then◌else◌, ◌==◌}
+use Rattle.std.specs.Prelude.{◌≡◌, ◌≤◌, ◌⊎◌, ⊤, ℕ, List, [], ◌∷◌, ◌++◌, length, codes, unwrap_or, if◌then◌else◌, ◌==◌}
 use Rattle.std.specs.Prelude.{Vec, Option, Some, None, IfSome, Result, Ok, Err}
 use Rattle.std.specs.declared.alloc.Global.{Global}
 use Rattle.pac_run_files.specs.Names.{slash, is_within_folder}
@@ -12,13 +12,6 @@ use Rattle.pac_run_files.specs.declared.files.ReadError.TheVariants as reading
 -- the most bytes of a file that is read, 16 MiB (this profile)
 abbrev pub most_read : ℕ
 most_read = 16777216
-
--- Reading all that a reader has left, as far as this is known: these bytes, and no more than may be; or they are more. For want of
--- memory, or where the reader fails, anything may be left.
-abbrev pub IsReadWhole : (most : ℕ) → (left : Option (List ℕ)) → Result (Vec ℕ Global) ReadError → Type 0
-IsReadWhole most left (Ok bytes) = IfSome left (λ known. bytes.items ≡ known) × (length bytes.items ≤ most)
-IsReadWhole most left (Err reading.TooLong) = IfSome left (λ known. most < length known)
-IsReadWhole most left (Err other) = ⊤
 
 -- what a read of a path may find in one state of the files, where any kind of file will do or a plain one is wanted
 abbrev pub FindsFile : Type 1

@@ -1,6 +1,6 @@
--- To be believed: what reading the files of a run comes to: those that the command line names, and then those that the manifest
+-- Believed: what reading the files of a run comes to: those that the command line names, and then those that the manifest
 -- names.
-use Rattle.std.specs.Prelude.{◌≡◌, ⊤, ℕ, List, [], ◌∷◌, ◌++◌, map, filter_map, Vec, string_bytes, Option, Some, None, Result, Ok, Err}
+use Rattle.std.specs.Prelude.{◌≡◌, ⊤, ℕ, List, [], ◌∷◌, ◌++◌, map, filter_map, Vec, string_bytes, Option, Some, None}
 use Rattle.std.specs.Result.{result_ok}
 use Rattle.std.specs.declared.alloc.Global.{Global}
 use Rattle.pac_roms_manifest.specs.Manifests.{manifest_of, file_of_part}
@@ -9,17 +9,9 @@ use Rattle.pac_roms_manifest.specs.declared.manifest.Manifest.{Manifest}
 use Rattle.pac_roms_manifest.specs.declared.part.Part.{Part}
 use Rattle.pac_run_options.specs.CommandLine.{AskedRun, AskedPlay, AskedDebug}
 use Rattle.pac_run_files.specs.declared.given.Given.{Given}
-use Rattle.pac_run_files.specs.declared.given.ReadFault.{ReadFault}
-use Rattle.pac_run_files.specs.declared.given.ReadFault.TheVariants.{Unreadable, Memory}
 use Rattle.pac_run_files.specs.declared.parts.NamedFile.{NamedFile}
 use Rattle.pac_run_files.specs.declared.files.FileKind.TheVariants.{Any, Plain}
 use Rattle.pac_run_files.specs.Files.{FindsFile, WantedFile, as_given, standing_by, path_in, MayFind, FirstUnread}
-
--- by the answer: what was read; or the name of a file that can't be; or memory ran out
-abbrev pub ReadsFiles : {A : Type 0} → (A → Type 0) → (List ℕ → Type 0) → Result A ReadFault → Type 0
-ReadsFiles read unread (Ok value) = read value
-ReadsFiles read unread (Err (Unreadable name)) = unread name.now
-ReadsFiles read unread (Err Memory) = ⊤
 
 -- a file that the command line may name
 abbrev pub files_if_named : Option (List ℕ) → List WantedFile

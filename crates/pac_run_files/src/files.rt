@@ -2,7 +2,8 @@
 
 ghost use Rattle.std.specs.Prelude.{ℕ, ◌-◌, ◌<◌, ◌^◌, List, Option, ⊤};
 ghost use Rattle.pac_run_files.specs.declared.files.FileKind.{FileKind};
-ghost use Rattle.pac_run_files.specs.Files.{IsFound, IsOfMachine, IsReadWhole, most_read};
+ghost use Rattle.pac_run_files.specs.Files.{IsFound, IsOfMachine, most_read};
+ghost use Rattle.pac_run_files.specs.FilesProofs.{IsReadWhole};
 
 use pac_out::Out;
 use pac_out::through::Through;

@@ -1,10 +1,11 @@
 //! The files that the command line of a run names, as they are read.
 
 ghost use Rattle.std.specs.Prelude.{◌≤◌, IfOk, Some, length, option_copied};
-ghost use Rattle.pac_run_options.specs.CommandLine.{told_debug, told_play, told_run};
+ghost use Rattle.pac_run_options.specs.CommandLineProofs.{told_debug, told_play, told_run};
 ghost use Rattle.pac_run_files.specs.declared.files.FileKind.TheVariants.{Any};
 ghost use Rattle.pac_run_files.specs.Files.{FirstUnread, IsUnread, as_given, most_read};
-ghost use Rattle.pac_run_files.specs.Read.{HasGivenFiles, HasIfNamed, ReadsFiles, files_if_named};
+ghost use Rattle.pac_run_files.specs.Read.{HasGivenFiles, HasIfNamed, files_if_named};
+ghost use Rattle.pac_run_files.specs.ReadProofs.{ReadsFiles};
 ghost use Rattle.pac_run_files.specs.Read.{given_files, played_files, watched_files};
 
 use crate::files::{FileKind, FileSystem, ReadError};

@@ -5,7 +5,8 @@ ghost use Rattle.std.specs.Result.{result_ok};
 ghost use Rattle.pac_roms_manifest.specs.Manifests.{manifest_of};
 ghost use Rattle.pac_run_files.specs.declared.files.FileKind.TheVariants.{Plain};
 ghost use Rattle.pac_run_files.specs.Files.{FirstUnread, IsUnread, MayFind, sibling_path, folder_of, path_in, standing_by};
-ghost use Rattle.pac_run_files.specs.Read.{HasParts, IsPart, ReadsFiles, manifest_part_names, part_files, told_file, told_part};
+ghost use Rattle.pac_run_files.specs.Read.{HasParts, IsPart, manifest_part_names, part_files, told_file, told_part};
+ghost use Rattle.pac_run_files.specs.ReadProofs.{ReadsFiles};
 
 use crate::files::{FileKind, FileSystem};
 use crate::given::{ReadFault, read_path};

@@ -12,7 +12,8 @@ use Rattle.clap.specs.Words.{AddsArg, AddsInTurn, AddsSubcommand, App, Rule, Tex
 use Rattle.clap.specs.declared.builder.arg.Arg.{Arg}
 use Rattle.clap.specs.declared.builder.command.Command.{Command}
 use Rattle.clap.specs.declared.builder.command.Command.TheViews.{out-Command}
-use Rattle.pac_run_options.specs.CommandLine.{app_of_command, command}
+use Rattle.pac_run_options.specs.CommandLineProofs.{app_of_command}
+use Rattle.pac_run_options.specs.CommandLine.{command}
 use Rattle.pac_run_options.specs.Rows.{told_argument}
 use Rattle.pac_run_options.specs.declared.command.Argument.{Argument}
 use Rattle.pac_run_options.specs.declared.command.Argument.TheVariants as argument

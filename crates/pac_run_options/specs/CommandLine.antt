@@ -1,22 +1,16 @@
--- To be believed: the command line of the program as `clap` knows it, and what its words ask for.
+-- Believed: the command line of the program as `clap` knows it, and what its words ask for.
 use Rattle.std.specs.Prelude.{ℕ, Bool, true, false, pos, List, [], ◌∷◌, ◌++◌, ◌&&◌, Option, Some, None}
-use Rattle.std.specs.Prelude.{if◌then◌else◌, codes, fold, option_map, option_and_then}
+use Rattle.std.specs.Prelude.{if◌then◌else◌, codes, option_map, option_and_then}
 use Rattle.std.specs.Option.{option_map_or}
 use Rattle.std.specs.Str.{bytes_eq}
 use Rattle.std.specs.Str.Parse.{digits_value, without_leading_plus}
-use Rattle.clap.specs.Words.{App, Kinds, Row, Rule, Shape, Text, fault_of, first_of, new_rule, one_of, subcommand_of, with_rule}
+use Rattle.clap.specs.Words.{App, Kinds, Row, Rule, Shape, Text, fault_of, first_of, new_rule, one_of, subcommand_of}
 use Rattle.clap.specs.Simple.{new_shape}
 use Rattle.clap.specs.Kinds.{or_else}
 use Rattle.clap.specs.Takes.{is_given}
 use Rattle.clap.specs.ValueTests.{is_unsigned_in}
 use Rattle.clap.specs.declared.error.kind.ErrorKind.TheVariants.{ArgumentConflict}
 use Rattle.clap.specs.declared.builder.value_parser.ValueParser.TheVariants as parser
-use Rattle.pac_run_options.specs.declared.request.AsmFiles.{AsmFiles}
-use Rattle.pac_run_options.specs.declared.request.DebugFiles.{DebugFiles}
-use Rattle.pac_run_options.specs.declared.request.PlayFiles.{PlayFiles}
-use Rattle.pac_run_options.specs.declared.request.RunFiles.{RunFiles}
-use Rattle.pac_run_options.specs.declared.request.Request.{Request}
-use Rattle.pac_run_options.specs.declared.request.Request.TheVariants as request
 
 -- ---- what may be said
 
@@ -73,13 +67,6 @@ debug_command = command (codes "debug") debug_rules
 
 abbrev pub dis_command : Shape
 dis_command = command (codes "dis") dis_rules
-
--- a command with no subcommand
-abbrev pub app_of_command : Shape → App
-app_of_command shape = record { top = shape; subs = [] }
-
-abbrev pub with_rules : List Rule → App → App
-with_rules rules app = fold with_rule app rules
 
 -- the program: one of four subcommands has to be there
 unfoldable pub pacboard : App
@@ -209,33 +196,3 @@ unfoldable pub request_of : List Text → Option Asked
 request_of words = unless_refused (faults_of words) (option_and_then asked_command (subcommand_of pacboard words))
 
 -- ---- what the code tells
-
-abbrev pub told_asm : AsmFiles → AskedAsm
-told_asm files = record { source = files.source.now; rom = files.rom.now; listing = files.listing.now }
-
-abbrev pub told_run : RunFiles → AskedRun
-told_run files = record {
-  set = files.set.now;
-  script = files.script.now;
-  frames = files.frames.now;
-  wave = files.wave.now;
-  listing = files.listing.now;
-  source = option_map (λ s. s.now) files.source;
-  dip = files.dip;
-}
-
-abbrev pub told_play : PlayFiles → AskedPlay
-told_play files = record {
-  run = told_run files.run;
-  load = option_map (λ s. s.now) files.load;
-  save = option_map (λ s. s.now) files.save;
-}
-
-abbrev pub told_debug : DebugFiles → AskedDebug
-told_debug files = record { run = told_run files.run; commands = files.commands.now }
-
-abbrev pub told_request : Request → Asked
-told_request (request.Asm files) = asm (told_asm files)
-told_request (request.Run files) = run (told_play files)
-told_request (request.Debug files) = debug (told_debug files)
-told_request (request.Dis file) = dis file.now

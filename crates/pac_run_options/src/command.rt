@@ -4,6 +4,7 @@ ghost use Rattle.std.specs.Prelude.{◌≡◌, ◌∷◌, ◌++◌, IfOk, Ok, []
 ghost use Rattle.clap.specs.Simple.{new_shape};
 ghost use Rattle.clap.specs.Words.{app_of, kind_of, rule_of};
 ghost use Rattle.pac_run_options.specs.CommandLine as line;
+ghost use Rattle.pac_run_options.specs.CommandLineProofs as command_line_proofs;
 ghost use Rattle.pac_run_options.specs.Rows.{told_argument};
 
 use clap::error::ErrorKind;
@@ -48,7 +49,7 @@ fn program<'a>(alloc: Global) -> Command<'a>
 /// The subcommands, in the order of the help. A failure is handed on to the end: a way out here, with commands to drop, would cost far
 /// more to check.
 fn subcommands<'a>(alloc: Global) -> Result<Vec<Command<'a>>, AllocError>
-    ensures { IfOk result (λ commands. map app_of commands.items ≡ map line.app_of_command
+    ensures { IfOk result (λ commands. map app_of commands.items ≡ map command_line_proofs.app_of_command
         (line.asm_command ∷ line.run_command ∷ line.debug_command ∷ line.dis_command ∷ [])) }
 {
     let commands = with_one_more(Ok(Vec::new(alloc)), asm_command(alloc));
@@ -72,7 +73,7 @@ fn with_one_more<T: Drop>(
 
 /// `asm SOURCE --rom FILE --listing FILE`.
 fn asm_command<'a>(alloc: Global) -> Result<Command<'a>, AllocError>
-    ensures { IfOk result (λ command. app_of command ≡ line.app_of_command line.asm_command) }
+    ensures { IfOk result (λ command. app_of command ≡ command_line_proofs.app_of_command line.asm_command) }
 {
     subcommand(
         alloc,
@@ -90,7 +91,7 @@ fn asm_command<'a>(alloc: Global) -> Result<Command<'a>, AllocError>
 /// `run`, by the name that the usage gives it: the options of a run, and the states that it begins and ends with,
 /// `[--load FILE] [--save FILE]`.
 fn run_command<'a>(alloc: Global, name: &'a str) -> Result<Command<'a>, AllocError>
-    ensures { IfOk result (λ command. app_of command ≡ line.app_of_command (line.command name.entry.now line.play_rules)) }
+    ensures { IfOk result (λ command. app_of command ≡ command_line_proofs.app_of_command (line.command name.entry.now line.play_rules)) }
 {
     subcommand(
         alloc,
@@ -109,7 +110,7 @@ fn run_command<'a>(alloc: Global, name: &'a str) -> Result<Command<'a>, AllocErr
 
 /// `debug` with the options of a run and `--commands FILE`.
 fn debug_command<'a>(alloc: Global) -> Result<Command<'a>, AllocError>
-    ensures { IfOk result (λ command. app_of command ≡ line.app_of_command line.debug_command) }
+    ensures { IfOk result (λ command. app_of command ≡ command_line_proofs.app_of_command line.debug_command) }
 {
     subcommand(
         alloc,
@@ -122,7 +123,7 @@ fn debug_command<'a>(alloc: Global) -> Result<Command<'a>, AllocError>
 
 /// `dis FILE`.
 fn dis_command<'a>(alloc: Global) -> Result<Command<'a>, AllocError>
-    ensures { IfOk result (λ command. app_of command ≡ line.app_of_command line.dis_command) }
+    ensures { IfOk result (λ command. app_of command ≡ command_line_proofs.app_of_command line.dis_command) }
 {
     subcommand(
         alloc,
@@ -156,7 +157,7 @@ fn subcommand<'a>(
     shared: &[Argument<'a>],
     own: &[Argument<'a>],
 ) -> Result<Command<'a>, AllocError>
-    ensures { IfOk result (λ command. app_of command ≡ line.app_of_command
+    ensures { IfOk result (λ command. app_of command ≡ command_line_proofs.app_of_command
         (line.command name.entry.now (map told_argument shared.now ++ map told_argument own.now))) }
 {
     let mut arguments = Vec::new(alloc);

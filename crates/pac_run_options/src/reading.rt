@@ -4,6 +4,7 @@ ghost use Rattle.std.specs.Prelude.{◌≡◌, IfOk, Some, map, option_and_then,
 ghost use Rattle.clap.specs.Takes.{is_given};
 ghost use Rattle.clap.specs.Words.{FailsBy, found_of, rows_of, subcommand_rows_of};
 ghost use Rattle.pac_run_options.specs.CommandLine as line;
+ghost use Rattle.pac_run_options.specs.CommandLineProofs as command_line_proofs;
 
 use crate::command::{dip_conflict, pacboard};
 use crate::request::{AsmFiles, DebugFiles, PlayFiles, Request, RunFiles};
@@ -17,7 +18,7 @@ use std::convert::AsStr;
 /// An error is `clap`'s own, whose text says what is wrong or is the help or version that was asked for. Words that `clap`
 /// accepts are refused where they give a run both a state to begin with and the DIP switches, which stand in that state.
 pub fn options<'a, S: AsStr>(alloc: Global, words: &'a [S]) -> Result<Request<'a>, Error>
-    ensures asked { IfOk result (λ request. line.request_of (map S.text words.entry.now) ≡ Some (line.told_request request)) }
+    ensures asked { IfOk result (λ request. line.request_of (map S.text words.entry.now) ≡ Some (command_line_proofs.told_request request)) }
     ensures refused { FailsBy (line.faults_of (map S.text words.entry.now)) result }
 {
     let matches = pacboard(alloc)?.try_get_matches_from(words)?;
@@ -58,7 +59,7 @@ fn is_given(values: &ArgMatches<'_>, id: &str) -> bool
 
 /// What the matches of a command line ask for.
 fn request<'a>(matches: &ArgMatches<'a>) -> Option<Request<'a>>
-    ensures { option_map line.told_request result ≡ option_and_then line.asked_command (subcommand_rows_of matches.now) }
+    ensures { option_map command_line_proofs.told_request result ≡ option_and_then line.asked_command (subcommand_rows_of matches.now) }
 {
     let (name, values) = matches.subcommand()?;
     match name {
@@ -72,7 +73,7 @@ fn request<'a>(matches: &ArgMatches<'a>) -> Option<Request<'a>>
 
 /// The files of `asm`, where all are there.
 fn asm_files<'a>(values: &ArgMatches<'a>) -> Option<AsmFiles<'a>>
-    ensures { option_map line.told_asm result ≡ line.asked_asm (rows_of (found_of values.now)) }
+    ensures { option_map command_line_proofs.told_asm result ≡ line.asked_asm (rows_of (found_of values.now)) }
 {
     let Some(source) = values.get_str("source") else {
         return None;
@@ -92,7 +93,7 @@ fn asm_files<'a>(values: &ArgMatches<'a>) -> Option<AsmFiles<'a>>
 
 /// The files of `run`, where all are there that have to be.
 fn play_files<'a>(values: &ArgMatches<'a>) -> Option<PlayFiles<'a>>
-    ensures { option_map line.told_play result ≡ line.asked_play (rows_of (found_of values.now)) }
+    ensures { option_map command_line_proofs.told_play result ≡ line.asked_play (rows_of (found_of values.now)) }
 {
     let Some(run) = run_files(values) else {
         return None;
@@ -106,7 +107,7 @@ fn play_files<'a>(values: &ArgMatches<'a>) -> Option<PlayFiles<'a>>
 
 /// The files and switches of a run, where all are there that have to be.
 fn run_files<'a>(values: &ArgMatches<'a>) -> Option<RunFiles<'a>>
-    ensures { option_map line.told_run result ≡ line.asked_run (rows_of (found_of values.now)) }
+    ensures { option_map command_line_proofs.told_run result ≡ line.asked_run (rows_of (found_of values.now)) }
 {
     let Some(set) = values.get_str("set") else {
         return None;
@@ -139,7 +140,7 @@ fn run_files<'a>(values: &ArgMatches<'a>) -> Option<RunFiles<'a>>
 
 /// The files of `debug`, where all are there.
 fn debug_files<'a>(values: &ArgMatches<'a>) -> Option<DebugFiles<'a>>
-    ensures { option_map line.told_debug result ≡ line.asked_debug (rows_of (found_of values.now)) }
+    ensures { option_map command_line_proofs.told_debug result ≡ line.asked_debug (rows_of (found_of values.now)) }
 {
     let Some(run) = run_files(values) else {
         return None;

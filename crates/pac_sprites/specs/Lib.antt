@@ -1,1 +1,2 @@
 pub mod Sprites
+pub mod SpritesProofs

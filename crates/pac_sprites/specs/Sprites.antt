@@ -1,19 +1,12 @@
--- To be believed: sprites of the picture (Namco Pac-Man service schematics; the order of bytes and bits, the places and the
+-- Believed: sprites of the picture (Namco Pac-Man service schematics; the order of bytes and bits, the places and the
 -- flips are this profile's). The picture is 288 pixels wide and 224 high, not rotated.
-use Rattle.std.specs.Prelude.{ℕ, ℤ, pos, Bool, Option, Some, None, List, slice_index, ◌+◌, ◌-◌, ◌*◌, ◌/◌, ◌%◌, ◌==◌, ◌-ℤ◌}
+use Rattle.std.specs.Prelude.{ℕ, ℤ, pos, Bool, List, slice_index, ◌+◌, ◌-◌, ◌*◌, ◌/◌, ◌%◌, ◌==◌, ◌-ℤ◌}
 use Rattle.std.specs.Prelude.{nat_le, nat_lt, ◌&&◌, if◌then◌else◌}
 use Rattle.std.specs.Int.{int_gap}
 use Rattle.std.specs.Int.Signed.{le_z}
 use Rattle.pac_num.specs.Numbers.{bit}
 use Rattle.pac_num.specs.Pixels.{pixel_value}
 use Rattle.pac_sprites.specs.declared.Sprite.{Sprite}
-
--- the bytes of the sprite ROM, the sprites that it has, and the colours that a sprite may have
-abbrev pub sprite_rom_size : ℕ
-sprite_rom_size = 4096
-
-abbrev pub sprite_codes : ℕ
-sprite_codes = 64
 
 abbrev pub sprite_colours : ℕ
 sprite_colours = 32
@@ -70,14 +63,3 @@ covers_of sprite x y = is_column_of sprite x && is_in_box sprite.top y
 -- the column or the line of a sprite that stands at a place of its box, with its flip
 abbrev pub flipped_place : Bool → ℕ → ℕ
 flipped_place flip place = if flip then sprite_side - 1 - place else place
-
--- the value that a sprite has at a column and a line of its box
-abbrev pub boxed_of : List ℕ → Sprite → ℕ → ℕ → ℕ
-boxed_of rom sprite across down = sprite_pixel rom sprite.code (flipped_place sprite.flip_x across) (flipped_place sprite.flip_y down)
-
--- the value that a sprite has at (x, y) of the picture, where it shows there
-abbrev pub dot_of : List ℕ → Sprite → ℕ → ℕ → Option ℕ
-dot_of rom sprite x y =
-    if covers_of sprite x y
-    then Some (boxed_of rom sprite (box_place sprite.left x) (box_place sprite.top y))
-    else None

@@ -5,6 +5,7 @@ ghost use Rattle.std.specs.Prelude.{◌≡◌, ◌<◌, ◌≤◌, ◌≤ℤ◌,
 ghost use Rattle.std.specs.Prelude.{Some, None, true, if◌then◌else◌, IfSome, is_some};
 ghost use Rattle.std.specs.Int.Signed.{le_z};
 ghost use Rattle.pac_sprites.specs.Sprites as sprites;
+ghost use Rattle.pac_sprites.specs.SpritesProofs as sprites_proofs;
 
 use pac_num::{bit, pixel_value};
 use std::ops::Range;
@@ -18,8 +19,8 @@ const END_COLUMN: u16 = 272;
 /// The value, 0 to 3, of pixel (x, y) of a sprite, 0 to 63, of the sprite ROM's 4,096 bytes.
 #[inline]
 pub fn pixel(rom: &[u8], code: u8, x: u8, y: u8) -> u8
-    requires rom { length rom.now ≡ sprites.sprite_rom_size }
-    requires code { code < sprites.sprite_codes }
+    requires rom { length rom.now ≡ sprites_proofs.sprite_rom_size }
+    requires code { code < sprites_proofs.sprite_codes }
     requires x { x < sprites.sprite_side }
     requires y { y < sprites.sprite_side }
     ensures value { result ≡ sprites.sprite_pixel rom.now code x y }
@@ -95,7 +96,7 @@ impl Sprite {
     pub fn of(attributes: [u8; 2], coordinates: [u8; 2]) -> Sprite
         ensures sprite { result ≡ sprites.sprite_of (slice_index attributes 0) (slice_index attributes 1)
             (slice_index coordinates 0) (slice_index coordinates 1) }
-        ensures code { result.code < sprites.sprite_codes }
+        ensures code { result.code < sprites_proofs.sprite_codes }
         ensures colour { result.colour < sprites.sprite_colours }
         // -31 to 224
         ensures top { (negsuc 30 ≤ℤ result.top) × (result.top ≤ℤ pos 224) }
@@ -127,9 +128,9 @@ impl Sprite {
     /// The value, 0 to 3, that the sprite has at (x, y) of the picture, where it shows there.
     #[inline]
     pub fn pixel(&self, rom: &[u8], x: u16, y: u8) -> Option<u8>
-        requires rom { length rom.now ≡ sprites.sprite_rom_size }
-        requires code { self.now.code < sprites.sprite_codes }
-        ensures value { result ≡ sprites.dot_of rom.now self.now x y }
+        requires rom { length rom.now ≡ sprites_proofs.sprite_rom_size }
+        requires code { self.now.code < sprites_proofs.sprite_codes }
+        ensures value { result ≡ sprites_proofs.dot_of rom.now self.now x y }
         ensures below { IfSome result (λ value. value < 4) }
     {
         if x < FIRST_COLUMN || END_COLUMN <= x {
@@ -180,11 +181,11 @@ impl Sprite {
     /// The values, 0 to 3, of the 16 pixels that the sprite has on line y of the picture, from left to right, where
     /// it covers that line; its columns may lie outside the picture.
     pub fn line(&self, rom: &[u8], y: u8) -> Option<[u8; 16]>
-        requires rom { length rom.now ≡ sprites.sprite_rom_size }
-        requires code { self.now.code < sprites.sprite_codes }
+        requires rom { length rom.now ≡ sprites_proofs.sprite_rom_size }
+        requires code { self.now.code < sprites_proofs.sprite_codes }
         ensures covered { is_some result ≡ sprites.is_in_box self.now.top y }
         ensures values { IfSome result (λ values. EachIndex values (λ across.
-            slice_index values across ≡ sprites.boxed_of rom.now self.now across (sprites.box_place self.now.top y))) }
+            slice_index values across ≡ sprites_proofs.boxed_of rom.now self.now across (sprites.box_place self.now.top y))) }
         ensures below { IfSome result (λ values. EachIndex values (λ across. slice_index values across < 4)) }
     {
         let down = place_within(self.top, u16::from(y))?;
@@ -193,11 +194,11 @@ impl Sprite {
 
     /// The values of a line of the sprite's box.
     fn boxed_line(&self, rom: &[u8], down: u8) -> [u8; 16]
-        requires rom { length rom.now ≡ sprites.sprite_rom_size }
-        requires code { self.now.code < sprites.sprite_codes }
+        requires rom { length rom.now ≡ sprites_proofs.sprite_rom_size }
+        requires code { self.now.code < sprites_proofs.sprite_codes }
         requires down { down < sprites.sprite_side }
         ensures values { EachIndex result (λ across.
-            slice_index result across ≡ sprites.boxed_of rom.now self.now across down) }
+            slice_index result across ≡ sprites_proofs.boxed_of rom.now self.now across down) }
         ensures below { EachIndex result (λ across. slice_index result across < 4) }
     {
         let mut values = [0; 16];
@@ -210,11 +211,11 @@ impl Sprite {
     /// The value of the pixel at a column and a line of the sprite's box.
     #[inline]
     fn boxed(&self, rom: &[u8], across: u8, down: u8) -> u8
-        requires rom { length rom.now ≡ sprites.sprite_rom_size }
-        requires code { self.now.code < sprites.sprite_codes }
+        requires rom { length rom.now ≡ sprites_proofs.sprite_rom_size }
+        requires code { self.now.code < sprites_proofs.sprite_codes }
         requires across { across < sprites.sprite_side }
         requires down { down < sprites.sprite_side }
-        ensures value { result ≡ sprites.boxed_of rom.now self.now across down }
+        ensures value { result ≡ sprites_proofs.boxed_of rom.now self.now across down }
         ensures below { result < 4 }
     {
         pixel(

@@ -19,8 +19,10 @@ use Rattle.pac_state.specs.Text.{magic, body, save_text}
 use Rattle.pac_state.specs.Reading.{bytes_at_place, saved_word_at, due_sample, processor_in, state_in}
 use Rattle.pac_state.specs.Saved.{file_size, begins_with_magic, version_in, is_known, is_of_another_version, is_sealed, is_of_set}
 use Rattle.pac_state.specs.Saved.{load_fault}
-use Rattle.pac_state.specs.Saved.{IsStateInRange, AreWritten, IsText, upgraded_board, Misses, ReadsFile}
-use Rattle.pac_state.specs.Files.{FitsSample, IsState, IsFile, board_of_file, AcceptsFile}
+use Rattle.pac_state.specs.Saved.{IsStateInRange, AreWritten, IsText, upgraded_board, Misses}
+use Rattle.pac_state.specs.SavedLaws.{ReadsFile}
+use Rattle.pac_state.specs.Files.{FitsSample, IsState, IsFile, board_of_file}
+use Rattle.pac_state.specs.FilesLaws.{AcceptsFile}
 use Rattle.pac_state.proofs.Taken.{below, size-of}
 use Rattle.pac_state.proofs.Whole.{AreBytes, length-part, part-bytes, text-of}
 use Rattle.pac_state.proofs.Written.{has-pieces, length-body, length-sha1}

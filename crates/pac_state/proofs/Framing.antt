@@ -15,7 +15,8 @@ use Rattle.pac_state.specs.Text.{file_front, body, written_version}
 use Rattle.pac_state.specs.Reading.{bytes_at_place, state_in}
 use Rattle.pac_state.specs.Saved.{file_size, version_in, IsStateInRange, IsText}
 use Rattle.pac_state.specs.Files.{IsState}
-use Rattle.pac_state.specs.Block.{no_digest, block_text, IsBlock, ReadsBlock}
+use Rattle.pac_state.specs.Block.{no_digest, block_text, IsBlock}
+use Rattle.pac_state.specs.BlockProofs.{ReadsBlock}
 use Rattle.pac_state.specs.Framed.{IsFramed, ReadsFields}
 use Rattle.pac_state.proofs.Again.{same-again}
 use Rattle.pac_state.proofs.Files.{sizes}

@@ -3,8 +3,9 @@ use Rattle.std.proofs.Common.{◌≡◌, ℕ, List, [], Result, Ok, Err, sym, �
 use Rattle.std.specs.Borrow.{MutBor}
 use Rattle.pac_out.specs.declared.counted.Counted.{Counted}
 use Rattle.pac_out.specs.declared.WriteFault.{WriteFault}
-use Rattle.pac_out.specs.Counted.{HasTaken, Puts}
-use Rattle.pac_out.specs.Writes.{lent_took, lent_refused}
+use Rattle.pac_out.specs.CountedLaws.{HasTaken}
+use Rattle.pac_out.specs.CountedProofs.{Puts}
+use Rattle.pac_out.specs.WritesProofs.{lent_took, lent_refused}
 use Rattle.pac_state.specs.Saves.{Saves}
 
 -- a text that was put into a new file over a writer that is lent, and that writer when the loan ends

@@ -1,13 +1,10 @@
--- To be believed: the block in which a host keeps a board's state (this profile): the text of a state file of the version that is
+-- Believed: the block in which a host keeps a board's state (this profile): the text of a state file of the version that is
 -- written, with 20 zeros in place of each of its digests. The ROM set is handed in beside it.
-use Rattle.std.specs.Prelude.{◌≡◌, ℕ, List, ◌++◌, replicate, Option, Some, None}
-use Rattle.pac_board.specs.BoardFields.{Fields}
-use Rattle.pac_board.specs.Fields.{state_of, AreBoardFields}
+use Rattle.std.specs.Prelude.{◌≡◌, ℕ, List, ◌++◌, replicate}
 use Rattle.pac_board.specs.State.{BoardState}
 use Rattle.pac_state.specs.Text.{body, written_version}
 use Rattle.pac_state.specs.Reading.{state_in}
 use Rattle.pac_state.specs.Saved.{IsStateInRange}
-use Rattle.pac_state.specs.Files.{IsState}
 
 -- what stands where a file has a digest
 abbrev pub no_digest : List ℕ
@@ -22,21 +19,4 @@ pub record IsBlock (bytes : List ℕ) : Type 0 where
   pub in_range : IsStateInRange (state_in bytes)
   pub text : bytes ≡ block_text (state_in bytes)
 
--- the fields of exactly the blocks are told, and they are those of the block's state
-abbrev pub ReadsBlock : List ℕ → Option Fields → Type 0
-ReadsBlock bytes (Some fields) = record {
-  block : IsBlock bytes;
-  state : state_of fields ≡ state_in bytes;
-  in_range : AreBoardFields fields;
-}
-ReadsBlock bytes None = IsBlock bytes → ⊥
-
 -- ---- laws
-
--- Reading a state back out of its block gives the state.
-abbrev pub BlocksAreReadBack : Type 0
-BlocksAreReadBack = (state : BoardState) → IsState state → state_in (block_text state) ≡ state
-
--- What is written of a state is a block, so it is taken again.
-abbrev pub StatesHaveBlocks : Type 0
-StatesHaveBlocks = (state : BoardState) → IsState state → IsBlock (block_text state)

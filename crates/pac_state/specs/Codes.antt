@@ -1,4 +1,4 @@
--- To be believed: what is printed for a state file's fault (this profile).
+-- Believed: what is printed for a state file's fault (this profile).
 use Rattle.std.specs.Prelude.{ℕ, List, codes}
 use Rattle.pac_state.specs.declared.fault.LoadFault.{LoadFault}
 use Rattle.pac_state.specs.declared.fault.LoadFault.TheVariants.{NoState, OtherVersion, Size, OutOfRange, Damaged, OtherSet, NoMemory}

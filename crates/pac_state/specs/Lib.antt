@@ -1,9 +1,15 @@
 pub mod Block
+pub mod BlockProofs
+pub mod BlockLaws
 pub mod Codes
 pub mod Files
+pub mod FilesProofs
+pub mod FilesLaws
 pub mod Framed
 pub mod Reading
 pub mod Saved
+pub mod SavedProofs
+pub mod SavedLaws
 pub mod Saves
 pub mod Text
 pub mod Ties

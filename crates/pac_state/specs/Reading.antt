@@ -1,4 +1,4 @@
--- To be believed: the state whose fields stand in a text at their places.
+-- Believed: the state whose fields stand in a text at their places.
 use Rattle.std.specs.Prelude.{ℕ, ℤ, ◌*◌, ◌==◌, Bool, if◌then◌else◌, List, take, drop, slice_index, Option, Some, None}
 use Rattle.std.specs.Int.{w16, w32, w64, from_le_bytes, cast_signed}
 use Rattle.pac_num.specs.Numbers.{bit}

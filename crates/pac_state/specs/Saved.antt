@@ -1,6 +1,6 @@
--- To be believed: which files are taken, for which board, and what is wrong with the others.
-use Rattle.std.specs.Prelude.{◌≡◌, ◌≢◌, ℕ, ◌*◌, ◌<◌, ◌≤◌, ◌==◌, min, nat_le, Bool, not, ◌&&◌, ◌||◌, if◌then◌else◌, ⊤, ◌⊎◌}
-use Rattle.std.specs.Prelude.{List, length, take, drop, bytes_eq, Option, Some, None, Result, Ok, Err}
+-- Believed: which files are taken, for which board, and what is wrong with the others.
+use Rattle.std.specs.Prelude.{◌≡◌, ℕ, ◌*◌, ◌<◌, ◌≤◌, ◌==◌, min, nat_le, Bool, not, ◌&&◌, ◌||◌, if◌then◌else◌, ⊤, ◌⊎◌}
+use Rattle.std.specs.Prelude.{List, length, take, drop, bytes_eq, Option, Some, None}
 use Rattle.sha1.specs.Sha1.{sha1}
 use Rattle.pac_board.specs.Latched.{watchdog_limit}
 use Rattle.pac_board.specs.MemoryView.{HoldWhatTheyCan}
@@ -12,7 +12,6 @@ use Rattle.pac_board.specs.Wave.{Fit20Bits}
 use Rattle.pac_board.specs.State.{BoardState, BoardValue, latest_end, most_asked, passed_lines, recomposed_view, with_view}
 use Rattle.pac_state.specs.declared.fault.LoadFault.{LoadFault}
 use Rattle.pac_state.specs.declared.fault.LoadFault.TheVariants.{NoState, OtherVersion, Size, OutOfRange, Damaged, OtherSet, NoMemory}
-use Rattle.pac_state.specs.declared.fault.LoadRefused.{LoadRefused}
 use Rattle.pac_state.specs.Text.{magic, processor_bytes, control_bytes, due_bytes}
 use Rattle.pac_state.specs.Reading.{bytes_at_place, saved_word_at, processor_in, controls_in, due_in, state_in}
 
@@ -95,9 +94,6 @@ upgraded_board version board =
     then with_view board (recomposed_view board.set board.state.now.board (passed_lines board.state.now.time))
     else board
 
-abbrev pub loaded_board : Parts → List ℕ → BoardValue
-loaded_board set bytes = upgraded_board (version_in bytes) (record { set = set; state = state_in bytes; made = 0 })
-
 -- ---- the answer
 
 -- what is told of a file in which nothing was found wrong before its fields: V4, or want of memory
@@ -110,43 +106,3 @@ Misses bytes fault = ⊥
 abbrev pub RefusesFile : Parts → List ℕ → LoadFault → Type 0
 RefusesFile set bytes fault =
     (load_fault (digest_of set) bytes ≡ Some fault) ⊎ ((load_fault (digest_of set) bytes ≡ None) × Misses bytes fault)
-
--- the board of a file, or why there is none, with the set that was handed in
-abbrev pub LoadsBoard : Parts → List ℕ → Result BoardValue LoadRefused → Type 0
-LoadsBoard set bytes (Ok board) = record {
-  sound : load_fault (digest_of set) bytes ≡ None;
-  text : IsText bytes;
-  board : board ≡ loaded_board set bytes;
-}
-LoadsBoard set bytes (Err refused) = record {
-  same_set : refused.set ≡ set;
-  fault : RefusesFile set bytes refused.fault;
-}
-
--- the board of a file, or what is wrong with the file, where the set is lent and no memory is wanted
-abbrev pub ReadsFile : Parts → List ℕ → Result BoardValue LoadFault → Type 0
-ReadsFile set bytes (Ok board) = record {
-  sound : load_fault (digest_of set) bytes ≡ None;
-  text : IsText bytes;
-  board : board ≡ loaded_board set bytes;
-}
-ReadsFile set bytes (Err fault) = record {
-  refuses : RefusesFile set bytes fault;
-  of_file : fault ≢ NoMemory;
-}
-
--- the board that is left where a file was taken
-abbrev pub board_left : Result (Unit {0}) LoadFault → BoardValue → Result BoardValue LoadFault
-board_left (Ok done) board = Ok board
-board_left (Err fault) board = Err fault
-
--- a board read from the fields of a file, before lines are brought up, where nothing was found wrong before those fields
-abbrev pub ReadsState : Parts → List ℕ → Result BoardValue LoadFault → Type 0
-ReadsState set bytes (Ok board) = record {
-  text : IsText bytes;
-  board : board ≡ record { set = set; state = state_in bytes; made = 0 };
-}
-ReadsState set bytes (Err fault) = record {
-  misses : Misses bytes fault;
-  of_file : fault ≢ NoMemory;
-}

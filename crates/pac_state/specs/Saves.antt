@@ -1,4 +1,4 @@
--- To be believed: what writing a whole text to a writer leaves of it.
+-- Law: what writing a whole text to a writer leaves of it.
 use Rattle.std.specs.Prelude.{◌≡◌, ℕ, List, Result, Ok, Err}
 use Rattle.pac_out.specs.declared.WriteFault.{WriteFault}
 use Rattle.pac_out.specs.Counted.{file_count}

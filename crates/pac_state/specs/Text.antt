@@ -1,4 +1,4 @@
--- To be believed: the text of a board's state, as a state file has it (this profile): 67,756 bytes, numbers with their low byte
+-- Believed: the text of a board's state, as a state file has it (this profile): 67,756 bytes, numbers with their low byte
 -- first.
 use Rattle.std.specs.Prelude.{ℕ, pos, List, [], ◌∷◌, ◌++◌, is_some, unwrap_or, codes}
 use Rattle.std.specs.Int.{w16, w32, w64, to_le_bytes, cast_unsigned}

@@ -1,12 +1,13 @@
--- To be believed: laws that tie two accounts of one thing, each proved on a public function of the crate.
+-- Law: laws that tie two accounts of one thing, each proved on a public function of the crate.
 use Rattle.std.specs.Prelude.{◌<◌, ℕ, List, get_or, Ok, Err}
 use Rattle.pac_board.specs.BoardFields.{Fields}
 use Rattle.pac_board.specs.Fields.{state_of, AreBoardFields}
 use Rattle.pac_board.specs.RomParts.{Parts}
 use Rattle.pac_board.specs.State.{BoardValue}
 use Rattle.pac_state.specs.declared.fault.LoadFault.{LoadFault}
-use Rattle.pac_state.specs.Files.{AcceptsFile}
-use Rattle.pac_state.specs.Saved.{IsStateInRange, ReadsFile}
+use Rattle.pac_state.specs.FilesLaws.{AcceptsFile}
+use Rattle.pac_state.specs.Saved.{IsStateInRange}
+use Rattle.pac_state.specs.SavedLaws.{ReadsFile}
 
 -- Fields are a board's exactly where the state that they tell is in its ranges.
 pub record HaveOneRange (fields : Fields) : Type 0 where

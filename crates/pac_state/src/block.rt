@@ -6,6 +6,7 @@ ghost use Rattle.pac_board.specs.MemoryView.{IsWellFormed};
 ghost use Rattle.pac_board.specs.PictureState.{IsPicture};
 ghost use Rattle.pac_out.specs.Pieces.{joined_pieces};
 ghost use Rattle.pac_state.specs.Block as blocks;
+ghost use Rattle.pac_state.specs.BlockProofs as block_proofs;
 ghost use Rattle.pac_state.specs.Framed as framed;
 ghost use Rattle.pac_state.specs.Saved as saved;
 
@@ -37,7 +38,7 @@ fn is_framed(block: &[u8]) -> bool
 
 /// The fields in a block, if it is the block of a state that a board can have.
 pub fn read_block(block: &[u8; FILE_SIZE]) -> Option<Fields<'_>>
-    ensures { blocks.ReadsBlock block.now result }
+    ensures { block_proofs.ReadsBlock block.now result }
 {
     if is_framed(block) {
         fields_in(block)

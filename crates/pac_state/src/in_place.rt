@@ -1,8 +1,10 @@
 //! A state file's board put into one that is there.
 
 ghost use Rattle.std.specs.Prelude.{◌≡◌, IfErr, length};
-ghost use Rattle.pac_state.specs.Files.{AcceptsFile};
+ghost use Rattle.pac_state.specs.FilesLaws.{AcceptsFile};
 ghost use Rattle.pac_state.specs.Saved as saved;
+ghost use Rattle.pac_state.specs.SavedLaws as saved_laws;
+ghost use Rattle.pac_state.specs.SavedProofs as saved_proofs;
 
 use crate::fault::LoadFault;
 use crate::header::word;
@@ -14,7 +16,7 @@ use pac_board::Board;
 fn read_into(bytes: &[u8], board: &mut Board) -> Result<(), LoadFault>
     requires size { length bytes.now ≡ saved.file_size }
     requires made { board.old.made ≡ 0 }
-    ensures answer { saved.ReadsState board.old.set bytes.now (saved.board_left result board.new) }
+    ensures answer { saved_proofs.ReadsState board.old.set bytes.now (saved_proofs.board_left result board.new) }
     ensures refused { IfErr result (λ fault. board.new ≡ board.old) }
 {
     let Some(fields) = fields_in(bytes) else {
@@ -28,8 +30,8 @@ fn read_into(bytes: &[u8], board: &mut Board) -> Result<(), LoadFault>
 /// refused; where one is refused, the board stays as it is. Takes no memory.
 pub fn read_file_into(bytes: &[u8], board: &mut Board) -> Result<(), LoadFault>
     requires { board.old.made ≡ 0 }
-    ensures answer { saved.ReadsFile board.old.set bytes.now (saved.board_left result board.new) }
-    ensures files { AcceptsFile board.old.set bytes.now (saved.board_left result board.new) }
+    ensures answer { saved_laws.ReadsFile board.old.set bytes.now (saved_proofs.board_left result board.new) }
+    ensures files { AcceptsFile board.old.set bytes.now (saved_proofs.board_left result board.new) }
     ensures refused { IfErr result (λ fault. board.new ≡ board.old) }
 {
     if let Some(fault) = checked(bytes, board.set()) {

@@ -3,8 +3,9 @@
 ghost use Rattle.std.specs.Prelude.{◌≡◌, IfOk};
 ghost use Rattle.pac_board.specs.Boxed.{unboxed};
 ghost use Rattle.pac_roms_manifest.specs.Sets.{digest_of};
-ghost use Rattle.pac_state.specs.Block.{BlocksAreReadBack, StatesHaveBlocks};
-ghost use Rattle.pac_state.specs.Files.{IsState, LoadsAgain, StatesAreReadBack, TextsTellStates};
+ghost use Rattle.pac_state.specs.BlockLaws.{BlocksAreReadBack, StatesHaveBlocks};
+ghost use Rattle.pac_state.specs.Files.{IsState};
+ghost use Rattle.pac_state.specs.FilesLaws.{LoadsAgain, StatesAreReadBack, TextsTellStates};
 ghost use Rattle.pac_state.specs.Saved as saved;
 ghost use Rattle.pac_state.specs.Saves.{Saves};
 ghost use Rattle.pac_state.specs.Text as text;

@@ -2,8 +2,11 @@
 
 ghost use Rattle.std.specs.Prelude.{◌≡◌, length};
 ghost use Rattle.pac_board.specs.Boxed.{unboxed};
-ghost use Rattle.pac_state.specs.Files.{Accepts, AcceptsFile};
+ghost use Rattle.pac_state.specs.FilesProofs.{Accepts};
+ghost use Rattle.pac_state.specs.FilesLaws.{AcceptsFile};
 ghost use Rattle.pac_state.specs.Saved as saved;
+ghost use Rattle.pac_state.specs.SavedProofs as saved_proofs;
+ghost use Rattle.pac_state.specs.SavedLaws as saved_laws;
 ghost use Rattle.pac_roms_manifest.specs.Sets.{digest_of};
 
 use crate::fault::{LoadFault, LoadRefused};
@@ -33,7 +36,7 @@ pub(crate) fn bring_up(board: &mut Board, version: u16)
 #[inline(always)]
 fn read(bytes: &[u8], set: &RomSet) -> Result<Board, LoadFault>
     requires { length bytes.now ≡ saved.file_size }
-    ensures { saved.ReadsState set.now bytes.now result }
+    ensures { saved_proofs.ReadsState set.now bytes.now result }
 {
     let Some(fields) = fields_in(bytes) else {
         return Err(LoadFault::OutOfRange);
@@ -46,7 +49,7 @@ fn read(bytes: &[u8], set: &RomSet) -> Result<Board, LoadFault>
 /// with the file. So exactly the texts of states in their ranges are taken. Takes no memory.
 #[inline(always)]
 pub fn read_file(bytes: &[u8], set: &RomSet) -> Result<Board, LoadFault>
-    ensures answer { saved.ReadsFile set.now bytes.now result }
+    ensures answer { saved_laws.ReadsFile set.now bytes.now result }
     ensures files { AcceptsFile set.now bytes.now result }
 {
     if let Some(fault) = checked(bytes, set) {
@@ -59,7 +62,7 @@ pub fn read_file(bytes: &[u8], set: &RomSet) -> Result<Board, LoadFault>
 
 /// The board of a state file, as `read_file` has it, in a block of memory. Refused for want of memory, too; the set comes back then.
 pub fn load(alloc: Global, bytes: &[u8], set: RomSet) -> Result<Box<Board>, LoadRefused>
-    ensures answer { saved.LoadsBoard set bytes.now (unboxed result) }
+    ensures answer { saved_proofs.LoadsBoard set bytes.now (unboxed result) }
     ensures files { Accepts set bytes.now (unboxed result) }
 {
     let board = match read_file(bytes, &set) {

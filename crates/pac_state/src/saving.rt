@@ -4,7 +4,7 @@ ghost use Rattle.std.specs.Prelude.{◌≡◌, ◌++◌, ℕ, List, OnOk};
 ghost use Rattle.sha1.specs.Sha1.{Holds};
 ghost use Rattle.pac_board.specs.Fields.{state_of, AreBoardFields};
 ghost use Rattle.pac_roms_manifest.specs.Sets.{digest_of};
-ghost use Rattle.pac_out.specs.Counted.{Puts};
+ghost use Rattle.pac_out.specs.CountedProofs.{Puts};
 ghost use Rattle.pac_out.specs.Pieces.{joined_pieces};
 ghost use Rattle.pac_state.specs.Saves.{Saves};
 ghost use Rattle.pac_state.specs.Text as text;

@@ -1,4 +1,4 @@
--- To be believed: how many opcodes the manual documents: 698, by the prefix under which they stand (Zilog Z80 CPU User Manual
+-- Law: how many opcodes the manual documents: 698, by the prefix under which they stand (Zilog Z80 CPU User Manual
 -- UM0080, "Z80 Instruction Set").
 use Rattle.std.specs.Prelude.{◌≡◌, ℕ, zero, suc, ◌+◌, ◌==◌, Bool, ◌&&◌, if◌then◌else◌}
 use Rattle.std.specs.List.{list_any}

@@ -1,4 +1,4 @@
--- To be believed: the forms in source against the codes: each operand fills a part that the code has, and each part of the code
+-- Law: the forms in source against the codes: each operand fills a part that the code has, and each part of the code
 -- is filled by one operand, or named by the mnemonic of a family.
 use Rattle.std.specs.Prelude.{ℕ, ◌<◌, ◌+◌, ◌==◌, Bool, true, false, ◌&&◌, ◌||◌, if◌then◌else◌, IsTrue}
 use Rattle.pac_table.specs.declared.patterns.Page.{Page}

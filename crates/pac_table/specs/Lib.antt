@@ -1,8 +1,11 @@
 pub mod Patterns
+pub mod PatternsProofs
+pub mod PatternsLaws
 pub mod Mnemonics
 pub mod Notation
 pub mod Table
 pub mod Instructions
+pub mod InstructionsLaws
 pub mod Counts
 pub mod Pages
 pub mod Forms

@@ -1,4 +1,4 @@
--- To be believed: the names of the operations (Zilog Z80 CPU User Manual UM0080, "Z80 Instruction Description").
+-- Believed: the names of the operations (Zilog Z80 CPU User Manual UM0080, "Z80 Instruction Description").
 use Rattle.std.specs.Prelude.{List, [], ◌∷◌, get_or, ℕ, Bool, true, false, if◌then◌else◌, Option, Some, None, codes}
 use Rattle.pac_table.specs.declared.operands.Mnemonic.{Mnemonic}
 use Rattle.pac_table.specs.declared.operands.Mnemonic.TheVariants.{Ld, Push, Pop, Ex, Exx, Alu, Inc, Dec, Daa, Cpl, Ccf, Scf, Nop, Halt}

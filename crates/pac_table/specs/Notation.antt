@@ -1,4 +1,4 @@
--- To be believed: the notation of the instruction table, which is the manual's (Zilog Z80 CPU User Manual UM0080, "Z80 Instruction
+-- Believed: the notation of the instruction table, which is the manual's (Zilog Z80 CPU User Manual UM0080, "Z80 Instruction
 -- Description"): how a form in source and a code in letters are read.
 use Prim.Native.String.{String}
 use Rattle.std.specs.Prelude.{ℕ, ◌+◌, ◌*◌, ◌==◌, ◌||◌, Bool, not, nat_eq, if◌then◌else◌, codes, bytes_eq}

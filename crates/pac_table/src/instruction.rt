@@ -3,7 +3,8 @@
 ghost use Rattle.std.specs.Prelude.{◌≡◌, ◌<◌, ◌≤◌, ◌↔◌, IsTrue, IsSome, IfSome, length};
 ghost use Rattle.pac_table.specs.Instructions.{IsInstruction, row_count, pattern_of, operands_of, effect_of, opcode_of, code};
 ghost use Rattle.pac_table.specs.Instructions.{least_ticks, most_ticks, ticks_of, ticks_other_of};
-ghost use Rattle.pac_table.specs.Patterns.{IsDisplacement, IsSignedByte, longest_code, word_limit, lists};
+ghost use Rattle.pac_table.specs.Patterns.{IsDisplacement, IsSignedByte, word_limit, lists};
+ghost use Rattle.pac_table.specs.PatternsLaws.{longest_code};
 
 use crate::effects::Effect;
 use crate::operands::Operands;

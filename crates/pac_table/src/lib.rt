@@ -2,7 +2,7 @@
 //! User Manual UM0080).
 #![tactic(auto)]
 
-ghost use Rattle.pac_table.specs.Instructions.{AtMostOneMatches};
+ghost use Rattle.pac_table.specs.InstructionsLaws.{AtMostOneMatches};
 ghost use Rattle.pac_table.specs.Counts.{CountsOpcodes};
 ghost use Rattle.pac_table.specs.Forms.{FillsCodes};
 

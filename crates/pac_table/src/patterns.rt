@@ -1,7 +1,8 @@
 //! The code of an instruction: fixed bits, lettered fields and what follows the opcode byte.
 
 ghost use Rattle.std.specs.Prelude.{◌≡◌, ◌+◌, ◌<◌, ◌≤◌, ◌↔◌, IsTrue, ℕ, ℤ, length};
-ghost use Rattle.pac_table.specs.Patterns.{longest_code, longest_immediate, longest_prefix};
+ghost use Rattle.pac_table.specs.PatternsLaws.{longest_code};
+ghost use Rattle.pac_table.specs.PatternsProofs.{longest_immediate, longest_prefix};
 
 /// The prefix under which an opcode byte stands (UM0080, "Z80 Instruction Set").
 #[derive(Clone, Copy)]
@@ -262,7 +263,8 @@ pub struct Pattern {
 }
 
 impl Pattern {
-    ghost use Rattle.pac_table.specs.Patterns.{IsByte, is_opcode, matches, opcode};
+    ghost use Rattle.pac_table.specs.PatternsProofs.{IsByte};
+    ghost use Rattle.pac_table.specs.Patterns.{is_opcode, matches, opcode};
 
     /// The opcode byte where the fields hold `p` and `q`.
     #[inline]

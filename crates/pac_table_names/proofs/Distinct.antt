@@ -8,7 +8,8 @@ use Rattle.pac_table.specs.Table.{table}
 use Rattle.pac_table_names.specs.declared.by_name.Word.{Word}
 use Rattle.pac_table_names.specs.Names.{is_written, is_operation}
 use Rattle.pac_table_names.specs.ByName.{rows_named, family_value}
-use Rattle.pac_table_names.specs.Words.{operation_names, row_list, word_list, letters_of, is_text, rows_of}
+use Rattle.pac_table_names.specs.Words.{operation_names}
+use Rattle.pac_table_names.specs.WordsProofs.{row_list, word_list, letters_of, is_text, rows_of}
 use Rattle.pac_table_names.specs.Distinct.{OperationNamesAreDistinct}
 use Rattle.pac_table_names.proofs.Index.{found-rows, rows-none, operation-has-rows}
 

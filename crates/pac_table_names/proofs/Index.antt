@@ -26,7 +26,8 @@ use Rattle.pac_table.specs.Instructions.{row_count, row_at}
 use Rattle.pac_table.specs.Mnemonics.{names_of}
 use Rattle.pac_table_names.specs.Names.{is_written, is_name_at, value_named, is_operation}
 use Rattle.pac_table_names.specs.ByName.{rows_named_from, rows_named, family_value, family_in, AreNamed}
-use Rattle.pac_table_names.specs.Words.{operation_names, row_list, word_list, letter_list, letters_of, begins_with, is_text, rows_of}
+use Rattle.pac_table_names.specs.Words.{operation_names}
+use Rattle.pac_table_names.specs.WordsProofs.{row_list, word_list, letter_list, letters_of, begins_with, is_text, rows_of}
 
 -- ---- what is found in a list
 

@@ -6,7 +6,7 @@ use Rattle.pac_lemmas.proofs.Letters.{same-first-letter}
 use Rattle.pac_lemmas.proofs.Searches.{find-filter}
 use Rattle.pac_table_names.specs.declared.names.Name.{Name}
 use Rattle.pac_table_names.specs.Names.{is_written, text_of_name, every_name, name_of}
-use Rattle.pac_table_names.specs.Words.{begins_name}
+use Rattle.pac_table_names.specs.WordsProofs.{begins_name}
 
 written-begins : (b : ℕ) (rest : List ℕ) (some : Name) → is_written (b ∷ rest) (text_of_name some) ≡ true → begins_name b some ≡ true
 written-begins b rest some is = same-first-letter b rest (text_of_name some) is

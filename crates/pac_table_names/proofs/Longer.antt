@@ -10,7 +10,8 @@ use Rattle.std.proofs.lemmas.Slice.Eq.{bytes_eq-Decides}
 use Rattle.pac_table.specs.Table.{table}
 use Rattle.pac_table_names.specs.Names.{is_written, text_of_name, every_name, name_of}
 use Rattle.pac_table_names.specs.ByName.{rows_named, family_value}
-use Rattle.pac_table_names.specs.Words.{operation_names, word_list, letters_of, is_text}
+use Rattle.pac_table_names.specs.Words.{operation_names}
+use Rattle.pac_table_names.specs.WordsProofs.{word_list, letters_of, is_text}
 
 pub not-longer : (word name : List ℕ) (most : ℕ) → length name ≤ most → most < length word → is_written word name ≡ false
 not-longer word name most within longer =

@@ -1,4 +1,4 @@
--- To be believed: the names of operations: which they are, and that no two of them are one.
+-- Law: the names of operations: which they are, and that no two of them are one.
 use Rattle.std.specs.Prelude.{◌≡◌, ℕ, List}
 use Rattle.std.specs.List.{list_any, IsDistinct}
 use Rattle.pac_table_names.specs.Names.{is_written, is_operation}

@@ -1,4 +1,5 @@
 pub mod Names
 pub mod ByName
 pub mod Words
+pub mod WordsProofs
 pub mod Distinct

@@ -1,4 +1,4 @@
--- To be believed: how instructions are written: the names of the operations, of registers, pairs and conditions, and what is
+-- Believed: how instructions are written: the names of the operations, of registers, pairs and conditions, and what is
 -- written for each shape of an operand (Zilog Z80 CPU User Manual UM0080, "Z80 Instruction Description"). The same lists serve
 -- to read a source and to print an instruction. Names are read in either case and printed in capitals.
 use Rattle.std.specs.Prelude.{ℕ, ◌==◌, Bool, false, ◌||◌, if◌then◌else◌, List, [], ◌∷◌, get_or, codes}

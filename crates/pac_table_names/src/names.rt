@@ -3,7 +3,7 @@
 
 ghost use Rattle.std.specs.Prelude.{◌≡◌, find};
 ghost use Rattle.std.specs.List.{filter};
-ghost use Rattle.pac_table_names.specs.Words.{begins_name};
+ghost use Rattle.pac_table_names.specs.WordsProofs.{begins_name};
 ghost use Rattle.pac_table_names.specs.Names.{text_of_name, every_name, name_at, value_of_name, name_of, is_written, is_same_name};
 
 use crate::by_name::is_written;

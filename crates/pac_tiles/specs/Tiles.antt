@@ -1,4 +1,4 @@
--- To be believed: the tiles of a picture (Namco Pac-Man service schematics; the order of cells and bits is this profile's). The
+-- Believed: the tiles of a picture (Namco Pac-Man service schematics; the order of cells and bits is this profile's). The
 -- picture is 288 pixels wide and 224 high, not rotated: 36 columns and 28 rows of cells, each of 8 by 8 pixels.
 use Rattle.std.specs.Prelude.{ℕ, ◌+◌, ◌-◌, ◌*◌, ◌%◌, nat_le, nat_lt, ◌&&◌, if◌then◌else◌, List, slice_index}
 use Rattle.pac_num.specs.Pixels.{pixel_value}
@@ -10,23 +10,9 @@ width = 288
 abbrev pub height : ℕ
 height = 224
 
--- the picture's size in cells
-abbrev pub columns : ℕ
-columns = 36
-
-abbrev pub rows : ℕ
-rows = 28
-
 -- the pixels on a side of a tile, and of the cell that shows it
 abbrev pub tile_side : ℕ
 tile_side = 8
-
--- the bytes of the tile ROM and of tile RAM
-abbrev pub tile_rom_size : ℕ
-tile_rom_size = 4096
-
-abbrev pub tile_ram_size : ℕ
-tile_ram_size = 1024
 
 -- pixel (x, y) of a tile: a tile has 16 bytes of the tile ROM, first those of its right half from the top, then
 -- those of its left half

@@ -1,3 +1,5 @@
 pub mod Wave
+pub mod WaveProofs
+pub mod WaveLaws
 pub mod Sums
 pub mod Settings

@@ -1,4 +1,4 @@
--- To be believed: where the accumulators stand after many samples (Namco Pac-Man service schematics), a law over Wave.antt.
+-- Law: where the accumulators stand after many samples (Namco Pac-Man service schematics), a law over Wave.antt.
 use Rattle.std.specs.Prelude.{◌≡◌, ℕ, ◌+◌, ◌%◌, Bool, List, fold, filter}
 use Rattle.std.specs.List.{sum_by}
 use Rattle.pac_wave.specs.declared.Voice.{Voice}

@@ -1,14 +1,10 @@
--- To be believed: the wave generator (Namco Pac-Man service schematics; the scale of a sample, what happens while sound is off
+-- Believed: the wave generator (Namco Pac-Man service schematics; the scale of a sample, what happens while sound is off
 -- and that the accumulators can't be written are this profile's). It has 32 registers of four bits, those at the addresses from
 -- 5040H on, and three voices. Each voice walks through one of eight waveforms of 32 samples, as fast as its frequency tells.
-use Rattle.std.specs.Prelude.{ℕ, ℤ, pos, negsuc, ◌≤ℤ◌, ◌+◌, ◌*◌, ◌/◌, ◌%◌, ◌^◌, ◌<◌, ◌+ℤ◌, ◌-ℤ◌, ◌*ℤ◌, ◌==◌, ◌&&◌, Bool}
+use Rattle.std.specs.Prelude.{ℕ, ℤ, pos, ◌+◌, ◌*◌, ◌/◌, ◌%◌, ◌^◌, ◌<◌, ◌+ℤ◌, ◌-ℤ◌, ◌*ℤ◌, ◌==◌, ◌&&◌, Bool}
 use Rattle.std.specs.Prelude.{nat_lt, if◌then◌else◌, List, slice_index}
 use Rattle.pac_wave.specs.declared.Voice.{Voice}
 use Rattle.pac_wave.specs.declared.Voice.TheVariants.{First, Second, Third}
-
--- the bytes of the wave PROM
-abbrev pub prom_size : ℕ
-prom_size = 256
 
 -- frequencies and accumulators have 20 bits
 abbrev pub accumulator_range : ℕ
@@ -66,10 +62,6 @@ pub record Fit20Bits (all : Accumulators) : Type 0 where
 abbrev pub power_on_accumulators : Accumulators
 power_on_accumulators = record { first = 0; second = 0; third = 0 }
 
--- the accumulators of a list of three
-abbrev pub accumulators_of_list : List ℕ → Accumulators
-accumulators_of_list all = record { first = slice_index all 0; second = slice_index all 1; third = slice_index all 2 }
-
 -- the sample that an accumulator points to in its waveform: the wave PROM has eight waveforms of 32 samples, of
 -- four bits each
 abbrev pub waveform_sample : List ℕ → ℕ → ℕ → ℕ
@@ -87,10 +79,6 @@ level prom registers voice position =
 -- three voices together: 64 times their sum
 abbrev pub mixed_voices : ℤ → ℤ → ℤ → ℤ
 mixed_voices first second third = pos 64 *ℤ ((first +ℤ second) +ℤ third)
-
--- the range of three voices together: from 64 * 3 * -120 to 64 * 3 * 105
-abbrev pub IsSample : ℤ → Type 0
-IsSample value = (negsuc 23039 ≤ℤ value) × (value ≤ℤ pos 20160)
 
 -- the sound sample: 0 while sound is off
 abbrev pub sound_sample : List ℕ → List ℕ → Accumulators → Bool → ℤ

@@ -3,8 +3,10 @@
 
 ghost use Rattle.std.specs.Prelude.{◌≡◌, ◌<◌, ◌∷◌, []};
 ghost use Rattle.pac_wave.specs.Settings.{IsLevel};
-ghost use Rattle.pac_wave.specs.Wave.{Fit20Bits, power_on_accumulators, accumulators_of_list};
+ghost use Rattle.pac_wave.specs.Wave.{Fit20Bits, power_on_accumulators};
+ghost use Rattle.pac_wave.specs.WaveLaws.{accumulators_of_list};
 ghost use Rattle.pac_wave.specs.Wave as spec;
+ghost use Rattle.pac_wave.specs.WaveProofs as wave_proofs;
 
 pub mod laws;
 mod settings;
@@ -61,7 +63,7 @@ fn mixed(first: i16, second: i16, third: i16) -> i16
     requires second { IsLevel second }
     requires third { IsLevel third }
     ensures mixed { result ≡ spec.mixed_voices first second third }
-    ensures within { spec.IsSample result }
+    ensures within { wave_proofs.IsSample result }
 {
     64 * (first + second + third)
 }
@@ -110,7 +112,7 @@ impl Wave {
     pub fn tick(&mut self, prom: &[u8; 256], registers: &[u8; 32], on: bool) -> i16
         ensures sample { result ≡ spec.sound_sample prom.now registers.now self.old on }
         ensures accumulators { self.new ≡ spec.accumulators_after registers.now on self.old }
-        ensures within { spec.IsSample result }
+        ensures within { wave_proofs.IsSample result }
     {
         if !on {
             return 0;

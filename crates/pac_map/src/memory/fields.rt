@@ -1,7 +1,8 @@
 //! The board's memory made from its fields, told by them, and written over by another's.
 
 ghost use Rattle.std.specs.Prelude.{◌≡◌, ◌↔◌, true, length};
-ghost use Rattle.pac_map.specs.Fields.{AreMemoryFields, view_of_fields};
+ghost use Rattle.pac_map.specs.FieldsProofs.{AreMemoryFields};
+ghost use Rattle.pac_map.specs.Fields.{view_of_fields};
 ghost use Rattle.pac_map.specs.View.{HoldWhatTheyCan};
 
 use super::{Memory, kept};

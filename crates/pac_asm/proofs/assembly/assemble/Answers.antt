@@ -4,7 +4,9 @@ use Rattle.std.specs.Str.Lines.{lines}
 use Rattle.pac_code.specs.Items.{AllLie}
 use Rattle.pac_asm_program.specs.Names.{Symbol, number_of_symbol}
 use Rattle.pac_asm_program.specs.Programs.{Assembled, items_in, items_of}
-use Rattle.pac_asm_program.specs.Rom.{rom_of, AreApart, IsZeroElsewhere}
+use Rattle.pac_asm_program.specs.Rom.{rom_of}
+use Rattle.pac_asm_program.specs.RomLaws.{AreApart}
+use Rattle.pac_asm_program.specs.RomProofs.{IsZeroElsewhere}
 use Rattle.pac_asm_program.specs.declared.line.Line.{Line}
 use Rattle.pac_asm.specs.declared.place.LineLayout.{LineLayout}
 use Rattle.pac_asm.specs.Assignments.{first_spot, OneIsRight}

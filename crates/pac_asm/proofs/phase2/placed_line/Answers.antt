@@ -1,7 +1,7 @@
 use Rattle.std.proofs.Common.{◌≡◌, List, Some, Option, Ok, sym, ◌∙◌, ap}
 use Rattle.pac_code.specs.Items.{Content}
 use Rattle.pac_lex.specs.declared.token.Token.{Token}
-use Rattle.pac_lex.specs.Tokens.{views}
+use Rattle.pac_lex.specs.TokensProofs.{views}
 use Rattle.pac_asm_program.specs.Names.{number_of_symbol}
 use Rattle.pac_asm_line.specs.Forms.{form_of}
 use Rattle.pac_asm_line.specs.Views.{seen_form}

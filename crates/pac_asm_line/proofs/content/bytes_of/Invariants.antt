@@ -2,7 +2,7 @@ use Rattle.std.proofs.Common.{◌≡◌, length, map}
 use Rattle.pac_asm_line.specs.Contents.{gathered_bytes, joined_bytes, part_bytes}
 use Rattle.pac_asm_line.specs.Gathered.{gathered_so_far}
 use Rattle.pac_asm_line.specs.Views.{part_of_tokens, parts_of_operands}
-use Rattle.pac_asm_operation.specs.Operands.{parts_after}
+use Rattle.pac_asm_operation.specs.OperandsProofs.{parts_after}
 use Rattle.pac_asm_line.proofs.content.bytes_of.Given as goal
 
 abbrev pub invariant-loop-rest : goal.invariant-loop-rest

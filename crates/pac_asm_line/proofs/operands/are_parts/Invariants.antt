@@ -1,7 +1,8 @@
 use Rattle.std.proofs.Common.{◌≡◌, is_some, length}
 use Rattle.std.specs.List.{list_all, slice_split}
-use Rattle.pac_lex.specs.Tokens.{views}
-use Rattle.pac_asm_operation.specs.Operands.{is_comma, parts_after}
+use Rattle.pac_lex.specs.TokensProofs.{views}
+use Rattle.pac_asm_operation.specs.Operands.{is_comma}
+use Rattle.pac_asm_operation.specs.OperandsProofs.{parts_after}
 use Rattle.pac_asm_line.specs.Forms.{part_in}
 use Rattle.pac_asm_line.proofs.operands.are_parts.Given as goal
 

@@ -1,7 +1,8 @@
 use Rattle.std.proofs.Common.{Bool, if◌then◌else◌, List, Some, None, sym, ◌∙◌, ap}
 use Rattle.std.specs.Prelude.{Option}
 use Rattle.std.proofs.lemmas.List.{map-append}
-use Rattle.pac_lex.specs.Tokens.{Lexeme, view, views}
+use Rattle.pac_lex.specs.Tokens.{Lexeme}
+use Rattle.pac_lex.specs.TokensProofs.{view, views}
 use Rattle.pac_asm_operation.specs.Operands.{ends_closed}
 use Rattle.pac_asm_operation.proofs.Expressions.{front, closed-front}
 use Rattle.pac_asm_operation.proofs.parsing.before_closing.Goals as goal

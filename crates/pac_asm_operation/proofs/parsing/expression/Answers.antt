@@ -1,5 +1,5 @@
 use Rattle.std.proofs.Common.{sym}
-use Rattle.pac_lex.specs.Tokens.{views}
+use Rattle.pac_lex.specs.TokensProofs.{views}
 use Rattle.pac_asm_operation.proofs.Expressions.{is-tree, memory-found, value-found, none-inside, none-between}
 use Rattle.pac_asm_operation.proofs.parsing.expression.Goals as goal
 use Rattle.pac_asm_operation.proofs.parsing.expression.Goals.{in-Some+else-is_source_expression, in_default}

@@ -2,9 +2,10 @@ use Rattle.std.proofs.Common.{List, ◌∷◌, ◌∙◌, ap, subst, sym}
 use Rattle.std.specs.Prelude.{Option}
 use denote.Ref.{Bor}
 use Rattle.pac_lex.specs.declared.token.Token.{Token}
-use Rattle.pac_lex.specs.Tokens.{Lexeme, views}
+use Rattle.pac_lex.specs.Tokens.{Lexeme}
+use Rattle.pac_lex.specs.TokensProofs.{views}
 use Rattle.pac_asm_operation.specs.Operands.{operand_of, operands_of_parts}
-use Rattle.pac_asm_operation.specs.Operands.{parts_after}
+use Rattle.pac_asm_operation.specs.OperandsProofs.{parts_after}
 use Rattle.pac_asm_operation.proofs.OperandLists.{AreMore, more-before, split-has-part}
 use Rattle.pac_asm_operation.proofs.parsing.last_operand.Goals as goal
 

@@ -1,6 +1,6 @@
 use Rattle.std.proofs.Common.{◌≡◌, ◌+◌, drop}
 use Rattle.std.specs.List.{position_or_len}
-use Rattle.pac_lex.specs.Tokens.{views}
+use Rattle.pac_lex.specs.TokensProofs.{views}
 use Rattle.pac_asm_operation.specs.Operands.{is_comma}
 use Rattle.pac_asm_operation.proofs.parts.comma_place.Given as goal
 

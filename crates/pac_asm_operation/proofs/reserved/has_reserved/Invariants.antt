@@ -1,6 +1,6 @@
 use Rattle.std.proofs.Common.{◌≡◌, drop}
 use Rattle.std.specs.List.{list_any}
-use Rattle.pac_lex.specs.Tokens.{views}
+use Rattle.pac_lex.specs.TokensProofs.{views}
 use Rattle.pac_asm_operation.specs.Reserved.{is_reserved_token}
 use Rattle.pac_asm_operation.proofs.reserved.has_reserved.Given as goal
 

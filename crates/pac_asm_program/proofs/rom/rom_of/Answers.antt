@@ -2,7 +2,8 @@ use Rattle.std.proofs.Common.{◌≡◌, ℕ, List, ◌∷◌, ◌+◌, ◌-◌,
 use Rattle.std.specs.List.{range_with_len, slice_index}
 use Rattle.std.proofs.lemmas.List.{drop_all, drop_more}
 use Rattle.pac_asm_program.specs.Programs.{items_in, rom_size}
-use Rattle.pac_asm_program.specs.Rom.{byte_over, rom_of, IsZeroElsewhere}
+use Rattle.pac_asm_program.specs.Rom.{byte_over, rom_of}
+use Rattle.pac_asm_program.specs.RomProofs.{IsZeroElsewhere}
 use Rattle.pac_asm_program.proofs.Apart.{zero-elsewhere}
 use Rattle.pac_asm_program.specs.declared.line.Line.{Line}
 use Rattle.pac_asm_program.specs.declared.line.Line.TheVariants.{Placed}

@@ -1,4 +1,4 @@
-use Rattle.pac_board.specs.Sinks.{by}
+use Rattle.pac_board.specs.SinksLaws.{by}
 use Rattle.pac_board.proofs.Hosts.{calls-of-the-history}
 use Rattle.pac_board.proofs.laws.calls_are_of_the_history.Goals as goal
 

@@ -1,4 +1,4 @@
-use Rattle.pac_board.specs.Sinks.{by}
+use Rattle.pac_board.specs.SinksLaws.{by}
 use Rattle.pac_board.proofs.Hosts.{lists-are-cut}
 use Rattle.pac_board.proofs.laws.lists_are_cut.Goals as goal
 

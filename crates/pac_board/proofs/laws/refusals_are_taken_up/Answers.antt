@@ -1,4 +1,4 @@
-use Rattle.pac_board.specs.Sinks.{by}
+use Rattle.pac_board.specs.SinksLaws.{by}
 use Rattle.pac_board.proofs.Pieces.{refusals-taken-up}
 use Rattle.pac_board.proofs.laws.refusals_are_taken_up.Goals as goal
 

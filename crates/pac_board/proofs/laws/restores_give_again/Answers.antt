@@ -1,4 +1,4 @@
-use Rattle.pac_board.specs.Sinks.{by}
+use Rattle.pac_board.specs.SinksLaws.{by}
 use Rattle.pac_board.proofs.Hosts.{restores-give-again}
 use Rattle.pac_board.proofs.laws.restores_give_again.Goals as goal
 

@@ -1,4 +1,4 @@
-use Rattle.pac_board.specs.Sinks.{by}
+use Rattle.pac_board.specs.SinksLaws.{by}
 use Rattle.pac_board.proofs.Parts.{steps-are-parts}
 use Rattle.pac_board.proofs.laws.steps_are_parts_of_runs.Goals as goal
 

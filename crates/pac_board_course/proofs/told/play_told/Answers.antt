@@ -1,6 +1,6 @@
 -- The answer is the board's, and the next frame's inputs are held where it has ended.
 use Rattle.std.proofs.Common.{◌≡◌, ◌<◌, ◌≤◌, min, inl, inr, refl, subst, arith, rules}
-use Rattle.pac_board.specs.Sinks.{by}
+use Rattle.pac_board.specs.SinksLaws.{by}
 use Rattle.pac_board.specs.Step.{step}
 use Rattle.pac_board.specs.Trace.{by_view}
 use Rattle.pac_board.specs.Trails.{IsNoted}

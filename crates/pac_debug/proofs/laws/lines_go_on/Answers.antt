@@ -1,5 +1,5 @@
 -- By induction over the lines.
-use Rattle.pac_board.specs.Sinks.{by}
+use Rattle.pac_board.specs.SinksLaws.{by}
 use Rattle.pac_debug.proofs.GoingOn.{lines-go-on}
 use Rattle.pac_debug.proofs.laws.lines_go_on.Goals as goal
 

@@ -1,5 +1,5 @@
 -- By induction over the lines.
-use Rattle.pac_board.specs.Sinks.{by}
+use Rattle.pac_board.specs.SinksLaws.{by}
 use Rattle.pac_debug.proofs.StepsMade.{lines-make-no-more}
 use Rattle.pac_debug.proofs.laws.lines_make_no_more.Goals as goal
 

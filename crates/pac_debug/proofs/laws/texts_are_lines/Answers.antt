@@ -1,5 +1,5 @@
 -- By induction over the lines.
-use Rattle.pac_board.specs.Sinks.{by}
+use Rattle.pac_board.specs.SinksLaws.{by}
 use Rattle.pac_debug.proofs.GoingOn.{in-turn}
 use Rattle.pac_debug.proofs.laws.texts_are_lines.Goals as goal
 

@@ -1,6 +1,7 @@
 use Rattle.std.proofs.Common.{◌≡◌, ◌∷◌, ap, ◌∙◌, arith}
 use Rattle.pac_expr.specs.declared.expr.Sign.TheVariants as signs
-use Rattle.pac_expr.specs.Trees.{Mark, token_mark, token_marks, kind_mark, atom_of, single, opening, minus}
+use Rattle.pac_expr.specs.Trees.{Mark, kind_mark, single, opening, minus}
+use Rattle.pac_expr.specs.TreesProofs.{token_mark, token_marks, atom_of}
 use Rattle.pac_expr.proofs.Parts.{plus-comes, single-begins, sign-begins, group-begins, joined-begins, atom-found}
 use Rattle.pac_expr.proofs.reading.+reading.Goals as goal
 

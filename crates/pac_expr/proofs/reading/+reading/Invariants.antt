@@ -1,5 +1,5 @@
 use Rattle.std.proofs.Common.{◌<◌, ◌+◌, ◌*◌, length}
-use Rattle.pac_expr.specs.Trees.{token_marks}
+use Rattle.pac_expr.specs.TreesProofs.{token_marks}
 use Rattle.pac_expr.specs.Reading.{BeginsWithTree}
 use Rattle.pac_expr.proofs.reading.+reading.Given as goal
 

@@ -1,5 +1,5 @@
 use Rattle.std.proofs.Common.{◌≡◌, ◌≤◌, Some, drop}
-use Rattle.pac_expr.specs.Trees.{token_marks}
+use Rattle.pac_expr.specs.TreesProofs.{token_marks}
 use Rattle.pac_expr.specs.Shape.{ends_expression}
 use Rattle.pac_expr.proofs.shape.is_shaped.Given as goal
 

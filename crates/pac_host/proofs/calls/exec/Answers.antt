@@ -2,7 +2,8 @@
 use Rattle.std.proofs.Common.{ap, subst, refl, ◌∙◌}
 use Rattle.std.proofs.lemmas.Result.{err_from_is_err_and}
 use Rattle.pac_board.specs.Fields.{state_of}
-use Rattle.pac_board.specs.State.{BoardValue, restored_board}
+use Rattle.pac_board.specs.State.{BoardValue}
+use Rattle.pac_board.specs.StateLaws.{restored_board}
 use Rattle.pac_host.specs.Host.{IsBlockOf, set_of_roms}
 use Rattle.pac_host.proofs.Executed.{executed, may-not-run}
 use Rattle.pac_host.proofs.calls.exec.Goals as goal

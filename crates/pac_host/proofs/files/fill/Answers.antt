@@ -1,6 +1,6 @@
 -- The fields that were opened are the state in the block.
 use Rattle.std.proofs.Common.{ap, ◌∙◌}
-use Rattle.pac_board.specs.State.{restored_board}
+use Rattle.pac_board.specs.StateLaws.{restored_board}
 use Rattle.pac_host.proofs.files.fill.Goals as goal
 
 pub put_fields-requires : goal.put_fields-requires

@@ -1,6 +1,7 @@
 -- The file of the board that these ROMs and the block make.
 use Rattle.std.proofs.Common.{ap, ◌∙◌, arith}
-use Rattle.pac_board.specs.State.{BoardValue, restored_board}
+use Rattle.pac_board.specs.State.{BoardValue}
+use Rattle.pac_board.specs.StateLaws.{restored_board}
 use Rattle.pac_state.specs.Reading.{state_in}
 use Rattle.pac_state.specs.Text.{save_text, written_version}
 use Rattle.pac_host.proofs.files.save.Goals as goal

@@ -1,6 +1,6 @@
 use Rattle.std.proofs.Common.{◌≡◌, ◌∙◌, ap}
 use Rattle.std.proofs.lemmas.Result.{IfOk-weaker}
-use Rattle.pac_lex.specs.Texts.{unquoted_characters}
+use Rattle.pac_lex.specs.TextsProofs.{unquoted_characters}
 use Rattle.pac_lex.proofs.CharacterLemmas.{characters-again}
 use Rattle.pac_lex.proofs.quote.characters.Goals as goal
 

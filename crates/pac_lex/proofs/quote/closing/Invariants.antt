@@ -1,5 +1,5 @@
 use Rattle.std.proofs.Common.{length, ◌-◌, ◌≡◌, ◌≤◌, drop}
-use Rattle.pac_lex.specs.Texts.{closing_length}
+use Rattle.pac_lex.specs.TextsProofs.{closing_length}
 use Rattle.pac_lex.proofs.QuoteLemmas.{more}
 use Rattle.pac_lex.proofs.quote.closing.Given as goal
 

@@ -1,5 +1,5 @@
 use Rattle.std.proofs.Common.{◌≡◌, length}
-use Rattle.pac_lex.specs.Tokens.{views}
+use Rattle.pac_lex.specs.TokensProofs.{views}
 use Rattle.pac_lex.specs.Scan.{scan}
 use Rattle.pac_lex.proofs.ScanLemmas.{with_earlier}
 use Rattle.pac_lex.proofs.reading.read.Given as goal

@@ -1,5 +1,5 @@
 use Rattle.std.proofs.Common.{subst}
-use Rattle.pac_lex.specs.Tokens.{views}
+use Rattle.pac_lex.specs.TokensProofs.{views}
 use Rattle.pac_lex.specs.Scan.{LexingGives}
 use Rattle.pac_lex.proofs.LineLaws.{read-again, fault-found}
 use Rattle.pac_lex.proofs.AnswerLaws.{is-read, is-fault}

@@ -1,7 +1,7 @@
 use Rattle.std.proofs.Common.{List, ℕ, ◌<◌, ◌++◌, length, drop, refl, sym, subst, arith, ◌∙◌}
 use Rattle.std.proofs.lemmas.Bool.{eqb-false}
 use Rattle.std.proofs.lemmas.Result.{err_from_is_err_and}
-use Rattle.pac_out.specs.Counted.{Refuses}
+use Rattle.pac_out.specs.CountedLaws.{Refuses}
 use Rattle.pac_out.specs.Pending.{Gathers}
 use Rattle.pac_out.proofs.Gathering.{gathers-both, gathers-within}
 use Rattle.pac_listing.specs.Listing.{first_row, all_rows, next_row_address}

@@ -1,6 +1,7 @@
 use Rattle.std.proofs.Common.{◌≡◌, ◌≤◌, ◌+◌, ◌*◌, ◌++◌, take, vec_len, vec_capacity}
 use Rattle.std.specs.List.{flat_map}
-use Rattle.pac_media.specs.Images.{palette_colour, header, image_size}
+use Rattle.pac_media.specs.Images.{palette_colour, header}
+use Rattle.pac_media.specs.ImagesProofs.{image_size}
 use Rattle.pac_media.proofs.image.draw.Given as goal
 
 abbrev pub invariant-loop-y : goal.invariant-loop-y

@@ -1,5 +1,6 @@
 use Rattle.std.proofs.Common.{◌≡◌, ◌<◌, ◌≤◌, ℕ, length}
-use Rattle.pac_picture.specs.Layer.{made_stale, shadow_at}
+use Rattle.pac_picture.specs.LayerProofs.{made_stale}
+use Rattle.pac_picture.specs.Layer.{shadow_at}
 use Rattle.pac_picture.proofs.layer.make_stale.Given as goal
 
 abbrev pub invariant-loop-shadow : goal.invariant-loop-shadow

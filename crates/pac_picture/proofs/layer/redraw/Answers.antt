@@ -1,5 +1,5 @@
 use Rattle.std.proofs.Common.{◌≢◌, ◌<◌, length, get_or, rules, refl, ◌∙◌, arith}
-use Rattle.pac_picture.specs.Layer.{tile_pattern}
+use Rattle.pac_picture.specs.LayerProofs.{tile_pattern}
 use Rattle.pac_picture.proofs.Counts.{count-none, count-step, one-at-most, draw-other, draw-step}
 use Rattle.pac_picture.proofs.layer.redraw.Goals as goal
 

@@ -1,7 +1,7 @@
 use Rattle.std.proofs.Common.{◌≡◌, ◌<◌, ◌≤◌, ℕ, false, [], get_or, length, if◌then◌else◌}
 use Rattle.std.specs.Prelude.{count_by}
 use Rattle.pac_num.specs.Tabulate.{tabulate}
-use Rattle.pac_picture.specs.Layer.{tile_pattern}
+use Rattle.pac_picture.specs.LayerProofs.{tile_pattern}
 use Rattle.pac_picture.proofs.layer.redraw.Given as goal
 
 abbrev pub invariant-loop-column : goal.invariant-loop-column

@@ -1,5 +1,5 @@
 use Rattle.std.proofs.Common.{◌∙◌, refl}
-use Rattle.pac_media.specs.Writes.{lent_took, lent_refused}
+use Rattle.pac_media.specs.WritesProofs.{lent_took, lent_refused}
 use Rattle.pac_board_course.specs.Stretches.{total_frames}
 use Rattle.pac_board_course.specs.Course.{way_on}
 use Rattle.pac_run.specs.Run.{writing}

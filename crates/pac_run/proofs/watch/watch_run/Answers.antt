@@ -1,8 +1,8 @@
 use Rattle.std.proofs.Common.{◌∙◌, arith, refl}
 use Rattle.std.specs.Str.Lines.{lines}
-use Rattle.pac_media.specs.Writes.{lent_took, lent_refused}
+use Rattle.pac_media.specs.WritesProofs.{lent_took, lent_refused}
 use Rattle.pac_board_course.specs.Stretches.{total_frames}
-use Rattle.pac_debug.specs.Running.{whole_run}
+use Rattle.pac_debug.specs.RunningLaws.{whole_run}
 use Rattle.pac_run.specs.Run.{writing}
 use Rattle.pac_run.proofs.Filmed.{begun, header-broke}
 use Rattle.pac_run.proofs.Lent.{wave-back, watches-back}

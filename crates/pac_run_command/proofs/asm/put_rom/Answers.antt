@@ -1,6 +1,6 @@
 use Rattle.std.proofs.Common.{subst}
-use Rattle.pac_run.specs.Counted.{Puts}
-use Rattle.pac_run.specs.Writes.{lent_took, lent_refused}
+use Rattle.pac_run.specs.CountedProofs.{Puts}
+use Rattle.pac_run.specs.WritesProofs.{lent_took, lent_refused}
 use Rattle.pac_run.proofs.Lent.{written}
 use Rattle.pac_run_command.proofs.asm.put_rom.Goals as goal
 

@@ -1,5 +1,5 @@
 use Rattle.std.proofs.Common.{inl, inr, refl, sym, subst, Some, Vec, Global}
-use Rattle.pac_run_options.specs.CommandLine.{told_run}
+use Rattle.pac_run_options.specs.CommandLineProofs.{told_run}
 use Rattle.pac_run_files.specs.Read.{HasParts, manifest_part_names}
 use Rattle.pac_run_files.specs.declared.files.FileKind.TheVariants.{Any}
 use Rattle.pac_run_files.specs.declared.parts.NamedFile.{NamedFile}

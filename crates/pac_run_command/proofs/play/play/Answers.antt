@@ -1,5 +1,5 @@
 use Rattle.std.proofs.Common.{inl, inr, refl, Vec, Global}
-use Rattle.pac_run_options.specs.CommandLine.{told_run}
+use Rattle.pac_run_options.specs.CommandLineProofs.{told_run}
 use Rattle.pac_run_files.specs.Read.{HasParts, manifest_part_names}
 use Rattle.pac_run_files.specs.declared.parts.NamedFile.{NamedFile}
 use Rattle.pac_run_command.specs.declared.failure.Failure.TheVariants.{Memory}

@@ -8,11 +8,12 @@ use Rattle.pac_run_options.specs.declared.request.Request.{Request}
 use Rattle.pac_run_options.specs.declared.request.Request.TheVariants.{Dis}
 use Rattle.pac_run_options.proofs.Rows.{entered_rows, same_first}
 use Rattle.pac_run_options.proofs.reading.request.Goals as goal
+use Rattle.pac_run_options.specs.CommandLineProofs as command_line_proofs
 
 -- the request of a file's name, where there is one
 told_file : (name : Option (Bor Text)) (request : Option Request)
     → MatchOption name (request ≡ None) (λ x. IsSomeAnd request (λ made. made ≡ Dis x))
-    → option_map line.told_request request ≡ option_map line.dis (option_map (λ s. s.now) name)
+    → option_map command_line_proofs.told_request request ≡ option_map line.dis (option_map (λ s. s.now) name)
 told_file None request none = rw none refl
 told_file (Some x) (Some made) is = rw is refl
 told_file (Some x) None never = absurd never

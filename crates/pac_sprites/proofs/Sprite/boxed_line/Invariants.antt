@@ -1,5 +1,5 @@
 use Rattle.std.proofs.Common.{◌≡◌, ◌<◌, ℕ, length, slice_index}
-use Rattle.pac_sprites.specs.Sprites.{boxed_of}
+use Rattle.pac_sprites.specs.SpritesProofs.{boxed_of}
 use Rattle.pac_sprites.proofs.Sprite.boxed_line.Given as goal
 
 abbrev pub invariant-loop-across : goal.invariant-loop-across

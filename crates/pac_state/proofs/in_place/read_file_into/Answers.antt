@@ -2,7 +2,8 @@ use Rattle.std.proofs.Common.{Ok, Err, inl, inr, sym, ap, ◌∙◌, arith}
 use Rattle.std.proofs.lemmas.Result.{err_from_is_err_and}
 use Rattle.pac_board.specs.RomParts.{Parts}
 use Rattle.pac_roms_manifest.specs.Sets.{digest_of}
-use Rattle.pac_state.specs.Saved.{load_fault, upgraded_board, version_in, board_left}
+use Rattle.pac_state.specs.Saved.{load_fault, upgraded_board, version_in}
+use Rattle.pac_state.specs.SavedProofs.{board_left}
 use Rattle.pac_state.proofs.Files.{accepts, fault-of-file}
 use Rattle.pac_state.proofs.Taken.{size-of}
 use Rattle.pac_state.proofs.in_place.read_file_into.Goals as goal

@@ -4,8 +4,10 @@ use Rattle.pac_board.specs.Boxed.{unboxed}
 use Rattle.pac_board.specs.State.{BoardValue}
 use Rattle.pac_state.specs.declared.fault.LoadRefused.{LoadRefused}
 use Rattle.pac_state.specs.Text.{sealed_file, body, written_version}
-use Rattle.pac_state.specs.Saved.{LoadsBoard}
-use Rattle.pac_state.specs.Files.{IsFile, Accepts, LoadsAgain}
+use Rattle.pac_state.specs.SavedProofs.{LoadsBoard}
+use Rattle.pac_state.specs.Files.{IsFile}
+use Rattle.pac_state.specs.FilesProofs.{Accepts}
+use Rattle.pac_state.specs.FilesLaws.{LoadsAgain}
 use Rattle.pac_state.proofs.laws.loaded_again.Goals as goal
 
 loads : (set : Parts) (bytes : List ℕ) (old : BoardValue) (file : IsFile set bytes) → file.version ≡ written_version

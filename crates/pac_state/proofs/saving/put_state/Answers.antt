@@ -1,7 +1,8 @@
 use Rattle.std.proofs.Common.{◌≡◌, List, ℕ, [], ◌++◌, subst, sym, ap, ◌∙◌, append_assoc}
 use Rattle.std.proofs.lemmas.Result.{err_from_is_err_and}
 use Rattle.sha1.specs.Sha1.{Holds, sha1}
-use Rattle.pac_out.specs.Counted.{Refuses, Puts}
+use Rattle.pac_out.specs.CountedLaws.{Refuses}
+use Rattle.pac_out.specs.CountedProofs.{Puts}
 use Rattle.pac_out.proofs.Files.{refuses-after, refuses-within, takes-joined, puts-after}
 use Rattle.pac_board.specs.Fields.{state_of}
 use Rattle.pac_out.specs.Pieces.{joined_pieces}

@@ -1,6 +1,6 @@
 use Rattle.std.proofs.Common.{◌≡◌, List, ℕ, subst, ap, ◌∙◌}
-use Rattle.pac_out.specs.Counted.{Puts}
-use Rattle.pac_out.specs.Writes.{lent_took, lent_refused}
+use Rattle.pac_out.specs.CountedProofs.{Puts}
+use Rattle.pac_out.specs.WritesProofs.{lent_took, lent_refused}
 use Rattle.pac_board.specs.Fields.{state_of}
 use Rattle.pac_roms_manifest.specs.Sets.{digest_of}
 use Rattle.pac_state.specs.Text.{sealed_file, body, written_version, save_text}

@@ -1,5 +1,5 @@
 use Rattle.std.proofs.Common.{◌≡◌, find, drop}
-use Rattle.pac_table_names.specs.Words.{is_text}
+use Rattle.pac_table_names.specs.WordsProofs.{is_text}
 use Rattle.pac_table_names.proofs.by_name.named.Given as goal
 
 abbrev pub invariant-loop-name : goal.invariant-loop-name

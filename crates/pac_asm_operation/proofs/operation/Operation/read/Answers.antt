@@ -1,6 +1,6 @@
 use Rattle.std.proofs.Common.{sym, ◌∙◌, ap}
 use Rattle.std.specs.Prelude.{option_map}
-use Rattle.pac_lex.specs.Tokens.{views}
+use Rattle.pac_lex.specs.TokensProofs.{views}
 use Rattle.pac_asm_operation.specs.Views.{operand_pair, fits_row}
 use Rattle.pac_asm_operation.specs.Kept.{seen_operation}
 use Rattle.pac_asm_operation.proofs.Found.{read-none, read-unfit, read-fit, size-kept, row-below}

@@ -1,6 +1,7 @@
 -- The time that went by, and a refusal.
 use Rattle.std.proofs.Common.{◌≡◌, ◌+◌, ◌≤◌, ap, arith, rules}
-use Rattle.pac_board.specs.Sinks.{by, TookAll}
+use Rattle.pac_board.specs.SinksLaws.{by}
+use Rattle.pac_board.specs.Sinks.{TookAll}
 use Rattle.pac_board.specs.State.{BoardValue, due_outputs, most_asked, time_of}
 use Rattle.pac_board.proofs.Turns.{more_asked, run-later, run-refused}
 use Rattle.pac_board.proofs.board.Board.exec.Goals as goal

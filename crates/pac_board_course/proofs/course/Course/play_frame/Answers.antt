@@ -1,6 +1,6 @@
 -- A frame's answer is the board's, and the next frame's inputs are held where it has ended.
 use Rattle.std.proofs.Common.{◌≡◌, ◌+◌, ◌*◌, ◌/◌, ◌<◌, ◌≤◌, inl, inr, refl, rules}
-use Rattle.pac_board.specs.Sinks.{by}
+use Rattle.pac_board.specs.SinksLaws.{by}
 use Rattle.pac_board.specs.State.{board_with_inputs}
 use Rattle.pac_board_course.specs.Frames.{frame_end}
 use Rattle.pac_board_course.proofs.Answered.{frame-answered, next_mask}

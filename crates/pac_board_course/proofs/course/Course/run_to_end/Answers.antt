@@ -1,7 +1,7 @@
 -- From frame to frame, to the end of the run.
 use Rattle.std.proofs.Common.{◌≡◌, ◌≤◌, true, false, is_some, rules}
 use Rattle.std.proofs.lemmas.Result.{err_from_is_err_and}
-use Rattle.pac_board.specs.Sinks.{by}
+use Rattle.pac_board.specs.SinksLaws.{by}
 use Rattle.pac_board_course.specs.Course.{end_of}
 use Rattle.pac_board_course.proofs.Whole.{underway-held-up, underway-closed, underway-more, underway-ends}
 use Rattle.pac_board_course.proofs.course.Course.run_to_end.Goals as goal

@@ -2,7 +2,7 @@
 use Rattle.std.proofs.Common.{◌≤◌, subst, sym}
 use Rattle.pac_table.specs.Instructions.{least_ticks, most_ticks}
 use Rattle.pac_cpu.specs.declared.once.Once.{Once}
-use Rattle.pac_cpu.specs.Step.{IfStepped}
+use Rattle.pac_cpu.specs.StepProofs.{IfStepped}
 use Rattle.pac_cpu.proofs.CpuSteps.{cpu-step-in-time, once-in-time}
 use Rattle.pac_cpu.proofs.cpu.Cpu.step.Goals as goal
 

@@ -1,7 +1,7 @@
 -- To the end of the run.
 use Rattle.std.proofs.Common.{inl, inr}
 use Rattle.std.proofs.lemmas.Result.{err_from_is_err_and}
-use Rattle.pac_board_course.specs.Sinks.{by}
+use Rattle.pac_board_course.specs.SinksLaws.{by}
 use Rattle.pac_debug_session.proofs.Finished.{finished, finish-refused, rests-there}
 use Rattle.pac_debug_session.proofs.session.Session.finish.Goals as goal
 

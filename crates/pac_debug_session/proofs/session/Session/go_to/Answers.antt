@@ -1,10 +1,11 @@
 -- The session stands at what the slot keeps.
 use Rattle.std.proofs.Common.{◌≡◌, ℕ, ◌<◌, true, None, Some, Option, Ok, length, map, get_or, refl, ap, subst, sym, ◌∙◌, arith}
-use Rattle.pac_board_course.specs.State.{BoardValue, nothing_due, restored_board}
+use Rattle.pac_board_course.specs.State.{BoardValue, nothing_due}
+use Rattle.pac_board_course.specs.StateLaws.{restored_board}
 use Rattle.pac_debug_session.specs.declared.session.Empty.{Empty}
 use Rattle.pac_debug_session.specs.Inside.{session_setting}
 use Rattle.pac_debug_session.specs.Keeping.{mark_of}
-use Rattle.pac_debug_session.specs.Motions.{ReturnsTo}
+use Rattle.pac_debug_session.specs.MotionsProofs.{ReturnsTo}
 use Rattle.pac_debug_session.specs.Session.{SessionValue}
 use Rattle.pac_debug_session.proofs.Slots.{filled-at, mark-at, stands-at, standing-there, right-there, value-there}
 use Rattle.pac_debug_session.proofs.Steppings.{with_board}

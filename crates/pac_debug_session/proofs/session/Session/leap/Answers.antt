@@ -3,7 +3,7 @@ use Rattle.std.proofs.Common.{◌≡◌, List, ◌+◌, ◌-◌, ◌*◌, ◌%�
 use Rattle.pac_board_course.specs.RomParts.{Parts}
 use Rattle.pac_board_course.specs.Course.{CourseValue, next_in}
 use Rattle.pac_board_course.specs.Frames.{frame_end}
-use Rattle.pac_board_course.specs.Sinks.{by}
+use Rattle.pac_board_course.specs.SinksLaws.{by}
 use Rattle.pac_board_course.specs.State.{BoardValue, nothing_due}
 use Rattle.pac_board_course.specs.Stretch.{Stretch}
 use Rattle.pac_board_course.specs.Told.{PlaysTold}

@@ -14,7 +14,7 @@ use Rattle.pac_board_course.specs.PastStep.{PastStep}
 use Rattle.pac_debug_session.specs.Inside.{IsStanding, AreSlotsRight, session_setting}
 use Rattle.pac_debug_session.specs.Keeping.{Ring, kept_of, ring_after_index, mark_of}
 use Rattle.pac_debug_session.specs.Told.{told_after}
-use Rattle.pac_debug_session.specs.Motions.{MakesStep}
+use Rattle.pac_debug_session.specs.MotionsProofs.{MakesStep}
 use Rattle.pac_debug_session.specs.Running.{is_late}
 use Rattle.pac_debug_session.specs.Session.{SessionValue}
 use Rattle.pac_debug_session.proofs.Indices.{early-time}

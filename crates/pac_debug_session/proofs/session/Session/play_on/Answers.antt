@@ -1,7 +1,7 @@
 -- What was due, what was done before, and then the way on of a course.
 use Rattle.std.proofs.Common.{◌≤◌, ◌+◌, ◌*◌, inl, inr, ap, sym, subst, ◌∙◌}
 use Rattle.std.proofs.lemmas.Result.{err_from_is_err_and}
-use Rattle.pac_board_course.specs.Sinks.{by}
+use Rattle.pac_board_course.specs.SinksLaws.{by}
 use Rattle.pac_board_course.specs.Stretches.{most_frames}
 use Rattle.pac_board_course.specs.State.{BoardValue}
 use Rattle.pac_board_course.specs.Step.{frame_ticks}

@@ -1,6 +1,7 @@
 -- The session stands at the checkpoint.
 use Rattle.std.proofs.Common.{◌≡◌, ◌+◌, ◌-◌, ◌*◌, map, ap, subst, ◌∙◌, arith}
-use Rattle.pac_board_course.specs.State.{BoardValue, nothing_due, restored_board}
+use Rattle.pac_board_course.specs.State.{BoardValue, nothing_due}
+use Rattle.pac_board_course.specs.StateLaws.{restored_board}
 use Rattle.pac_debug_session.specs.Inside.{session_setting}
 use Rattle.pac_debug_session.specs.Keeping.{mark_of, IsKeptAt}
 use Rattle.pac_debug_session.specs.Motions.{checkpoint_steps, checkpoint_count}

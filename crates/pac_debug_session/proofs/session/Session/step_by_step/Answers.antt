@@ -1,7 +1,7 @@
 -- Some steps forwards, and the offer of what they give.
 use Rattle.std.proofs.Common.{◌-◌, ◌==◌, arith}
 use Rattle.std.proofs.lemmas.Result.{err_from_is_err_and}
-use Rattle.pac_board_course.specs.Sinks.{by}
+use Rattle.pac_board_course.specs.SinksLaws.{by}
 use Rattle.pac_board_course.specs.Refused.{Refused}
 use Rattle.pac_debug_session.proofs.Forwards.{asked-here, steps-on, steps-refused}
 use Rattle.pac_debug_session.proofs.session.Session.step_by_step.Goals as goal

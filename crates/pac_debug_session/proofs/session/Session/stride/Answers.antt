@@ -1,7 +1,7 @@
 -- Behind the furthest index what the steps give was taken before.
 use Rattle.std.proofs.Common.{◌≡◌, nat_lt, if◌then◌else◌, None, Option, Ok, ap, sym, subst, ◌∙◌, arith}
 use Rattle.pac_board_course.specs.Refused.{Refused}
-use Rattle.pac_board_course.specs.Sinks.{by}
+use Rattle.pac_board_course.specs.SinksLaws.{by}
 use Rattle.pac_board_course.specs.Stop.{Stop}
 use Rattle.pac_debug_session.specs.Strides.{StepsOn}
 use Rattle.pac_debug_session.proofs.Leapt.{strode-on, leap-stale}

@@ -1,7 +1,7 @@
 -- From step to step.
 use Rattle.std.proofs.Common.{◌≡◌, ◌-◌, ℕ, false, true, Option, Ok, ap, sym, subst, ◌∙◌, arith}
 use Rattle.std.proofs.lemmas.Result.{err_from_is_err_and}
-use Rattle.pac_board_course.specs.Sinks.{by}
+use Rattle.pac_board_course.specs.SinksLaws.{by}
 use Rattle.pac_board_course.specs.Stop.{Stop}
 use Rattle.pac_board_course.specs.Refused.{Refused}
 use Rattle.pac_debug_session.specs.declared.motion.MotionEnd.{MotionEnd}

@@ -1,7 +1,9 @@
 use Rattle.std.proofs.Common.{ap, sym, ◌∙◌, rules}
-use Rattle.pac_map.specs.RomParts.{Parts, zero_parts}
-use Rattle.pac_picture.specs.Layer.{zero_roms}
-use Rattle.pac_picture.specs.State.{PictureState, palette_of}
+use Rattle.pac_map.specs.RomParts.{Parts}
+use Rattle.pac_map.specs.PartsProofs.{zero_parts}
+use Rattle.pac_picture.specs.LayerProofs.{zero_roms}
+use Rattle.pac_picture.specs.StateLaws.{PictureState}
+use Rattle.pac_picture.specs.State.{palette_of}
 use Rattle.pac_board_model.specs.BoardView.{video_roms}
 use Rattle.pac_machine.proofs.machine.Machine.without_roms.Goals as goal
 

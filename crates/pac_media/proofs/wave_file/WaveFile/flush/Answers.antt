@@ -1,6 +1,7 @@
 use Rattle.std.proofs.Common.{ℕ, List, subst}
 use Rattle.std.proofs.lemmas.Result.{err_from_is_err_and}
-use Rattle.pac_out.specs.Counted.{Refuses, Stops}
+use Rattle.pac_out.specs.CountedLaws.{Refuses}
+use Rattle.pac_out.specs.CountedProofs.{Stops}
 use Rattle.pac_media.proofs.Gathered.{fails-waiting}
 use Rattle.pac_media.proofs.wave_file.WaveFile.flush.Goals as goal
 

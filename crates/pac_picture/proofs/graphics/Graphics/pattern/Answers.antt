@@ -1,7 +1,7 @@
 use Rattle.std.proofs.Common.{◌≡◌, ◌∙◌, rules, arith, [], ap, subst}
 use Rattle.pac_num.proofs.Tabulated.{tabulate-is}
 use Rattle.pac_picture.specs.Picture.{VideoRoms}
-use Rattle.pac_picture.specs.Layer.{tile_pattern}
+use Rattle.pac_picture.specs.LayerProofs.{tile_pattern}
 use Rattle.pac_picture.specs.Decoded.{AreNumbersOf, tile_pair}
 use Rattle.pac_picture.proofs.Decoded.{two-more, upper-line, lower-line, pair-below, values-are-places}
 use Rattle.pac_picture.proofs.graphics.Graphics.pattern.Goals as goal

@@ -1,5 +1,6 @@
 use Rattle.std.proofs.Common.{◌≡◌, ◌<◌, ◌/◌, ◌∙◌, false, arith}
-use Rattle.pac_picture.specs.Layer.{shadow_at, cells_at}
+use Rattle.pac_picture.specs.Layer.{shadow_at}
+use Rattle.pac_picture.specs.LayerProofs.{cells_at}
 use Rattle.pac_picture.proofs.Layers.{line-kept}
 use Rattle.pac_picture.proofs.layer.Layer.line.Goals as goal
 

@@ -1,5 +1,5 @@
 use Rattle.std.proofs.Common.{◌<◌, ◌/◌, arith}
-use Rattle.pac_picture.specs.State.{source_of}
+use Rattle.pac_picture.specs.StateLaws.{source_of}
 use Rattle.pac_picture.proofs.Layers.{shadow-set}
 use Rattle.pac_picture.proofs.Composed.{source-row}
 use Rattle.pac_picture.proofs.BareLines.{row-drawn, flip-looked}

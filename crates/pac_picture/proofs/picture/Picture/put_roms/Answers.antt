@@ -1,5 +1,5 @@
 use Rattle.std.proofs.Common.{ap}
-use Rattle.pac_picture.specs.Layer.{LayerState}
+use Rattle.pac_picture.specs.LayerProofs.{LayerState}
 use Rattle.pac_picture.specs.State.{palette_of}
 use Rattle.pac_picture.proofs.Places.{length-is}
 use Rattle.pac_picture.proofs.Stale.{made-are-stale}

@@ -1,5 +1,5 @@
 use Rattle.std.proofs.Common.{ap}
-use Rattle.pac_picture.specs.Layer.{LayerState}
+use Rattle.pac_picture.specs.LayerProofs.{LayerState}
 use Rattle.pac_picture.proofs.Stale.{made-are-stale}
 use Rattle.pac_picture.proofs.BareLines.{stale-bare}
 use Rattle.pac_picture.proofs.picture.Picture.set_stale.Goals as goal

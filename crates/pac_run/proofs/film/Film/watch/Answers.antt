@@ -2,8 +2,8 @@ use Rattle.std.proofs.Common.{[], ◌++◌, ◌∙◌, append-nil, append_assoc,
 use mathlib.Core.List.{IsPrefix}
 use Rattle.std.specs.Str.Lines.{lines}
 use Rattle.pac_board_course.specs.Sinks.{TookAll}
-use Rattle.pac_debug.specs.Running.{whole_run}
-use Rattle.pac_debug.specs.Session.{session_due_outputs}
+use Rattle.pac_debug.specs.RunningLaws.{whole_run}
+use Rattle.pac_debug.specs.SessionLaws.{session_due_outputs}
 use Rattle.pac_run.specs.Films.{film_took, film_giving}
 use Rattle.pac_run.specs.Run.{writing}
 use Rattle.pac_run.proofs.Filmed.{at-first, filmed, recorded, sound-of, stops-among, stops-at-zeros}

@@ -1,6 +1,7 @@
 use Rattle.std.proofs.Common.{◌∙◌, ap, subst, sym}
 use Rattle.pac_table.specs.declared.patterns.Pattern.{Pattern}
-use Rattle.pac_table.specs.Patterns.{IsByte, opcode}
+use Rattle.pac_table.specs.PatternsProofs.{IsByte}
+use Rattle.pac_table.specs.Patterns.{opcode}
 use Rattle.pac_table.specs.Instructions.{pattern_of}
 use Rattle.pac_table.proofs.Uniqueness.{fields-held}
 use Rattle.pac_table.proofs.instruction.Instr.opcode.Goals as goal

@@ -1,0 +1,16 @@
+-- Law: what is proved of the definitions of State.antt.
+use Rattle.pac_board.specs.State.{BoardValue}
+use Rattle.std.specs.Prelude.{ℕ, ◌+◌}
+use Rattle.pac_machine.specs.Standing.{BoardState}
+
+-- the board of which so many microseconds more were asked, without a step
+abbrev pub with_more_asked : BoardValue → ℕ → BoardValue
+with_more_asked board microseconds = record {
+  set = board.set;
+  state = record { now = board.state.now; asked = board.state.asked + microseconds; due = board.state.due };
+  made = board.made;
+}
+
+-- a snapshot's state put back; the set and the count of steps stay
+abbrev pub restored_board : BoardValue → BoardState → BoardValue
+restored_board board state = record { set = board.set; state = state; made = board.made }

@@ -1,0 +1,22 @@
+-- For proofs: what proofs say of the definitions of Turns.antt.
+use Rattle.pac_board_model.specs.Output.{Output}
+use Rattle.pac_board.specs.State.{BoardValue, nothing_due, due_outputs}
+use Rattle.pac_cpu.specs.declared.once.Once.{Once}
+use Rattle.pac_board.specs.CallsLaws.{board_after_step, next_of, once_of_board, outputs_in}
+use Rattle.pac_board.specs.Sinks.{TookAll}
+use Rattle.std.specs.Prelude.{◌≡◌, Result, Ok, Err}
+use Rattle.pac_board.specs.SinksLaws.{Giving, Cut}
+
+pub record IsTurn {S : Type 0} (took : S → Output → S → Type 0) (old : BoardValue) (sink : S) (once : Once) (new : BoardValue) (later : S)
+    : Type 0 where
+  pub board : new ≡ board_after_step (next_of old) old nothing_due
+  pub once_is : once ≡ once_of_board old
+  pub sink_is : TookAll took sink (outputs_in (next_of old)) later
+
+pub record IsTurnRefused {S : Type 0} (to : Giving S) (old : BoardValue) (sink : S) (new : BoardValue) (later : S) : Type 0 where
+  pub board : new ≡ board_after_step (next_of old) old new.state.due
+  pub cut : Cut to sink (outputs_in (next_of old)) (due_outputs new) later
+
+abbrev pub Turns : {S E : Type 0} → Giving S → BoardValue → S → Result Once E → BoardValue → S → Type 0
+Turns to old sink (Ok once) new later = IsTurn to.took old sink once new later
+Turns to old sink (Err refusal) new later = IsTurnRefused to old sink new later
