@@ -99,6 +99,7 @@ module _ {F G W V L K R Q : Type 0} (to : Writings F W L R) (other : Writings G 
               files = whole (contents_from ran.plan inputs.dip from ran.holds.board) outcome saved.files;
               state_is = saved.state_is;
               file = saved.file;
+              in_order = saved.in_order;
             };
           };
         }

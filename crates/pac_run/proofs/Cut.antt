@@ -32,7 +32,8 @@ use Rattle.pac_run.specs.Resumes.{end_state, frames_asked, outcome_since, run_of
 use Rattle.pac_run.specs.Start.{is_between_frames}
 use Rattle.pac_run.specs.Texts.{images_text, samples_in, sound_text}
 use Rattle.pac_run.proofs.Begins.{both-true}
-use Rattle.pac_run.proofs.Filmed.{frames-append, samples-append, sound-append}
+use Rattle.pac_run.proofs.Filmed.{samples-append, sound-append}
+use Rattle.pac_run.proofs.Heard.{frames-append, pictures-counted}
 
 -- ---- counting
 
@@ -40,11 +41,6 @@ samples-counted : (outputs : List Output) → length (samples_in outputs) ≡ so
 samples-counted [] = refl
 samples-counted (Sound sample ∷ more) = ap suc (samples-counted more)
 samples-counted (Show image ∷ more) = samples-counted more
-
-pictures-counted : (one other : List Output) → picture_count (one ++ other) ≡ picture_count one + picture_count other
-pictures-counted [] other = omega arith
-pictures-counted (Sound sample ∷ more) other = pictures-counted more other
-pictures-counted (Show image ∷ more) other = let e = pictures-counted more other in omega (arith, e)
 
 -- ---- time and steps grow
 
