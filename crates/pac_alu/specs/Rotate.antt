@@ -24,12 +24,9 @@ shifted_of Srl byte carry = byte / 2
 -- the bit that leaves, bit 7 to the left and bit 0 to the right
 abbrev pub leaving_bit : Shift → ℕ → ℕ
 leaving_bit Rlc byte = byte / 128
-leaving_bit Rrc byte = byte % 2
 leaving_bit Rl byte = byte / 128
-leaving_bit Rr byte = byte % 2
 leaving_bit Sla byte = byte / 128
-leaving_bit Sra byte = byte % 2
-leaving_bit Srl byte = byte % 2
+leaving_bit _ byte = byte % 2
 
 -- RLC, RRC, RL, RR, SLA, SRA and SRL: S, Z and P of the value, H and N clear, C the bit that leaves
 unfoldable pub shift_of : Shift → ℕ → ℕ → ByteResult
