@@ -8,7 +8,8 @@ import pathlib
 import re
 
 TABLE = pathlib.Path(__file__).resolve().parent.parent / "crates/pac_table/src/table.rt"
-ROW = re.compile(r"^    row!\((\w+) 0x(\w\w) (\w+) (\w+) (\w+), (\w+) (\w+) (\w+), (\d+) (\d+), (.*)\),$", re.M)
+SHAPE = r"(\w+|\(\w+ \w+\))"
+ROW = re.compile(rf"^    row!\((\w+) 0x(\w\w) (\w+) (\w+) (\w+), (\w+) {SHAPE} {SHAPE}, (\d+) (\d+), (.*)\),$", re.M)
 
 # A form as the source has it, its code's words, its T-states where it is taken or repeats and where not, its flags, and how many
 # documented codes it has. `page` and `opcodes` find it by a code's bytes.
@@ -18,11 +19,11 @@ Form = collections.namedtuple("Form", "text code length ticks other flags page o
 PAGES = {"Plain": "", "Cb": "CB", "Ed": "ED", "Dd": "DD", "Fd": "FD", "DdCb": "DD CB d", "FdCb": "FD CB d"}
 # The bytes that follow the opcode byte.
 IMMEDIATES = {"Absent": "", "Byte": "n", "Word": "nn", "Relative": "e", "Displacement": "d", "DisplacementByte": "d n"}
-SHAPES = dict(pair.split("=") for pair in (
-    "Accumulator=A FirstRegister=r SecondRegister=s InterruptRegister=I RefreshRegister=R Byte=n Word=nn Relative=e BitNumber=b "
-    "RestartAddress=p ModeZero=0 ModeOne=1 ModeTwo=2 Condition=cc RelativeCondition=jj AtByte=(n) AtWord=(nn) AtBc=(BC) AtDe=(DE) "
-    "AtHl=(HL) AtSp=(SP) AtC=(C) AtIx=(IX) AtIy=(IY) IndexedIx=(IX+d) IndexedIy=(IY+d) De=DE Hl=HL Sp=SP Ix=IX Iy=IY Af=AF "
-    "AlternateAf=AF' Pair=dd StackPair=qq PairWithIx=pp PairWithIy=pp").split())
+# What is written for the shape of an operand; a name that isn't here is its own in capitals.
+SHAPES = {"Named": "{}", "AtName": "({})", "Indexed": "({}+d)", "FirstField": "{}", "SecondField": "s", "Number": "{}", "AtNumber": "({})",
+          "Mode": "{}", "AlternateAf": "AF'"}
+SHAPE_LETTERS = {"Registers": "r", "Pairs": "dd", "StackPairs": "qq", "PairsWithIx": "pp", "PairsWithIy": "pp", "Conditions": "cc",
+                 "RelativeConditions": "jj", "Byte": "n", "Word": "nn", "Target": "e", "Bit": "b", "Restart": "p"}
 # A field of an opcode byte: the worth of its lowest bit, its letters in the bits, and its values (UM0080 lists them; a register is never 6).
 REGISTERS = [0, 1, 2, 3, 4, 5, 7]
 FIELDS = {
@@ -77,6 +78,12 @@ def flags_of(effect, operation):
     return next(flags for begin, flags in FLAGS if effect.removeprefix("Effect::").startswith(begin))
 
 
+def shape_text(shape):
+    """What is written for the shape of an operand, as a row of the table tells it."""
+    kind, _, of = shape.strip("()").partition(" ")
+    return SHAPES[kind].format(SHAPE_LETTERS.get(of, of.upper()))
+
+
 def opcode_text(opcode, fields):
     """An opcode byte: hexadecimal where it has no field, else its bits with the fields' letters."""
     bits = list(f"{opcode:08b}")
@@ -94,7 +101,7 @@ def expanded(page, opcode, first, second, immediate, mnemonic, left, right, tick
     for value in values:
         at = opcode + (FIELDS[first][0] * value if value is not None else 0)
         fields = [name for name in (first, second) if value is None or name != first]
-        shapes = [SHAPES[shape] for shape in (left, right) if shape != "Absent"]
+        shapes = [shape_text(shape) for shape in (left, right) if shape != "Absent"]
         if first == "RelativeCondition":
             shapes[0] = "NZ Z NC C".split()[value]
         operands = ",".join(shapes)

@@ -43,7 +43,8 @@ use Rattle.pac_asm.specs.Assignments.{step_read, step_if}
 use Rattle.pac_asm.specs.Assignments.{step_of, defined_after, defined_in, first_spot, SymbolsAreRight}
 use Rattle.pac_asm.specs.Entries.{count_of, entry_sized, entry_by, entry_read, entry_if, entry_of}
 use Rattle.pac_asm.specs.Entries as entering
-use Rattle.pac_asm.specs.Phase2.{line_or_fault}
+use Rattle.pac_asm.specs.Phase2.{line_of, code_of_fault}
+use Rattle.std.specs.Result.{result_map_both}
 use Rattle.pac_asm_program.specs.declared.line.Line.{Line}
 use Rattle.pac_asm_program.specs.declared.line.Line.TheVariants as entries
 use Rattle.pac_code.specs.Items.{Content}
@@ -137,6 +138,9 @@ agrees-at : (above : Standing) (step : Option LineStep) (Holds : LineLayout → 
 agrees-at above step Holds made next e h = subst (Agrees above step Holds) (same-Ok made next e) h
 
 -- ---- entries
+
+abbrev pub line_or_fault : ℕ → OrFault (Option Content) → Result Line AsmCode
+line_or_fault at content = result_map_both (line_of at) code_of_fault content
 
 -- what a statement puts into a program at a place
 abbrev pub placed_by : (List ℕ → Option ℤ) → Statement → LineLayout → Result Line AsmCode

@@ -33,11 +33,14 @@ use Rattle.pac_asm.specs.Results.{◌>>=◌, result_of_line}
 use Rattle.pac_asm.specs.Standings.{place_covers, is_taken}
 use Rattle.pac_asm.specs.Standings as standings
 use Rattle.pac_asm.specs.Layouts.{IsFree, IsFreePlace, ArePlacesApart}
-use Rattle.pac_asm.specs.Reading.{form_of_line, form_in, form_or_fault}
+use Rattle.pac_asm.specs.Reading.{form_of_line}
+use Rattle.pac_lex.specs.declared.fault.LexFault.{LexFault}
+use Rattle.pac_asm.specs.declared.fault.AsmCode.TheVariants.{Token, Syntax}
+use Rattle.std.specs.Option.{ok_or}
+use Rattle.std.specs.Result.{result_map_both}
 use Rattle.pac_asm.specs.Phase2.{line_at_place, phase2}
 use Rattle.pac_asm_program.specs.Rom.{covers}
 use Rattle.pac_asm_program.specs.RomLaws.{IsApartFrom, IsFit}
-use Rattle.pac_asm_program.specs.Rom as rom
 use Rattle.pac_asm.specs.Items.{IsSized, AllFit, FitsLine, IsItemOf, IsLineOf}
 use Rattle.pac_asm_program.specs.RomLaws as rom_laws
 
@@ -46,7 +49,10 @@ use Rattle.pac_asm_program.specs.RomLaws as rom_laws
 pub read-is : (line : List ℕ) (lexemes : List Lexeme) (form : Form) → tokens_of line ≡ Ok lexemes → form_of lexemes ≡ Some form
     → form_of_line line ≡ Ok form
 unfolding form_of_line
-read-is line lexemes form e f = ap form_in e ∙ ap form_or_fault f
+read-is line lexemes form e f =
+    ap (λ (answer : Result (List Lexeme) LexFault).
+    result_map_both (λ tokens. tokens) Token answer >>= λ tokens. ok_or (form_of tokens) Syntax) e
+    ∙ ap (λ (o : Option Form). ok_or o Syntax) f
 
 no-none : {X : Type 0} (given : OrFault X) (f : X → Content) → map_unless_fault (λ x. Some (f x)) given ≡ Ok None → ⊥
 no-none (Ok x) f e = cc

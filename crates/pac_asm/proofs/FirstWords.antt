@@ -20,6 +20,8 @@ use Rattle.pac_lex.specs.Scan.{FoundToken, one_byte_token, numeral_token, name_t
 use Rattle.pac_lex.specs.Scan.{token_at, token_before, cut_token, scan}
 use Rattle.pac_lex.specs.Scan.{tokens_of}
 use Rattle.pac_lex.specs.Results.{◌>>=◌}
+use Rattle.std.specs.Option.{ok_or}
+use Rattle.std.specs.Result.{result_map_both}
 use Rattle.pac_lex.proofs.ScanLemmas.{scan-end, scan-comment, gap-skipped}
 use Rattle.pac_expr.specs.Trees.{Tree}
 use Rattle.pac_table_names.specs.Names.{name_of}
@@ -27,18 +29,19 @@ use Rattle.pac_asm_operation.specs.declared.directive.Directive.{Directive}
 use Rattle.pac_asm_operation.specs.declared.directive.Directive.TheVariants as directives
 use Rattle.pac_asm_operation.specs.Directives.{directive_of}
 use Rattle.pac_asm_operation.specs.Reserved.{expression_in}
-use Rattle.pac_asm_operation.specs.Operands.{parts_at_commas}
+use Rattle.pac_asm_operation.specs.Operands.{each_or_none, parts_at_commas}
 use Rattle.pac_asm_operation.specs.Operations.{operation_of}
 use Rattle.pac_asm_line.specs.Statements.{text, Statement, nothing, origin, equate, bytes, words, space, condition}
 use Rattle.pac_asm_line.specs.Statements.{otherwise, end_condition, operation, Form}
-use Rattle.pac_asm_line.specs.Forms.{is_name_kind, each_or_none, text_in, part_in, one_or_more, one_or_two, no_operands}
+use Rattle.pac_asm_line.specs.Forms.{is_name_kind, text_in, part_in, one_or_more, one_or_two, no_operands}
 use Rattle.pac_asm_line.specs.Forms.{directive_statement, directive_or_operation}
 use Rattle.pac_asm_line.specs.Forms.{statement_of, begins_statement, after_colon, statement_after_label, may_stand, form_of}
 use Rattle.pac_asm_line.specs.Forms as forms
 use Rattle.pac_asm_line.specs.declared.conditional.Conditional.TheVariants.{If}
 use Rattle.pac_asm_line.specs.Conditionals.{conditional_of_directive}
 use Rattle.pac_asm.specs.Unclosed.{conditional_of_line}
-use Rattle.pac_asm.specs.Reading.{form_in, form_or_fault, form_of_line}
+use Rattle.pac_asm.specs.Reading.{form_of_line}
+use Rattle.pac_asm.specs.declared.fault.AsmCode.TheVariants.{Token, Syntax}
 
 -- ---- a token that is a name
 
@@ -299,11 +302,12 @@ begins-if (first ∷ tokens) form e h =
 
 -- ---- the line
 
-formed-is : (o : Option Form) (form : Form) → form_or_fault o ≡ Ok form → o ≡ Some form
+formed-is : (o : Option Form) (form : Form) → ok_or o Syntax ≡ Ok form → o ≡ Some form
 formed-is None form e = absurd cc
 formed-is (Some found) form e = let same : found ≡ form = cc in ap Some same
 
-line-by : (line : List ℕ) (answer : Result (List Lexeme) LexFault) (form : Form) → tokens_of line ≡ answer → form_in answer ≡ Ok form
+line-by : (line : List ℕ) (answer : Result (List Lexeme) LexFault) (form : Form) → tokens_of line ≡ answer
+    → (result_map_both (λ tokens. tokens) Token answer >>= λ tokens. ok_or (form_of tokens) Syntax) ≡ Ok form
     → is_if form.statement ≡ true → conditional_of_line line ≡ Some If
 line-by line (Ok tokens) form is e h =
     let begun = begins-if tokens form (formed-is (form_of tokens) form e) h in

@@ -13,10 +13,8 @@ use Rattle.pac_asm.specs.declared.fault.AsmCode.TheVariants.{TooDeep, NoOpenIf}
 -- whether lines count inside an IF
 abbrev pub counts_inside : IfState → Bool
 counts_inside Met = true
-counts_inside Unmet = false
 counts_inside Otherwise = true
-counts_inside Over = false
-counts_inside Passed = false
+counts_inside _ = false
 
 -- whether a line that begins with this word ends the lines that an IF skips
 abbrev pub ends_skipping : IfState → Option Conditional → Bool

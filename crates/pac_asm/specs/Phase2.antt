@@ -1,6 +1,7 @@
 -- Believed: the second phase: what each placed line puts into the program, once all names are known. In a line the faults
 -- come in the order A8, A10, A9 (this profile).
-use Rattle.std.specs.Prelude.{ℕ, ◌+◌, List, [], ◌∷◌, ◌++◌, Option, Some, None, Result, Ok, Err}
+use Rattle.std.specs.Prelude.{ℕ, ◌+◌, List, [], ◌∷◌, ◌++◌, Option, Some, None, Result, Ok}
+use Rattle.std.specs.Result.{result_map_both}
 use Rattle.pac_code.specs.Items.{Content}
 use Rattle.pac_asm_operation.specs.declared.OperationFault.{OperationFault}
 use Rattle.pac_asm_operation.specs.declared.OperationFault.TheVariants as operations
@@ -26,16 +27,13 @@ abbrev pub line_of : ℕ → Option Content → Line
 line_of at None = lines.Blank
 line_of at (Some content) = lines.Placed (record { at = at; content = content })
 
-abbrev pub line_or_fault : ℕ → Result (Option Content) OperationFault → Result Line AsmCode
-line_or_fault at (Ok content) = Ok (line_of at content)
-line_or_fault at (Err fault) = Err (code_of_fault fault)
-
 -- what a line puts into the program, at the place that the first phase gave it
 abbrev pub line_at_place : List Symbol → List ℕ → LineLayout → Result Line AsmCode
 line_at_place symbols line Blank = Ok lines.Blank
 line_at_place symbols line Skipped = Ok lines.Skipped
 line_at_place symbols line (Placed span) =
-    form_of_line line >>= λ form. line_or_fault span.at (content_of (number_of_symbol symbols) span.at span.size form.statement)
+    form_of_line line >>= λ form.
+    result_map_both (line_of span.at) code_of_fault (content_of (number_of_symbol symbols) span.at span.size form.statement)
 
 -- what the lines from this number on put into the program, after those before them, or the first fault
 unfoldable pub phase2 : List Symbol → ℕ → List Line → List (List ℕ) → List LineLayout → Result (List Line) AsmFault

@@ -10,7 +10,7 @@ use Rattle.pac_asm_program.specs.Programs.{rom_size}
 use Rattle.pac_asm.specs.declared.condition.IfState.{IfState}
 use Rattle.pac_asm.specs.declared.place.Span.{Span}
 use Rattle.pac_asm.specs.declared.place.LineLayout.{LineLayout}
-use Rattle.pac_asm.specs.declared.place.LineLayout.TheVariants.{Blank, Skipped, Placed}
+use Rattle.pac_asm.specs.declared.place.LineLayout.TheVariants.{Placed}
 use Rattle.pac_asm.specs.declared.fault.AsmCode.{AsmCode}
 use Rattle.pac_asm.specs.declared.fault.AsmCode.TheVariants.{NotDefinedAbove, OutsideRom, Overlap, Arithmetic}
 
@@ -60,9 +60,8 @@ abbrev pub span_covers : Span → ℕ → Bool
 span_covers span cell = nat_le span.at cell && nat_lt cell (span.at + span.size)
 
 abbrev pub place_covers : ℕ → LineLayout → Bool
-place_covers cell Blank = false
-place_covers cell Skipped = false
 place_covers cell (Placed span) = span_covers span cell
+place_covers cell _ = false
 
 -- whether one of these lines has a byte at an address
 abbrev pub is_taken : List LineLayout → ℕ → Bool

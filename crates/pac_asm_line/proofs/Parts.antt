@@ -2,7 +2,7 @@
 use Rattle.std.proofs.Common.{◌≡◌, ℕ, ◌<◌, ◌==◌, ◌&&◌, Bool, true, false, List, [], ◌∷◌, Option, Some, None, map, is_some, if◌then◌else◌}
 use Rattle.std.proofs.Common.{refl, arith, option_map, length, unwrap_or}
 use Rattle.std.proofs.lemmas.List.{length-map}
-use Rattle.std.specs.Option.{option_and_then, option_map_or}
+use Rattle.std.specs.Option.{option_and_then, option_map_or, option_or}
 use Rattle.std.specs.List.{list_all, list_any, slice_split}
 use Rattle.std.proofs.lemmas.List.Splits.{length-slice_split}
 use Rattle.pac_lex.specs.declared.token.Token.{Token}
@@ -11,9 +11,9 @@ use Rattle.pac_lex.specs.TokensProofs.{views}
 use Rattle.pac_expr.specs.Trees.{Tree, atom, here}
 use Rattle.pac_expr.specs.Parsing.{tree_in}
 use Rattle.pac_asm_operation.specs.Reserved.{expression_in, is_reserved_token}
-use Rattle.pac_asm_operation.specs.Operands.{is_comma, parts_at_commas}
+use Rattle.pac_asm_operation.specs.Operands.{each_or_none, is_comma, parts_at_commas}
 use Rattle.pac_asm_line.specs.Statements.{DataPart, text, value, bytes, words}
-use Rattle.pac_asm_line.specs.Forms.{each_or_none, one_or_more, one_or_two, part_in, text_in, text_or_value}
+use Rattle.pac_asm_line.specs.Forms.{one_or_more, one_or_two, part_in, text_in}
 use Rattle.pac_asm_line.specs.Views.{part_of_tokens, spelled_tree}
 
 -- what an item and the items after it are together
@@ -77,7 +77,7 @@ unfolding expression_in
 spelled-of tokens t same = under (list_any is_reserved_token tokens) (tree_in tokens) t same
 
 part-by : (found : Option (List ℕ)) (tree : Option Tree) (other : Tree) (p : DataPart) → ((t : Tree) → tree ≡ Some t → other ≡ t) →
-    text_or_value tree found ≡ Some p → option_map_or text found (value other) ≡ p
+    option_or (option_map text found) (option_map value tree) ≡ Some p → option_map_or text found (value other) ≡ p
 part-by (Some characters) tree other p agree same = cc
 part-by None None other p agree same = cc
 part-by None (Some t) other p agree same = let e : other ≡ t = agree t refl in cc

@@ -3,6 +3,7 @@
 use Rattle.std.specs.Prelude.{ℕ, ℤ, pos, negsuc, ◌*◌, List, [], ◌∷◌, ◌++◌, length, replicate}
 use Rattle.std.specs.Prelude.{Option, Some, None, Result, Ok, Err, if◌then◌else◌}
 use Rattle.std.specs.List.{sum_by}
+use Rattle.std.specs.Result.{result_map_both}
 use Rattle.pac_num.specs.Numbers.{low_byte, high_byte}
 use Rattle.pac_code.specs.Items.{Content, Code, Data}
 use Rattle.pac_expr.specs.Trees.{Tree}
@@ -10,7 +11,7 @@ use Rattle.pac_expr.specs.Values.{ValueResult, tree_value}
 use Rattle.pac_asm_operation.specs.declared.fault.OperationFault.{OperationFault}
 use Rattle.pac_asm_operation.specs.declared.fault.OperationFault.TheVariants.{Range}
 use Rattle.pac_asm_operation.specs.Operations as operations
-use Rattle.pac_asm_operation.specs.Operations.{is_in_interval, complement_of_number, fault_of_error, first_operation_fault}
+use Rattle.pac_asm_operation.specs.Operations.{is_in_interval, complement_of_number, fault_of_error, both_or_fault}
 use Rattle.pac_asm_line.specs.Statements.{DataPart, text, value, Statement, bytes, words, space, operation}
 
 abbrev pub part_size : DataPart → ℕ
@@ -31,8 +32,7 @@ OrFault X = Result X OperationFault
 
 -- what a function makes of what is given
 abbrev pub map_unless_fault : {X Y : Type 0} → (X → Y) → OrFault X → OrFault Y
-map_unless_fault f (Ok x) = Ok (f x)
-map_unless_fault f (Err fault) = Err fault
+map_unless_fault f given = result_map_both f (λ fault. fault) given
 
 -- a byte, and a fill: -128 to 255; a word: -32768 to 65535
 abbrev pub byte_of_number : ℤ → OrFault ℕ
@@ -54,10 +54,7 @@ word_value names here tree = fitted_value word_of_number (tree_value names here 
 
 -- bytes one after another, or the first fault
 abbrev pub joined_bytes : OrFault (List ℕ) → OrFault (List ℕ) → OrFault (List ℕ)
-joined_bytes (Ok xs) (Ok ys) = Ok (xs ++ ys)
-joined_bytes (Ok xs) (Err fault) = Err fault
-joined_bytes (Err fault) (Ok ys) = Err fault
-joined_bytes (Err fault) (Err other) = Err (first_operation_fault fault other)
+joined_bytes some more = both_or_fault (λ xs ys. xs ++ ys) some more
 
 abbrev pub gathered_bytes : {X : Type 0} → (X → OrFault (List ℕ)) → List X → OrFault (List ℕ)
 gathered_bytes f [] = Ok []

@@ -1,7 +1,7 @@
 -- Believed: the form of a line, as a function of its tokens: by cases on the whole line (this profile's source language).
 -- Where there is none, the line is refused as A2.
 use Rattle.std.specs.Prelude.{ℕ, Bool, true, false, not, ◌||◌, List, [], ◌∷◌, Option, Some, None, option_map, is_some, if◌then◌else◌}
-use Rattle.std.specs.Option.{option_and_then}
+use Rattle.std.specs.Option.{option_or}
 use Rattle.pac_lex.specs.declared.token.TokenKind.{TokenKind}
 use Rattle.pac_lex.specs.declared.token.TokenKind.TheVariants as kinds
 use Rattle.pac_lex.specs.Tokens.{Lexeme}
@@ -12,7 +12,7 @@ use Rattle.pac_asm_operation.specs.declared.directive.Directive.{Directive}
 use Rattle.pac_asm_operation.specs.declared.directive.Directive.TheVariants as directives
 use Rattle.pac_asm_operation.specs.Directives.{directive_of, is_directive}
 use Rattle.pac_asm_operation.specs.Reserved.{expression_in}
-use Rattle.pac_asm_operation.specs.Operands.{parts_at_commas}
+use Rattle.pac_asm_operation.specs.Operands.{each_or_none, parts_at_commas}
 use Rattle.pac_asm_operation.specs.Operations.{operation_of}
 use Rattle.pac_asm_line.specs.Statements.{DataPart, text, value, Statement, nothing, origin, equate, bytes, words, space, condition}
 use Rattle.pac_asm_line.specs.Statements.{otherwise, end_condition, operation, Form}
@@ -25,11 +25,6 @@ abbrev pub is_colon : TokenKind → Bool
 is_colon kinds.Colon = true
 is_colon kind = false
 
--- what each of a list is, if each is something
-abbrev pub each_or_none : {X Y : Type 0} → (X → Option Y) → List X → Option (List Y)
-each_or_none f [] = Some []
-each_or_none f (x ∷ xs) = option_and_then (λ y. option_map (λ ys. y ∷ ys) (each_or_none f xs)) (f x)
-
 -- The characters of a text that stands alone, as an operand or as all of them.
 abbrev pub text_of_token : TokenKind → List ℕ → Option (List ℕ)
 text_of_token kinds.Text written = Some (characters_of written)
@@ -40,12 +35,8 @@ text_in (token ∷ []) = text_of_token token.kind token.text
 text_in tokens = None
 
 -- An operand of a DEFB. A text of one character is an expression too, of the same byte: alone it counts as a text.
-abbrev pub text_or_value : Option Tree → Option (List ℕ) → Option DataPart
-text_or_value tree (Some characters) = Some (text characters)
-text_or_value tree None = option_map value tree
-
 abbrev pub part_in : List Lexeme → Option DataPart
-part_in tokens = text_or_value (expression_in tokens) (text_in tokens)
+part_in tokens = option_or (option_map text (text_in tokens)) (option_map value (expression_in tokens))
 
 -- one or more operands, and one or two
 abbrev pub one_or_more : {X Y : Type 0} → (List X → Y) → Option (List X) → Option Y

@@ -4,10 +4,10 @@ ghost use Rattle.std.specs.Prelude.{◌≡◌, option_map, option_copied};
 ghost use Rattle.pac_lex.specs.TokensProofs.{views};
 ghost use Rattle.pac_lex.specs.TextsProofs.{characters_of};
 ghost use Rattle.pac_expr.specs.Trees.{Tree};
-ghost use Rattle.pac_asm_operation.specs.Operands.{parts_at_commas};
+ghost use Rattle.pac_asm_operation.specs.Operands.{each_or_none, parts_at_commas};
 ghost use Rattle.pac_asm_operation.specs.Reserved.{expression_in};
 ghost use Rattle.pac_asm_line.specs.Statements as says;
-ghost use Rattle.pac_asm_line.specs.Forms.{directive_statement, each_or_none, one_or_more, one_or_two, part_in, text_in, no_operands};
+ghost use Rattle.pac_asm_line.specs.Forms.{directive_statement, one_or_more, one_or_two, part_in, text_in, no_operands};
 ghost use Rattle.pac_asm_line.specs.Views as view;
 
 use crate::expression::expression_in;

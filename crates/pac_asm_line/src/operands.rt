@@ -4,11 +4,11 @@ ghost use Rattle.std.specs.Prelude.{◌≡◌, ◌*◌, ◌+◌, IsTrue, is_some
 ghost use Rattle.std.specs.List.{list_all, slice_split, sum_by};
 ghost use Rattle.pac_lex.specs.TokensProofs.{views};
 ghost use Rattle.pac_lex.specs.TextsProofs.{characters_of};
-ghost use Rattle.pac_asm_operation.specs.Operands.{is_comma, parts_at_commas};
+ghost use Rattle.pac_asm_operation.specs.Operands.{each_or_none, is_comma, parts_at_commas};
 ghost use Rattle.pac_asm_operation.specs.OperandsProofs.{parts_after};
 ghost use Rattle.pac_asm_operation.specs.Reserved.{expression_in};
 ghost use Rattle.pac_asm_line.specs.Contents.{part_size};
-ghost use Rattle.pac_asm_line.specs.Forms.{each_or_none, one_or_more, part_in, text_in};
+ghost use Rattle.pac_asm_line.specs.Forms.{one_or_more, part_in, text_in};
 ghost use Rattle.pac_asm_line.specs.Statements as says;
 ghost use Rattle.pac_asm_line.specs.Views.{part_of_tokens, parts_of_operands, trees_of};
 

@@ -15,7 +15,7 @@ use Rattle.pac_expr.specs.Trees.{Tree, atom, group, signed, joined, here, Mark, 
 use Rattle.pac_expr.specs.ParsingProofs.{tree_of}
 use Rattle.pac_expr.specs.Parsing.{tree_in}
 use Rattle.pac_expr.proofs.Complete.{tree-of-spelling}
-use Rattle.pac_table_names.specs.declared.names.Name.{Name}
+use Rattle.pac_table.specs.declared.operands.Name.{Name}
 use Rattle.pac_asm_operation.specs.declared.operand.Operand.TheVariants.{Indexed, Memory, Value}
 use Rattle.pac_asm_operation.specs.Reserved.{reserves, is_reserved_token, expression_in}
 use Rattle.pac_asm_operation.specs.Operands.{opens, closes, ends_closed, is_sign, operand_of_tree, expression_operand, indirect_operand}

@@ -5,13 +5,13 @@ use Rattle.std.proofs.lemmas.Bool.{and_parts, false≢true}
 use Rattle.pac_table.specs.declared.operands.Shape.{Shape}
 use Rattle.pac_table.specs.declared.operands.Shape.TheVariants as shape
 use Rattle.pac_table.specs.Instructions.{Instruction}
-use Rattle.pac_table_names.specs.Names.{writing_of, present_shape, listed_shapes}
+use Rattle.pac_table_names.specs.Names.{present_shape, listed_shapes}
 use Rattle.pac_asm_operation.specs.declared.operand.Operand.{Operand}
 use Rattle.pac_asm_operation.specs.Operations.{are_forms, takes, all_take, with_operand, with_all_operands}
 use Rattle.pac_asm_operation.specs.Views.{operand_pair}
 
 abbrev pub taken : Shape → ℕ → Operand ℤ → Instruction → Option Instruction
-taken some next operand i = if takes (writing_of some) next operand then Some (with_operand (writing_of some) next operand i) else None
+taken some next operand i = if takes some next operand then Some (with_operand some next operand i) else None
 
 abbrev pub all_taken : List Shape → ℕ → List (Operand ℤ) → Instruction → Option Instruction
 all_taken shapes next operands i = if all_take shapes next operands then Some (with_all_operands shapes next operands i) else None
@@ -35,8 +35,8 @@ pub filled-one : (a b : Shape) (next : ℕ) (x : Operand ℤ) (i : Instruction) 
     all_taken (listed_shapes a b) next (x ∷ []) i ≡ taken a next x i
 filled-one shape.Absent b next x i are = absurd (false≢true are)
 filled-one a b next x i are =
-    one-taken (takes (writing_of a) next x) (all_take (present_shape b) next []) _ _ (none-more b next)
-    (same-more b next (with_operand (writing_of a) next x i))
+    one-taken (takes a next x) (all_take (present_shape b) next []) _ _ (none-more b next)
+    (same-more b next (with_operand a next x i))
 
 -- the second operand
 abbrev then_taken : Shape → ℕ → Operand ℤ → Option Instruction → Option Instruction
@@ -46,7 +46,7 @@ then_taken b next y (Some i) = taken b next y i
 second-taken : (b : Shape) (next : ℕ) (y : Operand ℤ) (i : Instruction) → are_forms (present_shape b) (y ∷ []) ≡ true →
     all_taken (present_shape b) next (y ∷ []) i ≡ taken b next y i
 second-taken shape.Absent next y i are = absurd (false≢true are)
-second-taken b next y i are = one-taken (takes (writing_of b) next y) true _ _ refl refl
+second-taken b next y i are = one-taken (takes b next y) true _ _ refl refl
 
 two-taken : (test more : Bool) (i : Instruction) (second : Option Instruction) → (if more then Some i else None) ≡ second →
     (if test && more then Some i else None) ≡ (if test then second else None)
@@ -55,11 +55,11 @@ two-taken false more i second is = refl
 
 pub filled-two : (a b : Shape) (next : ℕ) (x y : Operand ℤ) (i : Instruction) → are_forms (listed_shapes a b) (x ∷ y ∷ []) ≡ true →
     all_taken (listed_shapes a b) next (x ∷ y ∷ []) i ≡
-    (if takes (writing_of a) next x then taken b next y (with_operand (writing_of a) next x i) else None)
+    (if takes a next x then taken b next y (with_operand a next x i) else None)
 filled-two shape.Absent b next x y i are = absurd (false≢true are)
 filled-two a b next x y i are =
-    two-taken (takes (writing_of a) next x) (all_take (present_shape b) next (y ∷ [])) _ _
-    (second-taken b next y (with_operand (writing_of a) next x i) (and_parts _ _ are).1)
+    two-taken (takes a next x) (all_take (present_shape b) next (y ∷ [])) _ _
+    (second-taken b next y (with_operand a next x i) (and_parts _ _ are).1)
 
 -- ---- the same for the two operands as they are kept
 
@@ -72,7 +72,7 @@ none-filled a b next (Some y) None x i is are none =
     none ∙ ap (λ (z : Operand ℤ). taken a next z i) (sym same) ∙ sym (filled-one a b next y i are)
 none-filled a b next (Some y) (Some z) x i is are none =
     let same : y ≡ x = cc in
-    no-second (takes (writing_of a) next y) _ _ (none ∙ ap (λ (z : Operand ℤ). taken a next z i) (sym same)) ∙
+    no-second (takes a next y) _ _ (none ∙ ap (λ (z : Operand ℤ). taken a next z i) (sym same)) ∙
     sym (filled-two a b next y z i are)
   where
     no-second : (test : Bool) (i : Instruction) (second : Option Instruction) → None ≡ (if test then Some i else None) →
@@ -99,7 +99,7 @@ two-filled a b next (Some y) (Some w) x z i j o is also are some last =
     let same : y ≡ x = cc is in
     let other : w ≡ z = cc also in
     last ∙ ap (λ (v : Operand ℤ). taken b next v j) (sym other) ∙
-    and-second (takes (writing_of a) next y) (with_operand (writing_of a) next y i) j (taken b next w)
+    and-second (takes a next y) (with_operand a next y i) j (taken b next w)
     (some ∙ ap (λ (v : Operand ℤ). taken a next v i) (sym same)) ∙
     sym (filled-two a b next y w i are)
   where

@@ -3,37 +3,37 @@
 use denote.Ref.{Bor}
 use Rattle.std.proofs.Common.{◌≡◌, ℕ, ◌+◌, ◌<◌, ℤ, pos, Bool, true, false, ◌&&◌, ◌==◌, if◌then◌else◌, []}
 use Rattle.std.proofs.Common.{List, ◌∷◌, length, map, get_or, find, refl, sym, ◌∙◌, ap, arith}
-use Rattle.std.specs.Prelude.{Option, Some, None, is_some, option_map, IfSome, Ok, Err, IfOk}
-use Rattle.std.specs.Option.{unwrap_or, ok_or}
+use Rattle.std.specs.Prelude.{Option, Some, None, is_some, option_map, IfSome, Result, Ok, Err, IfOk}
+use Rattle.std.specs.Option.{unwrap_or, ok_or, option_and_then}
 use Rattle.std.specs.List.{All}
 use Rattle.std.proofs.lemmas.Bool.{and_parts, eqb-true}
 use Rattle.pac_table.specs.declared.table.Row.{Row}
 use Rattle.pac_lemmas.proofs.Booleans.{and-false}
 use Rattle.pac_lemmas.proofs.Searches.{find-same, find-map-same, position-all-fail}
 use Rattle.pac_lex.specs.declared.token.Token.{Token}
+use Rattle.pac_lex.specs.Results.{◌>>=◌}
 use Rattle.pac_lex.specs.Tokens.{Lexeme}
 use Rattle.pac_expr.specs.Trees.{Tree}
 use Rattle.pac_table.specs.declared.operands.Operands.{Operands}
+use Rattle.pac_table.specs.declared.operands.Name.TheVariants as name
 use Rattle.pac_table.specs.declared.operands.Shape.{Shape}
 use Rattle.pac_table.specs.declared.operands.Shape.TheVariants as shape
 use Rattle.pac_table.specs.declared.patterns.Page.{Page}
-use Rattle.pac_table_names.specs.declared.writing.Writing.{Writing}
 use Rattle.pac_table.specs.Patterns.{page_prefix, is_displacement_first, immediate_bytes, code_bytes}
 use Rattle.pac_table.specs.Table.{table}
 use Rattle.pac_table.specs.Instructions.{Instruction, row_at, row_count, opcode_of, code}
-use Rattle.pac_table_names.specs.Names.{value_named, writing_of, has_accumulator, present_shape, listed_shapes, written_operands}
+use Rattle.pac_table_names.specs.Names.{value_named, has_accumulator, present_shape, listed_shapes, written_operands}
 use Rattle.pac_table_names.specs.ByName.{AreNamed, family_in, rows_named}
 use Rattle.pac_table.proofs.Lengths.{length-immediate-bytes, length-arranged}
 use Rattle.pac_asm_operation.specs.declared.fault.OperationFault.{OperationFault}
 use Rattle.pac_asm_operation.specs.declared.fault.OperationFault.TheVariants.{Range}
 use Rattle.pac_asm_operation.specs.declared.operand.Operand.{Operand}
-use Rattle.pac_table_names.specs.declared.writing.Writing.TheVariants as writing
 use Rattle.pac_asm_operation.specs.declared.operand.Operand.TheVariants.{Named, AlternateAf, AtName, Indexed, Memory, Value}
 use Rattle.pac_asm_operation.specs.Operands.{parts_at_commas, operands_of_parts}
-use Rattle.pac_asm_operation.specs.Operations.{Operation, is_form, are_forms, fits_as, named_value, fits, row_for, with_operands}
+use Rattle.pac_asm_operation.specs.Operations.{Operation, is_form, are_forms, fits_as, named_value, fits, row_for}
 use Rattle.pac_asm_operation.specs.Operations.{operation_of}
 use Rattle.pac_asm_operation.specs.Operations.{row_size, operation_size}
-use Rattle.pac_asm_operation.specs.Operations.{suits_as, suits, parts_as, instruction_in_row, valued_operands, placed_instruction}
+use Rattle.pac_asm_operation.specs.Operations.{suits_as, suits, parts_as, instruction_in_row, valued_operands}
 use Rattle.pac_asm_operation.specs.Operations.{chosen_instruction, instruction_of}
 use Rattle.pac_asm_operation.specs.Views.{seen_operand, operand_pair, seen_operands, fits_row}
 use Rattle.pac_asm_operation.specs.Kept.{with_tree, without_place, kept_operation, seen_operation, IsKept, suits_row, parts_in_row}
@@ -62,18 +62,18 @@ pub kept-operands : (word : List ℕ) (first second : Option (Operand Place)) �
     (seen_operation (kept_operation word first second)).operands ≡ seen_operands first second
 kept-operands word first second = trees-kept (operand_pair first second)
 
-form-seen : (some : Writing) (operand : Operand Place) → is_form some (seen_operand operand) ≡ is_form some operand
-form-seen (writing.Named other) (Named name) = refl
+form-seen : (some : Shape) (operand : Operand Place) → is_form some (seen_operand operand) ≡ is_form some operand
+form-seen (shape.Named other) (Named name) = refl
 form-seen _ (Named name) = refl
-form-seen writing.AlternateAf AlternateAf = refl
+form-seen shape.AlternateAf AlternateAf = refl
 form-seen _ AlternateAf = refl
-form-seen (writing.AtName other) (AtName name) = refl
+form-seen (shape.AtName other) (AtName name) = refl
 form-seen _ (AtName name) = refl
-form-seen (writing.Indexed other) (Indexed name tokens) = refl
+form-seen (shape.Indexed other) (Indexed name tokens) = refl
 form-seen _ (Indexed name tokens) = refl
-form-seen (writing.AtNumber kind) (Memory tokens) = refl
+form-seen (shape.AtNumber kind) (Memory tokens) = refl
 form-seen _ (Memory tokens) = refl
-form-seen (writing.Number kind) (Value tokens) = refl
+form-seen (shape.Number kind) (Value tokens) = refl
 form-seen _ (Value tokens) = refl
 
 forms-seen : (shapes : List Shape) (operands : List (Operand Place)) →
@@ -82,8 +82,8 @@ forms-seen [] [] = refl
 forms-seen [] (operand ∷ operands) = refl
 forms-seen (some ∷ shapes) [] = refl
 forms-seen (some ∷ shapes) (operand ∷ operands) =
-    ap (λ b. b && are_forms shapes (map seen_operand operands)) (form-seen (writing_of some) operand) ∙
-    ap (λ b. is_form (writing_of some) operand && b) (forms-seen shapes operands)
+    ap (λ b. b && are_forms shapes (map seen_operand operands)) (form-seen some operand) ∙
+    ap (λ b. is_form some operand && b) (forms-seen shapes operands)
 
 -- ---- the first row
 
@@ -106,21 +106,21 @@ first-is word rows family operands are named =
 
 present-long : {A : Type 0} (b : Shape) (y z : Operand A) (zs : List (Operand A)) → are_forms (present_shape b) (y ∷ z ∷ zs) ≡ false
 present-long shape.Absent y z zs = refl
-present-long b y z zs = and-false (is_form (writing_of b) y)
+present-long b y z zs = and-false (is_form b y)
 
 listed-long : {A : Type 0} (a b : Shape) (x y z : Operand A) (zs : List (Operand A)) →
     are_forms (listed_shapes a b) (x ∷ y ∷ z ∷ zs) ≡ false
 listed-long shape.Absent b x y z zs = refl
 listed-long a b x y z zs =
-    ap (λ test. is_form (writing_of a) x && test) (present-long b y z zs) ∙ and-false (is_form (writing_of a) x)
+    ap (λ test. is_form a x && test) (present-long b y z zs) ∙ and-false (is_form a x)
 
 written-long : {A : Type 0} (form : Operands) (value : ℕ) (x y z : Operand A) (zs : List (Operand A)) →
     are_forms (written_operands form value) (x ∷ y ∷ z ∷ zs) ≡ false
 written-long form value x y z zs =
     elim (has_accumulator form.mnemonic value) as
-    (λ b. are_forms (if b then listed_shapes shape.Accumulator form.first else listed_shapes form.first form.second) (x ∷ y ∷ z ∷ zs)
+    (λ b. are_forms (if b then listed_shapes (shape.Named name.A) form.first else listed_shapes form.first form.second) (x ∷ y ∷ z ∷ zs)
     ≡ false) [
-      | true ↦ listed-long shape.Accumulator form.first x y z zs
+      | true ↦ listed-long (shape.Named name.A) form.first x y z zs
       | false ↦ listed-long form.first form.second x y z zs
     ]
 
@@ -136,6 +136,12 @@ no-row word (x ∷ y ∷ z ∷ zs) more =
     and-false (is_some (value_named row.operands.mnemonic word)) in
     position-all-fail (fits word (x ∷ y ∷ z ∷ zs)) table (λ k row below. fails (get_or table k row))
 
+abbrev made : List ℕ → List (Operand Tree) → Option ℕ → Option Operation
+made word operands row = if is_some row then Some (record { word = word; operands = operands }) else None
+
+abbrev with_operands : List ℕ → Option (List (Operand Tree)) → Option Operation
+with_operands word operands = option_and_then (λ all. made word all (row_for word all)) operands
+
 pub too-many : (word : List ℕ) (operands : Option (List (Operand Tree))) → IfSome operands (λ all. 2 < length all) →
     with_operands word operands ≡ None
 too-many word None more = refl
@@ -143,9 +149,6 @@ too-many word (Some all) more =
     ap (λ (row : Option ℕ). if is_some row then Some (record { word = word; operands = all }) else None) (no-row word all more)
 
 -- ---- the operation that is read
-
-abbrev made : List ℕ → List (Operand Tree) → Option ℕ → Option Operation
-made word operands row = if is_some row then Some (record { word = word; operands = operands }) else None
 
 pub read-none : (word : List ℕ) (tokens : List Lexeme) → IfSome (operands_of_parts (parts_at_commas tokens)) (λ all. 2 < length all) →
     operation_of word tokens ≡ None
@@ -185,6 +188,9 @@ size-kept word rows family n size first second are named found is =
     ap (λ (os : List (Operand Tree)). row_size (row_at (unwrap_or (row_for word os) 0))) (sym (kept-operands word first second))
 
 -- ---- the instruction
+
+abbrev placed_instruction : List ℕ → ℕ → ℕ → Result (List (Operand ℤ)) OperationFault → Result Instruction OperationFault
+placed_instruction word size here operands = operands >>= chosen_instruction word size (here + size)
 
 pub instruction-fault : (names : List ℕ → Option ℤ) (here : ℕ) (word : List ℕ) (first second : Option (Operand Place))
     (fault : OperationFault) →

@@ -1,15 +1,19 @@
 -- The operands of a list of parts.
 use Rattle.std.proofs.Common.{ℕ, ◌+◌, ◌<◌, List, [], ◌∷◌, length, arith}
-use Rattle.std.specs.Prelude.{Option, Some, None, IfSome}
+use Rattle.std.specs.Prelude.{Option, Some, None, IfSome, option_map}
+use Rattle.std.specs.Option.{option_and_then}
 use Rattle.std.specs.List.{slice_split}
 use Rattle.std.proofs.lemmas.List.Splits.{length-slice_split}
 use Rattle.pac_lex.specs.Tokens.{Lexeme}
 use Rattle.pac_expr.specs.Trees.{Tree}
 use Rattle.pac_asm_operation.specs.declared.operand.Operand.{Operand}
-use Rattle.pac_asm_operation.specs.Operands.{is_comma, operand_of, operands_of_parts, operand_before}
+use Rattle.pac_asm_operation.specs.Operands.{is_comma, operand_of, operands_of_parts}
 
 abbrev pub AreMore : ℕ → Option (List (Operand Tree)) → Type 0
 AreMore n operands = IfSome operands (λ all. n < length all)
+
+abbrev pub operand_before : Option (Operand Tree) → Option (List (Operand Tree)) → Option (List (Operand Tree))
+operand_before first operands = option_and_then (λ operand. option_map (λ more. operand ∷ more) operands) first
 
 -- one operand more
 pub more-before : (n : ℕ) (first : Option (Operand Tree)) (operands : Option (List (Operand Tree))) → AreMore n operands →

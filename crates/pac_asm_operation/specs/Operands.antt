@@ -2,11 +2,12 @@
 use Rattle.std.specs.Prelude.{ℕ, ◌-◌, Bool, true, false, if◌then◌else◌, List, [], ◌∷◌, length, take}
 use Rattle.std.specs.Prelude.{Option, Some, None, option_map}
 use Rattle.std.specs.List.{slice_split}
+use Rattle.std.specs.Option.{option_or, option_and_then}
 use Rattle.pac_lex.specs.declared.token.TokenKind.{TokenKind}
 use Rattle.pac_lex.specs.declared.token.TokenKind.TheVariants as kinds
 use Rattle.pac_lex.specs.Tokens.{Lexeme}
 use Rattle.pac_expr.specs.Trees.{Tree, group}
-use Rattle.pac_table_names.specs.declared.names.Name.{Name}
+use Rattle.pac_table.specs.declared.operands.Name.{Name}
 use Rattle.pac_table_names.specs.Names.{name_of}
 use Rattle.pac_asm_operation.specs.declared.operand.Operand.{Operand}
 use Rattle.pac_asm_operation.specs.declared.operand.Operand.TheVariants.{Named, AlternateAf, AtName, Indexed, Memory, Value}
@@ -55,13 +56,9 @@ abbrev pub expression_operand : List Lexeme → Option (Operand Tree)
 expression_operand tokens = option_map operand_of_tree (expression_in tokens)
 
 -- a name, `AF'`, or an expression of one token
-abbrev pub lone_name : Option Name → List Lexeme → Option (Operand Tree)
-lone_name (Some name) tokens = Some (Named name)
-lone_name None tokens = expression_operand tokens
-
 abbrev pub lone_operand : TokenKind → List ℕ → List Lexeme → Option (Operand Tree)
 lone_operand kinds.AlternateAf text tokens = Some AlternateAf
-lone_operand kind text tokens = lone_name (name_in kind text) tokens
+lone_operand kind text tokens = option_or (option_map Named (name_in kind text)) (expression_operand tokens)
 
 -- a name in parentheses, with a displacement, which begins with its sign, or without one
 abbrev pub indirect_operand : Name → List Lexeme → Option (Operand Tree)
@@ -95,11 +92,11 @@ operand_of [] = None
 operand_of (token ∷ []) = lone_operand token.kind token.text (token ∷ [])
 operand_of (first ∷ second ∷ rest) = long_operand first second rest
 
--- the operands that parts are, if each is one
-abbrev pub operand_before : Option (Operand Tree) → Option (List (Operand Tree)) → Option (List (Operand Tree))
-operand_before (Some operand) (Some operands) = Some (operand ∷ operands)
-operand_before _ _ = None
+-- what each of a list is, if each is something
+abbrev pub each_or_none : {X Y : Type 0} → (X → Option Y) → List X → Option (List Y)
+each_or_none f [] = Some []
+each_or_none f (x ∷ xs) = option_and_then (λ y. option_map (λ ys. y ∷ ys) (each_or_none f xs)) (f x)
 
+-- the operands that parts are, if each is one
 abbrev pub operands_of_parts : List (List Lexeme) → Option (List (Operand Tree))
-operands_of_parts [] = Some []
-operands_of_parts (part ∷ parts) = operand_before (operand_of part) (operands_of_parts parts)
+operands_of_parts parts = each_or_none operand_of parts

@@ -3,19 +3,19 @@
 use Rattle.std.specs.Prelude.{ℕ, ◌+◌, ◌-◌, ◌/◌, ◌%◌, ◌==◌, ℤ, pos, negsuc, ◌-ℤ◌, int_le, nat_lt, unsigned_abs, Bool, true, false, ◌&&◌}
 use Rattle.std.specs.Prelude.{if◌then◌else◌}
 use Rattle.std.specs.Prelude.{List, [], ◌∷◌, length, Option, Some, None, option_map, is_some, unwrap_or, position, Result, Ok, Err}
-use Rattle.std.specs.Option.{ok_or}
+use Rattle.std.specs.Option.{ok_or, option_and_then}
+use Rattle.std.specs.Result.{result_map_both}
 use Rattle.std.specs.Ordering.{int_eq}
+use Rattle.pac_lex.specs.Results.{◌>>=◌}
 use Rattle.pac_lex.specs.Tokens.{Lexeme}
 use Rattle.pac_expr.specs.declared.evaluation.ValueError.{ValueError}
 use Rattle.pac_expr.specs.declared.evaluation.ValueError.TheVariants as errors
 use Rattle.pac_expr.specs.Trees.{Tree}
 use Rattle.pac_expr.specs.Values as expressions
 use Rattle.pac_table.specs.declared.operands.Shape.{Shape}
-use Rattle.pac_table_names.specs.declared.names.Name.{Name}
-use Rattle.pac_table_names.specs.declared.writing.NumberKind.{NumberKind}
-use Rattle.pac_table_names.specs.declared.writing.NumberKind.TheVariants as kind
-use Rattle.pac_table_names.specs.declared.writing.Writing.{Writing}
-use Rattle.pac_table_names.specs.declared.writing.Writing.TheVariants as writing
+use Rattle.pac_table.specs.declared.operands.NumberKind.{NumberKind}
+use Rattle.pac_table.specs.declared.operands.NumberKind.TheVariants as kind
+use Rattle.pac_table.specs.declared.operands.Shape.TheVariants as shape
 use Rattle.pac_table.specs.declared.table.Row.{Row}
 use Rattle.pac_table.specs.declared.patterns.Immediate.{Immediate}
 use Rattle.pac_table.specs.declared.patterns.Immediate.TheVariants as immediate
@@ -23,7 +23,7 @@ use Rattle.pac_table.specs.declared.patterns.Pattern.{Pattern}
 use Rattle.pac_table.specs.Patterns.{lists, word_limit, code_bytes, immediate_bytes}
 use Rattle.pac_table.specs.Table.{table}
 use Rattle.pac_table.specs.Instructions.{Instruction, row_at}
-use Rattle.pac_table_names.specs.Names.{value_named, is_same_name, value_of_name, writing_of, written_operands}
+use Rattle.pac_table_names.specs.Names.{value_named, is_same_name, value_of_name, written_operands}
 use Rattle.pac_asm_operation.specs.declared.operand.Operand.{Operand}
 use Rattle.pac_asm_operation.specs.declared.operand.Operand.TheVariants.{Named, AlternateAf, AtName, Indexed, Memory, Value}
 use Rattle.pac_asm_operation.specs.declared.fault.OperationFault.{OperationFault}
@@ -32,24 +32,24 @@ use Rattle.pac_asm_operation.specs.Operands.{parts_at_commas, operands_of_parts}
 
 -- ---- form
 
--- Whether this way of writing takes an operand, whatever its number is: a name, `AF'`, a name in parentheses, one with a displacement, an
+-- Whether an operand is written as a shape says, whatever its number is: a name, `AF'`, a name in parentheses, one with a displacement, an
 -- address, a number. A name in parentheses is also the form with a displacement, of 0.
-abbrev pub is_form : {A : Type 0} → Writing → Operand A → Bool
-is_form (writing.Named name) (Named other) = is_same_name name other
-is_form (writing.FirstField names) (Named other) = is_some (value_of_name names other)
-is_form (writing.SecondField names) (Named other) = is_some (value_of_name names other)
-is_form writing.AlternateAf AlternateAf = true
-is_form (writing.AtName name) (AtName other) = is_same_name name other
-is_form (writing.Indexed name) (AtName other) = is_same_name name other
-is_form (writing.Indexed name) (Indexed other x) = is_same_name name other
-is_form (writing.AtNumber kind) (Memory x) = true
-is_form (writing.Number kind) (Value x) = true
+abbrev pub is_form : {A : Type 0} → Shape → Operand A → Bool
+is_form (shape.Named name) (Named other) = is_same_name name other
+is_form (shape.FirstField names) (Named other) = is_some (value_of_name names other)
+is_form (shape.SecondField names) (Named other) = is_some (value_of_name names other)
+is_form shape.AlternateAf AlternateAf = true
+is_form (shape.AtName name) (AtName other) = is_same_name name other
+is_form (shape.Indexed name) (AtName other) = is_same_name name other
+is_form (shape.Indexed name) (Indexed other x) = is_same_name name other
+is_form (shape.AtNumber kind) (Memory x) = true
+is_form (shape.Number kind) (Value x) = true
 is_form _ _ = false
 
 -- each operand is written as its shape says, and there are as many operands as shapes
 abbrev pub are_forms : {A : Type 0} → List Shape → List (Operand A) → Bool
 are_forms [] [] = true
-are_forms (shape ∷ shapes) (operand ∷ operands) = is_form (writing_of shape) operand && are_forms shapes operands
+are_forms (some ∷ shapes) (operand ∷ operands) = is_form some operand && are_forms shapes operands
 are_forms _ _ = false
 
 -- whether operands are written as those of a row, the value being that of the row's first field where it tells the name
@@ -75,17 +75,11 @@ pub record Operation : Type 0 where
   pub word : List ℕ
   pub operands : List (Operand Tree)
 
-abbrev pub fitting_operation : List ℕ → List (Operand Tree) → Option Operation
-fitting_operation word operands =
-    if is_some (row_for word operands) then Some (record { word = word; operands = operands }) else None
-
-abbrev pub with_operands : List ℕ → Option (List (Operand Tree)) → Option Operation
-with_operands word None = None
-with_operands word (Some operands) = fitting_operation word operands
-
 -- the operation that a word is with the tokens after it, if it is one
 unfoldable pub operation_of : List ℕ → List Lexeme → Option Operation
-operation_of word tokens = with_operands word (operands_of_parts (parts_at_commas tokens))
+operation_of word tokens =
+    option_and_then (λ operands. if is_some (row_for word operands) then Some (record { word = word; operands = operands }) else None)
+    (operands_of_parts (parts_at_commas tokens))
 
 -- how many bytes the codes of a row have
 abbrev pub row_size : Row → ℕ
@@ -110,19 +104,14 @@ is_number kind.Restart next n = is_in_interval (pos 0) (pos 56) n && unsigned_ab
 is_number (kind.Mode mode) next n = int_eq n (pos mode)
 
 -- whether the number of an operand is one that is taken where it is written
-abbrev pub is_written_number : Writing → ℕ → ℤ → Bool
-is_written_number (writing.Number kind) next n = is_number kind next n
-is_written_number (writing.AtNumber kind) next n = is_number kind next n
-is_written_number _ next n = true
-
-abbrev pub takes : Writing → ℕ → Operand ℤ → Bool
-takes some next (Indexed name n) = is_in_interval (negsuc 127) (pos 127) n
-takes some next (Memory n) = is_written_number some next n
-takes some next (Value n) = is_written_number some next n
+abbrev pub takes : Shape → ℕ → Operand ℤ → Bool
+takes _ next (Indexed name n) = is_in_interval (negsuc 127) (pos 127) n
+takes (shape.AtNumber kind) next (Memory n) = is_number kind next n
+takes (shape.Number kind) next (Value n) = is_number kind next n
 takes _ next _ = true
 
 abbrev pub all_take : List Shape → ℕ → List (Operand ℤ) → Bool
-all_take (shape ∷ shapes) next (operand ∷ operands) = takes (writing_of shape) next operand && all_take shapes next operands
+all_take (some ∷ shapes) next (operand ∷ operands) = takes some next operand && all_take shapes next operands
 all_take _ next _ = true
 
 -- ---- instruction
@@ -142,26 +131,17 @@ with_number kind.Restart next n instruction = record instruction { p = unsigned_
 with_number (kind.Mode mode) next n instruction = instruction
 
 -- an instruction with an operand in it
-abbrev pub with_name : Writing → Name → Instruction → Instruction
-with_name (writing.FirstField names) name instruction = record instruction { p = unwrap_or (value_of_name names name) 0 }
-with_name (writing.SecondField names) name instruction = record instruction { q = unwrap_or (value_of_name names name) 0 }
-with_name _ name instruction = instruction
-
-abbrev pub with_written : Writing → ℕ → ℤ → Instruction → Instruction
-with_written (writing.Number kind) next n instruction = with_number kind next n instruction
-with_written (writing.AtNumber kind) next n instruction = with_number kind next n instruction
-with_written _ next n instruction = instruction
-
-abbrev pub with_operand : Writing → ℕ → Operand ℤ → Instruction → Instruction
-with_operand some next (Named name) instruction = with_name some name instruction
-with_operand some next (Indexed name n) instruction = record instruction { disp = n }
-with_operand some next (Memory n) instruction = with_written some next n instruction
-with_operand some next (Value n) instruction = with_written some next n instruction
+abbrev pub with_operand : Shape → ℕ → Operand ℤ → Instruction → Instruction
+with_operand (shape.FirstField names) next (Named name) instruction = record instruction { p = unwrap_or (value_of_name names name) 0 }
+with_operand (shape.SecondField names) next (Named name) instruction = record instruction { q = unwrap_or (value_of_name names name) 0 }
+with_operand _ next (Indexed name n) instruction = record instruction { disp = n }
+with_operand (shape.AtNumber kind) next (Memory n) instruction = with_number kind next n instruction
+with_operand (shape.Number kind) next (Value n) instruction = with_number kind next n instruction
 with_operand _ next _ instruction = instruction
 
 abbrev pub with_all_operands : List Shape → ℕ → List (Operand ℤ) → Instruction → Instruction
-with_all_operands (shape ∷ shapes) next (operand ∷ operands) instruction =
-    with_all_operands shapes next operands (with_operand (writing_of shape) next operand instruction)
+with_all_operands (some ∷ shapes) next (operand ∷ operands) instruction =
+    with_all_operands shapes next operands (with_operand some next operand instruction)
 with_all_operands _ next _ instruction = instruction
 
 -- the parts of the code that operands are in a row, whose first field holds this value at first
@@ -214,42 +194,35 @@ first_operation_fault faults.Arithmetic faults.Range = faults.Arithmetic
 first_operation_fault faults.Range other = other
 
 -- an operand with the value of its expression
-abbrev pub with_value : (ℤ → Operand ℤ) → expressions.ValueResult → Result (Operand ℤ) OperationFault
-with_value operand (Ok n) = Ok (operand n)
-with_value operand (Err fault) = Err (fault_of_error fault)
-
 abbrev pub valued_operand : (List ℕ → Option ℤ) → ℕ → Operand Tree → Result (Operand ℤ) OperationFault
 valued_operand names here (Named name) = Ok (Named name)
 valued_operand names here AlternateAf = Ok AlternateAf
 valued_operand names here (AtName name) = Ok (AtName name)
-valued_operand names here (Indexed name tree) = with_value (Indexed name) (expressions.tree_value names here tree)
-valued_operand names here (Memory tree) = with_value Memory (expressions.tree_value names here tree)
-valued_operand names here (Value tree) = with_value Value (expressions.tree_value names here tree)
+valued_operand names here (Indexed name tree) = result_map_both (Indexed name) fault_of_error (expressions.tree_value names here tree)
+valued_operand names here (Memory tree) = result_map_both Memory fault_of_error (expressions.tree_value names here tree)
+valued_operand names here (Value tree) = result_map_both Value fault_of_error (expressions.tree_value names here tree)
 
-abbrev pub operands_or_fault : Result (Operand ℤ) OperationFault → Result (List (Operand ℤ)) OperationFault →
-    Result (List (Operand ℤ)) OperationFault
-operands_or_fault (Ok operand) (Ok operands) = Ok (operand ∷ operands)
-operands_or_fault (Ok operand) (Err fault) = Err fault
-operands_or_fault (Err fault) (Ok operands) = Err fault
-operands_or_fault (Err fault) (Err other) = Err (first_operation_fault fault other)
+-- what is made of two results, or the first fault
+abbrev pub both_or_fault : {X Y Z : Type 0} → (X → Y → Z) → Result X OperationFault → Result Y OperationFault → Result Z OperationFault
+both_or_fault make (Ok x) (Ok y) = Ok (make x y)
+both_or_fault make (Ok x) (Err fault) = Err fault
+both_or_fault make (Err fault) (Ok y) = Err fault
+both_or_fault make (Err fault) (Err other) = Err (first_operation_fault fault other)
 
 abbrev pub valued_operands : (List ℕ → Option ℤ) → ℕ → List (Operand Tree) → Result (List (Operand ℤ)) OperationFault
 valued_operands names here [] = Ok []
 valued_operands names here (operand ∷ operands) =
-    operands_or_fault (valued_operand names here operand) (valued_operands names here operands)
+    both_or_fault (λ valued all. valued ∷ all) (valued_operand names here operand) (valued_operands names here operands)
 
 -- the first row that takes the numbers
 abbrev pub chosen_instruction : List ℕ → ℕ → ℕ → List (Operand ℤ) → Result Instruction OperationFault
 chosen_instruction word size next operands =
     ok_or (option_map (instruction_in_row word next operands) (position (suits word size next operands) table)) faults.Range
 
-abbrev pub placed_instruction : List ℕ → ℕ → ℕ → Result (List (Operand ℤ)) OperationFault → Result Instruction OperationFault
-placed_instruction word size here (Err fault) = Err fault
-placed_instruction word size here (Ok operands) = chosen_instruction word size (here + size) operands
-
 -- The instruction that an operation is at an address, where names tells what names stand for: of the first row that it
 -- fits with its numbers. Where there is none, an undefined name comes before a fault of arithmetic, and this before a
 -- number out of range, wherever they stand in the operation.
 unfoldable pub instruction_of : (List ℕ → Option ℤ) → ℕ → Operation → Result Instruction OperationFault
 instruction_of names here operation =
-    placed_instruction operation.word (operation_size operation) here (valued_operands names here operation.operands)
+    let size = operation_size operation in
+    valued_operands names here operation.operands >>= chosen_instruction operation.word size (here + size)

@@ -1,7 +1,6 @@
 -- For proofs: what the code keeps of an operand, as the operand of the definitions: the tokens of an expression by their tree.
 use Rattle.std.specs.Prelude.{◌≡◌, ℕ, Bool, true, false, ◌-◌, ◌&&◌, if◌then◌else◌, List, [], ◌∷◌, length, take, map, Option, Some, None}
 use Rattle.std.specs.Option.{unwrap_or}
-use Rattle.std.specs.List.{slice_split}
 use denote.Ref.{Bor}
 use Rattle.pac_lex.specs.declared.token.Token.{Token}
 use Rattle.pac_lex.specs.Tokens.{Lexeme}
@@ -12,11 +11,10 @@ use Rattle.pac_asm_operation.specs.declared.operand.Operand.TheVariants.{Named, 
 use Rattle.pac_table.specs.declared.operands.Shape.{Shape}
 use Rattle.pac_table.specs.declared.operands.Shape.TheVariants as shape
 use Rattle.pac_table.specs.Instructions.{row_at}
-use Rattle.pac_table_names.specs.Names.{writing_of}
 use Rattle.pac_table_names.specs.ByName.{family_in}
 use Rattle.pac_asm_operation.specs.Reserved.{expression_in}
 use Rattle.pac_asm_operation.specs.Operations.{is_form, fits_as}
-use Rattle.pac_asm_operation.specs.Operands.{is_comma, opens, ends_closed}
+use Rattle.pac_asm_operation.specs.Operands.{opens, ends_closed}
 
 -- the tree of tokens that are an expression
 unfoldable pub tree_of_tokens : List Lexeme → Tree
@@ -78,4 +76,4 @@ is_absent _ = false
 
 abbrev pub is_form_if : {A : Type 0} → Shape → Option (Operand A) → Bool
 is_form_if some None = is_absent some
-is_form_if some (Some operand) = is_form (writing_of some) operand
+is_form_if some (Some operand) = is_form some operand

@@ -4,14 +4,14 @@ ghost use Rattle.std.specs.Prelude.{◌≡◌, ◌<◌, Some, None, find, option
 ghost use Rattle.std.specs.List.{All};
 ghost use Rattle.pac_table.specs.Instructions.{row_at, row_count};
 ghost use Rattle.pac_table_names.specs.Names.{listed_shapes};
-ghost use Rattle.pac_asm_operation.specs.Operations.{all_take, are_forms, complement_of_number, holds, is_in_interval, is_number, is_written_number, takes, with_all_operands, with_name, with_number, with_operand, with_written};
+ghost use Rattle.pac_asm_operation.specs.Operations.{all_take, are_forms, complement_of_number, holds, is_in_interval, is_number, takes, with_all_operands, with_number, with_operand};
 ghost use Rattle.pac_asm_operation.specs.Views.{operand_pair};
 ghost use Rattle.pac_asm_operation.specs.Kept.{as_instruction, with_row_number, parts_in_row, suits_row};
 
 use crate::form::{family_in, fits, row_size};
 use crate::operand::Operand;
-use pac_table::{Instr, Shape, row_numbered};
-use pac_table_names::{Name, NumberKind, Writing, written};
+use pac_table::{Instr, NumberKind, Shape, row_numbered};
+use pac_table_names::{value_of_name, written};
 
 /// The parts of a code.
 #[derive(Clone, Copy)]
@@ -101,53 +101,30 @@ fn filled(
     let Some(operand) = first else {
         return Some(parts);
     };
-    let parts = with_operand(Writing::of(shapes.0), next, *operand, parts)?;
+    let parts = with_operand(shapes.0, next, operand, parts)?;
     match second {
         None => Some(parts),
-        Some(operand) => with_operand(Writing::of(shapes.1), next, *operand, parts),
+        Some(operand) => with_operand(shapes.1, next, operand, parts),
     }
 }
 
 /// The parts with an operand in them, where its number is taken.
-fn with_operand(writing: Writing, next: u32, operand: Operand<i32>, parts: Parts) -> Option<Parts>
+fn with_operand(shape: Shape, next: u32, operand: &Operand<i32>, parts: Parts) -> Option<Parts>
     ensures { option_map as_instruction result
-        ≡ (if takes writing next operand then Some (with_operand writing next operand (as_instruction parts)) else None) }
+        ≡ (if takes shape next operand.now then Some (with_operand shape next operand.now (as_instruction parts)) else None) }
 {
-    match operand {
-        Operand::Named(name) => Some(with_name(writing, name, parts)),
-        Operand::AlternateAf => Some(parts),
-        Operand::AtName(_) => Some(parts),
-        Operand::Indexed(_, number) => with_displacement(i64::from(number), parts),
-        Operand::Memory(number) => with_written(writing, next, number, parts),
-        Operand::Value(number) => with_written(writing, next, number, parts),
-    }
-}
-
-/// The parts with the value that a name is in its field.
-fn with_name(writing: Writing, name: Name, parts: Parts) -> Parts
-    ensures { as_instruction result ≡ with_name writing name (as_instruction parts) }
-{
-    match writing {
-        Writing::FirstField(names) => Parts {
-            p: names.value(name).unwrap_or(0),
+    match (shape, operand) {
+        (Shape::FirstField(names), Operand::Named(name)) => Some(Parts {
+            p: value_of_name(names, *name).unwrap_or(0),
             ..parts
-        },
-        Writing::SecondField(names) => Parts {
-            q: names.value(name).unwrap_or(0),
+        }),
+        (Shape::SecondField(names), Operand::Named(name)) => Some(Parts {
+            q: value_of_name(names, *name).unwrap_or(0),
             ..parts
-        },
-        _ => parts,
-    }
-}
-
-/// The parts with a number that is written in this way, where it is in its range.
-fn with_written(writing: Writing, next: u32, number: i32, parts: Parts) -> Option<Parts>
-    ensures { option_map as_instruction result ≡ (if is_written_number writing next number
-        then Some (with_written writing next number (as_instruction parts)) else None) }
-{
-    match writing {
-        Writing::Number(kind) => with_number(kind, next, number, parts),
-        Writing::AtNumber(kind) => with_number(kind, next, number, parts),
+        }),
+        (_, Operand::Indexed(_, number)) => with_displacement(i64::from(*number), parts),
+        (Shape::AtNumber(kind), Operand::Memory(number)) => with_number(kind, next, *number, parts),
+        (Shape::Number(kind), Operand::Value(number)) => with_number(kind, next, *number, parts),
         _ => Some(parts),
     }
 }

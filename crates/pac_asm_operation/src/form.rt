@@ -3,14 +3,14 @@
 ghost use Rattle.std.specs.Prelude.{◌≡◌, ◌<◌, find};
 ghost use Rattle.std.specs.List.{All};
 ghost use Rattle.pac_table.specs.Instructions.{row_at, row_count};
-ghost use Rattle.pac_table_names.specs.Names.{listed_shapes, writing_of};
+ghost use Rattle.pac_table_names.specs.Names.{listed_shapes};
 ghost use Rattle.pac_table_names.specs.ByName.{family_in};
 ghost use Rattle.pac_asm_operation.specs.Operations.{are_forms, fits_as, is_form, row_size};
 ghost use Rattle.pac_asm_operation.specs.Views.{fits_row, is_absent, is_form_if, operand_pair};
 
 use crate::operand::Operand;
 use pac_table::{Mnemonic, Shape, row_numbered};
-use pac_table_names::{Writing, written};
+use pac_table_names::{is_same_name, value_of_name, written};
 
 /// The first row whose form the operands have.
 pub(crate) fn first_row<T>(
@@ -71,7 +71,7 @@ fn are_forms<T>(
 {
     match first {
         None => is_absent(shapes.0),
-        Some(operand) => is_form(Writing::of(shapes.0), operand) && is_form_if(shapes.1, second),
+        Some(operand) => is_form(shapes.0, operand) && is_form_if(shapes.1, second),
     }
 }
 
@@ -81,7 +81,7 @@ fn is_form_if<T>(shape: Shape, operand: &Option<Operand<T>>) -> bool
 {
     match operand {
         None => is_absent(shape),
-        Some(operand) => is_form(Writing::of(shape), operand),
+        Some(operand) => is_form(shape, operand),
     }
 }
 
@@ -92,20 +92,22 @@ fn is_absent(shape: Shape) -> bool
     matches!(shape, Shape::Absent)
 }
 
-/// Whether this way of writing takes an operand.
-fn is_form<T>(writing: Writing, operand: &Operand<T>) -> bool
-    ensures { result ≡ is_form writing operand.now }
+/// Whether an operand is written as a shape says.
+fn is_form<T>(shape: Shape, operand: &Operand<T>) -> bool
+    ensures { result ≡ is_form shape operand.now }
 {
-    match (writing, operand) {
-        (Writing::Named(name), Operand::Named(other)) => name.is(*other),
-        (Writing::FirstField(names), Operand::Named(other)) => names.value(*other).is_some(),
-        (Writing::SecondField(names), Operand::Named(other)) => names.value(*other).is_some(),
-        (Writing::AlternateAf, Operand::AlternateAf) => true,
-        (Writing::AtName(name), Operand::AtName(other)) => name.is(*other),
-        (Writing::Indexed(name), Operand::AtName(other)) => name.is(*other),
-        (Writing::Indexed(name), Operand::Indexed(other, _)) => name.is(*other),
-        (Writing::AtNumber(_), Operand::Memory(_)) => true,
-        (Writing::Number(_), Operand::Value(_)) => true,
+    match (shape, operand) {
+        (Shape::Named(name), Operand::Named(other)) => is_same_name(name, *other),
+        (Shape::FirstField(names), Operand::Named(other)) => value_of_name(names, *other).is_some(),
+        (Shape::SecondField(names), Operand::Named(other)) => value_of_name(
+            names, *other,
+        ).is_some(),
+        (Shape::AlternateAf, Operand::AlternateAf) => true,
+        (Shape::AtName(name), Operand::AtName(other)) => is_same_name(name, *other),
+        (Shape::Indexed(name), Operand::AtName(other)) => is_same_name(name, *other),
+        (Shape::Indexed(name), Operand::Indexed(other, _)) => is_same_name(name, *other),
+        (Shape::AtNumber(_), Operand::Memory(_)) => true,
+        (Shape::Number(_), Operand::Value(_)) => true,
         _ => false,
     }
 }

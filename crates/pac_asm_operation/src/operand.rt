@@ -4,7 +4,8 @@ ghost use Rattle.std.specs.Prelude.{◌≡◌};
 ghost use Rattle.pac_asm_operation.specs.Operands.{name_in, opens, closes, is_sign};
 
 use pac_lex::{Token, TokenKind};
-use pac_table_names::{Name, name_of};
+use pac_table::Name;
+use pac_table_names::name_of;
 
 /// An operand, with the tokens or the value of its expression where it has one.
 #[derive(Clone, Copy)]

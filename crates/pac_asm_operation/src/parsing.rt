@@ -11,7 +11,7 @@ use crate::operand::{Operand, closes, is_sign, name_in, opens};
 use crate::parts::next_part;
 use crate::reserved::is_source_expression;
 use pac_lex::{Token, TokenKind};
-use pac_table_names::Name;
+use pac_table::Name;
 
 /// The operands that tokens are, one or two of them or none; nothing where a part of the tokens is no
 /// operand, or where there are more than two, which no operation has.

@@ -2,7 +2,7 @@
 use Rattle.std.specs.Prelude.{ℕ, List, [], ◌∷◌, flat_map}
 use Rattle.pac_code.specs.Items.{Item}
 use Rattle.pac_asm_program.specs.declared.line.Line.{Line}
-use Rattle.pac_asm_program.specs.declared.line.Line.TheVariants.{Blank, Skipped, Placed}
+use Rattle.pac_asm_program.specs.declared.line.Line.TheVariants.{Placed}
 use Rattle.pac_asm_program.specs.Names.{Symbol}
 
 -- the bytes of the program ROM, from address 0
@@ -17,9 +17,8 @@ pub record Assembled : Type 0 where
 
 -- the item that a line places, if it places one
 abbrev pub items_in : Line → List Item
-items_in Blank = []
-items_in Skipped = []
 items_in (Placed item) = item ∷ []
+items_in _ = []
 
 -- the items of a program, in the order of their lines
 abbrev pub items_of : Assembled → List Item

@@ -13,27 +13,26 @@ use Rattle.pac_table.specs.declared.patterns.Immediate.{Immediate}
 use Rattle.pac_table.specs.declared.patterns.Immediate.TheVariants as immediate
 use Rattle.pac_table.specs.declared.operands.Mnemonic.{Mnemonic}
 use Rattle.pac_table.specs.declared.operands.Mnemonic.TheVariants as mnemonic
+use Rattle.pac_table.specs.declared.operands.Name.TheVariants as name
 use Rattle.pac_table.specs.declared.operands.Shape.{Shape}
 use Rattle.pac_table.specs.declared.operands.Shape.TheVariants as shape
 use Rattle.pac_table.specs.declared.operands.Operands.{Operands}
-use Rattle.pac_table_names.specs.declared.names.Name.{Name}
-use Rattle.pac_table_names.specs.declared.writing.NumberKind.{NumberKind}
-use Rattle.pac_table_names.specs.declared.writing.NumberKind.TheVariants as kind
-use Rattle.pac_table_names.specs.declared.writing.Writing.{Writing}
-use Rattle.pac_table_names.specs.declared.writing.Writing.TheVariants.{Nothing, Named, AlternateAf, AtName, FirstField, SecondField}
-use Rattle.pac_table_names.specs.declared.writing.Writing.TheVariants.{Indexed, Number, AtNumber}
+use Rattle.pac_table.specs.declared.operands.Name.{Name}
+use Rattle.pac_table.specs.declared.operands.NumberKind.{NumberKind}
+use Rattle.pac_table.specs.declared.operands.NumberKind.TheVariants as kind
+use Rattle.pac_table.specs.declared.operands.Shape.TheVariants.{Absent, Named, AlternateAf, AtName, FirstField, SecondField}
+use Rattle.pac_table.specs.declared.operands.Shape.TheVariants.{Indexed, Number, AtNumber}
 use Rattle.pac_table.specs.declared.table.Row.{Row}
-use Rattle.pac_table_names.specs.Names.{text_of_name, names_in, name_at, writing_of, has_accumulator}
+use Rattle.pac_table_names.specs.Names.{text_of_name, names_in, name_at, has_accumulator}
 use Rattle.pac_table_names.specs.Names.{present_shape, listed_shapes}
 use Rattle.pac_table.specs.Mnemonics.{is_family, names_of, operation_name}
-use Rattle.pac_table.specs.declared.patterns.Field.TheVariants as field
 use Rattle.pac_table.specs.Patterns.{lists, field_size, IsDisplacement, IsSignedByte}
 use Rattle.pac_table.specs.Table.{table}
 use Rattle.pac_table.specs.Instructions.{Instruction, IsInstruction, row_at, operands_of, pattern_of}
 use Rattle.pac_table.proofs.TableRules.{row-passes}
 use Rattle.pac_num.specs.Hexadecimal.{hex_byte, hex_word}
 use Rattle.pac_dis.specs.Numerals.{leading_zero, byte_text, word_text, displacement_text}
-use Rattle.pac_dis.specs.Texts.{number_text, name_text, in_parentheses, operand_text, shape_text}
+use Rattle.pac_dis.specs.Texts.{number_text, name_text, in_parentheses, operand_text}
 use Rattle.pac_dis.specs.Texts.{blank_code, comma_code, marked_operands, operand_texts, instruction_text}
 use Rattle.pac_dis.specs.Texts.{operation_text}
 
@@ -113,8 +112,8 @@ length-name None = refl
 length-name (Some name) = refl
 
 -- the most bytes that an operand has
-abbrev longest_operand : Writing → ℕ
-longest_operand Nothing = 0
+abbrev longest_operand : Shape → ℕ
+longest_operand Absent = 0
 longest_operand (Named name) = name_length name
 longest_operand AlternateAf = 3
 longest_operand (AtName name) = name_length name + 2
@@ -127,9 +126,9 @@ longest_operand (AtNumber some) = longest_number some + 2
 length-in-parentheses : (inner : List ℕ) → length (in_parentheses inner) ≡ length inner + 2
 length-in-parentheses inner = simp length-append (omega arith)
 
-length-operand-le : (at : ℕ) (i : Instruction) (some : Writing) → IsSignedByte i.disp →
+length-operand-le : (at : ℕ) (i : Instruction) (some : Shape) → IsSignedByte i.disp →
     length (operand_text at i some) ≤ longest_operand some
-length-operand-le at i Nothing is = omega arith
+length-operand-le at i Absent is = omega arith
 length-operand-le at i (Named name) is = omega arith
 length-operand-le at i AlternateAf is = omega arith
 length-operand-le at i (AtName name) is = omega (arith, length-in-parentheses (text_of_name name))
@@ -164,16 +163,16 @@ room-of-text : (operand : List ℕ) (most : ℕ) → length operand ≤ most →
 room-of-text operand most within = omega (arith, within)
 
 room-present : (at : ℕ) (i : Instruction) (some : Shape) → IsSignedByte i.disp →
-    room (map (shape_text at i) (present_shape some)) ≤ longest_operand (writing_of some) + 1
+    room (map (operand_text at i) (present_shape some)) ≤ longest_operand some + 1
 room-present at i shape.Absent is = omega arith
-room-present at i some is = room-of-text (shape_text at i some) _ (length-operand-le at i (writing_of some) is)
+room-present at i some is = room-of-text (operand_text at i some) _ (length-operand-le at i some is)
 
 room-listed : (at : ℕ) (i : Instruction) (first second : Shape) → IsSignedByte i.disp →
-    room (map (shape_text at i) (listed_shapes first second)) ≤
-    (longest_operand (writing_of first) + 1) + (longest_operand (writing_of second) + 1)
+    room (map (operand_text at i) (listed_shapes first second)) ≤
+    (longest_operand first + 1) + (longest_operand second + 1)
 room-listed at i shape.Absent second is = omega arith
 room-listed at i first second is =
-    let before = length-operand-le at i (writing_of first) is in
+    let before = length-operand-le at i first is in
     omega (arith, before, room-present at i second is)
 
 -- the room of the A of ADD, ADC and SBC
@@ -186,11 +185,11 @@ has-room mnemonic.Alu value is = refl
 has-room some value is = absurd (cc)
 
 room-written : (at : ℕ) (i : Instruction) (form : Operands) (b : Bool) → IsSignedByte i.disp → has_accumulator form.mnemonic i.p ≡ b →
-    room (map (shape_text at i) (if b then listed_shapes shape.Accumulator form.first else listed_shapes form.first form.second)) ≤
+    room (map (operand_text at i) (if b then listed_shapes (shape.Named name.A) form.first else listed_shapes form.first form.second)) ≤
     accumulator_room form.mnemonic +
-    (longest_operand (writing_of form.first) + 1) + (longest_operand (writing_of form.second) + 1)
+    (longest_operand form.first + 1) + (longest_operand form.second + 1)
 room-written at i form true is has =
-    omega (arith, room-listed at i shape.Accumulator form.first is, has-room form.mnemonic i.p has)
+    omega (arith, room-listed at i (shape.Named name.A) form.first is, has-room form.mnemonic i.p has)
 room-written at i form false is has = omega (arith, room-listed at i form.first form.second is)
 
 -- ---- whole texts
@@ -199,7 +198,7 @@ room-written at i form false is has = omega (arith, room-listed at i form.first 
 abbrev longest_row : Row → ℕ
 longest_row row =
     longest (λ (name : List ℕ). length name) (names_of row.operands.mnemonic) + accumulator_room row.operands.mnemonic +
-    (longest_operand (writing_of row.operands.first) + 1) + (longest_operand (writing_of row.operands.second) + 1)
+    (longest_operand row.operands.first + 1) + (longest_operand row.operands.second + 1)
 
 abbrev row_fits : Row → Bool
 row_fits row = nat_le (longest_row row) 16
@@ -234,7 +233,7 @@ operation-le some value = entry-le size_of_name (names_of some) (if is_family so
 room-operands : (at : ℕ) (i : Instruction) → IsSignedByte i.disp →
     room (operand_texts at i) ≤
     accumulator_room (operands_of i).mnemonic +
-    (longest_operand (writing_of (operands_of i).first) + 1) + (longest_operand (writing_of (operands_of i).second) + 1)
+    (longest_operand (operands_of i).first + 1) + (longest_operand (operands_of i).second + 1)
 room-operands at i is = room-written at i (operands_of i) _ is refl
 
 text-le : (at : ℕ) (i : Instruction) → IsInstruction i → length (instruction_text at i) ≤ longest_row (row_at i.row)

@@ -1,11 +1,9 @@
 -- For proofs: that the numbers which are written as a byte or as one digit are in that range, in each instruction of the table.
 use Rattle.std.specs.Prelude.{◌<◌, ⊤, List, [], ◌∷◌}
 use Rattle.pac_table.specs.declared.operands.Shape.{Shape}
-use Rattle.pac_table_names.specs.declared.writing.NumberKind.{NumberKind}
-use Rattle.pac_table_names.specs.declared.writing.NumberKind.TheVariants as kind
-use Rattle.pac_table_names.specs.declared.writing.Writing.{Writing}
-use Rattle.pac_table_names.specs.declared.writing.Writing.TheVariants.{Number, AtNumber}
-use Rattle.pac_table_names.specs.Names.{writing_of}
+use Rattle.pac_table.specs.declared.operands.NumberKind.{NumberKind}
+use Rattle.pac_table.specs.declared.operands.NumberKind.TheVariants as kind
+use Rattle.pac_table.specs.declared.operands.Shape.TheVariants.{Number, AtNumber}
 use Rattle.pac_table.specs.Instructions.{Instruction}
 
 -- a number of an instruction is in range: n is a byte, and an interrupt mode one digit
@@ -15,7 +13,7 @@ IsShown instruction (kind.Mode number) = number < 10
 IsShown instruction _ = ⊤
 
 -- the number of an operand is in range, if it has one
-abbrev pub ShowsNumbers : Instruction → Writing → Type 0
+abbrev pub ShowsNumbers : Instruction → Shape → Type 0
 ShowsNumbers instruction (Number kind) = IsShown instruction kind
 ShowsNumbers instruction (AtNumber kind) = IsShown instruction kind
 ShowsNumbers instruction _ = ⊤
@@ -23,4 +21,4 @@ ShowsNumbers instruction _ = ⊤
 -- the number of each operand is in range
 abbrev pub ShowsEach : Instruction → List Shape → Type 0
 ShowsEach instruction [] = ⊤
-ShowsEach instruction (shape ∷ shapes) = ShowsNumbers instruction (writing_of shape) × ShowsEach instruction shapes
+ShowsEach instruction (shape ∷ shapes) = ShowsNumbers instruction shape × ShowsEach instruction shapes

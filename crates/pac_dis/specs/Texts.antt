@@ -4,14 +4,13 @@
 use Rattle.std.specs.Prelude.{ℕ, ◌+◌, ◌*◌, Option, unwrap_or, List, [], ◌∷◌, ◌++◌, length, map, slice_index, codes}
 use Rattle.std.specs.Option.{option_map_or}
 use Rattle.pac_table.specs.declared.operands.Shape.{Shape}
-use Rattle.pac_table_names.specs.declared.names.Name.{Name}
-use Rattle.pac_table_names.specs.declared.writing.NumberKind.{NumberKind}
-use Rattle.pac_table_names.specs.declared.writing.NumberKind.TheVariants as kind
-use Rattle.pac_table_names.specs.declared.writing.Writing.{Writing}
-use Rattle.pac_table_names.specs.declared.writing.Writing.TheVariants.{Nothing, Named, AlternateAf, AtName, FirstField, SecondField}
-use Rattle.pac_table_names.specs.declared.writing.Writing.TheVariants.{Indexed, Number, AtNumber}
+use Rattle.pac_table.specs.declared.operands.Name.{Name}
+use Rattle.pac_table.specs.declared.operands.NumberKind.{NumberKind}
+use Rattle.pac_table.specs.declared.operands.NumberKind.TheVariants as kind
+use Rattle.pac_table.specs.declared.operands.Shape.TheVariants.{Absent, Named, AlternateAf, AtName, FirstField, SecondField}
+use Rattle.pac_table.specs.declared.operands.Shape.TheVariants.{Indexed, Number, AtNumber}
 use Rattle.pac_table.specs.Mnemonics.{operation_name}
-use Rattle.pac_table_names.specs.Names.{text_of_name, name_at, writing_of, written_operands}
+use Rattle.pac_table_names.specs.Names.{text_of_name, name_at, written_operands}
 use Rattle.pac_table.specs.Instructions.{Instruction, operands_of, code}
 use Rattle.pac_num.specs.Numbers.{wrapped_address, displaced_address}
 use Rattle.pac_dis.specs.Numerals.{byte_text, word_text, digit_text, displacement_text}
@@ -37,9 +36,9 @@ name_text name = option_map_or text_of_name name []
 abbrev pub in_parentheses : List ℕ → List ℕ
 in_parentheses inner = codes "(" ++ inner ++ codes ")"
 
--- an operand, by what is written for it
-abbrev pub operand_text : ℕ → Instruction → Writing → List ℕ
-operand_text at instruction Nothing = []
+-- an operand of a shape
+abbrev pub operand_text : ℕ → Instruction → Shape → List ℕ
+operand_text at instruction Absent = []
 operand_text at instruction (Named name) = text_of_name name
 operand_text at instruction AlternateAf = codes "AF'"
 operand_text at instruction (AtName name) = in_parentheses (text_of_name name)
@@ -48,9 +47,6 @@ operand_text at instruction (SecondField names) = name_text (name_at names instr
 operand_text at instruction (Indexed name) = in_parentheses (text_of_name name ++ displacement_text instruction.disp)
 operand_text at instruction (Number kind) = number_text at instruction kind
 operand_text at instruction (AtNumber kind) = in_parentheses (number_text at instruction kind)
-
-abbrev pub shape_text : ℕ → Instruction → Shape → List ℕ
-shape_text at instruction shape = operand_text at instruction (writing_of shape)
 
 -- the mark before the first operand, and the one before each further operand
 abbrev pub blank_code : ℕ
@@ -66,7 +62,7 @@ marked_operands mark (operand ∷ operands) = mark ∷ operand ++ marked_operand
 
 -- the operands of an instruction, in the order in which they are written
 abbrev pub operand_texts : ℕ → Instruction → List (List ℕ)
-operand_texts at instruction = map (shape_text at instruction) (written_operands (operands_of instruction) instruction.p)
+operand_texts at instruction = map (operand_text at instruction) (written_operands (operands_of instruction) instruction.p)
 
 -- the name of an instruction's operation
 abbrev pub operation_text : Instruction → List ℕ

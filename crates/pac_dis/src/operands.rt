@@ -2,7 +2,7 @@
 
 ghost use Rattle.std.specs.Prelude.{◌≡◌, ◌<◌, ◌≤◌, ◌+◌, ◌++◌, length, map};
 ghost use Rattle.arrayvec.specs.ArrayString.{array_string_len};
-ghost use Rattle.pac_table_names.specs.Names.{listed_shapes, present_shape, text_of_name, writing_of};
+ghost use Rattle.pac_table_names.specs.Names.{listed_shapes, present_shape, text_of_name};
 ghost use Rattle.pac_table.specs.Instructions.{IsInstruction};
 ghost use Rattle.pac_dis.specs.Numerals.{displacement_text};
 ghost use Rattle.pac_dis.specs.Texts as spec;
@@ -12,8 +12,8 @@ ghost use Rattle.pac_dis.specs.TextsLaws.{longest_text};
 use crate::numerals::{put_byte, put_digit, put_displacement, put_word};
 use crate::text::{Text, put_character};
 use pac_num::{displaced, offset};
-use pac_table::{Instr, Shape};
-use pac_table_names::{Name, NumberKind, Writing, written};
+use pac_table::{Instr, Name, NumberKind, Shape};
+use pac_table_names::{name_at, text_of_name, written};
 
 /// What the first field of an instruction holds.
 fn first_field(instr: &Instr) -> u8
@@ -54,7 +54,7 @@ fn put_name(text: &mut Text, name: Option<Name>)
     ensures { text.new.bytes ≡ text.old.bytes ++ spec.name_text name }
 {
     if let Some(name) = name {
-        text.push_str(name.text());
+        text.push_str(text_of_name(name));
     }
 }
 
@@ -64,7 +64,7 @@ fn put_at_name(text: &mut Text, name: Name)
     ensures { text.new.bytes ≡ text.old.bytes ++ spec.in_parentheses (text_of_name name) }
 {
     text.push_str("(");
-    text.push_str(name.text());
+    text.push_str(text_of_name(name));
     text.push_str(")");
 }
 
@@ -75,7 +75,7 @@ fn put_indexed(text: &mut Text, name: Name, displacement: i8)
     ensures { text.new.bytes ≡ text.old.bytes ++ spec.in_parentheses (text_of_name name ++ displacement_text displacement) }
 {
     text.push_str("(");
-    text.push_str(name.text());
+    text.push_str(text_of_name(name));
     put_displacement(text, displacement);
     text.push_str(")");
 }
@@ -91,47 +91,47 @@ fn put_at_number(text: &mut Text, at: u16, instr: &Instr, kind: NumberKind)
     text.push_str(")");
 }
 
-/// Appends an operand, by what is written for it.
-fn put_writing(text: &mut Text, at: u16, instr: &Instr, writing: Writing)
-    requires shown { ShowsNumbers instr.now writing }
-    requires room { array_string_len text.old + length (spec.operand_text at instr.now writing) ≤ longest_text }
-    ensures { text.new.bytes ≡ text.old.bytes ++ spec.operand_text at instr.now writing }
+/// Appends an operand of a shape.
+fn put_shape(text: &mut Text, at: u16, instr: &Instr, shape: Shape)
+    requires shown { ShowsNumbers instr.now shape }
+    requires room { array_string_len text.old + length (spec.operand_text at instr.now shape) ≤ longest_text }
+    ensures { text.new.bytes ≡ text.old.bytes ++ spec.operand_text at instr.now shape }
 {
-    match writing {
-        Writing::Nothing => {}
-        Writing::Named(name) => text.push_str(name.text()),
-        Writing::AlternateAf => text.push_str("AF'"),
-        Writing::AtName(name) => put_at_name(text, name),
-        Writing::FirstField(names) => put_name(text, names.name(instr.p())),
-        Writing::SecondField(names) => put_name(text, names.name(instr.q())),
-        Writing::Indexed(name) => put_indexed(text, name, instr.disp()),
-        Writing::Number(kind) => put_number(text, at, instr, kind),
-        Writing::AtNumber(kind) => put_at_number(text, at, instr, kind),
+    match shape {
+        Shape::Absent => {}
+        Shape::Named(name) => text.push_str(text_of_name(name)),
+        Shape::AlternateAf => text.push_str("AF'"),
+        Shape::AtName(name) => put_at_name(text, name),
+        Shape::FirstField(names) => put_name(text, name_at(names, instr.p())),
+        Shape::SecondField(names) => put_name(text, name_at(names, instr.q())),
+        Shape::Indexed(name) => put_indexed(text, name, instr.disp()),
+        Shape::Number(kind) => put_number(text, at, instr, kind),
+        Shape::AtNumber(kind) => put_at_number(text, at, instr, kind),
     }
 }
 
 /// Appends the operand of a shape after a mark, where there is one.
 fn put_operand(text: &mut Text, mark: u8, at: u16, instr: &Instr, shape: Shape)
     requires ascii { mark < 128 }
-    requires shown { ShowsNumbers instr.now (writing_of shape) }
+    requires shown { ShowsNumbers instr.now shape }
     requires room { array_string_len text.old + length
-        (spec.marked_operands mark (map (spec.shape_text at instr.now) (present_shape shape))) ≤ longest_text }
-    ensures { text.new.bytes ≡ text.old.bytes ++ spec.marked_operands mark (map (spec.shape_text at instr.now) (present_shape shape)) }
+        (spec.marked_operands mark (map (spec.operand_text at instr.now) (present_shape shape))) ≤ longest_text }
+    ensures { text.new.bytes ≡ text.old.bytes ++ spec.marked_operands mark (map (spec.operand_text at instr.now) (present_shape shape)) }
 {
     if matches!(shape, Shape::Absent) {
         return;
     }
     put_character(text, mark);
-    put_writing(text, at, instr, Writing::of(shape));
+    put_shape(text, at, instr, shape);
 }
 
 /// Appends one operand after another; after one that isn't there there is none.
 fn put_both(text: &mut Text, at: u16, instr: &Instr, first: Shape, second: Shape)
     requires shown { ShowsEach instr.now (listed_shapes first second) }
     requires room { array_string_len text.old + length
-        (spec.marked_operands spec.blank_code (map (spec.shape_text at instr.now) (listed_shapes first second))) ≤ longest_text }
+        (spec.marked_operands spec.blank_code (map (spec.operand_text at instr.now) (listed_shapes first second))) ≤ longest_text }
     ensures { text.new.bytes ≡ text.old.bytes
-        ++ spec.marked_operands spec.blank_code (map (spec.shape_text at instr.now) (listed_shapes first second)) }
+        ++ spec.marked_operands spec.blank_code (map (spec.operand_text at instr.now) (listed_shapes first second)) }
 {
     if matches!(first, Shape::Absent) {
         return;

@@ -8,8 +8,14 @@ use Rattle.pac_table.specs.declared.patterns.Field.TheVariants as field
 use Rattle.pac_table.specs.declared.patterns.Immediate.{Immediate}
 use Rattle.pac_table.specs.declared.patterns.Immediate.TheVariants as immediate
 use Rattle.pac_table.specs.declared.patterns.Pattern.{Pattern}
+use Rattle.pac_table.specs.declared.operands.Name.{Name}
+use Rattle.pac_table.specs.declared.operands.Name.TheVariants as name
+use Rattle.pac_table.specs.declared.operands.NameList.{NameList}
+use Rattle.pac_table.specs.declared.operands.NameList.TheVariants as list
+use Rattle.pac_table.specs.declared.operands.NumberKind.{NumberKind}
+use Rattle.pac_table.specs.declared.operands.NumberKind.TheVariants as kind
 use Rattle.pac_table.specs.declared.operands.Shape.{Shape}
-use Rattle.pac_table.specs.declared.operands.Shape.TheVariants as shape
+use Rattle.pac_table.specs.declared.operands.Shape.TheVariants.{Named, AtName, FirstField, SecondField, Indexed, Number, AtNumber}
 use Rattle.pac_table.specs.declared.table.Row.{Row}
 use Rattle.pac_table.specs.Mnemonics.{is_family}
 use Rattle.pac_table.specs.Instructions.{row_count, row_at}
@@ -89,59 +95,68 @@ is_of_iy page.Fd = true
 is_of_iy page.FdCb = true
 is_of_iy _ = false
 
+-- whether a field lists these names
+abbrev pub is_field_of : NameList → Field → Bool
+is_field_of list.Registers some = is_register some
+is_field_of list.Pairs some = is_pair some
+is_field_of list.StackPairs some = is_stack_pair some
+is_field_of list.PairsWithIx some = is_index_pair some
+is_field_of list.PairsWithIy some = is_index_pair some
+is_field_of list.Conditions some = is_condition some
+is_field_of list.RelativeConditions some = is_relative_condition some
+
+-- whether a name, or a list of names, is written on a page: IX on its own alone, and IY on its own
+abbrev pub is_written_on : Page → Name → Bool
+is_written_on some name.Ix = is_of_ix some
+is_written_on some name.Iy = is_of_iy some
+is_written_on some _ = true
+
+abbrev pub is_listed_on : Page → NameList → Bool
+is_listed_on some list.PairsWithIx = is_of_ix some
+is_listed_on some list.PairsWithIy = is_of_iy some
+is_listed_on some _ = true
+
+-- whether the code has a part for a number
+abbrev pub has_number : Pattern → NumberKind → Bool
+has_number pattern kind.Byte = has_byte pattern.immediate
+has_number pattern kind.Word = has_word pattern.immediate
+has_number pattern kind.Target = has_distance pattern.immediate
+has_number pattern kind.Bit = is_bit_number pattern.first
+has_number pattern kind.Restart = is_restart_place pattern.first
+has_number pattern (kind.Mode mode) = true
+
 -- whether the code has the part that an operand fills, and the prefix that the operand means
 abbrev pub fits_code : Pattern → Shape → Bool
-fits_code pattern shape.FirstRegister = is_register pattern.first
-fits_code pattern shape.SecondRegister = is_register pattern.second
-fits_code pattern shape.Byte = has_byte pattern.immediate
-fits_code pattern shape.Word = has_word pattern.immediate
-fits_code pattern shape.Relative = has_distance pattern.immediate
-fits_code pattern shape.AtByte = has_byte pattern.immediate
-fits_code pattern shape.AtWord = has_word pattern.immediate
-fits_code pattern shape.AtIx = is_of_ix pattern.page
-fits_code pattern shape.AtIy = is_of_iy pattern.page
-fits_code pattern shape.IndexedIx = is_of_ix pattern.page && has_displacement pattern.immediate
-fits_code pattern shape.IndexedIy = is_of_iy pattern.page && has_displacement pattern.immediate
-fits_code pattern shape.Ix = is_of_ix pattern.page
-fits_code pattern shape.Iy = is_of_iy pattern.page
-fits_code pattern shape.Pair = is_pair pattern.first
-fits_code pattern shape.StackPair = is_stack_pair pattern.first
-fits_code pattern shape.PairWithIx = is_of_ix pattern.page && is_index_pair pattern.first
-fits_code pattern shape.PairWithIy = is_of_iy pattern.page && is_index_pair pattern.first
-fits_code pattern shape.Condition = is_condition pattern.first
-fits_code pattern shape.RelativeCondition = is_relative_condition pattern.first
-fits_code pattern shape.BitNumber = is_bit_number pattern.first
-fits_code pattern shape.RestartAddress = is_restart_place pattern.first
+fits_code pattern (Named some) = is_written_on pattern.page some
+fits_code pattern (AtName some) = is_written_on pattern.page some
+fits_code pattern (Indexed some) = is_written_on pattern.page some && has_displacement pattern.immediate
+fits_code pattern (FirstField names) = is_listed_on pattern.page names && is_field_of names pattern.first
+fits_code pattern (SecondField names) = is_listed_on pattern.page names && is_field_of names pattern.second
+fits_code pattern (Number some) = has_number pattern some
+fits_code pattern (AtNumber some) = has_number pattern some
 fits_code pattern _ = true
 
 -- whether an operand fills the first field, the second, n or nn, or e or d
 abbrev pub fills_first : Shape → Bool
-fills_first shape.FirstRegister = true
-fills_first shape.Pair = true
-fills_first shape.StackPair = true
-fills_first shape.PairWithIx = true
-fills_first shape.PairWithIy = true
-fills_first shape.Condition = true
-fills_first shape.RelativeCondition = true
-fills_first shape.BitNumber = true
-fills_first shape.RestartAddress = true
+fills_first (FirstField names) = true
+fills_first (Number kind.Bit) = true
+fills_first (Number kind.Restart) = true
 fills_first _ = false
 
 abbrev pub fills_second : Shape → Bool
-fills_second shape.SecondRegister = true
+fills_second (SecondField names) = true
 fills_second _ = false
 
 abbrev pub fills_word : Shape → Bool
-fills_word shape.Byte = true
-fills_word shape.Word = true
-fills_word shape.AtByte = true
-fills_word shape.AtWord = true
+fills_word (Number kind.Byte) = true
+fills_word (Number kind.Word) = true
+fills_word (AtNumber kind.Byte) = true
+fills_word (AtNumber kind.Word) = true
 fills_word _ = false
 
 abbrev pub fills_displacement : Shape → Bool
-fills_displacement shape.Relative = true
-fills_displacement shape.IndexedIx = true
-fills_displacement shape.IndexedIy = true
+fills_displacement (Number kind.Target) = true
+fills_displacement (Indexed some) = true
 fills_displacement _ = false
 
 abbrev pub one_if : Bool → ℕ

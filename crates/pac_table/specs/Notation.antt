@@ -15,8 +15,15 @@ use Rattle.pac_table.specs.declared.patterns.Immediate.TheVariants as immediate
 use Rattle.pac_table.specs.declared.patterns.Pattern.{Pattern}
 use Rattle.pac_table.specs.declared.operands.Mnemonic.{Mnemonic}
 use Rattle.pac_table.specs.declared.operands.Mnemonic.TheVariants.{Alu, Shift, Nop}
+use Rattle.pac_table.specs.declared.operands.Name.{Name}
+use Rattle.pac_table.specs.declared.operands.Name.TheVariants as name
+use Rattle.pac_table.specs.declared.operands.NameList.{NameList}
+use Rattle.pac_table.specs.declared.operands.NameList.TheVariants as list
+use Rattle.pac_table.specs.declared.operands.NumberKind.TheVariants as kind
 use Rattle.pac_table.specs.declared.operands.Shape.{Shape}
 use Rattle.pac_table.specs.declared.operands.Shape.TheVariants as shape
+use Rattle.pac_table.specs.declared.operands.Shape.TheVariants.{Named, AlternateAf, AtName, FirstField, SecondField}
+use Rattle.pac_table.specs.declared.operands.Shape.TheVariants.{Indexed, Number, AtNumber}
 use Rattle.pac_table.specs.declared.operands.Operands.{Operands}
 use Rattle.pac_table.specs.declared.effects.Effect.{Effect}
 use Rattle.pac_table.specs.declared.table.Row.{Row}
@@ -79,26 +86,26 @@ is_called word mnemonic = bytes_eq word (unwrap_or (operation_name mnemonic 0) [
 -- the operands of a form: r is the register in the code's first field, s the one in its second
 abbrev pub operands : List (List ℕ × Shape)
 operands =
-    (codes "A", shape.Accumulator) ∷ (codes "r", shape.FirstRegister) ∷ (codes "s", shape.SecondRegister) ∷
-    (codes "I", shape.InterruptRegister) ∷ (codes "R", shape.RefreshRegister) ∷
-    (codes "n", shape.Byte) ∷ (codes "nn", shape.Word) ∷ (codes "(n)", shape.AtByte) ∷ (codes "(nn)", shape.AtWord) ∷
-    (codes "(BC)", shape.AtBc) ∷ (codes "(DE)", shape.AtDe) ∷ (codes "(HL)", shape.AtHl) ∷ (codes "(SP)", shape.AtSp) ∷
-    (codes "(C)", shape.AtC) ∷ (codes "DE", shape.De) ∷ (codes "HL", shape.Hl) ∷ (codes "SP", shape.Sp) ∷
-    (codes "AF", shape.Af) ∷ (codes "AF'", shape.AlternateAf) ∷
-    (codes "dd", shape.Pair) ∷ (codes "ss", shape.Pair) ∷ (codes "qq", shape.StackPair) ∷
-    (codes "e", shape.Relative) ∷ (codes "cc", shape.Condition) ∷ (codes "jj", shape.RelativeCondition) ∷
-    (codes "b", shape.BitNumber) ∷ (codes "p", shape.RestartAddress) ∷
-    (codes "0", shape.ModeZero) ∷ (codes "1", shape.ModeOne) ∷ (codes "2", shape.ModeTwo) ∷ []
+    (codes "A", Named name.A) ∷ (codes "r", FirstField list.Registers) ∷ (codes "s", SecondField list.Registers) ∷
+    (codes "I", Named name.I) ∷ (codes "R", Named name.R) ∷ (codes "n", Number kind.Byte) ∷ (codes "nn", Number kind.Word) ∷
+    (codes "(n)", AtNumber kind.Byte) ∷ (codes "(nn)", AtNumber kind.Word) ∷
+    (codes "(BC)", AtName name.Bc) ∷ (codes "(DE)", AtName name.De) ∷ (codes "(HL)", AtName name.Hl) ∷ (codes "(SP)", AtName name.Sp) ∷
+    (codes "(C)", AtName name.C) ∷ (codes "DE", Named name.De) ∷ (codes "HL", Named name.Hl) ∷ (codes "SP", Named name.Sp) ∷
+    (codes "AF", Named name.Af) ∷ (codes "AF'", AlternateAf) ∷
+    (codes "dd", FirstField list.Pairs) ∷ (codes "ss", FirstField list.Pairs) ∷ (codes "qq", FirstField list.StackPairs) ∷
+    (codes "e", Number kind.Target) ∷ (codes "cc", FirstField list.Conditions) ∷ (codes "jj", FirstField list.RelativeConditions) ∷
+    (codes "b", Number kind.Bit) ∷ (codes "p", Number kind.Restart) ∷
+    (codes "0", Number (kind.Mode 0)) ∷ (codes "1", Number (kind.Mode 1)) ∷ (codes "2", Number (kind.Mode 2)) ∷ []
 
 -- those with IX; after FD they are those with IY
-abbrev pub words_with_ix : (register cell indexed pair : Shape) → List (List ℕ × Shape)
-words_with_ix register cell indexed pair =
-    (codes "IX", register) ∷ (codes "(IX)", cell) ∷ (codes "(IX+d)", indexed) ∷ (codes "pp", pair) ∷ []
+abbrev pub words_with_ix : Name → NameList → List (List ℕ × Shape)
+words_with_ix index pairs =
+    (codes "IX", Named index) ∷ (codes "(IX)", AtName index) ∷ (codes "(IX+d)", Indexed index) ∷ (codes "pp", FirstField pairs) ∷ []
 
 abbrev pub index_operands : Page → List (List ℕ × Shape)
-index_operands Fd = words_with_ix shape.Iy shape.AtIy shape.IndexedIy shape.PairWithIy
-index_operands FdCb = words_with_ix shape.Iy shape.AtIy shape.IndexedIy shape.PairWithIy
-index_operands _ = words_with_ix shape.Ix shape.AtIx shape.IndexedIx shape.PairWithIx
+index_operands Fd = words_with_ix name.Iy list.PairsWithIy
+index_operands FdCb = words_with_ix name.Iy list.PairsWithIy
+index_operands _ = words_with_ix name.Ix list.PairsWithIx
 
 abbrev pub shape_read : Page → List ℕ → Shape
 shape_read page word = unwrap_or (stands_for (operands ++ index_operands page) word) shape.Absent

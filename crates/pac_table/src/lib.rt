@@ -20,7 +20,7 @@ pub use effects::{
     Special, WordArithmetic, WordLoad,
 };
 pub use instruction::Instr;
-pub use operands::{Mnemonic, Operands, Shape};
+pub use operands::{Mnemonic, Name, NameList, NumberKind, Operands, Shape};
 pub use patterns::{Field, Immediate, Page, Pattern};
 pub use table::{Row, row_numbered, rows};
 

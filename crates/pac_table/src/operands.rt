@@ -78,91 +78,99 @@ impl Mnemonic {
     }
 }
 
-/// The shape of an operand: the text that it takes, and the part of the code that it fills. A field
-/// is told by what it lists, so that each shape fills one part: a register in the first or in the
-/// second field, n and nn the immediate, d and e the displacement.
-#[derive(Clone, Copy, PartialEq, Eq)]
+/// The name of a register, a pair or a condition, as an operand is written with it (UM0080). C is both
+/// a register and a condition.
+#[derive(Clone, Copy, Debug, PartialEq, Eq)]
+pub enum Name {
+    A,
+    B,
+    C,
+    D,
+    E,
+    H,
+    L,
+    I,
+    R,
+    Af,
+    Bc,
+    De,
+    Hl,
+    Sp,
+    Ix,
+    Iy,
+    Nz,
+    Z,
+    Nc,
+    Po,
+    Pe,
+    P,
+    M,
+}
+
+/// What the values of a field name, as UM0080 lists them.
+#[derive(Clone, Copy)]
+pub enum NameList {
+    /// `B C D E H L A`; 6 is none.
+    Registers,
+    /// `BC DE HL SP`.
+    Pairs,
+    /// `BC DE HL AF`.
+    StackPairs,
+    /// `BC DE IX SP`.
+    PairsWithIx,
+    /// `BC DE IY SP`.
+    PairsWithIy,
+    /// `NZ Z NC C PO PE P M`.
+    Conditions,
+    /// `NZ Z NC C`.
+    RelativeConditions,
+}
+
+/// What a number that is written stands for in the code.
+#[derive(Clone, Copy)]
+pub enum NumberKind {
+    /// n, a byte.
+    Byte,
+    /// nn, a word.
+    Word,
+    /// The address to which a relative jump goes; e is its distance from the address after the
+    /// instruction.
+    Target,
+    /// The number of a bit, in the first field.
+    Bit,
+    /// The address of a restart, 8 times the first field.
+    Restart,
+    /// An interrupt mode: this number and no other.
+    Mode(u8),
+}
+
+/// The shape of an operand: what is written for it, which tells the part of the code that it fills. A
+/// name of a field's value is in the first or in the second field; n and nn are the immediate, d and e
+/// the displacement.
+#[derive(Clone, Copy)]
 pub enum Shape {
     /// No operand.
     Absent,
-    /// `A`.
-    Accumulator,
-    /// `B C D E H L A`, in the first field.
-    FirstRegister,
-    /// `B C D E H L A`, in the second field.
-    SecondRegister,
-    /// `n`.
-    Byte,
-    /// `nn`.
-    Word,
-    /// The address to which a relative jump goes.
-    Relative,
-    /// `(n)`, a port.
-    AtByte,
-    /// `(nn)`.
-    AtWord,
-    /// `(BC)`.
-    AtBc,
-    /// `(DE)`.
-    AtDe,
-    /// `(HL)`.
-    AtHl,
-    /// `(SP)`.
-    AtSp,
-    /// `(C)`, a port.
-    AtC,
-    /// `(IX)`.
-    AtIx,
-    /// `(IY)`.
-    AtIy,
-    /// `(IX+d)`.
-    IndexedIx,
-    /// `(IY+d)`.
-    IndexedIy,
-    /// `DE`.
-    De,
-    /// `HL`.
-    Hl,
-    /// `SP`.
-    Sp,
-    /// `IX`.
-    Ix,
-    /// `IY`.
-    Iy,
-    /// `AF`.
-    Af,
+    /// This name.
+    Named(Name),
     /// `AF'`.
     AlternateAf,
-    /// `BC DE HL SP`, in the first field.
-    Pair,
-    /// `BC DE HL AF`, in the first field.
-    StackPair,
-    /// `BC DE IX SP`, in the first field.
-    PairWithIx,
-    /// `BC DE IY SP`, in the first field.
-    PairWithIy,
-    /// `I`.
-    InterruptRegister,
-    /// `R`.
-    RefreshRegister,
-    /// `NZ Z NC C PO PE P M`, in the first field.
-    Condition,
-    /// `NZ Z NC C`, in the first field.
-    RelativeCondition,
-    /// The number of a bit, 0 to 7, in the first field.
-    BitNumber,
-    /// The address of a restart, 0 to 56 by eights, in the first field.
-    RestartAddress,
-    /// `0`.
-    ModeZero,
-    /// `1`.
-    ModeOne,
-    /// `2`.
-    ModeTwo,
+    /// This name in parentheses.
+    AtName(Name),
+    /// The name of the first field's value.
+    FirstField(NameList),
+    /// The name of the second field's value.
+    SecondField(NameList),
+    /// `(IX+d)`, with this name.
+    Indexed(Name),
+    /// A number.
+    Number(NumberKind),
+    /// A number in parentheses.
+    AtNumber(NumberKind),
 }
 
 /// The form of an instruction in source.
-#[derive(Clone, Copy, PartialEq, Eq)]
+#[derive(Clone, Copy)]
 pub struct Operands {
     /// The operation.
     pub mnemonic: Mnemonic,

@@ -4,7 +4,7 @@ use Rattle.std.specs.Prelude.{Some, None}
 use Rattle.std.specs.List.{filter}
 use Rattle.pac_lemmas.proofs.Letters.{same-first-letter}
 use Rattle.pac_lemmas.proofs.Searches.{find-filter}
-use Rattle.pac_table_names.specs.declared.names.Name.{Name}
+use Rattle.pac_table.specs.declared.operands.Name.{Name}
 use Rattle.pac_table_names.specs.Names.{is_written, text_of_name, every_name, name_of}
 use Rattle.pac_table_names.specs.WordsProofs.{begins_name}
 

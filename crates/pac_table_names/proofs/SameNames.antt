@@ -4,9 +4,9 @@ use Rattle.std.specs.List.{list_all}
 use Rattle.std.proofs.lemmas.Bool.{false≢true}
 use denote.Enum.Bare.{sameb}
 use Rattle.pac_lemmas.proofs.Searches.{list_all-get_or}
-use Rattle.pac_table_names.specs.contracts.names.Name.{the_type}
-use Rattle.pac_table_names.specs.declared.names.Name.{Name}
-use Rattle.pac_table_names.specs.declared.names.Name.TheVariants as name
+use Rattle.pac_table.specs.contracts.operands.Name.{the_type}
+use Rattle.pac_table.specs.declared.operands.Name.{Name}
+use Rattle.pac_table.specs.declared.operands.Name.TheVariants as name
 use Rattle.pac_table_names.specs.Names.{every_name, is_same_name}
 
 -- what is computed over all names is so of each

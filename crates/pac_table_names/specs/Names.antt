@@ -1,6 +1,6 @@
--- Believed: how instructions are written: the names of the operations, of registers, pairs and conditions, and what is
--- written for each shape of an operand (Zilog Z80 CPU User Manual UM0080, "Z80 Instruction Description"). The same lists serve
--- to read a source and to print an instruction. Names are read in either case and printed in capitals.
+-- Believed: how instructions are written: the names of the operations, of registers, pairs and conditions, and the operands of
+-- a form (Zilog Z80 CPU User Manual UM0080, "Z80 Instruction Description"). The same lists serve to read a source and to print an
+-- instruction. Names are read in either case and printed in capitals.
 use Rattle.std.specs.Prelude.{ℕ, ◌==◌, Bool, false, ◌||◌, if◌then◌else◌, List, [], ◌∷◌, get_or, codes}
 use Rattle.std.specs.Prelude.{Option, Some, None, is_some, position, find}
 use Rattle.std.specs.List.{list_any}
@@ -10,15 +10,10 @@ use Rattle.pac_table.specs.declared.operands.Mnemonic.TheVariants as mnemonic
 use Rattle.pac_table.specs.declared.operands.Shape.{Shape}
 use Rattle.pac_table.specs.declared.operands.Shape.TheVariants as shape
 use Rattle.pac_table.specs.declared.operands.Operands.{Operands}
-use Rattle.pac_table_names.specs.declared.names.Name.{Name}
-use Rattle.pac_table_names.specs.declared.names.Name.TheVariants as name
-use Rattle.pac_table_names.specs.declared.names.NameList.{NameList}
-use Rattle.pac_table_names.specs.declared.names.NameList.TheVariants as list
-use Rattle.pac_table_names.specs.declared.writing.NumberKind.TheVariants as kind
-use Rattle.pac_table_names.specs.declared.writing.Writing.{Writing}
-use Rattle.pac_table_names.specs.declared.writing.Writing.TheVariants.{Nothing, Named, AlternateAf, AtName, FirstField, SecondField}
-use Rattle.pac_table_names.specs.declared.writing.Writing.TheVariants.{Indexed}
-use Rattle.pac_table_names.specs.declared.writing.Writing.TheVariants.{Number, AtNumber}
+use Rattle.pac_table.specs.declared.operands.Name.{Name}
+use Rattle.pac_table.specs.declared.operands.Name.TheVariants as name
+use Rattle.pac_table.specs.declared.operands.NameList.{NameList}
+use Rattle.pac_table.specs.declared.operands.NameList.TheVariants as list
 use Rattle.pac_table.specs.Mnemonics.{names_of}
 use Rattle.pac_table.specs.Table.{table}
 
@@ -104,47 +99,6 @@ is_entry_name one (Some other) = is_same_name one other
 abbrev pub value_of_name : NameList → Name → Option ℕ
 value_of_name names one = position (is_entry_name one) (names_in names)
 
--- what is written for an operand of a shape
-abbrev pub writing_of : Shape → Writing
-writing_of shape.Absent = Nothing
-writing_of shape.Accumulator = Named name.A
-writing_of shape.FirstRegister = FirstField list.Registers
-writing_of shape.SecondRegister = SecondField list.Registers
-writing_of shape.Byte = Number kind.Byte
-writing_of shape.Word = Number kind.Word
-writing_of shape.Relative = Number kind.Target
-writing_of shape.AtByte = AtNumber kind.Byte
-writing_of shape.AtWord = AtNumber kind.Word
-writing_of shape.AtBc = AtName name.Bc
-writing_of shape.AtDe = AtName name.De
-writing_of shape.AtHl = AtName name.Hl
-writing_of shape.AtSp = AtName name.Sp
-writing_of shape.AtC = AtName name.C
-writing_of shape.AtIx = AtName name.Ix
-writing_of shape.AtIy = AtName name.Iy
-writing_of shape.IndexedIx = Indexed name.Ix
-writing_of shape.IndexedIy = Indexed name.Iy
-writing_of shape.De = Named name.De
-writing_of shape.Hl = Named name.Hl
-writing_of shape.Sp = Named name.Sp
-writing_of shape.Ix = Named name.Ix
-writing_of shape.Iy = Named name.Iy
-writing_of shape.Af = Named name.Af
-writing_of shape.AlternateAf = AlternateAf
-writing_of shape.Pair = FirstField list.Pairs
-writing_of shape.StackPair = FirstField list.StackPairs
-writing_of shape.PairWithIx = FirstField list.PairsWithIx
-writing_of shape.PairWithIy = FirstField list.PairsWithIy
-writing_of shape.InterruptRegister = Named name.I
-writing_of shape.RefreshRegister = Named name.R
-writing_of shape.Condition = FirstField list.Conditions
-writing_of shape.RelativeCondition = FirstField list.RelativeConditions
-writing_of shape.BitNumber = Number kind.Bit
-writing_of shape.RestartAddress = Number kind.Restart
-writing_of shape.ModeZero = Number (kind.Mode 0)
-writing_of shape.ModeOne = Number (kind.Mode 1)
-writing_of shape.ModeTwo = Number (kind.Mode 2)
-
 -- whether an operation is written with A before its operand: ADD, ADC and SBC of the eight
 abbrev pub has_accumulator : Mnemonic → ℕ → Bool
 has_accumulator mnemonic.Alu value = value == 0 || value == 1 || value == 3
@@ -162,4 +116,4 @@ listed_shapes first second = first ∷ present_shape second
 -- the operands of a form as they are written
 abbrev pub written_operands : Operands → ℕ → List Shape
 written_operands form value =
-    if has_accumulator form.mnemonic value then listed_shapes shape.Accumulator form.first else listed_shapes form.first form.second
+    if has_accumulator form.mnemonic value then listed_shapes (shape.Named name.A) form.first else listed_shapes form.first form.second

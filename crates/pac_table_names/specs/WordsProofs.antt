@@ -5,7 +5,7 @@ use Rattle.pac_table_names.specs.ByName.{rows_named, family_value}
 use Rattle.pac_table_names.specs.Words.{operation_names}
 use Rattle.pac_table_names.specs.declared.by_name.Word.{Word}
 use Rattle.std.specs.Char.{to_ascii_lowercase}
-use Rattle.pac_table_names.specs.declared.names.Name.{Name}
+use Rattle.pac_table.specs.declared.operands.Name.{Name}
 use Rattle.pac_table_names.specs.Names.{text_of_name, is_written}
 
 -- the rows of each name, one after another

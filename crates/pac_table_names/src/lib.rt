@@ -9,6 +9,6 @@ mod operations;
 mod writing;
 
 pub use by_name::{NamedRows, is_operation, is_written, rows_named};
-pub use names::{Name, NameList, name_of};
+pub use names::{is_same_name, name_at, name_of, text_of_name, value_of_name};
 pub use operations::operation_name;
-pub use writing::{NumberKind, Writing, written};
+pub use writing::written;

@@ -7,125 +7,74 @@ ghost use Rattle.pac_table_names.specs.WordsProofs.{begins_name};
 ghost use Rattle.pac_table_names.specs.Names.{text_of_name, every_name, name_at, value_of_name, name_of, is_written, is_same_name};
 
 use crate::by_name::is_written;
+use pac_table::{Name, NameList};
 
-/// The name of a register, a pair or a condition, as an operand is written with it (UM0080). C is both
-/// a register and a condition.
-#[derive(Clone, Copy, Debug, PartialEq, Eq)]
-pub enum Name {
-    A,
-    B,
-    C,
-    D,
-    E,
-    H,
-    L,
-    I,
-    R,
-    Af,
-    Bc,
-    De,
-    Hl,
-    Sp,
-    Ix,
-    Iy,
-    Nz,
-    Z,
-    Nc,
-    Po,
-    Pe,
-    P,
-    M,
+/// Whether two names are one.
+#[inline]
+pub fn is_same_name(one: Name, other: Name) -> bool
+    ensures { result ≡ is_same_name one other }
+{
+    one == other
 }
 
-/// What the values of a field name, as UM0080 lists them.
-#[derive(Clone, Copy)]
-pub enum NameList {
-    /// `B C D E H L A`; 6 is none.
-    Registers,
-    /// `BC DE HL SP`.
-    Pairs,
-    /// `BC DE HL AF`.
-    StackPairs,
-    /// `BC DE IX SP`.
-    PairsWithIx,
-    /// `BC DE IY SP`.
-    PairsWithIy,
-    /// `NZ Z NC C PO PE P M`.
-    Conditions,
-    /// `NZ Z NC C`.
-    RelativeConditions,
-}
-
-impl Name {
-    /// Whether two names are one.
-    #[inline]
-    pub fn is(self, other: Name) -> bool
-        ensures { result ≡ is_same_name self other }
-    {
-        self == other
-    }
-
-    /// How it is written.
-    pub fn text(self) -> &'static str
-        ensures { result.now ≡ text_of_name self }
-    {
-        match self {
-            Name::A => "A",
-            Name::B => "B",
-            Name::C => "C",
-            Name::D => "D",
-            Name::E => "E",
-            Name::H => "H",
-            Name::L => "L",
-            Name::I => "I",
-            Name::R => "R",
-            Name::Af => "AF",
-            Name::Bc => "BC",
-            Name::De => "DE",
-            Name::Hl => "HL",
-            Name::Sp => "SP",
-            Name::Ix => "IX",
-            Name::Iy => "IY",
-            Name::Nz => "NZ",
-            Name::Z => "Z",
-            Name::Nc => "NC",
-            Name::Po => "PO",
-            Name::Pe => "PE",
-            Name::P => "P",
-            Name::M => "M",
-        }
+/// How a name is written.
+pub fn text_of_name(name: Name) -> &'static str
+    ensures { result.now ≡ text_of_name name }
+{
+    match name {
+        Name::A => "A",
+        Name::B => "B",
+        Name::C => "C",
+        Name::D => "D",
+        Name::E => "E",
+        Name::H => "H",
+        Name::L => "L",
+        Name::I => "I",
+        Name::R => "R",
+        Name::Af => "AF",
+        Name::Bc => "BC",
+        Name::De => "DE",
+        Name::Hl => "HL",
+        Name::Sp => "SP",
+        Name::Ix => "IX",
+        Name::Iy => "IY",
+        Name::Nz => "NZ",
+        Name::Z => "Z",
+        Name::Nc => "NC",
+        Name::Po => "PO",
+        Name::Pe => "PE",
+        Name::P => "P",
+        Name::M => "M",
     }
 }
 
-impl NameList {
-    /// The name of a field's value.
-    pub fn name(self, value: u8) -> Option<Name>
-        ensures { result ≡ name_at self value }
-    {
-        match self {
-            NameList::Registers => register(value),
-            NameList::Pairs => pair(value),
-            NameList::StackPairs => stack_pair(value),
-            NameList::PairsWithIx => pair_with_ix(value),
-            NameList::PairsWithIy => pair_with_iy(value),
-            NameList::Conditions => condition(value),
-            NameList::RelativeConditions => relative_condition(value),
-        }
+/// The name of a field's value.
+pub fn name_at(names: NameList, value: u8) -> Option<Name>
+    ensures { result ≡ name_at names value }
+{
+    match names {
+        NameList::Registers => register(value),
+        NameList::Pairs => pair(value),
+        NameList::StackPairs => stack_pair(value),
+        NameList::PairsWithIx => pair_with_ix(value),
+        NameList::PairsWithIy => pair_with_iy(value),
+        NameList::Conditions => condition(value),
+        NameList::RelativeConditions => relative_condition(value),
     }
+}
 
-    /// The value of the field that has a name.
-    pub fn value(self, name: Name) -> Option<u8>
-        ensures { result ≡ value_of_name self name }
-    {
-        match self {
-            NameList::Registers => register_value(name),
-            NameList::Pairs => pair_value(name),
-            NameList::StackPairs => stack_pair_value(name),
-            NameList::PairsWithIx => pair_with_ix_value(name),
-            NameList::PairsWithIy => pair_with_iy_value(name),
-            NameList::Conditions => condition_value(name),
-            NameList::RelativeConditions => relative_condition_value(name),
-        }
+/// The value of the field that has a name.
+pub fn value_of_name(names: NameList, name: Name) -> Option<u8>
+    ensures { result ≡ value_of_name names name }
+{
+    match names {
+        NameList::Registers => register_value(name),
+        NameList::Pairs => pair_value(name),
+        NameList::StackPairs => stack_pair_value(name),
+        NameList::PairsWithIx => pair_with_ix_value(name),
+        NameList::PairsWithIy => pair_with_iy_value(name),
+        NameList::Conditions => condition_value(name),
+        NameList::RelativeConditions => relative_condition_value(name),
     }
 }
 
@@ -368,7 +317,7 @@ fn name_among(word: &[u8], names: &[Name]) -> Option<Name>
     ensures { result ≡ find (λ name. is_written word.now (text_of_name name)) names.now }
 {
     for name in names {
-        if is_written(word, name.text().as_bytes()) {
+        if is_written(word, text_of_name(*name).as_bytes()) {
             return Some(*name);
         }
     }

@@ -1,10 +1,10 @@
 use Rattle.std.proofs.Common.{◌≡◌, ap, sym, ◌∙◌, ◌∷◌}
 use Rattle.std.specs.List.{slice_split}
 use Rattle.pac_lex.specs.TokensProofs.{views}
-use Rattle.pac_asm_operation.specs.Operands.{is_comma, parts_at_commas}
+use Rattle.pac_asm_operation.specs.Operands.{each_or_none, is_comma, parts_at_commas}
 use Rattle.pac_asm_operation.specs.OperandsProofs.{parts_after}
 use Rattle.pac_asm_operation.specs.Reserved.{expression_in}
-use Rattle.pac_asm_line.specs.Forms.{each_or_none, one_or_two}
+use Rattle.pac_asm_line.specs.Forms.{one_or_two}
 use Rattle.pac_asm_line.proofs.Parts.{parts-by, too-many}
 use Rattle.pac_asm_line.proofs.directed.space_in.Goals as goal
 

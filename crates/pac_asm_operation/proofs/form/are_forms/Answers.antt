@@ -1,6 +1,4 @@
-use Rattle.std.proofs.Common.{sym, ◌∙◌, ap}
-use Rattle.pac_table_names.specs.declared.writing.Writing.{Writing}
-use Rattle.pac_asm_operation.specs.Operations.{is_form}
+use Rattle.std.proofs.Common.{sym, ◌∙◌}
 use Rattle.pac_asm_operation.proofs.FormPairs.{then-forms, else-forms}
 use Rattle.pac_asm_operation.proofs.form.are_forms.Goals as goal
 
@@ -8,10 +6,10 @@ pub returns-then-is_form : goal.returns-then-is_form
 returns-then-is_form g c =
     c.is_form_if.ensures ∙
     then-forms c.args.shapes.0 c.args.shapes.1 c.args.first.now c.in-Some.operand c.args.second.now c.in-Some.is
-    (ap (λ (some : Writing). is_form some c.in-Some.operand) (sym c.of.ensures) ∙ sym c.is_form.ensures ∙ c.if-is_form.true)
+    (sym c.is_form.ensures ∙ c.if-is_form.true)
 
 pub returns-else-is_form : goal.returns-else-is_form
 returns-else-is_form g c =
     c.if-is_form.false ∙
     else-forms c.args.shapes.0 c.args.shapes.1 c.args.first.now c.in-Some.operand c.args.second.now c.in-Some.is
-    (ap (λ (some : Writing). is_form some c.in-Some.operand) (sym c.of.ensures) ∙ sym c.is_form.ensures ∙ c.if-is_form.false)
+    (sym c.is_form.ensures ∙ c.if-is_form.false)

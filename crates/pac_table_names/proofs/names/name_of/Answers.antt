@@ -1,5 +1,5 @@
 use Rattle.std.proofs.Common.{◌∙◌, sym, ap, List, find}
-use Rattle.pac_table_names.specs.declared.names.Name.{Name}
+use Rattle.pac_table.specs.declared.operands.Name.{Name}
 use Rattle.pac_table_names.specs.Names.{is_written, text_of_name}
 use Rattle.pac_table_names.proofs.Letters.{no-letter, with-letter}
 use Rattle.pac_table_names.proofs.Longer.{no-name}
