@@ -53,6 +53,6 @@ impl<W: Out> Frames<W> {
         ensures { result ≡ self.writer }
     {
         let Frames { file, image: _ } = self;
-        file.writer
+        file.into_writer()
     }
 }

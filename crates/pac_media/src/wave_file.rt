@@ -1,6 +1,6 @@
 //! The sound of a run.
 
-ghost use Rattle.std.specs.Prelude.{◌≡◌, ◌<◌, ◌≤◌, ◌+◌, ◌-◌, ◌^◌, [], ◌++◌, length, true, false, pos, replicate, IfErr, IsErr, OnOk, OnErr, MatchBool};
+ghost use Rattle.std.specs.Prelude.{◌≡◌, ◌<◌, ◌≤◌, ◌+◌, ◌-◌, ◌^◌, [], ◌++◌, length, true, pos, replicate, IsErr, OnOk, MatchBool};
 ghost use Rattle.pac_out.specs.Pieces.{joined_pieces};
 ghost use Rattle.pac_media.specs.Samples.{riff_size, wav_header, sample_text, samples_text};
 ghost use Rattle.pac_media.specs.Sound.{HasText, GivesSound, FinishesSound};
@@ -35,19 +35,6 @@ fn header(samples: u32) -> [[u8; 4]; 11]
         *b"data",
         size.to_le_bytes(),
     ]
-}
-
-/// The fault of a file that has refused, if it has.
-#[inline]
-fn check_open<W>(file: &Counted<W>) -> Result<(), WriteFault>
-    ensures open { OnOk result (file.now.failed ≡ false) }
-    ensures failed { OnErr result (file.now.failed ≡ true) }
-    ensures count { IfErr result (λ fault. fault.count ≡ file.now.count) }
-{
-    if file.failed {
-        return Err(WriteFault { count: file.count });
-    }
-    Ok(())
 }
 
 /// The bytes of a sample, the low one first.
@@ -109,7 +96,7 @@ impl<W: Out> WaveFile<W> {
         ensures later_err { self.old.file.failed ≡ true → IsErr result }
         ensures later_unchanged { self.old.file.failed ≡ true → self.new ≡ self.old }
     {
-        check_open(&self.file)?;
+        self.file.check_open()?;
         self.gather(&bytes_of(sample))?;
         self.owed = self.owed.saturating_sub(1);
         Ok(())
@@ -145,7 +132,7 @@ impl<W: Out> WaveFile<W> {
         ensures later_err { self.old.file.failed ≡ true → IsErr result }
         ensures later_unchanged { self.old.file.failed ≡ true → self.new ≡ self.old }
     {
-        check_open(&self.file)?;
+        self.file.check_open()?;
         self.file.put(&self.waiting)?;
         self.waiting.clear();
         Ok(())
@@ -173,6 +160,6 @@ impl<W: Out> WaveFile<W> {
             waiting: _,
             owed: _,
         } = self;
-        file.writer
+        file.into_writer()
     }
 }

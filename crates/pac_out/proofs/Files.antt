@@ -1,6 +1,6 @@
 -- What a file took, and where it stopped, in a text that is put together of parts.
 use Rattle.std.proofs.Common.{◌≡◌, ℕ, ◌+◌, ◌^◌, ◌<◌, ◌≤◌, List, [], ◌++◌, length, refl, sym, ap, subst, ◌∙◌, append_assoc, append-nil}
-use Rattle.std.proofs.Common.{length-append, arith, true, Result, Ok, Err}
+use Rattle.std.proofs.Common.{length-append, arith, Result, Ok, Err}
 use Rattle.std.proofs.Math.Seq.{take-append-add}
 use Rattle.std.proofs.lemmas.List.{take-append-le}
 use Rattle.pac_out.specs.declared.counted.Counted.{Counted}

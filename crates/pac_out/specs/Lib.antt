@@ -1,6 +1,7 @@
 pub mod Counted
 pub mod CountedProofs
 pub mod CountedLaws
+pub mod CountedWriter
 pub mod Faulty
 pub mod Laws
 pub mod Memory

@@ -1,19 +1,55 @@
 //! A file: a writer with the count of the bytes that it took, over all calls.
 
-ghost use Rattle.std.specs.Prelude.{◌≡◌, ◌≤◌, ◌+◌, [], length, false, OnOk, OnErr};
+ghost use Rattle.std.specs.Prelude.{◌≡◌, ◌≤◌, ◌+◌, [], length, true, false, IfErr, OnOk, OnErr};
 
 use crate::{Out, WriteFault};
+use std::marker::Model;
 
 /// A writer with the count of the bytes that it took. After its first refusal each call answers the same
-/// fault and writes nothing. The fields are there to be read.
+/// fault and writes nothing. Clauses see the three of them; nobody else sets one.
 #[derive(Drop)]
 pub struct Counted<W> {
     /// The writer.
-    pub writer: W,
+    writer: W,
     /// The bytes that it took. The count is exact below 2^64, and stays at 2^64 - 1 from there on.
-    pub count: u64,
+    count: u64,
     /// Whether it refused.
-    pub failed: bool,
+    failed: bool,
+}
+
+impl<W> Model for Counted<W> {
+    ghost use Rattle.pac_out.specs.CountedWriter.{CountedWriter};
+
+    ghost Value = { CountedWriter W };
+
+    ghost view = { λ file. record { writer = file.writer; count = file.count; failed = file.failed } };
+}
+
+impl<W> Counted<W> {
+    /// The fault of a file that has refused, if it has.
+    #[inline]
+    pub fn check_open(&self) -> Result<(), WriteFault>
+        ensures open { OnOk result (self.now.failed ≡ false) }
+        ensures failed { OnErr result (self.now.failed ≡ true) }
+        ensures count { IfErr result (λ fault. fault.count ≡ self.now.count) }
+    {
+        if self.failed {
+            return Err(WriteFault { count: self.count });
+        }
+        Ok(())
+    }
+
+    /// The writer.
+    pub fn into_writer(self) -> W
+        ensures { result ≡ self.writer }
+    {
+        let Counted {
+            writer,
+            count: _,
+            failed: _,
+        } = self;
+        writer
+    }
 }
 
 impl<W: Out> Counted<W> {
@@ -40,9 +76,7 @@ impl<W: Out> Counted<W> {
         ensures at_most { self.new.count ≤ self.old.count + length bytes.now }
         ensures stops { self.old.failed ≡ false → OnErr result (Stops W.took W.refused self.old bytes.now self.new) }
     {
-        if self.failed {
-            return Err(WriteFault { count: self.count });
-        }
+        self.check_open()?;
         match self.writer.put_all(bytes) {
             Ok(()) => {
                 self.count = self.count.saturating_add(bytes.len() as u64);

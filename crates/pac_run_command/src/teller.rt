@@ -76,9 +76,7 @@ impl<C: Print + Eprint> Teller for HostConsole<'_, C> {
         };
         match write!(output, "{error}") {
             Ok(()) => Ok(()),
-            Err(_) => Err(WriteFault {
-                count: output.file.count,
-            }),
+            Err(_) => output.file.check_open(),
         }
     }
 }

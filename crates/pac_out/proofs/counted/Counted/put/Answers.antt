@@ -1,11 +1,14 @@
-use Rattle.std.proofs.Common.{refl, sym, ◌∙◌, true≢false, arith, length-append}
+use Rattle.std.proofs.Common.{ap, refl, sym, ◌∙◌, true≢false, arith, length-append}
+use Rattle.pac_out.specs.CountedWriter.{CountedWriter}
 use Rattle.pac_out.proofs.Files.{stops-after}
 use Rattle.pac_out.proofs.counted.Counted.put.Goals as goal
 
 pub returns-in-Ok-clause-put : goal.returns-in-Ok-clause-put
 returns-in-Ok-clause-put g c =
-    record {
-      was_open = c.if-self.false;
+    let was_open = ap (λ (file : CountedWriter g.row.W.Denot). file.failed) c.self.view_is ∙ c.in_ok-check_open.ensures.open in
+    rw (← c.self.view_is)
+    (record {
+      was_open = was_open;
       takes = record {
         at_least = omega arith;
         after = λ start text taken. record {
@@ -14,13 +17,15 @@ returns-in-Ok-clause-put g c =
           open_yet = taken.open_yet;
         };
         failed_is = refl;
-        later = λ failed. absurd (true≢false (sym failed ∙ c.if-self.false));
+        later = λ failed. absurd (true≢false (sym failed ∙ was_open));
       };
-    }
+    })
 
 pub returns-in-Err-clause-put : goal.returns-in-Err-clause-put
 returns-in-Err-clause-put g c =
-    record {
+    let was_open = ap (λ (file : CountedWriter g.row.W.Denot). file.failed) c.self.view_is ∙ c.in_ok-check_open.ensures.open in
+    rw (← c.self.view_is)
+    (record {
       told = refl;
       at_least = omega arith;
       after = λ start text taken. record {
@@ -30,5 +35,9 @@ returns-in-Err-clause-put g c =
         closed = refl;
       };
       closed = refl;
-      later = λ failed. absurd (true≢false (sym failed ∙ c.if-self.false));
-    }
+      later = λ failed. absurd (true≢false (sym failed ∙ was_open));
+    })
+
+pub returns-in-Err-clause-stops : goal.returns-in-Err-clause-stops
+returns-in-Err-clause-stops g c =
+    rw (← c.self.view_is) (λ before. record { taken = _; stopped = c.in-Err.ensures.err; count_is = omega arith })
