@@ -1,6 +1,6 @@
 -- The symbols of the first phase are the one right assignment.
 use Rattle.std.proofs.Common.{◌≡◌, ℕ, ℤ, pos, negsuc, ◌+◌, Bool, true, false, List, [], ◌∷◌, ◌++◌, Option, Some, None, Result}
-use Rattle.std.proofs.Common.{Ok, Err}
+use Rattle.std.proofs.Common.{Ok, Err, ok_or}
 use Rattle.std.proofs.Common.{refl, ap, sym, ◌∙◌, subst, append_assoc, option_map, length, is_some, is_none, nat_le, nat_lt}
 use Rattle.std.proofs.Common.{if◌then◌else◌}
 use Rattle.std.specs.Str.{bytes_eq}
@@ -15,7 +15,7 @@ use Rattle.pac_expr.specs.declared.expr.Operator.{Operator}
 use Rattle.pac_expr.specs.declared.evaluation.ValueError.TheVariants as errors
 use Rattle.pac_expr.specs.Trees.{Tree, atom, group, signed, joined}
 use Rattle.pac_expr.specs.Trees as trees
-use Rattle.pac_expr.specs.Values.{ValueResult, defined_value, sign_value, joined_value, tree_value}
+use Rattle.pac_expr.specs.Values.{ValueResult, sign_value, joined_value, tree_value}
 use Rattle.pac_asm_program.specs.Names.{Symbol, number_of_symbol}
 use Rattle.pac_asm_program.specs.Programs.{rom_size}
 use Rattle.pac_asm_line.specs.Statements.{Statement, nothing, origin, equate, bytes, words, space, condition, otherwise}
@@ -74,7 +74,7 @@ found-first (x ∷ xs) ys some v e =
 
 -- ---- values
 
-defined-ok : (o : Option ℤ) (z : ℤ) → defined_value o ≡ Ok z → o ≡ Some z
+defined-ok : (o : Option ℤ) (z : ℤ) → ok_or o errors.Undefined ≡ Ok z → o ≡ Some z
 defined-ok None z e = absurd (Err-is-no-Ok _ z e)
 defined-ok (Some y) z e = ap Some (same-Ok y z e)
 
@@ -103,7 +103,7 @@ value-extends : (symbols : List Symbol) (names : List ℕ → Option ℤ) → Ex
 value-extends symbols names extends at (atom (trees.number n)) z e = e
 value-extends symbols names extends at (atom (trees.character c)) z e = e
 value-extends symbols names extends at (atom (trees.name text)) z e =
-    ap defined_value (extends text z (defined-ok (number_of_symbol symbols text) z e))
+    ap (λ (o : Option ℤ). ok_or o errors.Undefined) (extends text z (defined-ok (number_of_symbol symbols text) z e))
 value-extends symbols names extends at (atom trees.here) z e = e
 value-extends symbols names extends at (group tree) z e = value-extends symbols names extends at tree z e
 value-extends symbols names extends at (signed sign tree) z e =

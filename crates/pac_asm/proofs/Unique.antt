@@ -1,10 +1,11 @@
 -- At most one assignment is right, where each name whose value is needed at once is defined above.
-use Rattle.std.proofs.Common.{◌≡◌, ℕ, ℤ, Bool, true, false, List, [], ◌∷◌, ◌++◌, Option, Some, None, Result, Ok, Err}
+use Rattle.std.proofs.Common.{◌≡◌, ℕ, ℤ, Bool, true, false, List, [], ◌∷◌, ◌++◌, Option, Some, None, Result, Ok, Err, ok_or}
 use Rattle.std.proofs.Common.{refl, ap, sym, ◌∙◌, append_assoc, option_map, inl, inr}
 use Rattle.std.proofs.lemmas.Option.{none-some, same_Some}
+use Rattle.pac_expr.specs.declared.evaluation.ValueError.TheVariants.{Undefined}
 use Rattle.pac_expr.specs.Trees.{Tree, atom, group, signed, joined}
 use Rattle.pac_expr.specs.Trees as trees
-use Rattle.pac_expr.specs.Values.{defined_value, sign_value, joined_value, tree_value}
+use Rattle.pac_expr.specs.Values.{sign_value, joined_value, tree_value}
 use Rattle.pac_asm_program.specs.Names.{Symbol, number_of_symbol}
 use Rattle.pac_asm_line.specs.Statements.{Statement, nothing, origin, equate, bytes, words, space, condition, otherwise}
 use Rattle.pac_asm_line.specs.Statements.{end_condition}
@@ -34,7 +35,7 @@ known-value : (above : List Symbol) (names : List ℕ → Option ℤ) → Extend
 known-value above names extends at (atom (trees.number n)) h = refl
 known-value above names extends at (atom (trees.character c)) h = refl
 known-value above names extends at (atom (trees.name text)) h =
-    ap defined_value (name-extends above names extends text (number_of_symbol above text) refl h)
+    ap (λ (o : Option ℤ). ok_or o Undefined) (name-extends above names extends text (number_of_symbol above text) refl h)
 known-value above names extends at (atom trees.here) h = refl
 known-value above names extends at (group tree) h = known-value above names extends at tree h
 known-value above names extends at (signed sign tree) h = ap (sign_value sign) (known-value above names extends at tree h)

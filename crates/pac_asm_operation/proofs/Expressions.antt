@@ -2,7 +2,7 @@
 use Rattle.std.proofs.Common.{◌≡◌, ℕ, suc, ◌-◌, Bool, true, false, ◌&&◌, ◌||◌, if◌then◌else◌, List, [], ◌∷◌, ◌++◌, length, take}
 use Rattle.std.proofs.Common.{refl, sym, ◌∙◌, ap, subst, arith, slice_get}
 use Rattle.std.specs.Prelude.{Option, Some, None, is_some, option_map}
-use Rattle.std.specs.Option.{unwrap_or}
+use Rattle.std.specs.Option.{unwrap_or, option_map_or}
 use Rattle.std.specs.List.{list_any}
 use Rattle.std.proofs.lemmas.Bool.{and_parts, false≢true, or_parts}
 use Rattle.pac_lex.specs.declared.token.Token.{Token}
@@ -11,7 +11,8 @@ use Rattle.pac_lex.specs.declared.token.TokenKind.TheVariants as kinds
 use Rattle.pac_lex.specs.Tokens.{Lexeme}
 use Rattle.pac_lex.specs.TokensProofs.{views}
 use Rattle.pac_lex.specs.TextsProofs.{one_character}
-use Rattle.pac_expr.specs.Trees.{Tree, atom, group, signed, joined, here, Mark, opening, closing, text_mark, kind_mark, marks_of, spelling}
+use Rattle.pac_expr.specs.Trees.{Tree, atom, group, signed, joined, here, Mark, opening, closing, single, other, kind_mark, marks_of, spelling}
+use Rattle.pac_expr.specs.Trees as trees
 use Rattle.pac_expr.specs.ParsingProofs.{tree_of}
 use Rattle.pac_expr.specs.Parsing.{tree_in}
 use Rattle.pac_expr.proofs.Complete.{tree-of-spelling}
@@ -58,11 +59,11 @@ closes-mark : (kind : TokenKind) (text : List ℕ) → closes kind ≡ true → 
 closes-mark kinds.Close text is = refl
 closes-mark _ text is = absurd (false≢true is)
 
-text-opens : (character : Option ℕ) → text_mark character ≡ opening → ⊥
+text-opens : (character : Option ℕ) → option_map_or (λ c. single (trees.character c)) character other ≡ opening → ⊥
 text-opens None is = absurd (cc)
 text-opens (Some c) is = absurd (cc)
 
-text-closes : (character : Option ℕ) → text_mark character ≡ closing → ⊥
+text-closes : (character : Option ℕ) → option_map_or (λ c. single (trees.character c)) character other ≡ closing → ⊥
 text-closes None is = absurd (cc)
 text-closes (Some c) is = absurd (cc)
 

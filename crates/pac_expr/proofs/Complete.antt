@@ -6,7 +6,7 @@ use Rattle.pac_expr.specs.declared.expr.Sign.{Sign}
 use Rattle.pac_expr.specs.declared.expr.Sign.TheVariants as signs
 use Rattle.pac_expr.specs.declared.expr.Operator.{Operator}
 use Rattle.pac_expr.specs.declared.expr.Operator.TheVariants.{Add, Subtract, Multiply, Divide}
-use Rattle.pac_expr.specs.Trees.{Tree, atom, group, signed, joined, Mark, closing, sign_mark, operator_mark, spelling, rank_of_operator}
+use Rattle.pac_expr.specs.Trees.{Tree, atom, group, signed, joined, Mark, closing, sign_mark, arithmetic, spelling, rank_of_operator}
 use Rattle.pac_expr.specs.Trees.{sum_rank}
 use Rattle.pac_expr.specs.Trees.{IsRanked}
 use Rattle.pac_expr.specs.TreesProofs.{IsExpression, token_marks}
@@ -50,7 +50,7 @@ sign-runs signs.Plus waiting ms = refl
 sign-runs signs.Minus waiting ms = refl
 
 pub operator-runs : (operator : Operator) (t : Tree) (waiting : List Waiting) (ms : List Mark)
-    → tree_onward (Some (stands t waiting)) (operator_mark operator ∷ ms) ≡ tree_onward (Some (state_after_operator operator t waiting)) ms
+    → tree_onward (Some (stands t waiting)) (arithmetic operator ∷ ms) ≡ tree_onward (Some (state_after_operator operator t waiting)) ms
 operator-runs Add t waiting ms = refl
 operator-runs Subtract t waiting ms = refl
 operator-runs Multiply t waiting ms = refl
@@ -83,12 +83,12 @@ sign-comes s t n waiting rest h = record {
 
 joined-comes : (operator : Operator) (l r : Tree) (n : ℕ) (waiting : List Waiting) (rest : List Mark) → rank_of_operator operator ≤ n →
     n ≤ highest_rank waiting
-    → Comes l (rank_of_operator operator) waiting (operator_mark operator ∷ (spelling r ++ rest))
+    → Comes l (rank_of_operator operator) waiting (arithmetic operator ∷ (spelling r ++ rest))
     → Comes r (rank_of_operator operator - 1) (left operator l ∷ waiting) rest → Comes (joined operator l r) n waiting rest
 joined-comes operator l r n waiting rest low most hl hr = record {
   tree = hr.tree;
   before = hr.before;
-  runs = ap (tree_onward (Some (needs waiting))) (append_assoc (spelling l) (operator_mark operator ∷ spelling r) rest) ∙ hl.runs
+  runs = ap (tree_onward (Some (needs waiting))) (append_assoc (spelling l) (arithmetic operator ∷ spelling r) rest) ∙ hl.runs
       ∙ operator-runs operator hl.tree hl.before (spelling r ++ rest)
       ∙ ap (λ (s : Tree × List Waiting). tree_onward (Some (needs (left operator s.0 ∷ s.1))) (spelling r ++ rest))
       (hl.settles (rank_of_operator operator) (omega arith)
@@ -104,7 +104,7 @@ comes (group t) n waiting rest r most =
 comes (signed s t) n waiting rest r most = sign-comes s t n waiting rest (comes t 0 (sign s ∷ waiting) rest r (omega arith))
 comes (joined operator l r) n waiting rest (low, p, q) most =
     joined-comes operator l r n waiting rest low most
-    (comes l (rank_of_operator operator) waiting (operator_mark operator ∷ (spelling r ++ rest)) p (omega arith))
+    (comes l (rank_of_operator operator) waiting (arithmetic operator ∷ (spelling r ++ rest)) p (omega arith))
     (comes r (rank_of_operator operator - 1) (left operator l ∷ waiting) rest q (omega arith))
 
 given-back : (t : Tree) → IsRanked sum_rank t → tree_of (spelling t) ≡ Some t

@@ -7,8 +7,8 @@ use Rattle.pac_expr.specs.declared.expr.Sign.{Sign}
 use Rattle.pac_expr.specs.declared.expr.Sign.TheVariants as signs
 use Rattle.pac_expr.specs.declared.expr.Operator.{Operator}
 use Rattle.pac_expr.specs.declared.expr.Operator.TheVariants.{Add, Subtract, Multiply, Divide}
-use Rattle.pac_expr.specs.Trees.{Atom, Tree, atom, group, signed, joined, Mark, single, opening, closing, plus, minus, star, slash, other}
-use Rattle.pac_expr.specs.Trees.{sign_mark, operator_mark, rank_of_operator, sum_rank}
+use Rattle.pac_expr.specs.Trees.{Atom, Tree, atom, group, signed, joined, Mark, single, opening, closing, arithmetic, other}
+use Rattle.pac_expr.specs.Trees.{sign_mark, rank_of_operator, sum_rank}
 use Rattle.pac_expr.specs.TreesProofs.{token_marks}
 use Rattle.pac_expr.specs.ParsingProofs.{Waiting, sign, left, parenthesis, needs, stands, tree_onward, tree_of}
 use Rattle.pac_expr.specs.Values.{ValueResult, atom_value, sign_value, joined_value, tree_value}
@@ -27,10 +27,10 @@ sign-stands s t waiting [] = refl
 sign-stands s t waiting (single a ∷ ms) = refl
 sign-stands s t waiting (opening ∷ ms) = refl
 sign-stands s t waiting (closing ∷ ms) = refl
-sign-stands s t waiting (plus ∷ ms) = refl
-sign-stands s t waiting (minus ∷ ms) = refl
-sign-stands s t waiting (star ∷ ms) = refl
-sign-stands s t waiting (slash ∷ ms) = refl
+sign-stands s t waiting (arithmetic Add ∷ ms) = refl
+sign-stands s t waiting (arithmetic Subtract ∷ ms) = refl
+sign-stands s t waiting (arithmetic Multiply ∷ ms) = refl
+sign-stands s t waiting (arithmetic Divide ∷ ms) = refl
 sign-stands s t waiting (other ∷ ms) = refl
 
 pub sign-begins : (names : List ℕ → Option ℤ) (line : ℕ) (s : Sign) (ms : List Mark) (answer : ValueResult) (rest : List Mark)
@@ -58,17 +58,25 @@ joined-stands : (operator : Operator) (l r : Tree) (waiting : List Waiting) (res
 joined-stands operator l r waiting (single a ∷ ms) e = refl
 joined-stands operator l r waiting (opening ∷ ms) e = refl
 joined-stands operator l r waiting (other ∷ ms) e = refl
-joined-stands Add l r waiting (star ∷ ms) e = absurd (omega arith)
-joined-stands Subtract l r waiting (star ∷ ms) e = absurd (omega arith)
-joined-stands Add l r waiting (slash ∷ ms) e = absurd (omega arith)
-joined-stands Subtract l r waiting (slash ∷ ms) e = absurd (omega arith)
+joined-stands Add l r waiting (arithmetic Multiply ∷ ms) e = absurd (omega arith)
+joined-stands Subtract l r waiting (arithmetic Multiply ∷ ms) e = absurd (omega arith)
+joined-stands Add l r waiting (arithmetic Divide ∷ ms) e = absurd (omega arith)
+joined-stands Subtract l r waiting (arithmetic Divide ∷ ms) e = absurd (omega arith)
 joined-stands Add l r waiting rest e = refl
 joined-stands Subtract l r waiting rest e = refl
+joined-stands Multiply l r waiting (arithmetic Add ∷ ms) e = refl
+joined-stands Multiply l r waiting (arithmetic Subtract ∷ ms) e = refl
+joined-stands Multiply l r waiting (arithmetic Multiply ∷ ms) e = refl
+joined-stands Multiply l r waiting (arithmetic Divide ∷ ms) e = refl
+joined-stands Divide l r waiting (arithmetic Add ∷ ms) e = refl
+joined-stands Divide l r waiting (arithmetic Subtract ∷ ms) e = refl
+joined-stands Divide l r waiting (arithmetic Multiply ∷ ms) e = refl
+joined-stands Divide l r waiting (arithmetic Divide ∷ ms) e = refl
 joined-stands Multiply l r waiting rest e = refl
 joined-stands Divide l r waiting rest e = refl
 
 left-runs : (names : List ℕ → Option ℤ) (line n : ℕ) (operator : Operator) (ms : List Mark) (answer : ValueResult) (after : List Mark)
-    → (h : BeginsWithTree names line n ms answer (operator_mark operator ∷ after)) → rank_of_operator operator ≤ n → (w : List Waiting) →
+    → (h : BeginsWithTree names line n ms answer (arithmetic operator ∷ after)) → rank_of_operator operator ≤ n → (w : List Waiting) →
     n ≤ highest_rank w
     → tree_onward (Some (needs w)) ms ≡ tree_onward (Some (needs (left operator h.tree ∷ w))) after
 left-runs names line n operator ms answer after h low w roomy =
@@ -78,7 +86,7 @@ left-runs names line n operator ms answer after h low w roomy =
 
 pub joined-begins : (names : List ℕ →
     Option ℤ) (line n : ℕ) (operator : Operator) (ms : List Mark) (l r : ValueResult) (after rest : List Mark)
-    → BeginsWithTree names line n ms l (operator_mark operator ∷ after) → rank_of_operator operator ≤ n
+    → BeginsWithTree names line n ms l (arithmetic operator ∷ after) → rank_of_operator operator ≤ n
     → BeginsWithTree names line (rank_of_operator operator - 1) after r rest → EndsTree (rank_of_operator operator - 1) rest
     → BeginsWithTree names line n ms (joined_value operator l r) rest
 joined-begins names line n operator ms l r after rest hl low hr ends = record {
@@ -100,10 +108,10 @@ more-stands : (t : Tree) (m : Mark) (ms : List Mark) → EndsTree sum_rank (m �
 more-stands t (single a) ms e = refl
 more-stands t opening ms e = refl
 more-stands t closing ms e = refl
-more-stands t plus ms e = absurd (omega arith)
-more-stands t minus ms e = absurd (omega arith)
-more-stands t star ms e = absurd (omega arith)
-more-stands t slash ms e = absurd (omega arith)
+more-stands t (arithmetic Add) ms e = absurd (omega arith)
+more-stands t (arithmetic Subtract) ms e = absurd (omega arith)
+more-stands t (arithmetic Multiply) ms e = absurd (omega arith)
+more-stands t (arithmetic Divide) ms e = absurd (omega arith)
 more-stands t other ms e = refl
 
 pub more-none : (names : List ℕ → Option ℤ) (line : ℕ) (ms : List Mark) (answer : ValueResult) (rest : List Mark)
@@ -122,7 +130,7 @@ refused-none names line ms h = ap (option_map (tree_value names line)) (h [] (om
 -- ---- as the code tells them
 
 pub plus-comes : {R : Type 0} (names : List ℕ → Option ℤ) (line : ℕ) (ms after : List Mark) (result : Option R) (answer : R → ValueResult)
-    → (rest : R → List Mark) → ms ≡ plus ∷ after
+    → (rest : R → List Mark) → ms ≡ arithmetic Add ∷ after
     → MatchOption result (BeginsNoTree 0 after) (λ r. BeginsWithTree names line 0 after (answer r) (rest r))
     → MatchOption result (BeginsNoTree 0 ms) (λ r. BeginsWithTree names line 0 ms (answer r) (rest r))
 plus-comes names line ms after None answer rest is h = rw is (sign-refused signs.Plus after h)

@@ -4,7 +4,7 @@ use Rattle.std.proofs.Common.{option_map, nat_le, refl}
 use Rattle.std.proofs.Common.{sym, ap, ◌∙◌, arith}
 use Rattle.std.proofs.lemmas.Bool.{leb-true, ne_eqb}
 use Rattle.pac_expr.specs.declared.expr.Operator.TheVariants.{Add, Subtract, Multiply, Divide}
-use Rattle.pac_expr.specs.Trees.{Tree, Mark, single, closing, plus, minus, star, slash, product_rank, sum_rank}
+use Rattle.pac_expr.specs.Trees.{Tree, Mark, single, closing, arithmetic, sum_rank}
 use Rattle.pac_expr.specs.ParsingProofs.{Waiting, sign, left, parenthesis, completed_tree, waiting_rank, settled_operand, ParseState, needs}
 use Rattle.pac_expr.specs.ParsingProofs.{stands}
 use Rattle.pac_expr.specs.ParsingProofs.{closed_group, state_after_mark, whole_tree, finished_tree, tree_onward, tree_of}
@@ -68,11 +68,15 @@ whole-shape (t, left operator l ∷ waiting) k h e = absurd h
 
 next-shape : (s : ParseState) (m : Mark) → option_map shape_of (state_after_mark s m) ≡ next_shape (shape_of s) m
 next-shape (needs waiting) (single a) = refl
+next-shape (needs waiting) (arithmetic Add) = refl
+next-shape (needs waiting) (arithmetic Subtract) = refl
+next-shape (needs waiting) (arithmetic Multiply) = refl
+next-shape (needs waiting) (arithmetic Divide) = refl
 next-shape (needs waiting) m = refl
-next-shape (stands t waiting) plus = ap (λ (k : ℕ). Some (false, k)) (settled-keeps sum_rank t waiting (omega arith))
-next-shape (stands t waiting) minus = ap (λ (k : ℕ). Some (false, k)) (settled-keeps sum_rank t waiting (omega arith))
-next-shape (stands t waiting) star = ap (λ (k : ℕ). Some (false, k)) (settled-keeps product_rank t waiting (omega arith))
-next-shape (stands t waiting) slash = ap (λ (k : ℕ). Some (false, k)) (settled-keeps product_rank t waiting (omega arith))
+next-shape (stands t waiting) (arithmetic Add) = ap (λ (k : ℕ). Some (false, k)) (settled-keeps sum_rank t waiting (omega arith))
+next-shape (stands t waiting) (arithmetic Subtract) = ap (λ (k : ℕ). Some (false, k)) (settled-keeps sum_rank t waiting (omega arith))
+next-shape (stands t waiting) (arithmetic Multiply) = ap (λ (k : ℕ). Some (false, k)) (settled-keeps 1 t waiting (omega arith))
+next-shape (stands t waiting) (arithmetic Divide) = ap (λ (k : ℕ). Some (false, k)) (settled-keeps 1 t waiting (omega arith))
 next-shape (stands t waiting) closing =
     closed-shape (settled_operand sum_rank t waiting) (open_parentheses waiting) (settled-stops t waiting)
     (settled-keeps sum_rank t waiting (omega arith))

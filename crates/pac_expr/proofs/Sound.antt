@@ -4,7 +4,7 @@ use Rattle.std.proofs.Common.{sym, ap, ◌∙◌, arith, append_assoc, append-ni
 use Rattle.std.proofs.lemmas.Bool.{leb-true, leb-false}
 use Rattle.pac_expr.specs.declared.expr.Operator.{Operator}
 use Rattle.pac_expr.specs.declared.expr.Operator.TheVariants.{Add, Subtract, Multiply, Divide}
-use Rattle.pac_expr.specs.Trees.{Tree, Mark, single, opening, closing, plus, minus, star, slash, sign_mark, operator_mark, spelling}
+use Rattle.pac_expr.specs.Trees.{Tree, Mark, single, opening, closing, arithmetic, sign_mark, spelling}
 use Rattle.pac_expr.specs.Trees.{rank_of_operator}
 use Rattle.pac_expr.specs.Trees.{sum_rank, IsRanked}
 use Rattle.pac_expr.specs.ParsingProofs.{Waiting, sign, left, parenthesis, completed_tree, waiting_rank, settled_operand, ParseState, needs}
@@ -15,7 +15,7 @@ use Rattle.pac_expr.specs.ParsingProofs.{closed_group, state_after_mark, whole_t
 -- the tokens that it was read from
 abbrev own_marks : Waiting → List Mark
 own_marks (sign s) = sign_mark s ∷ []
-own_marks (left operator l) = spelling l ++ operator_mark operator ∷ []
+own_marks (left operator l) = spelling l ++ arithmetic operator ∷ []
 own_marks parenthesis = opening ∷ []
 
 abbrev waiting_marks : List Waiting → List Mark
@@ -49,7 +49,7 @@ completes : (n : ℕ) (t : Tree) (w : Waiting) (waiting : List Waiting) → n �
     → waiting_rank w ≤ n → Completes n t w waiting
 completes n t (sign s) waiting most fits r low = record { fits = fits; ranked = r; roomy = r; spells = refl }
 completes n t (left operator l) waiting most (ranked, below, fits) r low =
-    let spells = append_assoc (spelling l) (operator_mark operator ∷ []) (spelling t) in
+    let spells = append_assoc (spelling l) (arithmetic operator ∷ []) (spelling t) in
     record { fits = fits; ranked = (low, ranked, r); roomy = (below, ranked, r); spells = spells }
 completes n t parenthesis waiting most fits r low = absurd (omega arith)
 
@@ -94,15 +94,15 @@ one-more : (xs taken : List Mark) (m : Mark) → xs ≡ taken → xs ++ m ∷ []
 one-more xs taken m e = ap (λ (ms : List Mark). ms ++ m ∷ []) e
 
 operates : (operator : Operator) (t : Tree) (waiting : List Waiting) (taken : List Mark) → Reads (stands t waiting) taken
-    → Reads (state_after_operator operator t waiting) (taken ++ operator_mark operator ∷ [])
+    → Reads (state_after_operator operator t waiting) (taken ++ arithmetic operator ∷ [])
 operates operator t waiting taken (fits, ranked, e) =
     let s = settled_operand (rank_of_operator operator) t waiting in
     let h : Settles (rank_of_operator operator) t waiting s =
     settles (rank_of_operator operator) t waiting (low operator) fits (ranked (rank_of_operator operator))
     (ranked (highest_rank waiting)) in (
       (h.ranked, h.low, h.fits),
-      sym (append_assoc (waiting_marks s.1) (spelling s.0) (operator_mark operator ∷ []))
-          ∙ one-more (waiting_marks s.1 ++ spelling s.0) taken (operator_mark operator) (h.spells ∙ e),
+      sym (append_assoc (waiting_marks s.1) (spelling s.0) (arithmetic operator ∷ []))
+          ∙ one-more (waiting_marks s.1 ++ spelling s.0) taken (arithmetic operator) (h.spells ∙ e),
     )
   where
     low : (o : Operator) → rank_of_operator o ≤ sum_rank
@@ -132,12 +132,9 @@ reads-next : (state : ParseState) (m : Mark) (taken : List Mark) → Reads state
     → IfSome (state_after_mark state m) (λ after. Reads after (taken ++ m ∷ []))
 reads-next (needs waiting) (single a) taken (fits, e) = (fits, (λ n. tt), one-more (waiting_marks waiting) taken (single a) e)
 reads-next (needs waiting) opening taken (fits, e) = (fits, one-more (waiting_marks waiting) taken opening e)
-reads-next (needs waiting) plus taken (fits, e) = (fits, one-more (waiting_marks waiting) taken plus e)
-reads-next (needs waiting) minus taken (fits, e) = (fits, one-more (waiting_marks waiting) taken minus e)
-reads-next (stands t waiting) plus taken h = operates Add t waiting taken h
-reads-next (stands t waiting) minus taken h = operates Subtract t waiting taken h
-reads-next (stands t waiting) star taken h = operates Multiply t waiting taken h
-reads-next (stands t waiting) slash taken h = operates Divide t waiting taken h
+reads-next (needs waiting) (arithmetic Add) taken (fits, e) = (fits, one-more (waiting_marks waiting) taken (arithmetic Add) e)
+reads-next (needs waiting) (arithmetic Subtract) taken (fits, e) = (fits, one-more (waiting_marks waiting) taken (arithmetic Subtract) e)
+reads-next (stands t waiting) (arithmetic operator) taken h = operates operator t waiting taken h
 reads-next (stands t waiting) closing taken (fits, ranked, e) =
     let s = settled_operand sum_rank t waiting in
     let h : Settles sum_rank t waiting s =

@@ -1,6 +1,6 @@
 -- A value is refused for an undefined name exactly where the tree has one.
 use Rattle.std.proofs.Common.{◌≡◌, ◌↔◌, ℕ, ℤ, Bool, true, false, cond, List, Option, Some, None, Ok, Err, refl, ap, inl, inr, ◌⊎◌, int_le}
-use Rattle.std.proofs.Common.{MatchOption, option_map}
+use Rattle.std.proofs.Common.{MatchOption, option_map, ok_or}
 use Rattle.std.proofs.lemmas.Option.{same_Some, none-some}
 use Rattle.std.proofs.Common.{◌&&◌, pos, negsuc, ◌+ℤ◌, ◌-ℤ◌, ◌*ℤ◌, neg_ℤ, int_div}
 use Rattle.std.specs.Ordering.{int_eq}
@@ -10,7 +10,7 @@ use Rattle.pac_expr.specs.declared.expr.Operator.{Operator}
 use Rattle.pac_expr.specs.declared.expr.Operator.TheVariants.{Add, Subtract, Multiply, Divide}
 use Rattle.pac_expr.specs.declared.evaluation.ValueError.TheVariants.{Undefined, OutOfRange, DivisionByZero}
 use Rattle.pac_expr.specs.Trees.{number, character, name, here, Tree, atom, group, signed, joined}
-use Rattle.pac_expr.specs.Values.{ValueResult, value_in_range, defined_value, operator_value, sign_value, joined_value, tree_value}
+use Rattle.pac_expr.specs.Values.{ValueResult, value_in_range, operator_value, sign_value, joined_value, tree_value}
 use Rattle.pac_expr.specs.ValuesLaws.{HasUndefined}
 
 abbrev IsUndefined : ValueResult → Type 0
@@ -33,7 +33,7 @@ operate-is Subtract x y e = ranged-is (x -ℤ y) e
 operate-is Multiply x y e = ranged-is (x *ℤ y) e
 operate-is Divide x y e = divided-is (int_eq y (pos 0)) (int_div x y) e
 
-defined-is : (o : Option ℤ) → IsUndefined (defined_value o) → o ≡ None
+defined-is : (o : Option ℤ) → IsUndefined (ok_or o Undefined) → o ≡ None
 defined-is None e = refl
 defined-is (Some z) e = absurd cc
 
@@ -82,7 +82,7 @@ found names line (joined operator left right) e = elim (joined-is operator (tree
 pub told : (names : List ℕ → Option ℤ) (line : ℕ) (t : Tree) → HasUndefined names t → IsUndefined (tree_value names line t)
 told names line (atom (number n)) h = absurd h
 told names line (atom (character c)) h = absurd h
-told names line (atom (name text)) h = ap defined_value h
+told names line (atom (name text)) h = ap (λ (o : Option ℤ). ok_or o Undefined) h
 told names line (atom here) h = absurd h
 told names line (group t) h = told names line t h
 told names line (signed sign t) h = rw (told names line t h) (signed-back sign)

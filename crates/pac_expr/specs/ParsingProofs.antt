@@ -2,10 +2,10 @@
 use Rattle.pac_expr.specs.declared.expr.Sign.TheVariants as signs
 use Rattle.pac_expr.specs.declared.expr.Sign.{Sign}
 use Rattle.pac_expr.specs.declared.expr.Operator.{Operator}
-use Rattle.pac_expr.specs.Trees.{Tree, signed, joined, group, rank_of_operator, Mark, single, atom, opening, plus, minus, star, slash}
+use Rattle.pac_expr.specs.Trees.{Tree, signed, joined, group, rank_of_operator, Mark, single, atom, opening, arithmetic}
 use Rattle.pac_expr.specs.Trees.{closing, sum_rank}
 use Rattle.std.specs.Prelude.{ℕ, List, [], nat_le, ◌∷◌, if◌then◌else◌, Option, None, Some}
-use Rattle.pac_expr.specs.declared.expr.Operator.TheVariants.{Add, Subtract, Multiply, Divide}
+use Rattle.pac_expr.specs.declared.expr.Operator.TheVariants.{Add, Subtract}
 
 -- what waits for an operand: a sign, an operator with its left operand, an open parenthesis
 pub data Waiting : Type 0 where
@@ -48,12 +48,9 @@ closed_group (t, w ∷ waiting) = Some (stands (completed_tree w t) waiting)
 abbrev pub state_after_mark : ParseState → Mark → Option ParseState
 state_after_mark (needs waiting) (single a) = Some (stands (atom a) waiting)
 state_after_mark (needs waiting) opening = Some (needs (parenthesis ∷ waiting))
-state_after_mark (needs waiting) plus = Some (needs (sign signs.Plus ∷ waiting))
-state_after_mark (needs waiting) minus = Some (needs (sign signs.Minus ∷ waiting))
-state_after_mark (stands t waiting) plus = Some (state_after_operator Add t waiting)
-state_after_mark (stands t waiting) minus = Some (state_after_operator Subtract t waiting)
-state_after_mark (stands t waiting) star = Some (state_after_operator Multiply t waiting)
-state_after_mark (stands t waiting) slash = Some (state_after_operator Divide t waiting)
+state_after_mark (needs waiting) (arithmetic Add) = Some (needs (sign signs.Plus ∷ waiting))
+state_after_mark (needs waiting) (arithmetic Subtract) = Some (needs (sign signs.Minus ∷ waiting))
+state_after_mark (stands t waiting) (arithmetic operator) = Some (state_after_operator operator t waiting)
 state_after_mark (stands t waiting) closing = closed_group (settled_operand sum_rank t waiting)
 state_after_mark state m = None
 

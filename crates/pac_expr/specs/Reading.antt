@@ -2,8 +2,7 @@
 -- waits before it.
 use Rattle.std.specs.Prelude.{◌≡◌, ◌≤◌, ◌<◌, ◌-◌, ℕ, ℤ, Bool, true, false, List, [], ◌∷◌, Option, Some, None, IfSome}
 use Rattle.pac_expr.specs.declared.expr.Operator.{Operator}
-use Rattle.pac_expr.specs.declared.expr.Operator.TheVariants.{Add, Subtract, Multiply, Divide}
-use Rattle.pac_expr.specs.Trees.{Atom, Tree, Mark, single, closing, plus, minus, star, slash, rank_of_operator, sum_rank}
+use Rattle.pac_expr.specs.Trees.{Atom, Tree, Mark, single, closing, arithmetic, rank_of_operator, sum_rank}
 use Rattle.pac_expr.specs.ParsingProofs.{Waiting, sign, left, parenthesis, needs, stands, tree_onward}
 use Rattle.pac_expr.specs.Values.{ValueResult, tree_value}
 
@@ -33,10 +32,7 @@ is_closing mark = false
 
 -- the operator that a token is, if it is one
 abbrev pub operator_in : Mark → Option Operator
-operator_in plus = Some Add
-operator_in minus = Some Subtract
-operator_in star = Some Multiply
-operator_in slash = Some Divide
+operator_in (arithmetic operator) = Some operator
 operator_in m = None
 
 -- no operator of this rank at most comes first

@@ -1,7 +1,8 @@
 -- For proofs: what is enough of a state to tell whether an expression can end there: whether an operand stands, and how many
 -- parentheses are open.
 use Rattle.std.specs.Prelude.{ℕ, ◌+◌, ◌-◌, ◌==◌, ◌&&◌, Bool, true, false, List, [], ◌∷◌, Option, Some, None, if◌then◌else◌}
-use Rattle.pac_expr.specs.Trees.{Mark, single, opening, closing, plus, minus, star, slash}
+use Rattle.pac_expr.specs.declared.expr.Operator.TheVariants.{Add, Subtract}
+use Rattle.pac_expr.specs.Trees.{Mark, single, opening, closing, arithmetic}
 use Rattle.pac_expr.specs.ParsingProofs.{Waiting, parenthesis, ParseState, needs, stands}
 
 abbrev pub open_parentheses : List Waiting → ℕ
@@ -20,15 +21,12 @@ shape_of (stands t waiting) = (true, open_parentheses waiting)
 abbrev pub begun_shape : ℕ → Mark → Option ParseShape
 begun_shape k (single a) = Some (true, k)
 begun_shape k opening = Some (false, k + 1)
-begun_shape k plus = Some (false, k)
-begun_shape k minus = Some (false, k)
+begun_shape k (arithmetic Add) = Some (false, k)
+begun_shape k (arithmetic Subtract) = Some (false, k)
 begun_shape k m = None
 
 abbrev pub continued_shape : ℕ → Mark → Option ParseShape
-continued_shape k plus = Some (false, k)
-continued_shape k minus = Some (false, k)
-continued_shape k star = Some (false, k)
-continued_shape k slash = Some (false, k)
+continued_shape k (arithmetic operator) = Some (false, k)
 continued_shape k closing = if k == 0 then None else Some (true, k - 1)
 continued_shape k m = None
 

@@ -1,6 +1,7 @@
 -- Believed: expressions as trees, and the tokens that spell them: the assembler's notation of this profile, whose
 -- operators bind as in arithmetic.
-use Rattle.std.specs.Prelude.{ℕ, ◌-◌, ◌≤◌, List, [], ◌∷◌, ◌++◌, Option, Some, None, map}
+use Rattle.std.specs.Prelude.{ℕ, ◌-◌, ◌≤◌, List, [], ◌∷◌, ◌++◌, map}
+use Rattle.std.specs.Option.{option_map_or}
 use Rattle.pac_lex.specs.declared.token.TokenKind.{TokenKind}
 use Rattle.pac_lex.specs.declared.token.TokenKind.TheVariants as kinds
 use Rattle.pac_lex.specs.TextsProofs.{one_character}
@@ -29,65 +30,47 @@ pub data Mark : Type 0 where
   single : Atom → Mark
   opening : Mark
   closing : Mark
-  plus : Mark
-  minus : Mark
-  star : Mark
-  slash : Mark
+  -- `+`, `-`, `*` and `/`
+  arithmetic : Operator → Mark
   other : Mark
 
 -- a text of one character is an operand, and another text is nothing in an expression
-abbrev pub text_mark : Option ℕ → Mark
-text_mark None = other
-text_mark (Some c) = single (character c)
-
 abbrev pub kind_mark : TokenKind → List ℕ → Mark
 kind_mark (kinds.Number n) text = single (number n)
-kind_mark kinds.Text text = text_mark (one_character text)
+kind_mark kinds.Text text = option_map_or (λ c. single (character c)) (one_character text) other
 kind_mark kinds.Name text = single (name text)
 kind_mark kinds.Dollar text = single here
 kind_mark kinds.Open text = opening
 kind_mark kinds.Close text = closing
-kind_mark kinds.Plus text = plus
-kind_mark kinds.Minus text = minus
-kind_mark kinds.Star text = star
-kind_mark kinds.Slash text = slash
+kind_mark kinds.Plus text = arithmetic Add
+kind_mark kinds.Minus text = arithmetic Subtract
+kind_mark kinds.Star text = arithmetic Multiply
+kind_mark kinds.Slash text = arithmetic Divide
 kind_mark kind text = other
 
-abbrev pub lexeme_mark : Lexeme → Mark
-lexeme_mark lexeme = kind_mark lexeme.kind lexeme.text
-
 abbrev pub marks_of : List Lexeme → List Mark
-marks_of lexemes = map lexeme_mark lexemes
+marks_of lexemes = map (λ lexeme. kind_mark lexeme.kind lexeme.text) lexemes
 
 abbrev pub sign_mark : Sign → Mark
-sign_mark signs.Plus = plus
-sign_mark signs.Minus = minus
-
-abbrev pub operator_mark : Operator → Mark
-operator_mark Add = plus
-operator_mark Subtract = minus
-operator_mark Multiply = star
-operator_mark Divide = slash
+sign_mark signs.Plus = arithmetic Add
+sign_mark signs.Minus = arithmetic Subtract
 
 -- the tokens that spell a tree
 abbrev pub spelling : Tree → List Mark
 spelling (atom a) = single a ∷ []
 spelling (group t) = opening ∷ (spelling t ++ closing ∷ [])
 spelling (signed sign t) = sign_mark sign ∷ spelling t
-spelling (joined operator left right) = spelling left ++ (operator_mark operator ∷ spelling right)
+spelling (joined operator left right) = spelling left ++ (arithmetic operator ∷ spelling right)
 
--- products bind tighter than sums
-abbrev pub product_rank : ℕ
-product_rank = 1
-
+-- the rank of sums; products bind tighter
 abbrev pub sum_rank : ℕ
 sum_rank = 2
 
 abbrev pub rank_of_operator : Operator → ℕ
 rank_of_operator Add = sum_rank
 rank_of_operator Subtract = sum_rank
-rank_of_operator Multiply = product_rank
-rank_of_operator Divide = product_rank
+rank_of_operator Multiply = 1
+rank_of_operator Divide = 1
 
 -- The tree is one whose operators outside its groups have this rank at most. The left operand of an
 -- operator may have its rank, the right one only a lower rank, so operators of one rank join from left

@@ -1,7 +1,8 @@
 -- Believed: the value of an expression, in whole numbers of 32 bits, and why there is none: E1, E2 or E3 (this profile).
-use Rattle.std.specs.Prelude.{ℕ, ℤ, pos, negsuc, ◌+ℤ◌, ◌-ℤ◌, ◌*ℤ◌, neg_ℤ, int_le, int_div, ◌&&◌, List, Option, Some, None, Result}
+use Rattle.std.specs.Prelude.{ℕ, ℤ, pos, negsuc, ◌+ℤ◌, ◌-ℤ◌, ◌*ℤ◌, neg_ℤ, int_le, int_div, ◌&&◌, List, Option, ok_or, Result}
 use Rattle.std.specs.Prelude.{Ok, Err, if◌then◌else◌}
 use Rattle.std.specs.Ordering.{int_eq}
+use Rattle.pac_lex.specs.Results.{◌>>=◌}
 use Rattle.pac_expr.specs.declared.expr.Sign.{Sign}
 use Rattle.pac_expr.specs.declared.expr.Sign.TheVariants as signs
 use Rattle.pac_expr.specs.declared.expr.Operator.{Operator}
@@ -18,17 +19,11 @@ ValueResult = Result ℤ ValueError
 abbrev pub value_in_range : ℤ → ValueResult
 value_in_range z = if int_le (negsuc 2147483647) z && int_le z (pos 2147483647) then Ok z else Err OutOfRange
 
--- what a name stands for
-abbrev pub defined_value : Option ℤ → ValueResult
-defined_value None = Err Undefined
-defined_value (Some z) = Ok z
-
 -- the first of two faults, in the order of their codes
 abbrev pub first_value_error : ValueError → ValueError → ValueError
 first_value_error Undefined fault = Undefined
 first_value_error OutOfRange Undefined = Undefined
-first_value_error OutOfRange OutOfRange = OutOfRange
-first_value_error OutOfRange DivisionByZero = OutOfRange
+first_value_error OutOfRange fault = OutOfRange
 first_value_error DivisionByZero fault = fault
 
 -- what an operator makes of two numbers; a quotient is cut toward zero
@@ -41,8 +36,7 @@ operator_value Divide x y = if int_eq y (pos 0) then Err DivisionByZero else val
 -- what a sign makes of its operand's value, and an operator of its operands'
 abbrev pub sign_value : Sign → ValueResult → ValueResult
 sign_value signs.Plus answer = answer
-sign_value signs.Minus (Ok z) = value_in_range (neg_ℤ z)
-sign_value signs.Minus (Err fault) = Err fault
+sign_value signs.Minus answer = answer >>= λ z. value_in_range (neg_ℤ z)
 
 abbrev pub joined_value : Operator → ValueResult → ValueResult → ValueResult
 joined_value operator (Ok x) (Ok y) = operator_value operator x y
@@ -53,7 +47,7 @@ joined_value operator (Err fault) (Err other) = Err (first_value_error fault oth
 abbrev pub atom_value : (List ℕ → Option ℤ) → ℕ → Atom → ValueResult
 atom_value names line (number n) = Ok (pos n)
 atom_value names line (character c) = Ok (pos c)
-atom_value names line (name text) = defined_value (names text)
+atom_value names line (name text) = ok_or (names text) Undefined
 atom_value names line here = Ok (pos line)
 
 -- the value of a tree, where names tells what names stand for and line is the address of the line

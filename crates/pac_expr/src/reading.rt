@@ -2,7 +2,7 @@
 
 ghost use Rattle.std.specs.Prelude.{◌≡◌, ◌↔◌, ◌<◌, ◌≤◌, ◌-◌, ◌∷◌, List, Some, Err, length, option_map, IfSome, MatchOption};
 ghost use Rattle.pac_lex.specs.TokensProofs.{views};
-ghost use Rattle.pac_expr.specs.Trees.{Mark, Tree, closing, operator_mark, rank_of_operator};
+ghost use Rattle.pac_expr.specs.Trees.{Mark, Tree, closing, arithmetic, rank_of_operator};
 ghost use Rattle.pac_expr.specs.TreesProofs.{IsExpression, atom_of, token_mark, token_marks};
 ghost use Rattle.pac_expr.specs.Parsing.{tree_in};
 ghost use Rattle.pac_expr.specs.Values.{tree_value};
@@ -121,7 +121,7 @@ fn operand<'t, 'a, S: SymbolLookup>(
 /// The operator at the left, if it has this rank at most, and the tokens after it.
 fn operator_up_to<'t, 'a>(rank: u8, tokens: &'t [Token<'a>]) -> Option<(Operator, &'t [Token<'a>])>
     ensures { MatchOption result (EndsTree rank (token_marks tokens.now))
-        (λ r. (token_marks tokens.now ≡ operator_mark r.0 ∷ token_marks r.1.now) × (rank_of_operator r.0 ≤ rank)
+        (λ r. (token_marks tokens.now ≡ arithmetic r.0 ∷ token_marks r.1.now) × (rank_of_operator r.0 ≤ rank)
         × (length r.1.now < length tokens.now)) }
 {
     let [first, after @ ..] = tokens else {

@@ -1,64 +1,38 @@
 -- A line is read as the tokens that it is made of, and refused at the fault that it has.
-use Rattle.std.proofs.Common.{◌≡◌, ℕ, zero, suc, ◌<◌, ◌≤◌, true, false, not, ltb, List, [], ◌∷◌, ◌++◌, length, take, drop, Result, Ok, Err}
+use Rattle.std.proofs.Common.{◌≡◌, ℕ, zero, suc, ◌<◌, ◌≤◌, true, false, not, ltb, List, [], ◌∷◌, ◌++◌, length, drop, Result, Ok, Err}
 use Rattle.std.proofs.Common.{refl, sym, ap, ◌∙◌, subst, arith, inl, inr, ◌⊎◌}
-use Rattle.std.specs.List.{prefix_len, list_all}
-use Rattle.std.proofs.lemmas.Bool.{cases_Bool, lt-ltb, le-ltb, ltb-true, ltb-false, eqb-true, not-false, true≢false}
-use Rattle.std.proofs.lemmas.List.{take-append-drop, take_at, drop_at, length-drop, length-append}
-use Rattle.pac_lemmas.proofs.Searches.{list_all-prefix}
+use Rattle.std.specs.List.{prefix_len}
+use Rattle.std.proofs.lemmas.Bool.{cases_Bool, lt-ltb, le-ltb, ltb-true, ltb-false, not-false, true≢false}
+use Rattle.std.proofs.lemmas.List.{take-append-drop, take_at, drop_at, length-drop}
 use Rattle.pac_lex.specs.declared.token.TokenKind.{TokenKind}
 use Rattle.pac_lex.specs.declared.fault.LexFault.{LexFault}
 use Rattle.pac_lex.specs.declared.fault.LexFault.TheVariants.{NoToken, WrongNumber, OpenText, LongLine}
-use Rattle.pac_lex.specs.Bytes.{is_blank, is_comment_start}
-use Rattle.pac_lex.specs.Tokens.{Lexeme, begins, TokenFirst, NoTokenLeft, FaultFirst, ReadsTokens, Breaks, IsRead, HasLexFault}
+use Rattle.pac_lex.specs.Bytes.{is_blank, is_comment_start, after_gap}
+use Rattle.pac_lex.specs.Tokens.{Lexeme, begins, TokenFirst, IsTokenFault, ReadsTokens, Breaks, IsRead, HasLexFault}
 use Rattle.pac_lex.specs.Scan.{is_end, token_before, cut_token, token_at, scan, tokens_of}
 use Rattle.pac_lex.proofs.ScanLemmas.{AfterGap, gap-skipped, next-none, next-fault, next-some}
-use Rattle.pac_lex.proofs.Prefixes.{prefix-of-all}
 use Rattle.pac_lex.proofs.TokenLaws.{token-is, token-again, fault-is, fault-again}
 use Rattle.pac_lex.proofs.ByteLemmas.{chosen}
 
--- a line as its blanks and what stands after them
-after-blanks : (line gap rest : List ℕ) → line ≡ gap ++ rest → list_all is_blank gap ≡ true → begins is_blank rest ≡ false
-    → AfterGap line rest
-after-blanks line gap rest parts blank stop =
-    let len : length gap ≡ prefix_len is_blank line = rw parts (sym (prefix-of-all is_blank gap rest blank stop)) in
-    gap-skipped line rest (rw (← len) (rw parts (sym (drop_at gap rest (length gap) refl))))
-
-record Split (line : List ℕ) : Type 0 where
-  gap : List ℕ
-  rest : List ℕ
-  blank : list_all is_blank gap ≡ true
-  parts : line ≡ gap ++ rest
-  reads : AfterGap line rest
-
-split : (line : List ℕ) → Split line
-split line = let n = prefix_len is_blank line in record {
-  gap = take n line;
-  rest = drop n line;
-  blank = list_all-prefix is_blank line;
-  parts = sym (take-append-drop n line);
-  reads = gap-skipped line (drop n line) refl;
-}
+-- what a line is read as, by what stands after its blanks
+reads : (line : List ℕ) → AfterGap line (after_gap line)
+reads line = gap-skipped line (after_gap line) refl
 
 -- ---- what is so is read
 
-comment-stops : (comment : List ℕ) → begins (λ b. not (is_comment_start b)) comment ≡ false
-    → (begins is_blank comment ≡ false) × (is_end comment ≡ true)
-comment-stops [] e = (refl, refl)
-comment-stops (c ∷ comment) e =
-    let is : c ≡ 59 = eqb-true c 59 (not-false (is_comment_start c) e) in
-    (rw is refl, rw is refl)
+comment-stops : (comment : List ℕ) → begins (λ b. not (is_comment_start b)) comment ≡ false → is_end comment ≡ true
+comment-stops [] e = refl
+comment-stops (c ∷ comment) e = not-false (is_comment_start c) e
 
-nothing-again : (line : List ℕ) → NoTokenLeft line → scan 0 line ≡ Ok []
-nothing-again line h =
-    let stops = comment-stops h.comment h.ends in
-    next-none line h.comment (after-blanks line h.gap h.comment h.parts h.blank stops.0) stops.1
+nothing-again : (line : List ℕ) → ReadsTokens line [] → scan 0 line ≡ Ok []
+nothing-again line h = next-none line (after_gap line) (reads line) (comment-stops (after_gap line) h)
 
 first-again : (line : List ℕ) (token : Lexeme) (rest : List ℕ) → TokenFirst line token rest → scan 0 line ≡ token_before token (scan 0 rest)
 first-again line token rest h =
     let found = token-again token.kind token.text rest h.is_token in
     let text = token.text in
-    next-some line (text ++ rest) token.kind (length text)
-    (after-blanks line h.gap (text ++ rest) h.parts h.blank found.starts.no_blank) found.starts.no_end found.found found.some
+    next-some line (text ++ rest) token.kind (length text) (gap-skipped line (text ++ rest) (sym h.parts)) found.starts.no_end found.found
+    found.some
     ∙ rw (take_at text rest (length text) refl, drop_at text rest (length text) refl) refl
 
 scan-again : (line : List ℕ) (tokens : List Lexeme) → ReadsTokens line tokens → scan 0 line ≡ Ok tokens
@@ -68,8 +42,8 @@ scan-again line (token ∷ tokens) (rest, first, more) = first-again line token 
 
 break-again : (line : List ℕ) (tokens : List Lexeme) (fault : LexFault) → Breaks line tokens fault → scan 0 line ≡ Err fault
 break-again line [] fault h =
-    let told = fault-again h.rest fault h.is_fault in
-    next-fault line h.rest fault (after-blanks line h.gap h.rest h.parts h.blank told.starts.no_blank) told.starts.no_end told.told
+    let told = fault-again (after_gap line) fault h in
+    next-fault line (after_gap line) fault (reads line) told.starts.no_end told.told
 break-again line (token ∷ tokens) fault (rest, first, more) = first-again line token rest first
     ∙ ap (token_before token) (break-again rest tokens fault more)
 
@@ -96,8 +70,8 @@ before-err token (Err f) fault e = cc
 
 -- what stands after the blanks
 data First (line : List ℕ) : Type 0 where
-  none : NoTokenLeft line → scan 0 line ≡ Ok [] → First line
-  fault : (f : LexFault) → FaultFirst line f → scan 0 line ≡ Err f → First line
+  none : ReadsTokens line [] → scan 0 line ≡ Ok [] → First line
+  fault : (f : LexFault) → IsTokenFault f (after_gap line) → scan 0 line ≡ Err f → First line
   token : (t : Lexeme) (rest : List ℕ) → TokenFirst line t rest → length rest < length line → scan 0 line ≡ token_before t (scan 0 rest)
       → First line
 
@@ -109,29 +83,25 @@ found-or-not : (found : Result (TokenKind × ℕ) LexFault) → ((x : TokenKind 
 found-or-not (Ok x) = inl (x, refl)
 found-or-not (Err f) = inr (f, refl)
 
-first-token : (line : List ℕ) (s : Split line) (kind : TokenKind) (len : ℕ) → is_end s.rest ≡ false → token_at s.rest ≡ Ok (kind, len)
+first-token : (line : List ℕ) (kind : TokenKind) (len : ℕ) → is_end (after_gap line) ≡ false → token_at (after_gap line) ≡ Ok (kind, len)
     → First line
-first-token line s kind len more e =
-    let found = token-is s.rest kind len e in
-    let text = take len s.rest in
-    let after = drop len s.rest in
-    let parts : line ≡ s.gap ++ (text ++ after) = s.parts ∙ ap (λ (xs : List ℕ). s.gap ++ xs) (sym (take-append-drop len s.rest)) in
+first-token line kind len more e =
+    let rest = after_gap line in
+    let found = token-is rest kind len e in
+    let after = drop len rest in
     let shorter : length after < length line =
-    omega (arith, some-left s.rest more, length-drop len s.rest, length-append s.gap s.rest, ap length s.parts, found.some) in
-    token (cut_token kind len s.rest) after (record { gap = s.gap; blank = s.blank; parts = parts; is_token = found.is_token }) shorter
-    (next-some line s.rest kind len s.reads more e found.some)
+    omega (arith, some-left rest more, length-drop len rest, length-drop (prefix_len is_blank line) line, found.some) in
+    token (cut_token kind len rest) after (record { parts = sym (take-append-drop len rest); is_token = found.is_token }) shorter
+    (next-some line rest kind len (reads line) more e found.some)
 
 first-of : (line : List ℕ) → First line
-first-of line = let s = split line in elim (cases_Bool (is_end s.rest)) [
-  | inl e ↦
-      none (record { gap = s.gap; comment = s.rest; blank = s.blank; parts = s.parts; ends = end-is-comment s.rest e })
-      (next-none line s.rest s.reads e)
-  | inr e ↦ elim (found-or-not (token_at s.rest)) [
-    | inl ((kind, len), is) ↦ first-token line s kind len e is
+first-of line = let rest = after_gap line in elim (cases_Bool (is_end rest)) [
+  | inl e ↦ none (end-is-comment rest e) (next-none line rest (reads line) e)
+  | inr e ↦ elim (found-or-not (token_at rest)) [
+    | inl ((kind, len), is) ↦ first-token line kind len e is
     | inr (f, is) ↦
-        let told = fault-is s.rest f (record { no_blank = s.reads.no_blank; no_end = e }) is in
-        fault f (record { gap = s.gap; rest = s.rest; blank = s.blank; parts = s.parts; is_fault = told })
-        (next-fault line s.rest f s.reads e is)
+        let told = fault-is rest f (record { no_blank = (reads line).no_blank; no_end = e }) is in
+        fault f told (next-fault line rest f (reads line) e is)
   ]
 ]
 
@@ -153,7 +123,7 @@ break-is : (n : ℕ) (line : List ℕ) (f : LexFault) → length line < n → sc
 break-is zero line f small e = absurd (omega arith)
 break-is (suc n) line f small e = elim (first-of line) [
   | none h is ↦ absurd cc
-  | fault f' h is ↦ ([], subst (λ (x : LexFault). FaultFirst line x) (same_err f' f (sym is ∙ e)) h)
+  | fault f' h is ↦ ([], subst (λ (x : LexFault). IsTokenFault x (after_gap line)) (same_err f' f (sym is ∙ e)) h)
   | token t rest h shorter is ↦
       let (tokens, more) = break-is n rest f (omega arith) (before-err t (scan 0 rest) f (sym is ∙ e)) in
       (t ∷ tokens, (rest, h, more))
@@ -185,7 +155,7 @@ has-fault line tokens OpenText short h = (short, tokens, h)
 has-fault line tokens LongLine short h = absurd (never line tokens h)
   where
     never : (xs : List ℕ) (ts : List Lexeme) → Breaks xs ts LongLine → ⊥
-    never xs [] g = g.is_fault
+    never xs [] g = g
     never xs (t ∷ ts) (rest, first, more) = never rest ts more
 
 pub fault-told : (line : List ℕ) (f : LexFault) → tokens_of line ≡ Err f → HasLexFault line f

@@ -5,7 +5,8 @@ use Rattle.std.specs.List.{prefix_len, filter}
 use Rattle.std.proofs.lemmas.Bool.{cases_Bool}
 use Rattle.pac_lemmas.proofs.Parts.{part_end, parts_after, first-part, part-more, part-stops}
 use Rattle.pac_lex.specs.Bytes.{is_blank, after_gap}
-use Rattle.pac_lex.specs.Words.{words_of_line, is_nonempty_word}
+use Rattle.pac_lex.specs.Tokens.{begins}
+use Rattle.pac_lex.specs.Words.{words_of_line}
 
 -- a list's prefix of blanks, one byte further on
 gap-more : (b : ℕ) (line : List ℕ) → is_blank b ≡ true → prefix_len is_blank (b ∷ line) ≡ suc (prefix_len is_blank line)
@@ -18,7 +19,7 @@ blank-first : (b : ℕ) (bytes : List ℕ) → is_blank b ≡ true → words_of_
 blank-first b bytes e = rw e refl
 
 abbrev AfterWord : ℕ → List ℕ → Type 0
-AfterWord n bytes = filter is_nonempty_word (parts_after is_blank (drop n bytes)) ≡ words_of_line (drop n bytes)
+AfterWord n bytes = filter (begins (λ b. true)) (parts_after is_blank (drop n bytes)) ≡ words_of_line (drop n bytes)
 
 after-word : (bytes : List ℕ) → AfterWord (part_end is_blank bytes) bytes
 after-word [] = refl
@@ -28,7 +29,7 @@ after-word (b ∷ bytes) = elim (cases_Bool (is_blank b)) [
 ]
 
 filled-first : (word : List ℕ) (parts : List (List ℕ)) → 0 < length word →
-    filter is_nonempty_word (word ∷ parts) ≡ word ∷ filter is_nonempty_word parts
+    filter (begins (λ b. true)) (word ∷ parts) ≡ word ∷ filter (begins (λ b. true)) parts
 filled-first [] parts h = absurd (omega (arith, h))
 filled-first (b ∷ word) parts h = refl
 
@@ -41,7 +42,7 @@ word-here b bytes e =
     let n = part_end is_blank (b ∷ bytes) in
     let some : 0 < length (take n (b ∷ bytes)) =
     subst (λ k. 0 < length (take k (b ∷ bytes))) (sym (part-more is_blank b bytes e)) (omega arith) in
-    ap (filter is_nonempty_word) (first-part is_blank (b ∷ bytes))
+    ap (filter (begins (λ b. true))) (first-part is_blank (b ∷ bytes))
     ∙ filled-first (take n (b ∷ bytes)) (parts_after is_blank (drop n (b ∷ bytes))) some
     ∙ ap (λ more. take n (b ∷ bytes) ∷ more) (after-word (b ∷ bytes))
 

@@ -9,7 +9,7 @@ use Rattle.pac_lex.specs.declared.token.TokenKind.TheVariants.{Name, Number, Tex
 use Rattle.pac_lex.specs.declared.token.TokenKind.TheVariants.{Dollar, Colon, Comma, Open, Close, Plus, Minus, Star, Slash}
 use Rattle.pac_lex.specs.declared.fault.LexFault.{LexFault}
 use Rattle.pac_lex.specs.declared.fault.LexFault.TheVariants.{NoToken, WrongNumber, OpenText, LongLine}
-use Rattle.pac_lex.specs.Bytes.{is_blank, is_comment_start, is_quote, is_name_start, is_name_byte, is_printable}
+use Rattle.pac_lex.specs.Bytes.{is_blank, is_comment_start, is_quote, is_name_start, is_name_byte, is_printable, after_gap}
 use Rattle.pac_lex.specs.Numbers.{numeral}
 use Rattle.pac_lex.specs.Texts.{quoted_text}
 
@@ -71,37 +71,19 @@ IsTokenFault OpenText bytes =
     × ((characters rest : List ℕ) → bytes ≡ quoted_text characters ++ rest → IsFalse (begins is_quote rest) → ⊥)
 IsTokenFault LongLine bytes = ⊥
 
--- the line is blanks, then this token, then rest
+-- what follows the blanks that the line begins with is this token, and then rest
 pub record TokenFirst (line : List ℕ) (token : Lexeme) (rest : List ℕ) : Type 0 where
-  pub gap : List ℕ
-  pub blank : IsTrue (list_all is_blank gap)
-  pub parts : line ≡ gap ++ (token.text ++ rest)
+  pub parts : after_gap line ≡ token.text ++ rest
   pub is_token : IsToken token.kind token.text rest
 
--- blanks, and no more than a comment
-pub record NoTokenLeft (line : List ℕ) : Type 0 where
-  pub gap : List ℕ
-  pub comment : List ℕ
-  pub blank : IsTrue (list_all is_blank gap)
-  pub parts : line ≡ gap ++ comment
-  pub ends : IsFalse (begins (λ b. not (is_comment_start b)) comment)
-
--- blanks, and then a fault
-pub record FaultFirst (line : List ℕ) (fault : LexFault) : Type 0 where
-  pub gap : List ℕ
-  pub rest : List ℕ
-  pub blank : IsTrue (list_all is_blank gap)
-  pub parts : line ≡ gap ++ rest
-  pub is_fault : IsTokenFault fault rest
-
--- the line is read as these tokens, each in its own bytes, from left to right
+-- the line is read as these tokens, each in its own bytes, from left to right, and no more than a comment is left
 abbrev pub ReadsTokens : List ℕ → List Lexeme → Type 0
-ReadsTokens line [] = NoTokenLeft line
+ReadsTokens line [] = IsFalse (begins (λ b. not (is_comment_start b)) (after_gap line))
 ReadsTokens line (token ∷ tokens) = (rest : List ℕ) × TokenFirst line token rest × ReadsTokens rest tokens
 
 -- the line is read as these tokens up to this fault
 abbrev pub Breaks : List ℕ → List Lexeme → LexFault → Type 0
-Breaks line [] fault = FaultFirst line fault
+Breaks line [] fault = IsTokenFault fault (after_gap line)
 Breaks line (token ∷ tokens) fault = (rest : List ℕ) × TokenFirst line token rest × Breaks rest tokens fault
 
 -- the most bytes that a line may have (this profile)

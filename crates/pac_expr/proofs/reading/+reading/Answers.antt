@@ -1,6 +1,7 @@
 use Rattle.std.proofs.Common.{◌≡◌, ◌∷◌, ap, ◌∙◌, arith}
 use Rattle.pac_expr.specs.declared.expr.Sign.TheVariants as signs
-use Rattle.pac_expr.specs.Trees.{Mark, kind_mark, single, opening, minus}
+use Rattle.pac_expr.specs.Trees.{Mark, kind_mark, single, opening, arithmetic}
+use Rattle.pac_expr.specs.declared.expr.Operator.TheVariants.{Subtract}
 use Rattle.pac_expr.specs.TreesProofs.{token_mark, token_marks, atom_of}
 use Rattle.pac_expr.proofs.Parts.{plus-comes, single-begins, sign-begins, group-begins, joined-begins, atom-found}
 use Rattle.pac_expr.proofs.reading.+reading.Goals as goal
@@ -16,7 +17,7 @@ pub operand-returns-in_ok-value-in-Minus-clause-value : goal.operand-returns-in_
 operand-returns-in_ok-value-in-Minus-clause-value g t c =
     let first = c.in_ok-first.first.now in
     let after = token_marks c.in_ok-first.after.now in
-    let is : token_marks c.args.tokens.now ≡ minus ∷ after =
+    let is : token_marks c.args.tokens.now ≡ arithmetic Subtract ∷ after =
     ap token_marks c.in_ok-first.ensures.cases.0 ∙ ap (λ k. kind_mark k first.text.now ∷ after) c.in-Minus.is in
     rw (is, c.signed.ensures) (sign-begins _ _ signs.Minus after c.in_ok-value-in-Minus.value _ c.in_ok-value-in-Minus.ensures.value)
 
