@@ -11,8 +11,9 @@ use Rattle.pac_inputs.specs.declared.fault.ScriptError.{ScriptError}
 use Rattle.pac_inputs.specs.declared.fault.ScriptError.TheVariants as errors
 use Rattle.pac_inputs.specs.declared.line.Stretch.{Stretch}
 use Rattle.pac_inputs.specs.Stretches.{total_frames}
-use Rattle.pac_inputs.specs.Script.{Meaning, meaning, ScriptOrFault, script_from_line, script_of}
+use Rattle.pac_inputs.specs.Script.{meaning, script_from_line, script_of}
 use Rattle.pac_inputs.specs.ScriptProofs.{ScriptGives, OnScriptFault, Says}
+use Rattle.pac_inputs.specs.ScriptProofs.{Meaning, ScriptOrFault}
 use Rattle.pac_inputs.specs.ScriptProofs.{IsScript, IsLineFault, HasScriptFault}
 use Rattle.pac_inputs.proofs.Frames.{total-after}
 

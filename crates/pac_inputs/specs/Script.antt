@@ -1,9 +1,10 @@
 -- Believed: what a script says: so many frames with so many inputs held, line by line, and its first fault (this
 -- profile).
-use Rattle.std.specs.Prelude.{ℕ, ◌+◌, Bool, false, ◌==◌, List, [], ◌∷◌, ◌++◌}
-use Rattle.std.specs.Prelude.{Option, Some, None, Result, Ok, Err, nat_lt, if◌then◌else◌}
+use Rattle.std.specs.Prelude.{ℕ, ◌+◌, ◌==◌, List, [], ◌∷◌, ◌++◌}
+use Rattle.std.specs.Prelude.{Option, Some, None, ok_or, Result, Ok, Err, nat_lt, if◌then◌else◌}
 use Rattle.std.specs.Str.Lines.{lines}
 use Rattle.pac_lex.specs.Results.{◌>>=◌}
+use Rattle.pac_lex.specs.Tokens.{begins}
 use Rattle.pac_lex.specs.Words.{words_of_line}
 use Rattle.pac_inputs.specs.declared.fault.ScriptCode.{ScriptCode}
 use Rattle.pac_inputs.specs.declared.fault.ScriptCode.TheVariants.{Names, Count, Length}
@@ -15,67 +16,51 @@ use Rattle.pac_inputs.specs.Words.{frame_count, inputs_named}
 
 -- ---- one line
 
--- a comment's first word begins with `#`
-abbrev pub is_comment_word : List ℕ → Bool
-is_comment_word [] = false
-is_comment_word (b ∷ word) = b == 35
-
-abbrev pub Meaning : Type 0
-Meaning = Result (Option Stretch) ScriptCode
-
-abbrev pub stretch_meaning : ℕ → Option ℕ → Meaning
-stretch_meaning count None = Err Names
-stretch_meaning count (Some held) = Ok (Some (record { frames = count; inputs = inputs_of held }))
-
 -- the inputs of the words after the count: of the one that there has to be
 abbrev pub only_inputs : List (List ℕ) → Option ℕ
 only_inputs (word ∷ []) = inputs_named word
 only_inputs after = None
 
-abbrev pub meaning_after_count : Option ℕ → List (List ℕ) → Meaning
-meaning_after_count None after = Err Count
-meaning_after_count (Some count) after = stretch_meaning count (only_inputs after)
+abbrev pub meaning_with_count : List ℕ → List (List ℕ) → Result (Option Stretch) ScriptCode
+meaning_with_count word after = do
+  count ← ok_or (frame_count word) Count
+  held ← ok_or (only_inputs after) Names
+  Ok (Some (record { frames = count; inputs = inputs_of held }))
 
-abbrev pub meaning_of_words : List (List ℕ) → Meaning
+-- the first word of a comment begins with `#`
+abbrev pub meaning_of_words : List (List ℕ) → Result (Option Stretch) ScriptCode
 meaning_of_words [] = Ok None
-meaning_of_words (word ∷ after) = if is_comment_word word then Ok None else meaning_after_count (frame_count word) after
+meaning_of_words (word ∷ after) = if begins (λ b. b == 35) word then Ok None else meaning_with_count word after
 
 -- What a line says by itself: nothing, where it has no word or is a comment; so many frames with these
 -- inputs held; or a fault.
-unfoldable pub meaning : List ℕ → Meaning
+unfoldable pub meaning : List ℕ → Result (Option Stretch) ScriptCode
 meaning line = meaning_of_words (words_of_line line)
 
 -- ---- all lines
 
-abbrev pub StretchesOrCode : Type 0
-StretchesOrCode = Result (List Stretch) ScriptCode
-
-abbrev pub with_meaning : List Stretch → Meaning → StretchesOrCode
+abbrev pub with_meaning : List Stretch → Result (Option Stretch) ScriptCode → Result (List Stretch) ScriptCode
 with_meaning before (Err code) = Err code
 with_meaning before (Ok None) = Ok before
 with_meaning before (Ok (Some line)) =
     if nat_lt most_frames (total_frames before + line.frames) then Err Length else Ok (before ++ line ∷ [])
 
 -- what a line and those before it say together
-abbrev pub with_line : List Stretch → List ℕ → StretchesOrCode
+abbrev pub with_line : List Stretch → List ℕ → Result (List Stretch) ScriptCode
 with_line before line = with_meaning before (meaning line)
 
--- a script, or its fault
-abbrev pub ScriptOrFault : Type 0
-ScriptOrFault = Result (List Stretch) ScriptFault
-
-abbrev pub with_line_number : ℕ → StretchesOrCode → ScriptOrFault
+abbrev pub with_line_number : ℕ → Result (List Stretch) ScriptCode → Result (List Stretch) ScriptFault
 with_line_number number (Ok lines) = Ok lines
 with_line_number number (Err code) = Err (record { code = code; line = number })
 
 -- What the lines from this number on, and those before them, say together; or the first fault.
-unfoldable pub script_from_line : ℕ → List Stretch → List (List ℕ) → ScriptOrFault
+unfoldable pub script_from_line : ℕ → List Stretch → List (List ℕ) → Result (List Stretch) ScriptFault
 script_from_line number before [] = Ok before
 script_from_line number before (line ∷ lines) =
     with_line_number number (with_line before line) >>= λ after. script_from_line (number + 1) after lines
 
 -- the script of a text, or the text's first fault
-abbrev pub script_of : List ℕ → ScriptOrFault
+abbrev pub script_of : List ℕ → Result (List Stretch) ScriptFault
 script_of text = script_from_line 1 [] (lines text)
 
 -- ---- scripts and faults, as what holds of the lines

@@ -1,14 +1,22 @@
 -- For proofs: what proofs say of the definitions of Script.antt.
 use Rattle.pac_inputs.specs.declared.fault.ScriptError.TheVariants as errors
 use Rattle.pac_inputs.specs.declared.fault.ScriptError.{ScriptError}
-use Rattle.pac_inputs.specs.Script.{ScriptOrFault, meaning}
-use Rattle.std.specs.Prelude.{Err, ◌≡◌, Result, List, Ok, ℕ, [], None, Some, ◌∷◌, ◌⊎◌, ◌≤◌, ◌+◌, ◌<◌, length, ◌++◌}
+use Rattle.pac_inputs.specs.Script.{meaning}
+use Rattle.std.specs.Prelude.{Err, ◌≡◌, Result, List, Ok, ℕ, [], Option, None, Some, ◌∷◌, ◌⊎◌, ◌≤◌, ◌+◌, ◌<◌, length, ◌++◌}
 use Rattle.pac_inputs.specs.declared.line.Stretch.{Stretch}
 use Rattle.std.specs.Str.Lines.{lines}
 use Rattle.pac_inputs.specs.Stretches.{total_frames, most_frames}
 use Rattle.pac_inputs.specs.declared.fault.ScriptCode.{ScriptCode}
 use Rattle.pac_inputs.specs.declared.fault.ScriptCode.TheVariants.{Length}
 use Rattle.pac_inputs.specs.declared.fault.ScriptFault.{ScriptFault}
+
+-- a script, or its fault
+abbrev pub ScriptOrFault : Type 0
+ScriptOrFault = Result (List Stretch) ScriptFault
+
+-- what a line says by itself, or its fault
+abbrev pub Meaning : Type 0
+Meaning = Result (Option Stretch) ScriptCode
 
 -- What was returned is what reading gives, unless memory ran out.
 abbrev pub ScriptFails : ScriptError → ScriptOrFault → Type 0

@@ -27,17 +27,11 @@ frame_count word =
     if list_all is_ascii_digit word && nat_le 1 (value_of_decimal word) && nat_le (value_of_decimal word) most_frames
     then Some (value_of_decimal word) else None
 
--- an input's bit by its name
-abbrev pub bit_of : List ℕ → ℕ
-bit_of name = unwrap_or (find_name input_bits name) 0
-
-abbrev pub is_input : List ℕ → Bool
-is_input name = is_some (find_name input_bits name)
-
 -- the inputs with these names held, and these bits before; a name that is none of an input has no answer
 abbrev pub with_names : ℕ → List (List ℕ) → Option ℕ
 with_names held names =
-    if list_all is_input names then Some (fold (λ bits name. bit_or bits (bit_of name)) held names) else None
+    if list_all (λ name. is_some (find_name input_bits name)) names
+    then Some (fold (λ bits name. bit_or bits (unwrap_or (find_name input_bits name) 0)) held names) else None
 
 -- the inputs that a word tells: none for `-`, and else those of the names between its commas
 abbrev pub inputs_named : List ℕ → Option ℕ

@@ -1,11 +1,12 @@
 //! What a line of a script says by itself.
 
-ghost use Rattle.std.specs.Prelude.{◌≡◌, ◌<◌, ◌≤◌, [], ◌∷◌, length, option_map, IfSome, IfNone, not};
+ghost use Rattle.std.specs.Prelude.{◌≡◌, ◌==◌, ◌<◌, ◌≤◌, [], ◌∷◌, length, option_map, IfSome, IfNone, not};
+ghost use Rattle.pac_lex.specs.Tokens.{begins};
 ghost use Rattle.pac_lex.specs.Words.{words_of_line};
 ghost use Rattle.std.specs.List.{prefix_len, slice_split};
 ghost use Rattle.pac_inputs.specs.Inputs.{mask, input_bits};
 ghost use Rattle.pac_inputs.specs.Words.{is_comma_byte, is_dash, frame_count, inputs_named};
-ghost use Rattle.pac_inputs.specs.Script.{is_comment_word, only_inputs, meaning};
+ghost use Rattle.pac_inputs.specs.Script.{only_inputs, meaning};
 ghost use Rattle.bitflags.specs.Sets.{find_name};
 
 use crate::fault::ScriptCode;
@@ -55,7 +56,7 @@ fn only_inputs(after: &[u8]) -> Option<Inputs>
 
 /// Whether the word begins with `#`.
 fn is_comment(word: &[u8]) -> bool
-    ensures { result ≡ is_comment_word word.now }
+    ensures { result ≡ begins (λ b. b == 35) word.now }
 {
     matches!(word, [b'#', ..])
 }

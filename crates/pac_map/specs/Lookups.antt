@@ -4,7 +4,6 @@ use Rattle.std.specs.Prelude.{ℕ}
 use Rattle.pac_inputs.specs.Ports.{in0, in1}
 use Rattle.pac_map.specs.declared.bus_table.BusPlace.{BusPlace}
 use Rattle.pac_map.specs.declared.bus_table.BusPlace.TheVariants.{Program, Tile, Colour, Work, Nothing, Inputs0, Inputs1, Switches}
-use Rattle.pac_map.specs.Place.{read_place}
 
 -- what a read asks: the cells of the program ROM and of the RAMs, the mask of inputs held, the DIP switches' byte
 pub record Lookups : Type 0 where
@@ -27,10 +26,6 @@ answer lookups Inputs0 = in0 lookups.held
 answer lookups Inputs1 = in1 lookups.held
 answer lookups Switches = lookups.switches
 answer lookups _ = 0xFF
-
--- the byte that a read from an address gives
-abbrev pub answer_at : Lookups → ℕ → ℕ
-answer_at lookups address = answer lookups (read_place address)
 
 -- the byte that an input port gives: no port is wired, and all lines are high (this profile)
 abbrev pub port_byte : ℕ → ℕ

@@ -12,12 +12,9 @@ rate = 96000
 abbrev pub sample_size : ℕ
 sample_size = 2
 
--- the bytes of so many samples, and those of the file that follow its own size: 36 of the header and then the samples
-abbrev pub data_size : ℕ → ℕ
-data_size samples = sample_size * samples
-
+-- the bytes of the file that follow its own size: 36 of the header and then the samples
 abbrev pub riff_size : ℕ → ℕ
-riff_size samples = 36 + data_size samples
+riff_size samples = 36 + sample_size * samples
 
 -- the header of a file of so many samples, and how many bytes it has
 abbrev pub header_size : ℕ
@@ -32,7 +29,7 @@ wav_header samples =
     ∷ to_le_bytes w16 1 ∷ to_le_bytes w16 1
     ∷ to_le_bytes w32 rate ∷ to_le_bytes w32 (sample_size * rate)
     ∷ to_le_bytes w16 sample_size ∷ to_le_bytes w16 16
-    ∷ codes "data" ∷ to_le_bytes w32 (data_size samples) ∷ [])
+    ∷ codes "data" ∷ to_le_bytes w32 (sample_size * samples) ∷ [])
 
 -- a sample, in two's complement
 abbrev pub sample_text : ℤ → List ℕ

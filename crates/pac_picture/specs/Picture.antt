@@ -39,10 +39,6 @@ tile_dot roms memory x y =
     let offset = offset_of (x / tile_side) (y / tile_side) in
     tile_number roms (slice_index memory.colour_ram offset) (slice_index memory.tile_ram offset) (x % tile_side) (y % tile_side)
 
--- the sprites, and the bytes of attributes, and of coordinates, that all of them have
-abbrev pub sprites_count : ℕ
-sprites_count = 8
-
 -- a sprite, 0 to 7, as its bytes say
 abbrev pub sprite_at : VideoMemory → ℕ → Sprite
 sprite_at memory k =
@@ -64,7 +60,7 @@ is_opaque number = not (number == 0)
 -- transparent, else that of the cell
 unfoldable pub dot : VideoRoms → VideoMemory → ℕ → ℕ → ℕ
 dot roms memory x y =
-    unwrap_or (find is_opaque (tabulate sprites_count (λ k. sprite_dot roms (sprite_at memory k) x y))) (tile_dot roms memory x y)
+    unwrap_or (find is_opaque (tabulate 8 (λ k. sprite_dot roms (sprite_at memory k) x y))) (tile_dot roms memory x y)
 
 -- line y of the picture as it is shown: flipped, it is rotated by half a turn, sprites and all
 unfoldable pub picture_line : VideoRoms → VideoMemory → ℕ → List ℕ

@@ -1,9 +1,19 @@
 -- The tables of the program's ROMs, by how many there are.
-use Rattle.std.proofs.Common.{◌≡◌, ◌≤◌, ◌<◌, ◌⊎◌, List, [], ◌∷◌, length, get_or, None, refl, inl, inr, arith}
-use Rattle.toml.specs.Data.{array}
+use Rattle.std.proofs.Common.{◌≡◌, ◌≤◌, ◌<◌, ◌⊎◌, List, [], ◌∷◌, length, get_or, Option, Some, None, refl, inl, inr, arith}
+use Rattle.toml.specs.Data.{Data, array}
 use Rattle.toml.specs.View.{view, items_view}
 use Rattle.toml.specs.declared.value.Value.{Value}
-use Rattle.pac_roms_manifest.specs.Manifests.{four_forms, program_form}
+use Rattle.pac_roms_manifest.specs.Entries.{PlainEntry}
+use Rattle.pac_roms_manifest.specs.Manifests.{◌>>=◌, entry_form, program_form}
+
+-- what four tables are
+abbrev pub four_forms : Data → Data → Data → Data → Option (List PlainEntry)
+four_forms first second third fourth = do
+  first ← entry_form first
+  second ← entry_form second
+  third ← entry_form third
+  fourth ← entry_form fourth
+  Some (first ∷ second ∷ third ∷ fourth ∷ [])
 
 pub four_tables : (vs : List Value) (a b c d : Value) → 4 ≤ length vs → length vs < 5
     → a ≡ get_or vs 0 a → b ≡ get_or vs 1 b → c ≡ get_or vs 2 c → d ≡ get_or vs 3 d

@@ -38,18 +38,14 @@ entry_form value = do
   digest ← optional digest_form (get_member (codes "sha1") keys)
   Some (record { file = file; digest = digest })
 
--- the tables of the program's ROMs
-abbrev pub four_forms : Data → Data → Data → Data → Option (List PlainEntry)
-four_forms first second third fourth = do
+-- the program: an array of four tables
+abbrev pub program_form : Data → Option (List PlainEntry)
+program_form (array (item first (item second (item third (item fourth no_items))))) = do
   first ← entry_form first
   second ← entry_form second
   third ← entry_form third
   fourth ← entry_form fourth
   Some (first ∷ second ∷ third ∷ fourth ∷ [])
-
--- the program: an array of four tables
-abbrev pub program_form : Data → Option (List PlainEntry)
-program_form (array (item first (item second (item third (item fourth no_items))))) = four_forms first second third fourth
 program_form value = None
 
 -- the table of a part among those of a manifest
@@ -82,13 +78,9 @@ manifest_form keys = do
 abbrev pub document_table : List ℕ → Option Members
 document_table text = if is_utf8 text then parse_document text else None
 
--- M1
-abbrev pub no_manifest : SetFault
-no_manifest = record { code = code.Manifest; part = None }
-
 -- the manifest that a text is, or M1
 unfoldable pub manifest_of : List ℕ → Result Manifest SetFault
-manifest_of text = ok_or (document_table text >>= manifest_form) no_manifest
+manifest_of text = ok_or (document_table text >>= manifest_form) (record { code = code.Manifest; part = None })
 
 -- ---- what a manifest says of a part
 

@@ -1,6 +1,6 @@
 -- For proofs: what was returned, held against what there is: a value, or the fault that is told.
 use Rattle.std.specs.Prelude.{◌≡◌, Option, Some, None, Result, Ok, Err}
-use Rattle.pac_roms_manifest.specs.Manifests.{no_manifest}
+use Rattle.pac_roms_manifest.specs.declared.fault.ManifestCode.TheVariants as code
 use Rattle.pac_roms_manifest.specs.declared.fault.SetFault.{SetFault}
 use Rattle.pac_roms_manifest.specs.declared.fault.SetError.{SetError}
 use Rattle.pac_roms_manifest.specs.declared.fault.SetError.TheVariants.{Memory, Fault}
@@ -26,7 +26,7 @@ ReadsValue = ReadsAs (λ value. value)
 -- another form is M1
 abbrev pub error_of_misread : Misread → SetError
 error_of_misread misread.Memory = Memory
-error_of_misread misread.Form = Fault no_manifest
+error_of_misread misread.Form = Fault (record { code = code.Manifest; part = None })
 
 -- A fault was told exactly where there is one, and that one.
 abbrev pub FindsFault : Result Unit SetFault → Option SetFault → Type 0

@@ -2,7 +2,7 @@
 use Rattle.std.specs.Prelude.{ℕ, List, [], ◌∷◌, ◌++◌, length, find, Bool, true, false, not, ◌&&◌, ◌==◌, bytes_eq}
 use Rattle.std.specs.Prelude.{if◌then◌else◌, Option, Some, None, option_map, unwrap_or, is_some, is_none}
 use Rattle.std.specs.Prelude.{Result, Ok, Err}
-use Rattle.std.specs.Option.{option_or}
+use Rattle.std.specs.Option.{option_or, option_map_or}
 use Rattle.sha1.specs.Sha1.{sha1}
 use Rattle.pac_roms.specs.Parts as roms
 use Rattle.pac_roms_manifest.specs.Entries.{PlainEntry}
@@ -22,10 +22,6 @@ use Rattle.pac_roms_manifest.specs.declared.part.PartName.TheVariants.{Colours, 
 -- the bytes of the first file of a name
 abbrev pub bytes_named : List Part → List ℕ → Option (List ℕ)
 bytes_named files name = option_map (λ file. file.bytes.now) (find (is_named name) files)
-
--- the bytes of a part, if its file is there
-abbrev pub file_bytes : Manifest → List Part → PartName → Option (List ℕ)
-file_bytes manifest files part = file_of_part manifest part >>= bytes_named files
 
 -- ---- faults
 
@@ -91,7 +87,7 @@ fault_of_set manifest files assembled =
 
 -- the bytes of a part, none where its file isn't there
 unfoldable pub rom_part_bytes : Manifest → List Part → PartName → List ℕ
-rom_part_bytes manifest files part = unwrap_or (file_bytes manifest files part) []
+rom_part_bytes manifest files part = unwrap_or (file_of_part manifest part >>= bytes_named files) []
 
 -- the program: that of the source, or else the four ROMs one after another
 abbrev pub program_bytes : Manifest → List Part → Option (List ℕ) → List ℕ
@@ -110,14 +106,10 @@ parts_of_set manifest files assembled = record {
   wave = rom_part_bytes manifest files Wave;
 }
 
-abbrev pub unless_fault : Option SetFault → roms.Parts → Result roms.Parts SetFault
-unless_fault None set = Ok set
-unless_fault (Some fault) set = Err fault
-
 -- the set, or the first fault
 unfoldable pub set_of : Manifest → List Part → Option (List ℕ) → Result roms.Parts SetFault
 set_of manifest files assembled =
-    unless_fault (fault_of_set manifest files (is_some assembled)) (parts_of_set manifest files assembled)
+    option_map_or Err (fault_of_set manifest files (is_some assembled)) (Ok (parts_of_set manifest files assembled))
 
 -- the digest of a set: that of its parts, one after another
 abbrev pub digest_of : roms.Parts → List ℕ

@@ -2,9 +2,9 @@ use Rattle.std.proofs.Common.{◌≡◌, refl}
 use Rattle.std.proofs.lemmas.Result.{err_from_is_err_and}
 use Rattle.toml.specs.Data.{array}
 use Rattle.toml.specs.View.{view, items_view}
-use Rattle.pac_roms_manifest.specs.Manifests.{four_forms, program_form}
+use Rattle.pac_roms_manifest.specs.Manifests.{program_form}
 use Rattle.pac_roms_manifest.proofs.Misreadings.{unread}
-use Rattle.pac_roms_manifest.proofs.Tables.{four_tables}
+use Rattle.pac_roms_manifest.proofs.Tables.{four_forms, four_tables}
 use Rattle.pac_roms_manifest.proofs.reading.four.Goals as goal
 
 pub returns-in_err-entry : goal.returns-in_err-entry
