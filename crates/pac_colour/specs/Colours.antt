@@ -17,14 +17,5 @@ abbrev pub three_bits : ℕ → ℕ → ℕ
 three_bits byte place = 33 * bit byte place + 71 * bit byte (place + 1) + 151 * bit byte (place + 2)
 
 -- red, green and blue of a byte of the colour PROM; blue has two bits, with resistors of its own
-abbrev pub red_of : ℕ → ℕ
-red_of byte = three_bits byte 0
-
-abbrev pub green_of : ℕ → ℕ
-green_of byte = three_bits byte 3
-
-abbrev pub blue_of : ℕ → ℕ
-blue_of byte = 81 * bit byte 6 + 174 * bit byte 7
-
 abbrev pub rgb_of : ℕ → List ℕ
-rgb_of byte = red_of byte ∷ green_of byte ∷ blue_of byte ∷ []
+rgb_of byte = three_bits byte 0 ∷ three_bits byte 3 ∷ (81 * bit byte 6 + 174 * bit byte 7) ∷ []

@@ -22,14 +22,9 @@ number_in_base base digits =
 -- hexadecimal, B binary, O and Q octal, D decimal, and with another or none it is decimal.
 abbrev pub numeral : List ℕ → Option ℕ
 numeral run =
+    let last = slice_index run (length run - 1) in let others = take (length run - 1) run in
     if last == 72 || last == 104 then number_in_base 16 others
     else (if last == 66 || last == 98 then number_in_base 2 others
     else (if last == 79 || last == 111 || last == 81 || last == 113 then number_in_base 8 others
     else (if last == 68 || last == 100 then number_in_base 10 others
     else number_in_base 10 run)))
-  where
-    last : ℕ
-    last = slice_index run (length run - 1)
-
-    others : List ℕ
-    others = take (length run - 1) run

@@ -62,29 +62,26 @@ pub record Fit20Bits (all : Accumulators) : Type 0 where
 abbrev pub power_on_accumulators : Accumulators
 power_on_accumulators = record { first = 0; second = 0; third = 0 }
 
--- the sample that an accumulator points to in its waveform: the wave PROM has eight waveforms of 32 samples, of
--- four bits each
-abbrev pub waveform_sample : List ℕ → ℕ → ℕ → ℕ
-waveform_sample prom number position = slice_index prom (32 * number + position / 32768) % 16
-
 -- a sample about its middle, at a volume
 abbrev pub amplified_sample : ℕ → ℕ → ℤ
 amplified_sample sample loudness = (pos sample -ℤ pos 8) *ℤ pos loudness
 
--- what a voice puts into the sound
+-- what a voice puts into the sound: the sample that its accumulator points to in its waveform; the wave PROM has eight
+-- waveforms of 32 samples, of four bits each
 abbrev pub level : List ℕ → List ℕ → Voice → ℕ → ℤ
 level prom registers voice position =
-    amplified_sample (waveform_sample prom (waveform registers voice) position) (volume registers voice)
+    amplified_sample (slice_index prom (32 * waveform registers voice + position / 32768) % 16) (volume registers voice)
 
 -- three voices together: 64 times their sum
 abbrev pub mixed_voices : ℤ → ℤ → ℤ → ℤ
 mixed_voices first second third = pos 64 *ℤ ((first +ℤ second) +ℤ third)
 
--- the sound sample: 0 while sound is off
-abbrev pub sound_sample : List ℕ → List ℕ → Accumulators → Bool → ℤ
-sound_sample prom registers all on =
+-- the sound sample, by where each voice stands: 0 while sound is off
+abbrev pub sound_sample : List ℕ → List ℕ → (Voice → ℕ) → Bool → ℤ
+sound_sample prom registers at on =
     if on
-    then mixed_voices (level prom registers First all.first) (level prom registers Second all.second) (level prom registers Third all.third)
+    then mixed_voices (level prom registers First (at First)) (level prom registers Second (at Second))
+    (level prom registers Third (at Third))
     else pos 0
 
 -- an accumulator grows by its voice's frequency, in 20 bits

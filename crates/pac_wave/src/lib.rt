@@ -110,7 +110,7 @@ impl Wave {
     /// accumulators stay; else they grow by their voices' frequencies after the sample.
     #[inline(always)]
     pub fn tick(&mut self, prom: &[u8; 256], registers: &[u8; 32], on: bool) -> i16
-        ensures sample { result ≡ spec.sound_sample prom.now registers.now self.old on }
+        ensures sample { result ≡ spec.sound_sample prom.now registers.now (spec.accumulator self.old) on }
         ensures accumulators { self.new ≡ spec.accumulators_after registers.now on self.old }
         ensures within { wave_proofs.IsSample result }
     {
