@@ -172,10 +172,11 @@ uint32_t pac_hold(pac_board *board, uint16_t set, uint16_t clear);
 
 /* Lets so many microseconds go by: the board runs until its time is the one that was asked in all, and at most 22 T-states longer, since an
  * instruction isn't cut. The samples, 96,000 a second, go to the head of `samples`, whose rest stays, and what was done to `ran`. Where the
- * board stops, the answer is PAC_DONE and `ran->stop` tells why; a further call stops at once, and gives nothing.
- * PAC_LENGTH: `length` isn't PAC_ROMS_SIZE. PAC_STATE. PAC_TIME. PAC_ROOM: of a board that was run from power-on by pac_exec alone and
- * hasn't stopped, room for `microseconds * 12 / 125 + 2` samples is always enough; those are 1,586 for a frame. Of a board that has stopped
- * the room for the time that it is behind is asked, too. */
+ * board stops, the answer is PAC_DONE and `ran->stop` tells why; a further call stops at once, and gives nothing. After a reset or with
+ * other ROMs the board goes on from the stop's time: what was asked past that is forgotten.
+ * PAC_LENGTH: `length` isn't PAC_ROMS_SIZE. PAC_STATE. PAC_TIME. PAC_ROOM: of a board that was made by `pac_init`, whatever calls but
+ * `pac_load` came since, room for `microseconds * 12 / 125 + 2` samples is always enough; those are 1,586 for a frame. A state file's board
+ * that is behind the time asked of it wants room for that time, too. */
 uint32_t pac_exec(pac_board *board, const uint8_t *roms, size_t length, uint32_t microseconds, int16_t *samples, size_t capacity,
                   pac_ran *ran);
 

@@ -632,6 +632,60 @@ static void try_stop(void)
     }
 }
 
+/* Lets a stopped host's board run, with room for no more than these microseconds: whether it meets its stop, and stays as it is. */
+static int stays_stopped(host *of, uint32_t microseconds)
+{
+    pac_board before = of->board;
+    int is_done = run(of, microseconds, microseconds * 12 / 125 + 2) == PAC_DONE && of->ran.stop == PAC_STOP_OPCODE;
+    return is_done && of->ran.ticks == 0 && of->ran.samples == 0 && of->ran.pictures == 0 && is_same(&of->board, &before);
+}
+
+/* A board that has stopped at 4 T-states isn't over what was asked of it: 2 microseconds are the least that have more, 6 T-states. After a reset it
+ * stops at 8, and 3 have 9. With NOPs in its place it goes on from there: 12 microseconds are over at 36, so 10 more are 32 T-states. */
+static void try_left(void)
+{
+    static const uint32_t times[] = {0, 1, 100, FRAME, FRAME, FRAME};
+    power_on(&one, undocumented);
+    row("a frame with a stop", run(&one, FRAME, ROOM) == PAC_DONE && one.ran.stop == PAC_STOP_OPCODE && one.ran.ticks == 4);
+    row("what was asked up to the stop", has(&one.board, ASKED, 2, 0) && is_all(one.board.bytes + ASKED + 2, 6, 0));
+    for (size_t at = 0; at < sizeof times / sizeof *times; at++)
+        row_at("the stop is met again", (long)at, stays_stopped(&one, times[at]));
+    pac_board stopped = one.board;
+    put(&one.board, ASKED, 10000); /* as a file of the program's may have it */
+    row("a stop far behind what was asked", run(&one, 0, ROOM) == PAC_DONE && one.ran.stop == PAC_STOP_OPCODE && is_same(&one.board, &stopped));
+    row("a reset at the stop", pac_reset(&one.board) == PAC_DONE && run(&one, 100, 11) == PAC_DONE && one.ran.ticks == 4);
+    row("the stop after it", one.ran.stop == PAC_STOP_OPCODE && has(&one.board, ASKED, 3, 0) && has(&one.board, TIME, 8, 0));
+    one.board = stopped;
+    memset(one.roms, 0, sizeof(program));
+    row("other ROMs at the stop, for no time", run(&one, 0, 2) == PAC_DONE && one.ran.stop == PAC_GOES && one.ran.ticks == 4);
+    one.board = stopped;
+    row("other ROMs at the stop", run(&one, 10, 2) == PAC_DONE && one.ran.stop == PAC_GOES && one.ran.ticks == 32);
+    row("what was asked then", has(&one.board, ASKED, 12, 0) && has(&one.board, PC, 9, 0));
+    one.board = stopped;
+    row("a frame of them", run(&one, FRAME, ROOM + 2) == PAC_DONE && one.ran.stop == PAC_GOES && one.ran.samples == 1584);
+}
+
+/* Time that is cut at a stop, before it and after it is time at once: the interrupt at the first frame's end is a stop. It comes
+ * after 57 T-states and halted steps of 4, at 50,690 or so; 16,501 microseconds are the least that have more, 50,691. */
+static void try_cut_stop(void)
+{
+    static const uint32_t parts[] = {0, 5, 10, 11, 60, 110};
+    power_on(&other, vector);
+    row("nearly a frame", run(&other, FRAME - 10, ROOM) == PAC_DONE && other.ran.stop == PAC_GOES);
+    pac_board before = other.board;
+    row("a run to the stop", run(&other, 110, 12) == PAC_DONE && other.ran.stop == PAC_STOP_VECTOR && has(&other.board, ASKED, 0x75, 0x40));
+    pac_ran whole = other.ran;
+    power_on(&one, vector);
+    for (size_t at = 0; at < sizeof parts / sizeof *parts; at++) {
+        one.board = before;
+        row_at("a part of it", (long)at, run(&one, parts[at], parts[at] * 12 / 125 + 2) == PAC_DONE);
+        pac_ran first = one.ran;
+        row_at("the other part", (long)at, run(&one, 110 - parts[at], (110 - parts[at]) * 12 / 125 + 2) == PAC_DONE);
+        row_at("the block of both parts", (long)at, is_same(&one.board, &other.board) && one.ran.stop == PAC_STOP_VECTOR);
+        row_at("what both parts gave", (long)at, first.ticks + one.ran.ticks == whole.ticks && first.samples + one.ran.samples == whole.samples);
+    }
+}
+
 /* The interrupt at the first frame's end finds a vector that is no RST. */
 static void try_vector(void)
 {
@@ -659,7 +713,7 @@ int main(void)
     try_rom_lengths(), try_buffer_lengths(), try_power_on(), try_blocks(), try_limits(), try_time(), try_room();
     try_file(), try_refused_files(), try_saved(), try_passed_lines();
     try_registers(), try_memory(), try_latches(), try_due();
-    try_frame(), try_cut_time(), try_picture(), try_inputs(), try_stop(), try_vector(), try_reset();
+    try_frame(), try_cut_time(), try_picture(), try_inputs(), try_stop(), try_left(), try_cut_stop(), try_vector(), try_reset();
     printf("%d passed, %d failed\n", passed, failed);
     return failed != 0;
 }

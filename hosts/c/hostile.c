@@ -199,6 +199,26 @@ static void try_room(const pac_board *good)
     row("more time than the room is for", run(UINT32_MAX, ROOM) == PAC_ROOM);
 }
 
+/* A board that stops at once, since its program was exchanged for one that has no instruction: it stays as it is in each further call, with room for
+ * that call's time alone, and goes on with its own program. */
+static void try_stops(const pac_board *good)
+{
+    static uint8_t none[PAC_ROMS_SIZE];
+    memset(none, 0xED, sizeof none);
+    const uint8_t *others = constant(none, sizeof none);
+    uint32_t code = PAC_DONE;
+    *board = *good;
+    for (int at = 0; at < 100 && code == PAC_DONE; at++) {
+        code = pac_exec(board, others, PAC_ROMS_SIZE, MICROSECONDS, samples, ROOM, &ran);
+        if (at == 0)
+            row("a board that stops", code == PAC_DONE && ran.stop == PAC_STOP_OPCODE), *other = *board;
+    }
+    row("and stops a hundred times", code == PAC_DONE && ran.ticks == 0 && memcmp(board, other, sizeof *board) == 0);
+    row("its own program again", run(MICROSECONDS, ROOM) == PAC_DONE && ran.stop == PAC_GOES && ran.ticks >= MICROSECONDS * 384 / 125);
+    *board = *other;
+    row("a reset at the stop", pac_reset(board) == PAC_DONE && run(MICROSECONDS, ROOM) == PAC_DONE && ran.stop == PAC_GOES);
+}
+
 /* The last microsecond of a board's life. */
 static void try_time(const pac_board *good)
 {
@@ -329,7 +349,7 @@ int main(int count, char **words)
     for (int at = 0; at < FRAMES && is_done; at++)
         is_done = pac_exec(&good, roms, PAC_ROMS_SIZE, PAC_FRAME_MICROSECONDS, frame, PAC_FRAME_SAMPLES + 2, &ran) == PAC_DONE;
     row("a good state is made", is_done);
-    try_lengths(&good), try_blocks(&good), try_room(&good), try_time(&good), try_files(&good);
+    try_lengths(&good), try_blocks(&good), try_room(&good), try_stops(&good), try_time(&good), try_files(&good);
     if (is_each)
         try_each_damage(&good);
     int accepted = 0;

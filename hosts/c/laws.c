@@ -7,7 +7,8 @@
  * - cut time is whole time: two calls for a part each give the samples of one call for both, and the same block;
  * - a board that is saved and loaded is the same board, but for what is held, which a file doesn't keep;
  * - a copy goes on as the board does, and draws the same picture;
- * - a call that is refused changes neither the block nor a buffer.
+ * - a call that is refused changes neither the block nor a buffer;
+ * - a board that has stopped meets its stop again at once, and goes on once the stop is gone, with no more room than the time itself wants.
  */
 #include "../pacboard.h"
 
@@ -31,6 +32,27 @@ static int same(const pac_board *one, const pac_board *other)
     return memcmp(one, other, sizeof *one) == 0;
 }
 
+/* Has a board that has stopped meet its stop again; and leaves it, by other ROMs and by a reset. */
+static void leave(const pac_board *board, const pac_ran *ran, uint32_t microseconds)
+{
+    static const uint8_t others[PAC_ROMS_SIZE]; /* (NOPs) */
+    static int16_t samples[ROOM];
+    size_t room = microseconds * 12 / 125 + 2;
+    uint64_t ticks = (uint64_t)microseconds * 384 / 125;
+    pac_board copy = *board;
+    pac_ran again = {0};
+    uint32_t code = pac_exec(&copy, roms, sizeof roms, microseconds, samples, room, &again);
+    if (code == PAC_TIME)
+        return; /* (35 years are over) */
+    holds(code == PAC_DONE && same(board, &copy) && again.ticks == 0 && again.samples == 0 && again.pictures == 0);
+    holds(again.stop == ran->stop && again.pc == ran->pc && again.vector == ran->vector && memcmp(again.bytes, ran->bytes, 4) == 0);
+    holds(pac_exec(&copy, others, sizeof others, microseconds, samples, room, &again) == PAC_DONE);
+    holds(again.stop != PAC_GOES || (again.ticks > ticks && again.ticks < ticks + 28)); /* (an interrupt may stop it again) */
+    copy = *board;
+    holds(pac_reset(&copy) == PAC_DONE && pac_exec(&copy, roms, sizeof roms, microseconds, samples, room, &again) == PAC_DONE);
+    holds(again.stop != PAC_GOES || (again.ticks > ticks && again.ticks < ticks + 28));
+}
+
 /* Lets a board and a copy of it run for as long, the copy in two parts; the samples and the blocks have to be the same. */
 static void run(pac_board *board, uint32_t microseconds)
 {
@@ -45,11 +67,11 @@ static void run(pac_board *board, uint32_t microseconds)
     }
     holds(pac_exec(&copy, roms, sizeof roms, cut, parts, ROOM, &first) == PAC_DONE);
     code = pac_exec(&copy, roms, sizeof roms, microseconds - cut, parts + first.samples, ROOM, &second);
-    if (code == PAC_ROOM && first.stop != PAC_GOES)
-        return; /* (a board that has stopped asks for the room of the time that it is behind) */
     holds(code == PAC_DONE && same(board, &copy));
     holds(ran.samples == first.samples + second.samples && memcmp(whole, parts, ran.samples * sizeof *whole) == 0);
     holds(ran.ticks == first.ticks + second.ticks && ran.pictures == first.pictures + second.pictures && ran.stop == second.stop);
+    if (ran.stop != PAC_GOES)
+        leave(board, &ran, microseconds);
 }
 
 /* Saves a board, and loads it into another. */

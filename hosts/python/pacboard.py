@@ -165,9 +165,9 @@ class Board:
 
     def run(self, microseconds, room=None):
         """Lets so many microseconds go by: what was done, and the samples. `room` is so many samples; where it is left out, enough for a
-        board that is at the time asked of it, as each is that hasn't stopped."""
+        board that isn't behind, as each but a state file's is."""
         asked = number("microseconds", microseconds, 32)
-        room = asked * 12 // 125 + 4 if room is None else number("room", room, 32)
+        room = asked * 12 // 125 + 2 if room is None else number("room", room, 32)
         ran, samples = Ran(), (ctypes.c_int16 * max(room, 1))()
         done(LIBRARY.pac_exec(self.state, self.roms, len(self.roms), asked, samples, room, ctypes.byref(ran)))
         return ran, array.array("h", samples[: ran.samples])

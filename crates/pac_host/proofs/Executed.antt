@@ -1,7 +1,7 @@
 -- A call for some time, put together from what its parts say.
 use Rattle.std.proofs.Common.{◌≡◌, ◌≤◌, ◌<◌, ◌+◌, ◌-◌, ◌^◌, min, ℕ, ℤ, List, ◌++◌, length, drop, Ok, Err, ap, subst, ◌∙◌}
 use Rattle.pac_board.specs.RomParts.{Parts}
-use Rattle.pac_board.specs.Calls.{course, outputs_given, board_after_run}
+use Rattle.pac_board.specs.Calls.{course, outputs_given}
 use Rattle.pac_board.specs.Calls.{run_ticks}
 use Rattle.pac_board.specs.Output.{sound_count, picture_count}
 use Rattle.pac_board.specs.State.{BoardState, BoardValue, most_asked}
@@ -12,11 +12,12 @@ use Rattle.pac_host.specs.declared.codes.HostFault.TheVariants.{WrongLength, NoB
 use Rattle.pac_host.specs.declared.ran.PacRan.{PacRan}
 use Rattle.pac_host.specs.Codes.{ran_of}
 use Rattle.pac_host.specs.Handed.{MayRun}
-use Rattle.pac_host.specs.Host.{roms_size, set_of_roms, board_in, IsBlockOf, samples_given, most_samples, HasExecuted, ExecFails}
+use Rattle.pac_host.specs.Host.{roms_size, set_of_roms, board_in, board_after_exec, IsBlockOf, samples_given, most_samples}
+use Rattle.pac_host.specs.Host.{HasExecuted, ExecFails}
 
 -- what a run of a board leaves of block and buffer, and what is told
 record Leaves (microseconds : ℕ) (samples : List ℤ) (new : List ℕ) (after : List ℤ) (ran : PacRan) (board : BoardValue) : Type 0 where
-  block : IsBlockOf (board_after_run board microseconds).state new
+  block : IsBlockOf (board_after_exec board microseconds).state new
   samples_are : after ≡ samples_given (outputs_given board microseconds) ++ drop (sound_count (outputs_given board microseconds)) samples
   ran_is :
       ran
@@ -26,7 +27,7 @@ record Leaves (microseconds : ℕ) (samples : List ℤ) (new : List ℕ) (after 
 pub executed : (roms block : List ℕ) (microseconds : ℕ) (samples : List ℤ) (set : Parts) (state : BoardState) (machine : BoardValue)
     (new : List ℕ) (after : List ℤ) (ran : PacRan) → (length roms ≡ roms_size) × (set ≡ set_of_roms roms) → IsBlock block
     → state ≡ state_in block → MayRun state microseconds (length samples) (Ok tt)
-    → machine ≡ record { set = set; state = state; made = 0 } → IsBlockOf (board_after_run machine microseconds).state new
+    → machine ≡ record { set = set; state = state; made = 0 } → IsBlockOf (board_after_exec machine microseconds).state new
     → after ≡ samples_given (outputs_given machine microseconds) ++ drop (sound_count (outputs_given machine microseconds)) samples
     → ran ≡ ran_of (run_ticks machine microseconds) (sound_count (outputs_given machine microseconds))
     (picture_count (outputs_given machine microseconds)) (course machine microseconds).stop

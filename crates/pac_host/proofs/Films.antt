@@ -5,7 +5,7 @@ use Rattle.std.proofs.Common.{Option, None, Some, Result, Ok, Err, refl, sym, ap
 use Rattle.std.proofs.lemmas.List.{length-drop, length-take-le}
 use Rattle.std.specs.Int.Bits.{bit_or, and_zero_r, or_zero_l}
 use Rattle.pac_board.specs.BoardView.{BoardView, board_after, power_on_board_view}
-use Rattle.pac_board.specs.Calls.{course, board_after_run}
+use Rattle.pac_board.specs.Calls.{course}
 use Rattle.pac_board.specs.Cause.{Cause}
 use Rattle.pac_board.specs.CauseVariants.{Opcode, Vector}
 use Rattle.pac_board.specs.Entry.{Hold}
@@ -31,7 +31,7 @@ use Rattle.pac_host.specs.declared.ran.PacRan.{PacRan}
 use Rattle.pac_host.specs.Codes.{Answers, code_of, file_code, cause_number}
 use Rattle.pac_host.specs.Films.{HostsPlayTheFilm, ran_read}
 use Rattle.pac_host.specs.Films.{Player, IsHostFrame, FollowedBy, PlaysFrames, heard, seen, seen_if, pictures_given, rgba_of_image}
-use Rattle.pac_host.specs.Host.{roms_size, set_of_roms, board_holding, samples_given, HasBecome, TellsRun}
+use Rattle.pac_host.specs.Host.{roms_size, set_of_roms, asked_left, board_holding, board_after_exec, samples_given, HasBecome, TellsRun}
 use Rattle.pac_host.proofs.FrameWalks.{pictures-joined, as-many-pictures, walk-shows}
 use Rattle.pac_host.proofs.Sounding.{samples-append}
 use Rattle.pac_host.proofs.Told.{ran-is-read}
@@ -188,7 +188,7 @@ module _ (set : Parts) (switches : ℕ) (held : ℕ → ℕ) where
 -- what the calls of a frame leave, of a board whose inputs are held
 record IsCalled (roms : List ℕ) (new : Player) (ran : PacRan) (state : BoardState) : Type 0 where
   told : Tells roms 16500 new.block new.samples ran state
-  state_is : state_in new.block ≡ (board_after_run (kept roms state) 16500).state
+  state_is : state_in new.block ≡ (board_after_exec (kept roms state) 16500).state
 
 module _ (roms : List ℕ) (switches : ℕ) (held : ℕ → ℕ) where
   abbrev set : Parts
@@ -213,12 +213,18 @@ module _ (roms : List ℕ) (switches : ℕ) (held : ℕ → ℕ) where
         due = (state_in block).due;
       }) (mask-is (state_in block).now.board.memory.held (held frame))
 
+  -- the state after a frame that met this stop, or none
+  abbrev left_after : ℕ → Option Stop → BoardState
+  left_after frames stop =
+      let now = (played set switches held frames).now in
+      record { now = now; asked = asked_left stop (16500 * frames + 16500) now.time; due = nothing_due }
+
   -- what a frame's calls leave of a board that stands between two frames
   record IsFrameOf (frames : ℕ) (new : Player) : Type 0 where
     sound : heard new ≡ samples_given (played set switches held frames).outputs
     pictures : (ran_read new.told).pictures ≡ picture_count (played set switches held frames).outputs
     stop : (ran_read new.told).stop ≡ (told_stop (played set switches held frames).stop).stop
-    state_is : state_in new.block ≡ after_frame set switches held frames
+    state_is : (played set switches held frames).stop ≡ None → state_in new.block ≡ after_frame set switches held frames
     drawn : new.rgba ≡ rgba_of_image (image_of set (played set switches held frames).now.board.lines)
 
   frame-of : (frames : ℕ) (old new : Player) → IsBetween set switches held frames (state_in old.block)
@@ -240,9 +246,13 @@ module _ (roms : List ℕ) (switches : ℕ) (held : ℕ → ℕ) where
         state_is = executes.board.state_is;
       }) in
       let same = course-is set switches held frames in
-      let after : state_in new.block ≡ after_frame set switches held frames =
+      let after : state_in new.block ≡ left_after frames (played set switches held frames).stop =
       called.state_is
-      ∙ ap (λ (walked : Walk BoardView). record { now = walked.now; asked = 16500 * frames + 16500; due = nothing_due }) same in
+      ∙ ap (λ (walked : Walk BoardView). record {
+        now = walked.now;
+        asked = asked_left walked.stop (16500 * frames + 16500) walked.now.time;
+        due = nothing_due;
+      }) same in
       record {
         sound =
             ap (λ told. take (ran_read told).samples new.samples) told_is
@@ -256,7 +266,7 @@ module _ (roms : List ℕ) (switches : ℕ) (held : ℕ → ℕ) where
             ap (λ told. (ran_read told).stop) told_is ∙ read.stop
             ∙ ap (λ (ran : PacRan). ran.stop) called.told.stop
             ∙ ap (λ (walked : Walk BoardView). (told_stop walked.stop).stop) same;
-        state_is = after;
+        state_is = λ goes. after ∙ ap (left_after frames) goes;
         drawn =
             draws.drawn
             ∙ ap (λ (state : BoardState). rgba_of_image (image_of set state.now.board.lines)) after;
@@ -374,7 +384,7 @@ module _ (roms : List ℕ) (switches : ℕ) (held : ℕ → ℕ) where
           let is = frame-of frames old plays.new stands plays.frame in
           let whole = run-open set switches held frames stands.open_yet goes in
           let told : (ran_read plays.new.told).stop ≡ 0 = is.stop ∙ ap (λ stop. (told_stop stop).stop) goes in
-          let next = subst (IsBetween set switches held (suc frames)) (sym is.state_is)
+          let next = subst (IsBetween set switches held (suc frames)) (sym (is.state_is goes))
           (next-between set switches held frames stands.open_yet goes) in
           let number : suc frames + left ≡ frames + suc left = omega arith in
           let rest = on next

@@ -6,4 +6,5 @@ pub mod Films
 pub mod FramesDone
 pub mod OneBoard
 pub mod Sounding
+pub mod Stops
 pub mod TimeParts

@@ -1,10 +1,9 @@
 -- The calls on a host's blocks are the calls of one board, whose count of steps is all that its blocks don't keep.
 use Rattle.std.proofs.Common.{◌≡◌, ℕ, ◌==◌, Bool, true, false, if◌then◌else◌, List, [], ◌∷◌, refl, ap, ◌∙◌}
-use Rattle.pac_board.specs.Calls.{board_after_run}
 use Rattle.pac_board.specs.State.{BoardState, BoardValue}
 use Rattle.pac_state.specs.Files.{IsFile, board_of_file}
 use Rattle.pac_state.specs.Reading.{state_in}
-use Rattle.pac_host.specs.Host.{set_of_roms}
+use Rattle.pac_host.specs.Host.{board_after_exec, set_of_roms}
 use Rattle.pac_host.specs.HostLaws.{HostCall, PowerOn, ResetNow, HoldInputs, LetTimePass, TakeFile}
 use Rattle.pac_host.specs.HostLaws.{IsCallDone, AreDone, IsCallOfBoard, AreCallsOfBoard, BlocksAreOneBoard}
 
@@ -45,7 +44,7 @@ one-call roms (HoldInputs set clear) old new made done = record {
   call_is = ap (λ (state : BoardState). kept roms state made) (done.board roms).state_is;
 }
 one-call roms (LetTimePass microseconds) old new made done =
-    let after = (board_after_run (kept roms (state_in old) made) microseconds).made in
+    let after = (board_after_exec (kept roms (state_in old) made) microseconds).made in
     record { after = after; call_is = ap (λ (state : BoardState). kept roms state after) done.3.board.state_is }
 one-call roms (TakeFile text) old new made done = record {
   after = 0;

@@ -1,18 +1,19 @@
 -- Law: a host that plays frame by frame, what it hears and what it sees, and the laws of its film, each proved on a public
 -- function of the crate.
-use Rattle.std.specs.Prelude.{◌≡◌, ◌≤◌, ℕ, zero, suc, ℤ, ◌+◌, List, [], ◌∷◌, ◌++◌, map, take, length, slice_index, None}
+use Rattle.std.specs.Prelude.{◌≡◌, ◌≤◌, ℕ, zero, suc, ℤ, ◌+◌, List, [], ◌∷◌, ◌++◌, map, take, length, slice_index}
 use Rattle.pac_board_model.specs.Trace.{Play, by_history, trace}
 use Rattle.pac_board.specs.BoardView.{power_on_board_view}
 use Rattle.pac_board.specs.Step.{frame_samples}
 use Rattle.pac_board.specs.Output.{Output, Image, Sound, Show}
 use Rattle.pac_board.specs.PlacedItems.{Item, AllLie}
-use Rattle.pac_board.specs.State.{frame_microseconds, most_asked, time_of}
+use Rattle.pac_board.specs.State.{frame_microseconds, most_asked}
 use Rattle.pac_state.specs.Block.{IsBlock}
 use Rattle.pac_state.specs.Reading.{bytes_at_place, saved_word_at, saved_double_word_at, saved_long_word_at, state_in}
 use Rattle.pac_host.specs.declared.ran.PacRan.{PacRan}
 use Rattle.pac_host.specs.Codes.{Answers}
 use Rattle.pac_host.specs.Host.{roms_size, set_of_roms, asked_in, board_holding, samples_given, rgba_of, rgba_size}
 use Rattle.pac_host.specs.Host.{Inits, Becomes, Execs, Draws}
+use Rattle.pac_host.specs.HostLaws.{IsNotBehind}
 
 -- ---- a host
 
@@ -124,20 +125,19 @@ pub record HasRoom (roms : List ℕ) (player : Player) : Type 0 where
   pub samples : frame_samples + 2 ≤ length player.samples
   pub rgba : length player.rgba ≡ rgba_size
 
--- a block between two frames: its board stands at the time that was asked of it or past that, and no sample is due
+-- a block between two frames: its board isn't behind
 pub record IsBetweenFrames (block : List ℕ) : Type 0 where
   pub block_is : IsBlock block
-  pub time : time_of (asked_in block) ≤ (state_in block).now.time
-  pub due : (state_in block).due.sample ≡ None
+  pub in_time : IsNotBehind (state_in block)
 
--- each call answered 0, and unless a stop was told the board stands between two frames again
+-- each call answered 0, and the board stands between two frames again, or at its stop
 pub record IsFrameAnswered (hold_code exec_code draw_code : ℕ) (new : Player) : Type 0 where
   pub hold : hold_code ≡ 0
   pub exec : exec_code ≡ 0
   pub draw : draw_code ≡ 0
-  pub goes_on : (ran_read new.told).stop ≡ 0 → IsBetweenFrames new.block
+  pub goes_on : IsBetweenFrames new.block
 
--- So a host that has room, and plays from power-on on, never gets another code than 0, until a stop is told or 35 years were asked.
+-- So a host that has room, and plays from power-on on, never gets another code than 0 until 35 years were asked, also after a stop.
 pub record FramesAreDone (roms : List ℕ) : Type 0 where
   pub first : (switches : ℕ) (old new : List ℕ) → Answers (λ answer. Inits roms switches old answer new) 0 → IsBetweenFrames new
   pub each : (inputs hold_code exec_code draw_code : ℕ) (old new : Player) → HasRoom roms old → IsBetweenFrames old.block

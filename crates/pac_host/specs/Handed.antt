@@ -1,9 +1,11 @@
 -- For proofs: what is made of the ROMs and of the block that a host hands in.
-use Rattle.std.specs.Prelude.{◌≡◌, ◌≢◌, ◌≤◌, ◌<◌, ◌+◌, ◌-◌, ◌^◌, List, ℕ, length, min, slice_index_or, EachIndex, [], Result, Ok, Err}
+use Rattle.std.specs.Prelude.{◌≡◌, ◌≢◌, ◌≤◌, ◌<◌, ◌+◌, ◌-◌, ◌^◌, List, ℕ, length, min, slice_index_or, EachIndex, [], ⊤}
+use Rattle.std.specs.Prelude.{Option, None, Some, Result, Ok, Err}
 use Rattle.pac_board.specs.BoardFields.{Fields}
 use Rattle.pac_board.specs.Fields.{state_of, AreBoardFields}
-use Rattle.pac_board.specs.State.{BoardState, BoardValue, most_asked}
+use Rattle.pac_board.specs.State.{BoardState, BoardValue, most_asked, time_of}
 use Rattle.pac_board.specs.StateLaws.{restored_board}
+use Rattle.pac_board.specs.Stop.{Stop}
 use Rattle.pac_state.specs.Block.{IsBlock}
 use Rattle.pac_state.specs.Reading.{state_in}
 use Rattle.pac_host.specs.declared.codes.HostFault.{HostFault}
@@ -37,6 +39,11 @@ MayRun state microseconds room (Err TooLong) = most_asked < state.asked + micros
 MayRun state microseconds room (Err NoRoom) =
     (state.asked + microseconds ≤ most_asked) × (min room (2 ^ 32 - 1) < most_samples state microseconds)
 MayRun state microseconds room (Err fault) = ⊥
+
+-- where a stop was met, the time that was asked isn't over
+abbrev pub StopsEarly : Option Stop → BoardState → Type 0
+StopsEarly None state = ⊤
+StopsEarly (Some stop) state = state.now.time < time_of state.asked
 
 -- each colour of a palette has red, green and blue
 abbrev pub AreWholeColours : List (List ℕ) → Type 0

@@ -14,6 +14,7 @@ use Rattle.pac_board.specs.Tiles.{width, height}
 use Rattle.pac_board.specs.Calls.{course, outputs_given, board_after_run}
 use Rattle.pac_board.specs.Calls.{run_ticks}
 use Rattle.pac_board.specs.State.{BoardState, BoardValue, most_asked, time_of, power_on_board, board_with_inputs}
+use Rattle.pac_board.specs.Stop.{Stop}
 use Rattle.pac_state.specs.declared.fault.LoadFault.TheVariants.{NoMemory}
 use Rattle.pac_state.specs.Block.{IsBlock, block_text}
 use Rattle.pac_state.specs.Files.{IsFile, board_of_file}
@@ -127,6 +128,25 @@ most_samples state microseconds =
 abbrev pub room_of : List ℤ → ℕ
 room_of samples = min (length samples) (2 ^ 32 - 1)
 
+-- the least microseconds that, asked in all, leave time for a step: the time at which they are over is past this one
+abbrev pub least_asked : ℕ → ℕ
+least_asked time = (125 * (time + 1) + 383) / 384
+
+-- What was asked in all of a board, once a call for some time is done. Where it stopped, that is the least which meets the stop again: so
+-- what was missed isn't made up for once the stop is gone, after a reset or with other ROMs.
+abbrev pub asked_left : Option Stop → (asked time : ℕ) → ℕ
+asked_left None asked time = asked
+asked_left (Some stop) asked time = least_asked time
+
+abbrev pub state_left : Option Stop → BoardState → BoardState
+state_left stop state = record { now = state.now; asked = asked_left stop state.asked state.now.time; due = state.due }
+
+-- the board that a call for so many microseconds leaves
+abbrev pub board_after_exec : BoardValue → ℕ → BoardValue
+board_after_exec board microseconds =
+    let after = board_after_run board microseconds in
+    record { set = after.set; state = state_left (course board microseconds).stop after.state; made = after.made }
+
 -- what a call for so many microseconds leaves: the board's state, the samples at the head of the buffer, and what is told of them
 pub record HasExecuted (roms block : List ℕ) (microseconds : ℕ) (samples : List ℤ) (new : List ℕ) (samples_after : List ℤ) (ran : PacRan)
     : Type 0 where
@@ -134,7 +154,7 @@ pub record HasExecuted (roms block : List ℕ) (microseconds : ℕ) (samples : L
   pub block_is : IsBlock block
   pub within : asked_in block + microseconds ≤ most_asked
   pub room : most_samples (state_in block) microseconds ≤ room_of samples
-  pub board : IsBlockOf (board_after_run (board_in roms block) microseconds).state new
+  pub board : IsBlockOf (board_after_exec (board_in roms block) microseconds).state new
   pub samples_are :
       samples_after
       ≡ samples_given (outputs_given (board_in roms block) microseconds)

@@ -1,11 +1,10 @@
 -- Law: laws of a host's calls, each proved on a public function of the crate.
-use Rattle.std.specs.Prelude.{◌≡◌, ◌≤◌, ℕ, ℤ, ◌+◌, ◌*◌, ◌/◌, None, List, [], ◌∷◌, ◌++◌, take}
-use Rattle.pac_board.specs.Calls.{board_after_run}
-use Rattle.pac_board.specs.State.{BoardState, BoardValue, time_of, power_on_board, board_after_reset}
+use Rattle.std.specs.Prelude.{◌≡◌, ◌≢◌, ◌≤◌, ℕ, ℤ, ◌+◌, ◌*◌, ◌/◌, None, List, [], ◌∷◌, ◌++◌, take}
+use Rattle.pac_board.specs.State.{BoardState, BoardValue, power_on_board, board_after_reset}
 use Rattle.pac_state.specs.Files.{IsFile, board_of_file}
 use Rattle.pac_state.specs.Reading.{state_in}
 use Rattle.pac_host.specs.declared.ran.PacRan.{PacRan}
-use Rattle.pac_host.specs.Host.{board_in, board_holding, most_samples}
+use Rattle.pac_host.specs.Host.{set_of_roms, board_in, board_holding, board_after_exec, least_asked, most_samples}
 use Rattle.pac_host.specs.Host.{HasInit, HasBecome, HasExecuted, HasLoaded}
 
 -- ---- calls, one after another
@@ -37,7 +36,7 @@ abbrev pub IsCallOfBoard : HostCall → (old new : BoardValue) → Type 0
 IsCallOfBoard (PowerOn switches) old new = new ≡ power_on_board old.set switches
 IsCallOfBoard ResetNow old new = new ≡ board_after_reset old
 IsCallOfBoard (HoldInputs set clear) old new = new ≡ board_holding set clear old
-IsCallOfBoard (LetTimePass microseconds) old new = new ≡ board_after_run old microseconds
+IsCallOfBoard (LetTimePass microseconds) old new = new ≡ board_after_exec old microseconds
 IsCallOfBoard (TakeFile text) old new = (file : IsFile old.set text) × (new ≡ board_of_file old.set file)
 
 abbrev pub AreCallsOfBoard : List HostCall → (old new : BoardValue) → Type 0
@@ -78,9 +77,39 @@ HostTimeCanBeCut =
     → HasExecuted roms block (one + other) wide once whole_samples whole
     → IsOneRun first second whole first_samples second_samples whole_samples parts once
 
--- A board that stands at its time or past it, as after each call for some time that met no stop, with no sample due, gives at most
--- 12 samples for each 125 microseconds, and two more.
-abbrev pub RoomIsBounded : Type 0
-RoomIsBounded =
-    (state : BoardState) (microseconds : ℕ) → time_of state.asked ≤ state.now.time → state.due.sample ≡ None
-    → most_samples state microseconds ≤ microseconds * 12 / 125 + 2
+-- ---- a stop
+
+-- A call on a block that a stop has left meets that stop at once, whatever time it is for, and gives nothing: block and buffer stay, and no
+-- T-state goes by.
+pub record IsStoppedStill (first second : PacRan) (left parts : List ℕ) (more second_samples : List ℤ) : Type 0 where
+  pub block : parts ≡ left
+  pub samples : second_samples ≡ more
+  pub told : second ≡ stop_told first
+
+abbrev pub StopsAreMetAgain : Type 0
+StopsAreMetAgain =
+    (roms block left parts : List ℕ) (one other : ℕ) (buffer first_samples more second_samples : List ℤ) (first second : PacRan)
+    → HasExecuted roms block one buffer left first_samples first → first.stop ≢ 0
+    → HasExecuted roms left other more parts second_samples second
+    → IsStoppedStill first second left parts more second_samples
+
+-- ---- room
+
+-- A board isn't behind where no more time was asked of it than lets it begin a step, and no sample is due.
+pub record IsNotBehind (state : BoardState) : Type 0 where
+  pub asked : state.asked ≤ least_asked state.now.time
+  pub due : state.due.sample ≡ None
+
+-- So it is after power-on and after each call for some time, whether it stopped or not and however far behind it was. A reset and other
+-- inputs leave it as far behind as it was, and a state file's board is what the file's state is.
+abbrev pub KeepsUp : (roms : List ℕ) → HostCall → (old new : List ℕ) → Type 0
+KeepsUp roms (PowerOn switches) old new = IsNotBehind (state_in new)
+KeepsUp roms ResetNow old new = IsNotBehind (state_in old) → IsNotBehind (state_in new)
+KeepsUp roms (HoldInputs set clear) old new = IsNotBehind (state_in old) → IsNotBehind (state_in new)
+KeepsUp roms (LetTimePass microseconds) old new = IsNotBehind (state_in new)
+KeepsUp roms (TakeFile text) old new = (file : IsFile (set_of_roms roms) text) → IsNotBehind file.state → IsNotBehind (state_in new)
+
+-- A board that isn't behind gives at most 12 samples for each 125 microseconds, and two more.
+pub record RoomIsBounded : Type 0 where
+  pub bound : (state : BoardState) (microseconds : ℕ) → IsNotBehind state → most_samples state microseconds ≤ microseconds * 12 / 125 + 2
+  pub kept : (roms : List ℕ) (call : HostCall) (old new : List ℕ) → IsCallDone roms call old new → KeepsUp roms call old new

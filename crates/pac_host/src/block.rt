@@ -1,11 +1,12 @@
 //! The block in which a host keeps its board: read, and written.
 
 ghost use Rattle.std.specs.Prelude.{◌≡◌, Ok, Err};
-ghost use Rattle.pac_host.specs.Handed.{OpensBlock};
-ghost use Rattle.pac_host.specs.Host.{IsBlockOf};
+ghost use Rattle.pac_host.specs.Handed.{StopsEarly, OpensBlock};
+ghost use Rattle.pac_host.specs.Host.{IsBlockOf, state_left};
 
 use crate::codes::HostFault;
-use pac_board::{Board, Fields};
+use crate::time::asked_left;
+use pac_board::{Board, Fields, Stop};
 use pac_state::laws::{blocks_are_read_back, boards_have_states, states_have_blocks};
 use pac_state::{read_block, write_block};
 
@@ -34,6 +35,19 @@ pub(crate) fn keep(machine: &Board, block: &mut PacBoard)
 {
     boards_have_states(machine);
     write_block(&machine.fields(), &mut block.bytes);
+    blocks_are_read_back();
+    states_have_blocks();
+}
+
+/// Writes a board's state over a block, after a call for some time. Of a board that stopped no more is asked than meets the stop again.
+pub(crate) fn keep_run(machine: &Board, stop: &Option<Stop>, block: &mut PacBoard)
+    requires { StopsEarly stop.now machine.now.state }
+    ensures { IsBlockOf (state_left stop.now machine.now.state) block.new.bytes }
+{
+    boards_have_states(machine);
+    let mut fields = machine.fields();
+    fields.asked = asked_left(stop, fields.asked, fields.time);
+    write_block(&fields, &mut block.bytes);
     blocks_are_read_back();
     states_have_blocks();
 }

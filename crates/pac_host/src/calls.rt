@@ -4,7 +4,7 @@ ghost use Rattle.pac_host.specs.Host as host;
 ghost use Rattle.pac_board.specs.State.{board_after_reset};
 ghost use Rattle.pac_board.specs.Inputs.{mask};
 
-use crate::block::{PacBoard, keep, open};
+use crate::block::{PacBoard, keep, keep_run, open};
 use crate::codes::HostFault;
 use crate::ran::{RanBytes, bytes_of};
 use crate::roms::{check_roms, put_roms};
@@ -64,7 +64,8 @@ pub(crate) fn exec(
     let mut machine = Board::without_roms(0);
     put_roms(&mut machine, roms);
     machine.put_fields(&fields);
-    ran.bytes = bytes_of(&run(&mut machine, microseconds, samples));
-    keep(&machine, block);
+    let (told, stop) = run(&mut machine, microseconds, samples);
+    ran.bytes = bytes_of(&told);
+    keep_run(&machine, &stop, block);
     Ok(())
 }

@@ -1,7 +1,7 @@
 //! Laws of a host's calls.
 
 ghost use Rattle.pac_host.specs.Films.{AllFramesAreDone, HostsPlayTheFilm};
-ghost use Rattle.pac_host.specs.HostLaws.{BlocksAreOneBoard, HostTimeCanBeCut, RoomIsBounded};
+ghost use Rattle.pac_host.specs.HostLaws.{BlocksAreOneBoard, HostTimeCanBeCut, RoomIsBounded, StopsAreMetAgain};
 
 use pac_board::laws::time_can_be_cut;
 
@@ -17,7 +17,12 @@ pub fn host_time_can_be_cut()
     time_can_be_cut();
 }
 
-/// The room that a call for some time needs is bounded by the microseconds that it is for.
+/// A stop that was met is met again by the next call for some time, at once and with nothing given.
+pub fn stops_are_met_again()
+    ensures { StopsAreMetAgain }
+{}
+
+/// The room that a call for some time needs is bounded by the microseconds that it is for: after power-on and each such call, stopped or not.
 pub fn room_is_bounded()
     ensures { RoomIsBounded }
 {}
@@ -27,7 +32,7 @@ pub fn hosts_play_the_film()
     ensures { HostsPlayTheFilm }
 {}
 
-/// No call of a host that plays frame by frame fails, until a stop is told.
+/// No call of a host that plays frame by frame fails, whether a stop is told or not.
 pub fn frames_are_done()
     ensures { AllFramesAreDone }
 {}

@@ -65,10 +65,11 @@ pub extern "C" fn pac_hold(board: &mut PacBoard, set: u16, clear: u16) -> u32
 
 /// Lets so many microseconds go by: the board runs until its time is the one that was asked in all, and at most 22 T-states longer, since
 /// an instruction isn't cut. The samples, 96,000 a second, go to the head of `samples`, whose rest stays, and what was done to `ran`.
-/// Where the board stops, the call is done and `ran.stop` tells why; a further call stops at once, and gives nothing.
-/// `WrongLength`: `roms` hasn't 25,120 bytes. `NoBoard`. `TooLong`. `NoRoom`: of a board that was run from power-on by `pac_exec` alone and
-/// hasn't stopped, room for `microseconds * 12 / 125 + 2` samples is always enough; those are 1,586 for a frame. Of a board that has stopped
-/// the room for the time that it is behind is asked, too.
+/// Where the board stops, the call is done and `ran.stop` tells why; a further call stops at once, and gives nothing. After a reset or
+/// with other ROMs the board goes on from the stop's time: what was asked past that is forgotten.
+/// `WrongLength`: `roms` hasn't 25,120 bytes. `NoBoard`. `TooLong`. `NoRoom`: of a board that was made by `pac_init`, whatever calls but
+/// `pac_load` came since, room for `microseconds * 12 / 125 + 2` samples is always enough; those are 1,586 for a frame. A state file's board
+/// that is behind the time asked of it wants room for that time, too.
 #[unsafe(no_mangle)]
 pub extern "C" fn pac_exec(
     board: &mut PacBoard,

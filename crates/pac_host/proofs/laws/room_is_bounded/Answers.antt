@@ -1,5 +1,5 @@
-use Rattle.pac_host.proofs.TimeParts.{room-bounded}
+use Rattle.pac_host.proofs.TimeParts.{room-is-bounded}
 use Rattle.pac_host.proofs.laws.room_is_bounded.Goals as goal
 
 pub returns : goal.returns
-returns c = room-bounded
+returns c = room-is-bounded

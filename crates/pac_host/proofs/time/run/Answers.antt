@@ -63,3 +63,9 @@ returns-in-Err-clause-ran c =
     let room = c.requires.room in
     runs-to-its-end c.in-Err.field-0 c.args.machine.now c.args.microseconds _ c.exec.new.self c.exec.new.sink (omega arith) (omega arith)
     c.requires.within (omega (arith, room)) c.in-Err.ensures
+
+pub returns-in-Err-clause-stop : goal.returns-in-Err-clause-stop
+returns-in-Err-clause-stop c =
+    let room = c.requires.room in
+    runs-to-its-end c.in-Err.field-0 c.args.machine.now c.args.microseconds _ c.exec.new.self c.exec.new.sink (omega arith) (omega arith)
+    c.requires.within (omega (arith, room)) c.in-Err.ensures
