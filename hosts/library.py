@@ -1,4 +1,4 @@
-"""The crate that is the board's C library, built by the kit: shared by hosts/build and hosts/web/build."""
+"""The crates that are C libraries, built by the kit: shared by hosts/build and hosts/web/build."""
 import contextlib
 import os
 import pathlib
@@ -12,7 +12,7 @@ import time
 
 ROOT = pathlib.Path(__file__).resolve().parent.parent
 OUT = ROOT / "hosts/out"
-KEPT = OUT / "checked"  # what the kit's checks of the crate keep: the library for C and the module for a page rest on the same proofs
+KEPT = OUT / "checked"  # what the kit's checks of each crate keep: the library for C and the module for a page rest on the same proofs
 LINE = re.compile(r"(\w+)( +staticlib)?(?: +[\w=]+)*: *(.*)")
 TOLD = 2  # seconds between two lines about what goes on
 TRUSTING = "--after-ci"  # the word that says that `rt ci` has just proved these very files
@@ -22,14 +22,6 @@ def crates():
     """What each line of crates.txt says: whether the crate is a static library, and the names after the colon."""
     rows = (LINE.fullmatch(line.strip()) for line in (ROOT / "crates.txt").read_text().splitlines() if not line.startswith("#"))
     return {row[1]: (row[2] is not None, row[3].split()) for row in rows if row}
-
-
-def name_of(table):
-    """The name of the static library."""
-    names = [crate for crate, (is_static, _) in table.items() if is_static]
-    if len(names) != 1:
-        sys.exit(f"crates.txt has {len(names)} static libraries, and not one")
-    return names[0]
 
 
 def crates_below(table, crate):
@@ -111,15 +103,16 @@ def text_of(file):
     return os.pread(file.fileno(), os.fstat(file.fileno()).st_size, 0).decode(errors="replace")
 
 
-def build(kind, file, to, is_after_ci, flags=()):
-    """Builds the library as a crate of this kind, in a copy of it and of all below it, and takes the file that it leaves.
+def build(name, kind, file, to, is_after_ci, flags=()):
+    """Builds a library as a crate of this kind, in a copy of it and of all below it, and takes the file that it leaves.
 
     The copy's crates.txt says which kind it is, and the repository is left as it is. The flags are for the compiler. What an earlier build
     of either kind has checked, and nothing has changed since, isn't checked again. Beside the file, with the end .bc, stands the bitcode
     of which the compiler made it.
     """
     table = crates()
-    name = name_of(table)
+    if not table.get(name, (False, []))[0]:
+        sys.exit(f"crates.txt has no static library {name}")
     below = crates_below(table, name)
     with tempfile.TemporaryDirectory(prefix="hosts-") as room:
         folder = pathlib.Path(room).resolve()
@@ -131,11 +124,20 @@ def build(kind, file, to, is_after_ci, flags=()):
         if is_after_ci:
             stamp(folder)
         built = folder / "crates" / name / "out"
-        if KEPT.is_dir():
-            shutil.copytree(KEPT, built / "incremental")
+        if (KEPT / name).is_dir():
+            shutil.copytree(KEPT / name, built / "incremental")
         OUT.mkdir(exist_ok=True)
         run(lay_kit(flags, folder / "kit", (OUT / to).with_suffix(".bc")), folder / "crates" / name)
         shutil.copy(built / file.format(name), OUT / to)
-        shutil.rmtree(KEPT, ignore_errors=True)
-        shutil.copytree(built / "incremental", KEPT)
+        shutil.rmtree(KEPT / name, ignore_errors=True)
+        shutil.copytree(built / "incremental", KEPT / name)
     print(f"{OUT / to}: {(OUT / to).stat().st_size:,} bytes", flush=True)
+
+
+def add_heap(to):
+    """Adds the kit's three calls for memory to a library for C: they are the host's malloc, realloc and free, as heap.c of the kit has them."""
+    kit = pathlib.Path(shutil.which("rt")).resolve().parent.parent
+    with tempfile.TemporaryDirectory() as room:
+        subprocess.run(["ar", "x", kit / "c/liblibc_c.a"], cwd=room, check=True)
+        parts = [part for part in sorted(pathlib.Path(room).iterdir()) if part.name.startswith("heap")]
+        subprocess.run(["ar", "qs", OUT / to, *parts], check=True)

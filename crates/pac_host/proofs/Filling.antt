@@ -3,8 +3,8 @@ use Rattle.std.proofs.Common.{◌≡◌, ℕ, List, ◌++◌, length, take, Resu
 use Rattle.std.proofs.lemmas.List.{take_all, length-take-le}
 use Rattle.pac_out.specs.declared.WriteFault.{WriteFault}
 use Rattle.pac_state.specs.Saves.{Saves}
-use Rattle.pac_host.specs.Buffers.{buffer_took, buffer_refused}
-use Rattle.pac_host.specs.declared.buffer.HostBuffer.{HostBuffer}
+use Rattle.pac_out.specs.Buffers.{buffer_took, buffer_refused}
+use Rattle.pac_out.specs.declared.buffer.HostBuffer.{HostBuffer}
 
 -- there is room for all of it, so nothing is refused
 pub filled : {A : Type 0} (text : List ℕ) (result : Result A WriteFault) (old new : HostBuffer) (left : List ℕ) → old.taken ≡ 0

@@ -3,5 +3,4 @@ pub mod Handed
 pub mod Host
 pub mod HostLaws
 pub mod Films
-pub mod Buffers
 pub mod Sounding

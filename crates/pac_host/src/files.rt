@@ -7,10 +7,10 @@ ghost use Rattle.pac_host.specs.Handed.{FillsBoard};
 ghost use Rattle.pac_host.specs.Host as host;
 
 use crate::block::{PacBoard, keep, open};
-use crate::buffer::HostBuffer;
 use crate::codes::HostFault;
 use crate::roms::{check_roms, put_roms};
 use pac_board::Board;
+use pac_out::buffer::HostBuffer;
 use pac_state::laws::boards_have_states;
 use pac_state::read_file_into;
 

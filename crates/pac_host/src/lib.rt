@@ -9,7 +9,6 @@ ghost use Rattle.pac_host.specs.Codes.{Answers};
 ghost use Rattle.pac_host.specs.Host as host;
 
 mod block;
-mod buffer;
 mod calls;
 mod codes;
 mod draw;

@@ -6,6 +6,7 @@ ghost use Rattle.std.specs.Prelude.{◌≡◌, ℕ, List, [], ◌++◌, IfErr, O
 ghost use Rattle.pac_out.specs.Writes.{IsWrite, StopsAfter, took_if_there, refused_if_there};
 ghost use Rattle.pac_out.specs.WritesProofs.{lent_took, lent_refused};
 
+pub mod buffer;
 pub mod counted;
 pub mod faulty;
 pub mod memory;

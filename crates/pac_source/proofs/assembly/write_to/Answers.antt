@@ -1,0 +1,9 @@
+-- What the file leaves of the writer is what its owner has.
+use Rattle.pac_listing.specs.Listing.{listing}
+use Rattle.pac_source.proofs.Writing.{what-is-left}
+use Rattle.pac_source.proofs.assembly.write_to.Goals as goal
+
+pub returns : goal.returns
+returns g c =
+    what-is-left g.W.Out.took g.W.Out.refused (listing c.args.program.now c.args.source.now) c.write_listing.result _ c.new-file.result
+    c.write_listing.new.file _ c.new-file.ensures c.write_listing.ensures assumption

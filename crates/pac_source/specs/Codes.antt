@@ -1,0 +1,59 @@
+-- Believed: the numbers that tell a host how a call for a source went (this profile).
+use Rattle.std.specs.Prelude.{ℕ, Result, Ok, Err}
+use Rattle.pac_lex.specs.declared.fault.LexFault.{LexFault}
+use Rattle.pac_lex.specs.declared.fault.LexFault.TheVariants.{NoToken, WrongNumber, OpenText, LongLine}
+use Rattle.pac_asm.specs.declared.fault.AsmCode.{AsmCode}
+use Rattle.pac_asm.specs.declared.fault.AsmCode.TheVariants.{Token, Syntax, DefinedBefore, NotDefinedAbove, OutsideRom, Overlap}
+use Rattle.pac_asm.specs.declared.fault.AsmCode.TheVariants.{TooManyLines, Undefined, OutOfRange, Arithmetic, TooDeep, NoOpenIf}
+use Rattle.pac_asm.specs.declared.fault.AsmCode.TheVariants.{NeverClosed}
+use Rattle.pac_source.specs.declared.codes.PacTold.{PacTold}
+use Rattle.pac_source.specs.declared.codes.SourceFault.{SourceFault}
+use Rattle.pac_source.specs.declared.codes.SourceFault.TheVariants.{WrongLength, NoRoom, NoMemory, Fault}
+
+-- 0 where the call was done, or why it wasn't
+abbrev pub code_of : Result ℕ SourceFault → ℕ
+code_of (Ok size) = 0
+code_of (Err WrongLength) = 1
+code_of (Err (NoRoom size)) = 4
+code_of (Err NoMemory) = 5
+code_of (Err (Fault fault)) = 6
+
+-- L1 to L4
+abbrev pub lex_number : LexFault → ℕ
+lex_number NoToken = 1
+lex_number WrongNumber = 2
+lex_number OpenText = 3
+lex_number LongLine = 4
+
+-- A1 to A14
+abbrev pub asm_number : AsmCode → ℕ
+asm_number (Token fault) = 1
+asm_number Syntax = 2
+asm_number DefinedBefore = 3
+asm_number NotDefinedAbove = 4
+asm_number OutsideRom = 5
+asm_number Overlap = 6
+asm_number TooManyLines = 7
+asm_number Undefined = 8
+asm_number OutOfRange = 9
+asm_number Arithmetic = 10
+asm_number TooDeep = 12
+asm_number NoOpenIf = 13
+asm_number NeverClosed = 14
+
+-- what is no token, where that is the fault
+abbrev pub token_number : AsmCode → ℕ
+token_number (Token fault) = lex_number fault
+token_number code = 0
+
+-- what isn't to be told is 0
+abbrev pub told_size : ℕ → PacTold
+told_size size = record { listing = size; line = 0; fault = 0; token = 0 }
+
+-- the bytes of the listing, written or not, or the fault with its line
+abbrev pub told_of : Result ℕ SourceFault → PacTold
+told_of (Ok size) = told_size size
+told_of (Err (NoRoom size)) = told_size size
+told_of (Err (Fault fault)) =
+    record { listing = 0; line = fault.line; fault = asm_number fault.code; token = token_number fault.code }
+told_of (Err fault) = told_size 0
