@@ -193,6 +193,11 @@ uint32_t pac_save(const pac_board *board, const uint8_t *roms, size_t length, ui
  * PAC_LENGTH: `length` isn't PAC_ROMS_SIZE. PAC_V1 to PAC_V6: the file is refused, docs/FORMATS.md says why; a wrong length is PAC_V3. */
 uint32_t pac_load(pac_board *board, const uint8_t *roms, size_t length, const uint8_t *text, size_t text_length);
 
+/* Writes what the processor would read at as many addresses as `bytes` has room for, the first of which is `address`; after FFFFH comes
+ * 0000H. What it would read of a port has the inputs and the switches as they are.
+ * PAC_LENGTH: `length` isn't PAC_ROMS_SIZE. PAC_STATE. */
+uint32_t pac_peek(const pac_board *board, const uint8_t *roms, size_t length, uint16_t address, uint8_t *bytes, size_t bytes_length);
+
 /* Whether this header's board is the library's: look once, at the start. */
 static inline int pac_matches(void)
 {
@@ -235,6 +240,12 @@ static inline uint32_t pac_save_checked(const pac_board *board, const uint8_t *r
 static inline uint32_t pac_load_checked(pac_board *board, const uint8_t *roms, size_t length, const uint8_t *text, size_t text_length)
 {
     return board && roms && text ? pac_load(board, roms, length, text, text_length) : (uint32_t)PAC_NULL;
+}
+
+static inline uint32_t pac_peek_checked(const pac_board *board, const uint8_t *roms, size_t length, uint16_t address, uint8_t *bytes,
+                                        size_t bytes_length)
+{
+    return board && roms && bytes ? pac_peek(board, roms, length, address, bytes, bytes_length) : (uint32_t)PAC_NULL;
 }
 
 #ifdef __cplusplus

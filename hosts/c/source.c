@@ -130,7 +130,7 @@ static void try_faults(void)
         uint32_t line;
         uint16_t fault, token;
     } rows[] = {
-        {" NOP\n ?\n", 2, 1, 1}, {" DEFB 12X\n", 1, 1, 2}, {"\n\n DEFM 'A\n", 3, 1, 3}, {" LD\n", 1, 2, 0}, {"A: NOP\nA: NOP\n", 2, 3, 0},
+        {" NOP\n ?\n", 2, 1, 1}, {" DEFB 12X\n", 1, 1, 2}, {"\n\n DEFM 'A\n", 3, 1, 3}, {" LD\n", 1, 2, 0}, {"X: NOP\nX: NOP\n", 2, 3, 0},
         {" ORG X\nX: NOP\n", 1, 4, 0}, {" ORG 4001H\n", 1, 5, 0}, {" NOP\n ORG 0\n NOP\n", 3, 6, 0}, {" DEFB X\n", 1, 8, 0},
         {" DEFB 256\n", 1, 9, 0}, {" DEFB 1/0\n", 1, 10, 0}, {" IF 1\n IF 1\n IF 1\n IF 1\n IF 1\n IF 1\n IF 1\n IF 1\n IF 1\n"
          " ENDIF\n ENDIF\n ENDIF\n ENDIF\n ENDIF\n ENDIF\n ENDIF\n ENDIF\n ENDIF\n", 9, 12, 0}, {" ELSE\n", 1, 13, 0}, {" IF 1\n", 1, 14, 0},

@@ -5,6 +5,7 @@ pub mod Told
 pub mod Films
 pub mod FramesDone
 pub mod OneBoard
+pub mod OneStep
 pub mod Sounding
 pub mod Stops
 pub mod TimeParts

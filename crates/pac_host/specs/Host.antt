@@ -4,6 +4,7 @@ use Rattle.std.specs.Prelude.{◌≡◌, ◌≢◌, ◌<◌, ◌≤◌, ℕ, ℤ
 use Rattle.std.specs.Prelude.{List, [], ◌∷◌, ◌++◌, length, drop, slice_index_or, Option, None, Some, Result, Ok, Err}
 use Rattle.std.specs.List.{flat_map}
 use Rattle.pac_board.specs.Instructions.{most_ticks}
+use Rattle.pac_board.specs.MemoryContents.{read_of}
 use Rattle.pac_board.specs.MemoryView.{held_with, held_without}
 use Rattle.pac_board.specs.Output.{Output, Sound, Show, sound_count, picture_count}
 use Rattle.pac_board.specs.PictureState.{palette_of}
@@ -15,6 +16,8 @@ use Rattle.pac_board.specs.Calls.{course, outputs_given, board_after_run}
 use Rattle.pac_board.specs.Calls.{run_ticks}
 use Rattle.pac_board.specs.State.{BoardState, BoardValue, most_asked, time_of, power_on_board, board_with_inputs}
 use Rattle.pac_board.specs.Stop.{Stop}
+use Rattle.pac_num.specs.Numbers.{wrapped_address}
+use Rattle.pac_num.specs.Tabulate.{tabulate}
 use Rattle.pac_state.specs.declared.fault.LoadFault.TheVariants.{NoMemory}
 use Rattle.pac_state.specs.Block.{IsBlock, block_text}
 use Rattle.pac_state.specs.Files.{IsFile, board_of_file}
@@ -240,3 +243,19 @@ LoadFails roms text fault = ⊥
 abbrev pub TakesFile : (roms text old : List ℕ) → Result (Unit {0}) HostFault → (new : List ℕ) → Type 0
 TakesFile roms text old (Ok done) new = HasLoaded roms text new
 TakesFile roms text old (Err fault) new = LoadFails roms text fault × (new ≡ old)
+
+-- ---- memory
+
+-- what the processor would read of a block's board at so many addresses, from one on; they wrap at 65,536
+unfoldable pub bytes_read : (roms block : List ℕ) (at count : ℕ) → List ℕ
+bytes_read roms block at count =
+    tabulate count (λ place. read_of (set_of_roms roms).program (state_in block).now.board.memory (wrapped_address (at + place)))
+
+pub record HasPeeked (roms block : List ℕ) (at : ℕ) (bytes new : List ℕ) : Type 0 where
+  pub roms_are : length roms ≡ roms_size
+  pub block_is : IsBlock block
+  pub read : new ≡ bytes_read roms block at (length bytes)
+
+abbrev pub Peeks : (roms block : List ℕ) (at : ℕ) (old : List ℕ) → Result (Unit {0}) HostFault → (new : List ℕ) → Type 0
+Peeks roms block at old (Ok done) new = HasPeeked roms block at old new
+Peeks roms block at old (Err fault) new = MissesBoard roms block fault × (new ≡ old)

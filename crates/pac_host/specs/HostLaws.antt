@@ -4,7 +4,7 @@ use Rattle.pac_board.specs.State.{BoardState, BoardValue, power_on_board, board_
 use Rattle.pac_state.specs.Files.{IsFile, board_of_file}
 use Rattle.pac_state.specs.Reading.{state_in}
 use Rattle.pac_host.specs.declared.ran.PacRan.{PacRan}
-use Rattle.pac_host.specs.Host.{set_of_roms, board_in, board_holding, board_after_exec, least_asked, most_samples}
+use Rattle.pac_host.specs.Host.{set_of_roms, asked_in, board_in, board_holding, board_after_exec, least_asked, most_samples}
 use Rattle.pac_host.specs.Host.{HasInit, HasBecome, HasExecuted, HasLoaded}
 
 -- ---- calls, one after another
@@ -113,3 +113,9 @@ KeepsUp roms (TakeFile text) old new = (file : IsFile (set_of_roms roms) text) �
 pub record RoomIsBounded : Type 0 where
   pub bound : (state : BoardState) (microseconds : ℕ) → IsNotBehind state → most_samples state microseconds ≤ microseconds * 12 / 125 + 2
   pub kept : (roms : List ℕ) (call : HostCall) (old new : List ℕ) → IsCallDone roms call old new → KeepsUp roms call old new
+
+-- A call for one microsecond, of a board that is at its time or past it, makes one step at most.
+abbrev pub OneStepAtMost : Type 0
+OneStepAtMost =
+    (roms block new : List ℕ) (samples samples_after : List ℤ) (ran : PacRan) → HasExecuted roms block 1 samples new samples_after ran
+    → time_of (asked_in block) ≤ (state_in block).now.time → (state_in new).now.steps ≤ (state_in block).now.steps + 1

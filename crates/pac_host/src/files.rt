@@ -34,7 +34,7 @@ fn put_file(machine: &Board, text: &mut [u8])
 
 /// Puts the state in a block into a board.
 #[inline(never)]
-fn fill(machine: &mut Board, block: &PacBoard) -> Result<(), HostFault>
+pub(crate) fn fill(machine: &mut Board, block: &PacBoard) -> Result<(), HostFault>
     ensures { FillsBoard block.now.bytes machine.old result machine.new }
 {
     let fields = open(block)?;

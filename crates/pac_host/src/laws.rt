@@ -1,7 +1,7 @@
 //! Laws of a host's calls.
 
 ghost use Rattle.pac_host.specs.Films.{AllFramesAreDone, HostsPlayTheFilm};
-ghost use Rattle.pac_host.specs.HostLaws.{BlocksAreOneBoard, HostTimeCanBeCut, RoomIsBounded, StopsAreMetAgain};
+ghost use Rattle.pac_host.specs.HostLaws.{BlocksAreOneBoard, HostTimeCanBeCut, OneStepAtMost, RoomIsBounded, StopsAreMetAgain};
 
 use pac_board::laws::time_can_be_cut;
 
@@ -35,4 +35,9 @@ pub fn hosts_play_the_film()
 /// No call of a host that plays frame by frame fails, whether a stop is told or not.
 pub fn frames_are_done()
     ensures { AllFramesAreDone }
+{}
+
+/// A call for one microsecond makes one step at most.
+pub fn one_step_at_most()
+    ensures { OneStepAtMost }
 {}

@@ -14,6 +14,7 @@ mod codes;
 mod draw;
 mod files;
 pub mod laws;
+mod peek;
 mod ran;
 mod roms;
 mod sounds;
@@ -109,4 +110,14 @@ pub extern "C" fn pac_load(board: &mut PacBoard, roms: &[u8], text: &[u8]) -> u3
     ensures { Answers (λ answer. host.TakesFile roms.now text.now board.old.bytes answer board.new.bytes) result }
 {
     code(files::load(board, roms, text))
+}
+
+/// Writes what the processor would read at as many addresses as `bytes` has room for, the first of which is `address`; after FFFFH comes
+/// 0000H. What it would read of a port has the inputs and the switches as they are.
+/// `WrongLength`: `roms` hasn't 25,120 bytes. `NoBoard`.
+#[unsafe(no_mangle)]
+pub extern "C" fn pac_peek(board: &PacBoard, roms: &[u8], address: u16, bytes: &mut [u8]) -> u32
+    ensures { Answers (λ answer. host.Peeks roms.now board.now.bytes address bytes.old answer bytes.new) result }
+{
+    code(peek::peek(board, roms, address, bytes))
 }

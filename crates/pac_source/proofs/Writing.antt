@@ -38,15 +38,16 @@ what-is-left took refused text (Ok done) start old new owned taken put ends =
     subst (took start.now text) (sym (ends (sym took_it.0))) took_it.1
 what-is-left took refused text (Err fault) start old new owned taken put ends =
     let stop = put.after start [] taken in
-    let stopped = stop.stopped in
-    (stop.taken,
-    record {
-      some_left = stopped.some_left;
-      asked = stopped.asked.now;
-      before = stopped.before.1;
-      refusal =
-          subst (λ new. refused stopped.asked.now new) (sym (ends (sym (stopped.refusal.0 ∙ stopped.before.0)))) stopped.refusal.1;
-    })
+    let stopped = stop.stopped in (
+      stop.taken,
+      record {
+        some_left = stopped.some_left;
+        asked = stopped.asked.now;
+        before = stopped.before.1;
+        refusal =
+            subst (λ new. refused stopped.asked.now new) (sym (ends (sym (stopped.refusal.0 ∙ stopped.before.0)))) stopped.refusal.1;
+      },
+    )
 
 -- a buffer that has room for a text takes all of it, from its head on, and what is after it stays
 pub filled-head : {A : Type 0} (text : List ℕ) (result : Result A WriteFault) (old new : HostBuffer) (left : List ℕ) → old.taken ≡ 0

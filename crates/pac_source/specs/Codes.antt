@@ -11,12 +11,12 @@ use Rattle.pac_source.specs.declared.codes.SourceFault.{SourceFault}
 use Rattle.pac_source.specs.declared.codes.SourceFault.TheVariants.{WrongLength, NoRoom, NoMemory, Fault}
 
 -- 0 where the call was done, or why it wasn't
-abbrev pub code_of : Result ℕ SourceFault → ℕ
-code_of (Ok size) = 0
-code_of (Err WrongLength) = 1
-code_of (Err (NoRoom size)) = 4
-code_of (Err NoMemory) = 5
-code_of (Err (Fault fault)) = 6
+abbrev pub source_code : Result ℕ SourceFault → ℕ
+source_code (Ok size) = 0
+source_code (Err WrongLength) = 1
+source_code (Err (NoRoom size)) = 4
+source_code (Err NoMemory) = 5
+source_code (Err (Fault fault)) = 6
 
 -- L1 to L4
 abbrev pub lex_number : LexFault → ℕ
@@ -51,9 +51,9 @@ abbrev pub told_size : ℕ → PacTold
 told_size size = record { listing = size; line = 0; fault = 0; token = 0 }
 
 -- the bytes of the listing, written or not, or the fault with its line
-abbrev pub told_of : Result ℕ SourceFault → PacTold
-told_of (Ok size) = told_size size
-told_of (Err (NoRoom size)) = told_size size
-told_of (Err (Fault fault)) =
+abbrev pub answer_told : Result ℕ SourceFault → PacTold
+answer_told (Ok size) = told_size size
+answer_told (Err (NoRoom size)) = told_size size
+answer_told (Err (Fault fault)) =
     record { listing = 0; line = fault.line; fault = asm_number fault.code; token = token_number fault.code }
-told_of (Err fault) = told_size 0
+answer_told (Err fault) = told_size 0

@@ -8,13 +8,13 @@ use Rattle.pac_out.specs.Counted.{file_count}
 use Rattle.pac_source.specs.declared.codes.PacTold.{PacTold}
 use Rattle.pac_source.specs.declared.codes.SourceFault.{SourceFault}
 use Rattle.pac_source.specs.declared.codes.SourceFault.TheVariants.{WrongLength, NoRoom, NoMemory, Fault}
-use Rattle.pac_source.specs.Codes.{code_of, told_of}
+use Rattle.pac_source.specs.Codes.{source_code, answer_told}
 
 -- A call tells by numbers what it came to.
-pub record Answers (comes_to : Result ℕ SourceFault → Type 0) (code : ℕ) (told : PacTold) : Type 0 where
+pub record AnswersAndTells (comes_to : Result ℕ SourceFault → Type 0) (code : ℕ) (told : PacTold) : Type 0 where
   pub answer : Result ℕ SourceFault
-  pub code_is : code ≡ code_of answer
-  pub told_is : told ≡ told_of answer
+  pub code_is : code ≡ source_code answer
+  pub told_is : told ≡ answer_told answer
   pub done : comes_to answer
 
 -- ---- a source
@@ -38,16 +38,16 @@ pub record HasNoRoom (source rom list : List ℕ) (size : ℕ) : Type 0 where
   pub room : length list < length (listing program source)
 
 -- why there is no ROM and no listing; where memory runs out, nothing is said of the source
-abbrev pub AssemblyFails : (source rom list : List ℕ) → SourceFault → Type 0
-AssemblyFails source rom list WrongLength = length rom ≢ rom_size
-AssemblyFails source rom list NoMemory = length rom ≡ rom_size
-AssemblyFails source rom list (Fault fault) = (length rom ≡ rom_size) × (program_of source ≡ Err fault)
-AssemblyFails source rom list (NoRoom size) = HasNoRoom source rom list size
+abbrev pub AssemblesNothing : (source rom list : List ℕ) → SourceFault → Type 0
+AssemblesNothing source rom list WrongLength = length rom ≢ rom_size
+AssemblesNothing source rom list NoMemory = length rom ≡ rom_size
+AssemblesNothing source rom list (Fault fault) = (length rom ≡ rom_size) × (program_of source ≡ Err fault)
+AssemblesNothing source rom list (NoRoom size) = HasNoRoom source rom list size
 
-abbrev pub Assembles : (source rom list : List ℕ) → Result ℕ SourceFault → (new_rom new_list : List ℕ) → Type 0
-Assembles source rom list (Ok size) new_rom new_list = HasAssembled source rom list size new_rom new_list
-Assembles source rom list (Err fault) new_rom new_list =
-    AssemblyFails source rom list fault × (new_rom ≡ rom) × (new_list ≡ list)
+abbrev pub AssemblesInto : (source rom list : List ℕ) → Result ℕ SourceFault → (new_rom new_list : List ℕ) → Type 0
+AssemblesInto source rom list (Ok size) new_rom new_list = HasAssembled source rom list size new_rom new_list
+AssemblesInto source rom list (Err fault) new_rom new_list =
+    AssemblesNothing source rom list fault × (new_rom ≡ rom) × (new_list ≡ list)
 
 -- ---- an instruction
 
@@ -56,7 +56,7 @@ abbrev pub padded : List ℕ → List ℕ
 padded text = text ++ replicate (17 - length text) 0
 
 -- the text of what bytes begin with, the first of them at an address, and how many of them it has: of no bytes there is none
-abbrev pub Disassembles : (bytes : List ℕ) (at size : ℕ) (told : List ℕ) → Type 0
-Disassembles [] at size told = (size ≡ 0) × (told ≡ padded [])
-Disassembles (byte ∷ bytes) at size told =
+abbrev pub DisassemblesInto : (bytes : List ℕ) (at size : ℕ) (told : List ℕ) → Type 0
+DisassemblesInto [] at size told = (size ≡ 0) × (told ≡ padded [])
+DisassemblesInto (byte ∷ bytes) at size told =
     (size ≡ size_at (byte ∷ bytes)) × (told ≡ padded (text_at at (byte ∷ bytes)))

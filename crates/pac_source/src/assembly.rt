@@ -57,7 +57,7 @@ pub(crate) fn assemble_into(
     rom: &mut [u8],
     listing: &mut [u8],
 ) -> Result<u64, SourceFault>
-    ensures { calls.Assembles source.now rom.old listing.old result rom.new listing.new }
+    ensures { calls.AssemblesInto source.now rom.old listing.old result rom.new listing.new }
 {
     if rom.len() != ROM_SIZE {
         return Err(SourceFault::WrongLength);

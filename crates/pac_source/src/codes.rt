@@ -35,7 +35,7 @@ pub struct PacTold {
 
 /// The number that a call answers: 0 where it was done.
 pub(crate) fn code(answer: Result<u64, SourceFault>) -> u32
-    ensures { result ≡ codes.code_of answer }
+    ensures { result ≡ codes.source_code answer }
 {
     match answer {
         Ok(_) => 0,
@@ -82,7 +82,7 @@ fn numbers(code: AsmCode) -> (u16, u16)
 
 /// What is told of an answer.
 pub(crate) fn told_of(answer: Result<u64, SourceFault>) -> PacTold
-    ensures { result ≡ codes.told_of answer }
+    ensures { result ≡ codes.answer_told answer }
 {
     let (line, (fault, token)) = match answer {
         Err(SourceFault::Fault(fault)) => (fault.line, numbers(fault.code)),

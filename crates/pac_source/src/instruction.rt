@@ -25,7 +25,7 @@ fn padded(text: &Text) -> [u8; 17]
 
 /// Writes the text of what some bytes begin with, and answers how many of them it has.
 pub(crate) fn disassemble_into(bytes: &[u8], address: u16, told: &mut PacText) -> u32
-    ensures { calls.Disassembles bytes.now address result told.new.bytes }
+    ensures { calls.DisassemblesInto bytes.now address result told.new.bytes }
 {
     if bytes.is_empty() {
         told.bytes = [0; 17];

@@ -26,7 +26,7 @@ pub extern "C" fn pac_assemble(
     listing: &mut [u8],
     told: &mut PacTold,
 ) -> u32
-    ensures { calls.Answers (λ answer. calls.Assembles source.now rom.old listing.old answer rom.new listing.new) result told.new }
+    ensures { calls.AnswersAndTells (λ answer. calls.AssemblesInto source.now rom.old listing.old answer rom.new listing.new) result told.new }
 {
     let answer = assembly::assemble_into(alloc, source, rom, listing);
     *told = told_of(answer);
@@ -37,7 +37,7 @@ pub extern "C" fn pac_assemble(
 /// has; a byte that begins no instruction is told as DEFB. Of no bytes the text has none, and the answer is 0.
 #[unsafe(no_mangle)]
 pub extern "C" fn pac_disassemble(bytes: &[u8], address: u16, told: &mut PacText) -> u32
-    ensures { calls.Disassembles bytes.now address result told.new.bytes }
+    ensures { calls.DisassemblesInto bytes.now address result told.new.bytes }
 {
     instruction::disassemble_into(bytes, address, told)
 }

@@ -1,0 +1,43 @@
+//! What the processor would read of a block's board.
+
+ghost use Rattle.std.specs.Prelude.{◌≡◌, ◌+◌, length};
+ghost use Rattle.pac_board.specs.MemoryContents.{read_of};
+ghost use Rattle.pac_host.specs.Host as host;
+ghost use Rattle.pac_num.specs.Numbers.{wrapped_address};
+ghost use Rattle.pac_num.specs.Tabulate.{tabulate};
+
+use crate::block::PacBoard;
+use crate::codes::HostFault;
+use crate::files::fill;
+use crate::roms::{check_roms, put_roms};
+use pac_board::Board;
+use pac_num::offset;
+
+/// Writes what the processor would read at as many addresses as there is room for, from one on.
+fn put_read(machine: &Board, address: u16, bytes: &mut [u8])
+    ensures { bytes.new ≡ tabulate (length bytes.old)
+        (λ place. read_of machine.now.set.program machine.now.state.now.board.memory (wrapped_address (address + place))) }
+{
+    let mut at = address;
+    for place in 0..bytes.len() {
+        bytes[place] = machine.peek(at);
+        at = offset(at, 1);
+    }
+}
+
+/// Writes what the processor would read of a block's board at as many addresses as there is room for, from one on.
+pub(crate) fn peek(
+    block: &PacBoard,
+    roms: &[u8],
+    address: u16,
+    bytes: &mut [u8],
+) -> Result<(), HostFault>
+    ensures { host.Peeks roms.now block.now.bytes address bytes.old result bytes.new }
+{
+    check_roms(roms)?;
+    let mut machine = Board::without_roms(0);
+    put_roms(&mut machine, roms);
+    fill(&mut machine, block)?;
+    put_read(&machine, address, bytes);
+    Ok(())
+}
