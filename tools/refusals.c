@@ -5,15 +5,19 @@
  * nothing had been. So one run tries every refusal of a kind, until there is none left. Memory that is asked for after the first byte
  * of an output is told as the status -1, and blocks that are still out at a run's end as -2. Only calls from the program's own code count,
  * not those within the C library. Where writes are interrupted no call is refused: each write fails with EINTR twice, and is done at the third
- * try. Where growth is refused, every call for memory is, whoever makes it, from the first byte of an output on, and the kernel gives the
+ * try. An output that takes its place once it is whole has a draft, which the child renames or removes: it stays under a name that ends
+ * with .kept, too, by which tools/refusals sees what it took, until the parent has it again. Where growth is refused, every call for memory is, whoever makes it, from the first byte of an output on, and the kernel gives the
  * process no more: brk, mmap and mremap fail.
  */
 #define _GNU_SOURCE
 #include <errno.h>
+#include <fcntl.h>
+#include <limits.h>
 #include <linux/filter.h>
 #include <linux/seccomp.h>
 #include <link.h>
 #include <stddef.h>
+#include <stdio.h>
 #include <stdlib.h>
 #include <string.h>
 #include <sys/auxv.h>
@@ -60,6 +64,52 @@ static void tell(int status)
         _exit(120);
 }
 
+static char drafts[DESCRIPTORS][PATH_MAX], kept[PATH_MAX + sizeof ".kept"]; /* the paths of drafts, by their descriptors; and another name of one */
+
+/* Writes the other name of a draft. */
+static void name_kept(const char *path)
+{
+    size_t length = strlen(path);
+    memcpy(kept, path, length);
+    memcpy(kept + length, ".kept", sizeof ".kept");
+}
+
+/* Gives each draft another name, which its removal leaves. */
+static void keep_drafts(void)
+{
+    for (int file = 0; file < DESCRIPTORS; file++) {
+        char link_name[64];
+        snprintf(link_name, sizeof link_name, "/proc/self/fd/%d", file);
+        ssize_t length = readlink(link_name, drafts[file], PATH_MAX - 1);
+        drafts[file][length > 0 ? length : 0] = 0;
+        if (strstr(drafts[file], ".unfinished-") == NULL) {
+            drafts[file][0] = 0;
+            continue;
+        }
+        name_kept(drafts[file]);
+        if (link(drafts[file], kept) != 0)
+            _exit(123);
+    }
+}
+
+/* Gives each draft its name again; where it has taken its place, an empty file is there in its stead. */
+static void put_drafts_back(void)
+{
+    for (int file = 0; file < DESCRIPTORS; file++) {
+        struct stat draft, there;
+        if (drafts[file][0] == 0)
+            continue;
+        name_kept(drafts[file]);
+        unlink(drafts[file]);
+        if (rename(kept, drafts[file]) != 0 || stat(drafts[file], &draft) != 0)
+            _exit(123);
+        *strstr(kept, ".unfinished-") = 0;
+        if (stat(kept, &there) == 0 && there.st_ino == draft.st_ino)
+            if (unlink(kept) != 0 || close(creat(kept, 0644)) != 0)
+                _exit(123);
+    }
+}
+
 /* Whether this call is refused, which it is in the child. */
 static int is_refused(void)
 {
@@ -69,6 +119,7 @@ static int is_refused(void)
         return kind == REST;
     for (int file = 0; file < DESCRIPTORS; file++)
         at[file] = lseek(file, 0, SEEK_CUR);
+    keep_drafts();
     refused = 1;
     pid_t child = fork();
     if (child == 0)
@@ -77,6 +128,7 @@ static int is_refused(void)
         _exit(121);
     refused = 0;
     tell(status);
+    put_drafts_back();
     for (int file = 0; file < DESCRIPTORS; file++)
         if (at[file] >= 0 && (ftruncate(file, at[file]) == 0 || errno == EINVAL))
             lseek(file, at[file], SEEK_SET);

@@ -7,3 +7,4 @@ pub mod Outputs
 pub mod Programs
 pub mod Texts
 pub mod Works
+pub mod WholeStates

@@ -9,14 +9,12 @@ use Rattle.pac_run_command.specs.declared.failure.Target.{Target}
 use Rattle.pac_run_command.specs.declared.failure.Target.TheVariants.{Of, Rom}
 use Rattle.pac_run_command.specs.Programs.{Assembling}
 use Rattle.pac_run_files.specs.declared.files.FileKind.TheVariants.{Any}
-use Rattle.pac_run_files.specs.Files.{FindsFile, as_given, IsUnread, Handling, AllCreated, AllClosed, FirstUncreated}
+use Rattle.pac_run_files.specs.Files.{FindsFile, as_given, IsUnread, Handling, WantedOutput, AllBegun, AllClosed, FirstUnbegun}
+use Rattle.pac_run_files.specs.Files.{created_empty}
 
 -- ROM and listing, in the order in which they are created
-abbrev pub asm_outputs : AskedAsm → List (Target × List ℕ)
-asm_outputs asked = (Rom, asked.rom) ∷ (Of Listing, asked.listing) ∷ []
-
-abbrev pub asm_paths : AskedAsm → List (List ℕ)
-asm_paths asked = asked.rom ∷ asked.listing ∷ []
+abbrev pub asm_outputs : AskedAsm → List (WantedOutput Target)
+asm_outputs asked = created_empty Rom asked.rom ∷ created_empty (Of Listing) asked.listing ∷ []
 
 abbrev pub asm_output_files : {File : Type 0} → AsmOutputs File → List File
 asm_output_files outputs = outputs.rom ∷ outputs.listing ∷ []
@@ -28,7 +26,7 @@ pub record IsMade {Disk File : Type 0} (finds : FindsFile) (handling : Handling 
   pub source_is : finds Any asked.source (Some source)
   pub created : AsmOutputs File
   pub during : Disk
-  pub all_created : AllCreated handling old (asm_paths asked) (asm_output_files created) during
+  pub all_begun : AllBegun handling old (asm_outputs asked) (asm_output_files created) during
   pub left : AsmOutputs File
   pub assembled : assembles source answer created left
   pub all_closed : AllClosed handling during (asm_output_files left) new
@@ -40,7 +38,7 @@ pub record IsAsmUncreated {Disk File : Type 0} (finds : FindsFile) (handling : H
   pub source_is : finds Any asked.source (Some source)
   pub output : Target
   pub answer_is : answer ≡ Err (Write output 0)
-  pub first : FirstUncreated handling old (asm_outputs asked) output new
+  pub first : FirstUnbegun handling old (asm_outputs asked) output new
 
 -- the source can't be read, or memory ran out; a failure of no other kind
 abbrev pub IsUnreadable : FindsFile → List ℕ → Result Unit Failure → Type 0

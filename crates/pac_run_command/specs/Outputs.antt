@@ -1,8 +1,11 @@
 -- Believed: what the program does with the files of a run: which it reads, which it creates, what these have then, and
 -- how it ends.
-use Rattle.std.specs.Prelude.{◌≡◌, ◌⊎◌, ℕ, List, [], ◌∷◌, map, Option, Some, None, option_map, option_to_list, Result, Err}
+use Rattle.std.specs.Prelude.{◌≡◌, ◌⊎◌, ℕ, List, [], ◌∷◌, ◌++◌, map, Option, Some, None, option_map, option_to_list}
+use Rattle.std.specs.Prelude.{Bool, if◌then◌else◌, Result, Ok, Err}
+use Rattle.pac_run.specs.Saved.{file_size}
 use Rattle.pac_run_files.specs.declared.files.FileKind.TheVariants.{Any}
-use Rattle.pac_run_files.specs.Files.{FindsFile, WantedFile, FirstUnread, Handling, AllCreated, AllClosed, FirstUncreated}
+use Rattle.pac_run_files.specs.Files.{FindsFile, WantedFile, FirstUnread, Handling, WantedOutput, AllBegun, AllClosed, FirstUnbegun}
+use Rattle.pac_run_files.specs.Files.{created_empty, drafted}
 use Rattle.pac_run_files.specs.Read.{HasIfNamed, HasRead, PartUnread, played_files, watched_files, told_file, told_part}
 use Rattle.pac_run_files.specs.declared.given.Given.{Given}
 use Rattle.pac_run_files.specs.declared.parts.NamedFile.{NamedFile}
@@ -35,39 +38,61 @@ from_power_on asked = record { run = asked; load = None; save = None }
 
 -- ---- what is created
 
--- the outputs of a run, in the order in which they are created; the state is the last one, where a file is named for it
-abbrev pub state_output : Option (List ℕ) → List (Target × List ℕ)
-state_output None = []
-state_output (Some path) = (Of State, path) ∷ []
+-- The outputs of a run, in the order in which they are begun. Frames, wave and listing are created; the state is the last one, where a
+-- file is named for it, and is begun as a draft.
+abbrev pub state_output : Option (List ℕ) → List (WantedOutput Target)
+state_output named = map (drafted (Of State)) (option_to_list named)
 
-abbrev pub run_outputs : AskedPlay → List (Target × List ℕ)
+abbrev pub run_outputs : AskedPlay → List (WantedOutput Target)
 run_outputs asked =
-    (Of Frames, asked.run.frames) ∷ (Of Wave, asked.run.wave) ∷ (Of Listing, asked.run.listing) ∷ state_output asked.save
+    created_empty (Of Frames) asked.run.frames ∷ created_empty (Of Wave) asked.run.wave ∷ created_empty (Of Listing) asked.run.listing
+    ∷ state_output asked.save
 
-abbrev pub run_paths : AskedPlay → List (List ℕ)
-run_paths asked = asked.run.frames ∷ asked.run.wave ∷ asked.run.listing ∷ option_to_list asked.save
+abbrev pub film_files : {File : Type 0} → Outputs File → List File
+film_files outputs = outputs.frames ∷ outputs.wave ∷ outputs.listing ∷ []
 
 abbrev pub run_output_files : {File : Type 0} → Outputs File → List File
-run_output_files outputs = outputs.frames ∷ outputs.wave ∷ outputs.listing ∷ option_to_list outputs.state
+run_output_files outputs = film_files outputs ++ option_to_list outputs.state
 
--- the outputs were created, then the run was done, and then they were closed as it left them: no more is written to them
+-- ---- what becomes of the state
+
+-- A state that is whole takes the place of the file that was named for it. Where it can't, that is a refused write of the state, all
+-- of which was taken before.
+pub record IsPublished {Disk File : Type 0} (handling : Handling Disk File) (path : List ℕ) (draft : File) (outcome : Outcome) (old : Disk)
+    (answer : Result Outcome Failure) (new : Disk) : Type 0 where
+  pub done : Bool
+  pub published : handling.publishes old path draft done new
+  pub answer_is : answer ≡ (if done then Ok outcome else Err (Write (Of State) file_size))
+
+-- Of a run that is done the state takes its place, and that of a run that failed is thrown away.
+abbrev pub SettlesState : {Disk File : Type 0} → Handling Disk File → (named : Option (List ℕ)) → (draft : Option File) → Disk
+    → (ran answer : Result Outcome Failure) → Disk → Type 0
+SettlesState handling (Some path) (Some draft) old (Ok outcome) answer new = IsPublished handling path draft outcome old answer new
+SettlesState handling (Some path) (Some draft) old (Err failure) answer new = (answer ≡ Err failure) × handling.discards old path draft new
+SettlesState handling named draft old ran answer new = (answer ≡ ran) × (new ≡ old)
+
+-- The outputs were begun, then the run was done, then those that were created were closed as it left them, and no more is written to
+-- them; and last of all it was settled what becomes of the state.
 pub record IsPerformed {Disk File : Type 0} (handling : Handling Disk File) (performs : Performing File) (asked : AskedPlay) (given : Given)
     (parts : List NamedFile) (old : Disk) (answer : Result Outcome Failure) (new : Disk) : Type 0 where
   pub inputs : RunInputs
   pub inputs_are : IsInputs asked.run given parts inputs
   pub created : Outputs File
   pub during : Disk
-  pub all_created : AllCreated handling old (run_paths asked) (run_output_files created) during
+  pub all_begun : AllBegun handling old (run_outputs asked) (run_output_files created) during
   pub left : Outputs File
-  pub performed : performs answer inputs created left
-  pub all_closed : AllClosed handling during (run_output_files left) new
+  pub ran : Result Outcome Failure
+  pub performed : performs ran inputs created left
+  pub closed : Disk
+  pub all_closed : AllClosed handling during (film_files left) closed
+  pub settled : SettlesState handling asked.save left.state closed ran answer new
 
--- an output couldn't be created
+-- an output couldn't be begun
 pub record IsRunUncreated {Disk File : Type 0} (handling : Handling Disk File) (asked : AskedPlay) (old : Disk)
     (answer : Result Outcome Failure) (new : Disk) : Type 0 where
   pub output : Target
   pub answer_is : answer ≡ Err (Write output 0)
-  pub first : FirstUncreated handling old (run_outputs asked) output new
+  pub first : FirstUnbegun handling old (run_outputs asked) output new
 
 -- memory ran out before any output was created
 pub record IsUnmade {Disk : Type 0} (old : Disk) (answer : Result Outcome Failure) (new : Disk) : Type 0 where

@@ -5,8 +5,8 @@ ghost use Rattle.pac_listing.specs.Listing as texts;
 ghost use Rattle.pac_run.specs.Recorded.{WritesWholeText};
 ghost use Rattle.pac_run_options.specs.CommandLineProofs.{told_asm};
 ghost use Rattle.pac_run_command.specs.FailuresProofs.{Opens};
-ghost use Rattle.pac_run_files.specs.Files.{AllClosed, AllCreated, FirstUncreated};
-ghost use Rattle.pac_run_command.specs.Making.{Makes, asm_outputs, asm_paths, asm_output_files};
+ghost use Rattle.pac_run_files.specs.Files.{AllBegun, AllClosed, FirstUnbegun};
+ghost use Rattle.pac_run_command.specs.Making.{Makes, asm_outputs, asm_output_files};
 ghost use Rattle.pac_run.specs.Run.{writing};
 ghost use Rattle.pac_run_command.specs.Programs.{Assembles, assembling};
 
@@ -75,10 +75,8 @@ pub fn create_pair<D: FileSystem>(
     files: &AsmFiles,
 ) -> Result<AsmOutputs<D::File>, Failure<'static>>
     ensures { Opens
-        (λ outputs. AllCreated (record { creates = D.creates; closes = D.closes }) disk.old (asm_paths (told_asm files.now))
-        (asm_output_files outputs) disk.new)
-        (λ output. FirstUncreated (record { creates = D.creates; closes = D.closes }) disk.old (asm_outputs (told_asm files.now))
-        output disk.new) result }
+        (λ outputs. AllBegun D.handling disk.old (asm_outputs (told_asm files.now)) (asm_output_files outputs) disk.new)
+        (λ output. FirstUnbegun D.handling disk.old (asm_outputs (told_asm files.now)) output disk.new) result }
 {
     let Some(rom) = disk.create(files.rom) else {
         return Err(Failure::Write(Target::Rom, 0));
@@ -92,7 +90,7 @@ pub fn create_pair<D: FileSystem>(
 
 /// Closes the files of ROM and listing, in this order.
 fn close_pair<D: FileSystem>(disk: &mut D, outputs: AsmOutputs<D::File>)
-    ensures { AllClosed (record { creates = D.creates; closes = D.closes }) disk.old (asm_output_files outputs) disk.new }
+    ensures { AllClosed D.handling disk.old (asm_output_files outputs) disk.new }
 {
     disk.close(outputs.rom);
     disk.close(outputs.listing);
@@ -104,7 +102,7 @@ pub fn asm<'a, D: FileSystem>(
     disk: &mut D,
     files: &AsmFiles<'a>,
 ) -> Result<(), Failure<'a>>
-    ensures { Makes (D.finds disk.old) (record { creates = D.creates; closes = D.closes })
+    ensures { Makes (D.finds disk.old) D.handling
         (assembling D.File.took D.File.refused) (told_asm files.now) disk.old result disk.new }
 {
     let source = match read_file(alloc, disk, files.source) {

@@ -9,7 +9,7 @@ ghost use Rattle.pac_run_command.specs.Programs.{PerformsWatched, watching};
 
 use crate::failure::{Failure, failure_of, read_failure};
 use crate::given::inputs_of;
-use crate::play::{Outputs, close_outputs, create_outputs, end};
+use crate::play::{Outputs, close_film, create_outputs, end, settle_state};
 use crate::program::tell;
 use crate::teller::Teller;
 use pac_run::{Out, Outcome, RunInputs, Writers, debug_all};
@@ -69,7 +69,7 @@ pub fn record_watched<D: FileSystem, R: Out, T: Out>(
     commands: &[u8],
     named: &[NamedFile],
 ) -> Result<Outcome, Failure<'static>>
-    ensures { RecordsRun (record { creates = D.creates; closes = D.closes })
+    ensures { RecordsRun D.handling
         (watching D.File.took D.File.refused (writing R.took R.refused report.old report.new)
         (writing T.took T.refused text.old text.new) commands.now)
         ((report.new ≡ report.old) × (text.new ≡ text.old)) (from_power_on (told_run files.now.run)) given.now named.now
@@ -89,8 +89,8 @@ pub fn record_watched<D: FileSystem, R: Out, T: Out>(
         Err(failure) => return Err(failure),
     };
     let ran = debug_over(alloc, &inputs, commands, &mut outputs, report, text);
-    close_outputs(disk, outputs);
-    ran
+    let state = close_film(disk, outputs);
+    settle_state(disk, None, state, ran)
 }
 
 /// Runs what the files of a command line hold under a debugger, and answers the exit status. All is read before an output is
@@ -103,7 +103,7 @@ pub fn debug<D: FileSystem, R: Out, T: Out, C: Teller>(
     console: &mut C,
     files: &DebugFiles,
 ) -> u8
-    ensures watches { WatchesRun (D.finds disk.old) (record { creates = D.creates; closes = D.closes })
+    ensures watches { WatchesRun (D.finds disk.old) D.handling
         (watching D.File.took D.File.refused (writing R.took R.refused report.old report.new)
         (writing T.took T.refused text.old text.new))
         ((report.new ≡ report.old) × (text.new ≡ text.old))

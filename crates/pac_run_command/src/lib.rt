@@ -6,6 +6,7 @@ mod debug;
 mod dis;
 mod failure;
 mod given;
+pub mod laws;
 mod play;
 mod program;
 mod standard;

@@ -6,8 +6,9 @@ ghost use Rattle.pac_run_options.specs.CommandLineProofs.{told_play};
 ghost use Rattle.pac_run_command.specs.Endings.{RunEnds};
 ghost use Rattle.pac_run_command.specs.Failures as told;
 ghost use Rattle.pac_run_command.specs.FailuresProofs.{Opens};
-ghost use Rattle.pac_run_files.specs.Files.{AllClosed, AllCreated, FirstUncreated};
-ghost use Rattle.pac_run_command.specs.Outputs.{PlaysRun, RecordsRun, run_output_files, run_outputs, run_paths};
+ghost use Rattle.pac_run_files.specs.Files.{AllBegun, AllClosed, FirstUnbegun};
+ghost use Rattle.pac_run_command.specs.Outputs.{IsPublished, PlaysRun, RecordsRun, SettlesState, film_files};
+ghost use Rattle.pac_run_command.specs.Outputs.{run_output_files, run_outputs};
 ghost use Rattle.pac_run.specs.Run.{writing, writings};
 ghost use Rattle.pac_run.specs.Writes.{refused_if_there, took_if_there};
 ghost use Rattle.pac_run_command.specs.Programs.{PerformsRun, RunsOrResumes, performing};
@@ -77,16 +78,17 @@ pub struct Outputs<F> {
     pub state: Option<F>,
 }
 
-/// Creates the files of frames, wave and listing, in this order, and then that of the state, if one is named.
+/// The bytes of a state.
+const STATE_SIZE: u64 = 67_756;
+
+/// Creates the files of frames, wave and listing, in this order, and then begins the draft of the state, if a file is named for it.
 pub fn create_outputs<D: FileSystem>(
     disk: &mut D,
     files: &PlayFiles,
 ) -> Result<Outputs<D::File>, Failure<'static>>
     ensures { Opens
-        (λ outputs. AllCreated (record { creates = D.creates; closes = D.closes }) disk.old (run_paths (told_play files.now))
-        (run_output_files outputs) disk.new)
-        (λ output. FirstUncreated (record { creates = D.creates; closes = D.closes }) disk.old (run_outputs (told_play files.now))
-        output disk.new) result }
+        (λ outputs. AllBegun D.handling disk.old (run_outputs (told_play files.now)) (run_output_files outputs) disk.new)
+        (λ output. FirstUnbegun D.handling disk.old (run_outputs (told_play files.now)) output disk.new) result }
 {
     let Some(frames) = disk.create(files.run.frames) else {
         return Err(Failure::Write(Target::Of(Output::Frames), 0));
@@ -111,7 +113,7 @@ pub fn create_outputs<D: FileSystem>(
             });
         }
     };
-    let Some(state) = disk.create(path) else {
+    let Some(state) = disk.draft(path) else {
         disk.close(listing);
         disk.close(wave);
         disk.close(frames);
@@ -125,16 +127,51 @@ pub fn create_outputs<D: FileSystem>(
     })
 }
 
-/// Closes the files of frames, wave, listing and state, in this order.
-pub fn close_outputs<D: FileSystem>(disk: &mut D, outputs: Outputs<D::File>)
-    ensures { AllClosed (record { creates = D.creates; closes = D.closes }) disk.old (run_output_files outputs) disk.new }
+/// Closes the files of frames, wave and listing, in this order, and hands back the draft of the state, if there is one.
+pub fn close_film<D: FileSystem>(disk: &mut D, outputs: Outputs<D::File>) -> Option<D::File>
+    ensures closed { AllClosed D.handling disk.old (film_files outputs) disk.new }
+    ensures state { result ≡ outputs.state }
 {
     disk.close(outputs.frames);
     disk.close(outputs.wave);
     disk.close(outputs.listing);
-    match outputs.state {
-        Some(state) => disk.close(state),
-        None => {}
+    outputs.state
+}
+
+/// Puts the state of a run that is done in the place of the file that was named for it; where it can't be there, that is a refused write.
+fn publish_state<D: FileSystem>(
+    disk: &mut D,
+    path: &str,
+    draft: D::File,
+    outcome: Outcome,
+) -> Result<Outcome, Failure<'static>>
+    ensures { IsPublished D.handling path.now draft outcome disk.old result disk.new }
+{
+    if disk.publish(path, draft) {
+        Ok(outcome)
+    } else {
+        Err(Failure::Write(Target::Of(Output::State), STATE_SIZE))
+    }
+}
+
+/// Settles what becomes of the state: that of a run that is done takes its place, and that of a run that failed is thrown away.
+pub fn settle_state<D: FileSystem>(
+    disk: &mut D,
+    path: Option<&str>,
+    draft: Option<D::File>,
+    ran: Result<Outcome, Failure<'static>>,
+) -> Result<Outcome, Failure<'static>>
+    ensures { SettlesState D.handling (option_copied path.entry) draft disk.old ran.entry result disk.new }
+{
+    let (Some(path), Some(draft)) = (path, draft) else {
+        return ran;
+    };
+    match ran {
+        Ok(outcome) => publish_state(disk, path, draft, outcome),
+        Err(failure) => {
+            disk.discard(path, draft);
+            Err(failure)
+        }
     }
 }
 
@@ -158,7 +195,7 @@ fn run_over<F: Out, R: Out>(
     run_inputs(alloc, inputs, from, &mut to, &mut outputs.state)
 }
 
-/// Creates the outputs, runs what was read, and closes them.
+/// Begins the outputs, runs what was read, closes them, and settles what becomes of the state.
 pub fn record<D: FileSystem, R: Out>(
     alloc: Global,
     disk: &mut D,
@@ -168,7 +205,7 @@ pub fn record<D: FileSystem, R: Out>(
     from: Option<&[u8]>,
     named: &[NamedFile],
 ) -> Result<Outcome, Failure<'static>>
-    ensures { RecordsRun (record { creates = D.creates; closes = D.closes })
+    ensures { RecordsRun D.handling
         (performing D.File.took D.File.refused (writing R.took R.refused report.old report.new) (option_copied from.entry))
         (report.new ≡ report.old) (told_play files.now) given.now named.now disk.old result disk.new }
 {
@@ -181,8 +218,8 @@ pub fn record<D: FileSystem, R: Out>(
         Err(failure) => return Err(failure),
     };
     let ran = run_over(alloc, &inputs, from, &mut outputs, report);
-    close_outputs(disk, outputs);
-    ran
+    let state = close_film(disk, outputs);
+    settle_state(disk, files.save, state, ran)
 }
 
 /// The status of a run that ended or failed; a failure is told.
@@ -206,7 +243,7 @@ pub fn play<D: FileSystem, R: Out, C: Teller>(
     console: &mut C,
     files: &PlayFiles,
 ) -> u8
-    ensures plays { PlaysRun (D.finds disk.old) (record { creates = D.creates; closes = D.closes })
+    ensures plays { PlaysRun (D.finds disk.old) D.handling
         (performing D.File.took D.File.refused (writing R.took R.refused report.old report.new)) (report.new ≡ report.old)
         (record { tells = C.tells; explains = C.explains; old = console.old; new = console.new; status = result })
         (told_play files.now) disk.old disk.new }

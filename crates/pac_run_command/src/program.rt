@@ -21,7 +21,7 @@ use crate::standard::run_heard;
 use crate::teller::{HostConsole, Teller};
 use clap::error::ErrorKind;
 use pac_run::{Out, Output, Through};
-use pac_run_files::{FileSystem, HostFiles};
+use pac_run_files::{FileSystem, HostFile, HostFiles};
 use pac_run_options::{Request, options};
 use std::alloc::Global;
 use std::rt::{Env, Files};
@@ -34,12 +34,9 @@ pub fn run<R: Env + Files + Print + Eprint + AllocGlobal>(rt: &R) -> u8
     ensures status { result ≤ told.most_status }
     ensures runs { RunsOn (record {
       finds = ⟦<HostFiles<'static, R> as FileSystem>⟧.finds;
-      handling = record {
-        creates = ⟦<HostFiles<'static, R> as FileSystem>⟧.creates;
-        closes = ⟦<HostFiles<'static, R> as FileSystem>⟧.closes;
-      };
-      file_took = ⟦<Through<R::File> as Out>⟧.took;
-      file_refused = ⟦<Through<R::File> as Out>⟧.refused;
+      handling = ⟦<HostFiles<'static, R> as FileSystem>⟧.handling;
+      file_took = ⟦<HostFile<R::File> as Out>⟧.took;
+      file_refused = ⟦<HostFile<R::File> as Out>⟧.refused;
       stream_took = ⟦<Through<io::Printer<'static, R>> as Out>⟧.took;
       stream_refused = ⟦<Through<io::Printer<'static, R>> as Out>⟧.refused;
       tells = ⟦<HostConsole<'static, R> as Teller>⟧.tells;
@@ -82,7 +79,7 @@ pub(crate) fn work_unkept<D: FileSystem, C: Teller>(
     words: &[String],
 ) -> u8
     ensures status { result ≤ told.most_status }
-    ensures works { WorksUnkept (without_output (D.finds disk.old) (record { creates = D.creates; closes = D.closes })
+    ensures works { WorksUnkept (without_output (D.finds disk.old) D.handling
         (assembling D.File.took D.File.refused)
         (record { tells = C.tells; explains = C.explains; old = console.old; new = console.new; status = result }))
         (faults_of (map string_bytes words.now)) (request_of (map string_bytes words.now)) disk.old disk.new }
@@ -107,12 +104,9 @@ pub fn run_words<R: Files + AllocGlobal, C: Print + Eprint>(
         → told.IsWordsStatus (faults_of (map string_bytes words.now)) result }
     ensures works { WorksOn (record {
       finds = ⟦<HostFiles<'static, R> as FileSystem>⟧.finds;
-      handling = record {
-        creates = ⟦<HostFiles<'static, R> as FileSystem>⟧.creates;
-        closes = ⟦<HostFiles<'static, R> as FileSystem>⟧.closes;
-      };
-      file_took = ⟦<Through<R::File> as Out>⟧.took;
-      file_refused = ⟦<Through<R::File> as Out>⟧.refused;
+      handling = ⟦<HostFiles<'static, R> as FileSystem>⟧.handling;
+      file_took = ⟦<HostFile<R::File> as Out>⟧.took;
+      file_refused = ⟦<HostFile<R::File> as Out>⟧.refused;
       stream_took = ⟦<Through<io::Printer<'static, C>> as Out>⟧.took;
       stream_refused = ⟦<Through<io::Printer<'static, C>> as Out>⟧.refused;
       tells = ⟦<HostConsole<'static, C> as Teller>⟧.tells;
@@ -149,7 +143,7 @@ pub fn work<D: FileSystem, R: Out, T: Out, C: Teller>(
     ensures status { result ≤ told.most_status }
     ensures words { faults_of (map string_bytes words.now) ≢ []
         → told.IsWordsStatus (faults_of (map string_bytes words.now)) result }
-    ensures works { Works (desk_of (D.finds disk.old) (record { creates = D.creates; closes = D.closes }) D.File.took D.File.refused
+    ensures works { Works (desk_of (D.finds disk.old) D.handling D.File.took D.File.refused
         (writing R.took R.refused report.old report.new) (writing T.took T.refused text.old text.new)
         (record { tells = C.tells; explains = C.explains; old = console.old; new = console.new; status = result }))
         (faults_of (map string_bytes words.now)) (request_of (map string_bytes words.now)) disk.old disk.new }

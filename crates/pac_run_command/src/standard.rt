@@ -7,7 +7,7 @@ ghost use Rattle.pac_run_command.specs.Machine.{Hears};
 use crate::program::{run_words, work_unkept};
 use crate::teller::{HostConsole, Teller};
 use pac_run::{Out, Through};
-use pac_run_files::{FileSystem, HostFiles};
+use pac_run_files::{FileSystem, HostFile, HostFiles};
 use std::os::fd::AsRawFd;
 use std::rt::Files;
 use std::{fs, io};
@@ -63,12 +63,9 @@ pub(crate) fn run_heard<R: Files + Print + Eprint + AllocGlobal>(rt: &R, words: 
     ensures status { result ≤ told.most_status }
     ensures hears { Hears (record {
       finds = ⟦<HostFiles<'static, R> as FileSystem>⟧.finds;
-      handling = record {
-        creates = ⟦<HostFiles<'static, R> as FileSystem>⟧.creates;
-        closes = ⟦<HostFiles<'static, R> as FileSystem>⟧.closes;
-      };
-      file_took = ⟦<Through<R::File> as Out>⟧.took;
-      file_refused = ⟦<Through<R::File> as Out>⟧.refused;
+      handling = ⟦<HostFiles<'static, R> as FileSystem>⟧.handling;
+      file_took = ⟦<HostFile<R::File> as Out>⟧.took;
+      file_refused = ⟦<HostFile<R::File> as Out>⟧.refused;
       stream_took = ⟦<Through<io::Printer<'static, R>> as Out>⟧.took;
       stream_refused = ⟦<Through<io::Printer<'static, R>> as Out>⟧.refused;
       tells = ⟦<HostConsole<'static, R> as Teller>⟧.tells;

@@ -1,6 +1,7 @@
--- Believed: what reading the files of a command line comes to, and creating its outputs. A file system says by two
--- relations what a read of a path may find, `finds`, and what creating a file of a path, or failing to, leaves, `creates`.
-use Rattle.std.specs.Prelude.{◌≡◌, ◌≤◌, ◌⊎◌, ⊤, ℕ, List, [], ◌∷◌, ◌++◌, length, codes, unwrap_or, if◌then◌else◌, ◌==◌}
+-- Believed: what reading the files of a command line comes to, and beginning its outputs. A file system says by relations what a read of
+-- a path may find, and what each call that changes it leaves.
+use Rattle.std.specs.Prelude.{◌≡◌, ◌≤◌, ◌⊎◌, ⊤, ℕ, Bool, true, false, List, [], ◌∷◌, ◌++◌, length, codes, unwrap_or}
+use Rattle.std.specs.Prelude.{if◌then◌else◌, ◌==◌}
 use Rattle.std.specs.Prelude.{Vec, Option, Some, None, IfSome, Result, Ok, Err}
 use Rattle.std.specs.declared.alloc.Global.{Global}
 use Rattle.pac_run_files.specs.Names.{slash, is_within_folder}
@@ -89,27 +90,59 @@ abbrev pub FirstUnread : FindsFile → List WantedFile → List ℕ → Type 0
 FirstUnread finds [] name = ⊥
 FirstUnread finds (file ∷ more) name = IsUnread finds file name ⊎ (IsReadable finds file × FirstUnread finds more name)
 
--- ---- creating
+-- ---- writing
 
--- what creating a file of a path, or failing to, leaves
-abbrev pub Creates : (Disk File : Type 0) → Type 1
-Creates Disk File = Disk → (path : List ℕ) → Option File → Disk → Type 0
+-- what beginning a file of a path, or failing to, leaves
+abbrev pub BeginsFile : (Disk File : Type 0) → Type 1
+BeginsFile Disk File = Disk → (path : List ℕ) → Option File → Disk → Type 0
 
--- what closing a file leaves, by what was written to it
-abbrev pub Closes : (Disk File : Type 0) → Type 1
-Closes Disk File = Disk → File → Disk → Type 0
-
--- what a file system does with a file that is created
+-- What a file system leaves by each call that changes it: where a file of a path was created, or couldn't be; where it is closed as it
+-- is; where a draft for a path was begun, or couldn't be; where a draft took the place of the path's file, or couldn't; where a draft was
+-- thrown away.
 pub record Handling (Disk File : Type 0) : Type 1 where
-  pub creates : Creates Disk File
-  pub closes : Closes Disk File
+  pub creates : BeginsFile Disk File
+  pub closes : Disk → File → Disk → Type 0
+  pub drafts : BeginsFile Disk File
+  pub publishes : Disk → (path : List ℕ) → File → (done : Bool) → Disk → Type 0
+  pub discards : Disk → (path : List ℕ) → File → Disk → Type 0
 
--- files of these paths were created, one after another
-abbrev pub AllCreated : {Disk File : Type 0} → Handling Disk File → Disk → List (List ℕ) → List File → Disk → Type 0
-AllCreated handling old [] [] new = new ≡ old
-AllCreated {Disk} handling old (path ∷ paths) (file ∷ files) new =
-    (between : Disk) × handling.creates old path (Some file) between × AllCreated handling between paths files new
-AllCreated handling old paths files new = ⊥
+-- a file system of which no contract says what its calls leave
+abbrev pub nothing_known : {Disk File : Type 0} → Handling Disk File
+nothing_known = record {
+  creates = λ old path file new. ⊤;
+  closes = λ old file new. ⊤;
+  drafts = λ old path draft new. ⊤;
+  publishes = λ old path draft done new. ⊤;
+  discards = λ old path draft new. ⊤;
+}
+
+-- an output that is to be begun: which it is, its path, and whether it is begun as a draft
+pub record WantedOutput (Which : Type 0) : Type 0 where
+  pub output : Which
+  pub path : List ℕ
+  pub is_draft : Bool
+
+-- one that is created, or emptied; and one whose draft takes its place once it is whole
+abbrev pub created_empty : {Which : Type 0} → Which → (path : List ℕ) → WantedOutput Which
+created_empty output path = record { output = output; path = path; is_draft = false }
+
+abbrev pub drafted : {Which : Type 0} → Which → (path : List ℕ) → WantedOutput Which
+drafted output path = record { output = output; path = path; is_draft = true }
+
+-- what beginning it, or failing to, leaves
+abbrev pub begins_by : {Disk File : Type 0} → Handling Disk File → (is_draft : Bool) → BeginsFile Disk File
+begins_by handling true = handling.drafts
+begins_by handling false = handling.creates
+
+abbrev pub IsBegun : {Disk File Which : Type 0} → Handling Disk File → Disk → WantedOutput Which → Option File → Disk → Type 0
+IsBegun handling old wanted file new = begins_by handling wanted.is_draft old wanted.path file new
+
+-- these outputs were begun, one after another
+abbrev pub AllBegun : {Disk File Which : Type 0} → Handling Disk File → Disk → List (WantedOutput Which) → List File → Disk → Type 0
+AllBegun handling old [] [] new = new ≡ old
+AllBegun {Disk} handling old (wanted ∷ more) (file ∷ files) new =
+    (between : Disk) × IsBegun handling old wanted (Some file) between × AllBegun handling between more files new
+AllBegun handling old wanted files new = ⊥
 
 -- these files were closed, one after another
 abbrev pub AllClosed : {Disk File : Type 0} → Handling Disk File → Disk → List File → Disk → Type 0
@@ -117,11 +150,10 @@ AllClosed handling old [] new = new ≡ old
 AllClosed {Disk} handling old (file ∷ files) new =
     (between : Disk) × handling.closes old file between × AllClosed handling between files new
 
--- this is the first of these outputs whose file couldn't be created; those before it were, and are closed as they were created,
--- the last one first
-abbrev pub FirstUncreated : {Disk File Which : Type 0} → Handling Disk File → Disk → List (Which × List ℕ) → Which → Disk → Type 0
-FirstUncreated handling old [] output new = ⊥
-FirstUncreated {Disk} {File} handling old (target ∷ more) output new =
-    ((output ≡ target.0) × handling.creates old target.1 None new)
-    ⊎ ((file : File) × (created : Disk) × handling.creates old target.1 (Some file) created
-    × (left : Disk) × FirstUncreated handling created more output left × handling.closes left file new)
+-- this is the first of these outputs that couldn't be begun; those before it were, and are closed as they were begun, the last one first
+abbrev pub FirstUnbegun : {Disk File Which : Type 0} → Handling Disk File → Disk → List (WantedOutput Which) → Which → Disk → Type 0
+FirstUnbegun handling old [] output new = ⊥
+FirstUnbegun {Disk} {File} handling old (wanted ∷ more) output new =
+    ((output ≡ wanted.output) × IsBegun {File = File} handling old wanted None new)
+    ⊎ ((file : File) × (begun : Disk) × IsBegun handling old wanted (Some file) begun
+    × (left : Disk) × FirstUnbegun handling begun more output left × handling.closes left file new)

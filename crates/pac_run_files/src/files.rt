@@ -1,16 +1,13 @@
 //! Files, as the program sees them: they are read whole, up to a size, and created empty.
 
-ghost use Rattle.std.specs.Prelude.{ℕ, ◌-◌, ◌<◌, ◌^◌, List, Option, ⊤};
+ghost use Rattle.std.specs.Prelude.{ℕ, ◌-◌, ◌<◌, ◌^◌, List, Option};
 ghost use Rattle.pac_run_files.specs.declared.files.FileKind.{FileKind};
-ghost use Rattle.pac_run_files.specs.Files.{IsFound, IsOfMachine, most_read};
+ghost use Rattle.pac_run_files.specs.Files.{Handling, IsFound, most_read};
 ghost use Rattle.pac_run_files.specs.FilesProofs.{IsReadWhole};
 
 use pac_out::Out;
-use pac_out::through::Through;
 use std::alloc::Global;
-use std::fs;
 use std::io::{ErrorKind, Read};
-use std::rt::Files;
 
 /// The most bytes of a file that is read: 16 MiB.
 const MOST_BYTES: u64 = 16_777_216;
@@ -58,20 +55,16 @@ pub fn read_whole<R: Read + Drop>(alloc: Global, reader: R) -> Result<Vec<u8>, R
 
 /// Where files are. Reading one changes nothing.
 ///
-/// A file system says by relations what a read of a path may find, what is left when a file of a path was created, or couldn't
-/// be, and what is left when a file that was created is closed with what was written to it.
+/// A file system says by relations what a read of a path may find, and what is left of it by each call that changes it.
 pub trait FileSystem {
-    /// A file that was created.
+    /// A file that is written: one that was created, or a draft.
     type File: Out + Drop;
 
     /// A read of this path may find these bytes, or none that can be had, where a file of this kind is wanted.
     ghost finds: { Self → FileKind → List ℕ → Option (List ℕ) → Type 0 };
 
-    /// What is left where a file of this path was created, or couldn't be.
-    ghost creates: { Self → List ℕ → Option Self.File → Self → Type 0 };
-
-    /// What is left where a file is closed as it is.
-    ghost closes: { Self → Self.File → Self → Type 0 };
+    /// What the calls below leave.
+    ghost handling: { Handling Self Self.File };
 
     /// The bytes of a file of at most 16 MiB.
     fn read(&self, alloc: Global, kind: FileKind, path: &str) -> Result<Vec<u8>, ReadError>
@@ -79,62 +72,22 @@ pub trait FileSystem {
 
     /// Creates a file, or empties it.
     fn create(&mut self, path: &str) -> Option<Self::File>
-        ensures { creates self.old path.now result self.new };
+        ensures { handling.creates self.old path.now result self.new };
 
     /// Closes a file that was created: no more is written to it.
     fn close(&mut self, file: Self::File)
-        ensures { closes self.old file self.new };
-}
+        ensures { handling.closes self.old file self.new };
 
-/// The files of the machine that the program runs on. No contract says what they hold.
-#[derive(Clone, Copy)]
-pub struct HostFiles<'a, R> {
-    /// The program's runtime.
-    pub rt: &'a R,
-}
+    /// Begins a draft: a file that is to take the place of a path's file once it is whole.
+    fn draft(&mut self, path: &str) -> Option<Self::File>
+        ensures { handling.drafts self.old path.now result self.new };
 
-impl<R: Files> FileSystem for HostFiles<'_, R> {
-    type File = Through<R::File>;
+    /// Puts a draft, as it is, in the place of its path's file, and answers whether it is there for good. Where it isn't, the draft is thrown
+    /// away.
+    fn publish(&mut self, path: &str, draft: Self::File) -> bool
+        ensures { handling.publishes self.old path.now draft result self.new };
 
-    ghost finds = { λ files kind path found. IsOfMachine R.File.remaining found };
-
-    ghost creates = { λ old path file new. ⊤ };
-
-    ghost closes = { λ old file new. ⊤ };
-
-    /// Opens the file and reads it whole. Only a plain file is opened where one is wanted: the opening of a pipe may wait for
-    /// a writer.
-    fn read(&self, alloc: Global, kind: FileKind, path: &str) -> Result<Vec<u8>, ReadError> {
-        if !is_of_kind(self.rt, kind, path) {
-            return Err(ReadError::Unreadable);
-        }
-        match fs::open(self.rt, path) {
-            Ok(file) => read_whole(alloc, file),
-            Err(_) => Err(ReadError::Unreadable),
-        }
-    }
-
-    /// Creates the file, or empties it.
-    fn create(&mut self, path: &str) -> Option<Through<R::File>> {
-        match fs::create(self.rt, path) {
-            Ok(file) => Some(Through { inner: file }),
-            Err(_) => None,
-        }
-    }
-
-    /// Drops the file, which closes it.
-    fn close(&mut self, file: Through<R::File>) {
-        drop(file);
-    }
-}
-
-/// Whether what stands at a path is of this kind.
-fn is_of_kind<R: Files>(rt: &R, kind: FileKind, path: &str) -> bool {
-    match kind {
-        FileKind::Any => true,
-        FileKind::Plain => match fs::metadata(rt, path) {
-            Ok(found) => found.is_file(),
-            Err(_) => false,
-        },
-    }
+    /// Throws a draft away.
+    fn discard(&mut self, path: &str, draft: Self::File)
+        ensures { handling.discards self.old path.now draft self.new };
 }

@@ -41,7 +41,7 @@ pub fn manifest_in(alloc: Global, bytes: &[u8]) -> Result<Option<Manifest>, Allo
 }
 
 /// The folder of a file: its path up to the last slash, or the present folder.
-fn folder_of(path: &str) -> &str
+pub(crate) fn folder_of(path: &str) -> &str
     ensures { result.now ≡ folder_of path.now }
 {
     match path.rsplit_once('/') {

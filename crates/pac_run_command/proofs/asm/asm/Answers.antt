@@ -7,7 +7,7 @@ returns g c = inl (record {
   source_is = (search rules);
   created = c.in-Ok-create_pair.outputs;
   during = c.create_pair.new.disk;
-  all_created = c.in-Ok-create_pair.ensures;
+  all_begun = c.in-Ok-create_pair.ensures;
   left = record { rom = c.write_program-done.new.rom; listing = c.write_program-done.new.listing };
   assembled = c.write_program-done.ensures;
   all_closed = c.close_pair.ensures;

@@ -13,29 +13,29 @@ returns-in-None g c = (
 )
 
 -- the files of frames, wave and listing are closed, the last one first
-pub returns-in_default-create-3 : goal.returns-in_default-create-3
-returns-in_default-create-3 g c = (
+pub returns-in_default-draft : goal.returns-in_default-draft
+returns-in_default-draft g c = (
   refl,
   inr (
     c.in-Some.frames,
     c.create.new.self,
     c.in-Some.ensures,
-    c.close-in_default-create-3-2.new.self,
+    c.close-in_default-draft-2.new.self,
     inr (
       c.in-Some-create.wave,
       c.create-2.new.self,
       c.in-Some-create.ensures,
-      c.close-in_default-create-3.new.self,
+      c.close-in_default-draft.new.self,
       inr (
         c.in-Some-create-2.listing,
         c.create-3.new.self,
         c.in-Some-create-2.ensures,
-        c.create-4.new.self,
-        rw c.in-Some-save.is (inl (refl, c.in_default-create-3.ensures)),
-        c.close-in_default-create-3.ensures,
+        c.draft.new.self,
+        rw c.in-Some-save.is (inl (refl, c.in_default-draft.ensures)),
+        c.close-in_default-draft.ensures,
       ),
-      c.close-in_default-create-3-2.ensures,
+      c.close-in_default-draft-2.ensures,
     ),
-    c.close-in_default-create-3-3.ensures,
+    c.close-in_default-draft-3.ensures,
   ),
 )

@@ -7,8 +7,11 @@ returns g c = inl (record {
   inputs_are = c.inputs_of-inputs.ensures.inputs c.args.named.now (search rules);
   created = c.in-Ok-create_outputs.outputs;
   during = c.create_outputs.new.disk;
-  all_created = c.in-Ok-create_outputs.ensures;
+  all_begun = c.in-Ok-create_outputs.ensures;
   left = c.run_over-ran.new.outputs;
+  ran = c.run_over-ran.result;
   performed = c.run_over-ran.ensures;
-  all_closed = c.close_outputs.ensures;
+  closed = c.close_film-state.new.disk;
+  all_closed = c.close_film-state.ensures.closed;
+  settled = rw (← c.close_film-state.ensures.state) c.settle_state.ensures;
 })
