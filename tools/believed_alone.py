@@ -68,6 +68,9 @@ def import_line(below: Below, item: antt.Import) -> str | None:
         alias = f" as {item.here}" if path.rpartition(".")[2] != item.here else ""
         return f"use {path}{alias}" if path else None
     ref_found = whole.item(module, item.name)
+    if ref_found is not None and module.part == "TheType":
+        path = module_path(ref_found).replace(".declared.", ".contracts.")
+        return f"use {path}.{{{item.name}}}" if ref_found in below.cites else None
     alias = f" as {item.here}" if item.here != item.name else ""
     if ref_found is None:
         return None

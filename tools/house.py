@@ -42,7 +42,7 @@ class Module(NamedTuple):
     kind: str  # file, type, constants, kit
     crate: str
     name: str
-    part: str = ""  # of a type: TheVariants, TheInside
+    part: str = ""  # of a type: TheVariants, TheInside, TheType
 
 
 @dataclasses.dataclass
@@ -148,6 +148,9 @@ class House:
                 return Module("constants", crate, ".".join(names))
             part_of = next((name for name in rest[1:] if name.startswith("The")), "")
             return Module("type", crate, names[-1], part_of) if names else None
+        # what the kit makes of a type for its contracts: `the_type`, which its `==` asks for
+        if rest and rest[0] == "contracts" and rest[-1] in self.types:
+            return Module("type", crate, rest[-1], "TheType")
         for size in range(len(rest), 0, -1):
             key = ".".join(rest[:size])
             if (crate, key) in self.passed_on and part == "specs":

@@ -1,13 +1,12 @@
 -- The reserved words are distinct, and all that are reserved.
-use Rattle.std.proofs.Common.{◌≡◌, ℕ, true, ◌||◌, List, ◌++◌, map, refl, sym, ◌∙◌, ap}
+use Rattle.std.proofs.Common.{◌≡◌, ℕ, true, ◌||◌, List, ◌++◌, refl, sym, ◌∙◌, ap}
 use Rattle.std.specs.Prelude.{is_some}
 use Rattle.std.specs.List.{list_any}
 use Rattle.std.specs.Map.{keys_of}
 use Rattle.std.proofs.lemmas.List.Folds.{list_any-append}
 use Rattle.std.proofs.lemmas.Map.Made.{is_some-lookup}
-use Rattle.pac_lemmas.proofs.Searches.{list_any-find, list_any-map}
 use Rattle.pac_lemmas.proofs.Distinct.{is_distinct, distinct-by-test}
-use Rattle.pac_table_names.specs.Names.{is_written, name_of, text_of_name, every_name}
+use Rattle.pac_table_names.specs.Names.{is_written, name_of, name_texts}
 use Rattle.pac_table_names.specs.Words.{operation_names}
 use Rattle.pac_table_names.proofs.Distinct.{operation_names_are_distinct}
 use Rattle.pac_asm_operation.specs.Directives.{directive_names, directive_of, is_directive}
@@ -18,11 +17,9 @@ test : is_distinct is_written reserved_words ≡ true
 unfolding is_distinct operation_names
 test = refl
 
-named : (word : List ℕ) → is_some (name_of word) ≡ list_any (is_written word) (map text_of_name every_name)
+named : (word : List ℕ) → is_some (name_of word) ≡ list_any (is_written word) (keys_of name_texts)
 unfolding name_of
-named word =
-    sym (list_any-find (λ some. is_written word (text_of_name some)) every_name)
-    ∙ sym (list_any-map (is_written word) text_of_name every_name)
+named word = is_some-lookup (is_written word) name_texts
 
 directed : (word : List ℕ) → is_directive word ≡ list_any (is_written word) (keys_of directive_names)
 unfolding directive_of
@@ -32,10 +29,10 @@ all-of : (word : List ℕ) → is_reserved word ≡ list_any (is_written word) r
 all-of word =
     ap (λ b. b || is_some (name_of word) || is_directive word) (operation_names_are_distinct.all word) ∙
     ap (λ b. list_any (is_written word) operation_names || b || is_directive word) (named word) ∙
-    ap (λ b. list_any (is_written word) operation_names || list_any (is_written word) (map text_of_name every_name) || b) (directed word) ∙
+    ap (λ b. list_any (is_written word) operation_names || list_any (is_written word) (keys_of name_texts) || b) (directed word) ∙
     ap (λ b. b || list_any (is_written word) (keys_of directive_names))
-    (sym (list_any-append (is_written word) operation_names (map text_of_name every_name))) ∙
-    sym (list_any-append (is_written word) (operation_names ++ map text_of_name every_name) (keys_of directive_names))
+    (sym (list_any-append (is_written word) operation_names (keys_of name_texts))) ∙
+    sym (list_any-append (is_written word) (operation_names ++ keys_of name_texts) (keys_of directive_names))
 
 pub reserved_words_are_distinct : ReservedWordsAreDistinct
 reserved_words_are_distinct = record { distinct = distinct-by-test is_written reserved_words test; all = all-of }

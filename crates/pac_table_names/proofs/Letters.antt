@@ -5,11 +5,16 @@ use Rattle.std.specs.List.{filter}
 use Rattle.pac_lemmas.proofs.Letters.{same-first-letter}
 use Rattle.pac_lemmas.proofs.Searches.{find-filter}
 use Rattle.pac_table.specs.declared.operands.Name.{Name}
-use Rattle.pac_table_names.specs.Names.{is_written, text_of_name, every_name, name_of}
-use Rattle.pac_table_names.specs.WordsProofs.{begins_name}
+use Rattle.pac_table_names.specs.Names.{is_written, text_of_name, name_of}
+use Rattle.pac_table_names.specs.WordsProofs.{begins_name, every_name}
 
 written-begins : (b : ℕ) (rest : List ℕ) (some : Name) → is_written (b ∷ rest) (text_of_name some) ≡ true → begins_name b some ≡ true
 written-begins b rest some is = same-first-letter b rest (text_of_name some) is
+
+-- the name that a word is, by a search of the names
+pub name-found : (word : List ℕ) → find (λ some. is_written word (text_of_name some)) every_name ≡ name_of word
+unfolding name_of
+name-found word = refl
 
 -- no word at all is no name
 pub no-letter : (word : List ℕ) → None ≡ slice_get word 0 → None ≡ name_of word
@@ -20,9 +25,9 @@ no-letter (b ∷ rest) is = absurd (cc)
 -- a word is one of the names that begin with its letter, or none
 pub with-letter : (word : List ℕ) (b : ℕ) → Some b ≡ slice_get word 0 →
     find (λ some. is_written word (text_of_name some)) (filter (begins_name b) every_name) ≡ name_of word
-unfolding name_of
 with-letter [] b is = absurd (cc)
 with-letter (x ∷ rest) b is =
     let same : b ≡ x = cc in
     ap (λ (y : ℕ). find (λ some. is_written (x ∷ rest) (text_of_name some)) (filter (begins_name y) every_name)) same ∙
-    find-filter (λ some. is_written (x ∷ rest) (text_of_name some)) (begins_name x) every_name (written-begins x rest)
+    find-filter (λ some. is_written (x ∷ rest) (text_of_name some)) (begins_name x) every_name (written-begins x rest) ∙
+    name-found (x ∷ rest)

@@ -1,5 +1,4 @@
 pub mod Index
-pub mod SameNames
 pub mod Distinct
 pub mod Longer
 pub mod Letters

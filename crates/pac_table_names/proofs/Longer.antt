@@ -8,10 +8,11 @@ use Rattle.std.proofs.lemmas.Bool.{and_parts, cases_Bool, cond-false, leb-true}
 use Rattle.std.proofs.lemmas.List.{length-map}
 use Rattle.std.proofs.lemmas.Slice.Eq.{bytes_eq-Decides}
 use Rattle.pac_table.specs.Table.{table}
-use Rattle.pac_table_names.specs.Names.{is_written, text_of_name, every_name, name_of}
+use Rattle.pac_table_names.specs.Names.{is_written, text_of_name, name_of}
+use Rattle.pac_table_names.proofs.Letters.{name-found}
 use Rattle.pac_table_names.specs.ByName.{rows_named, family_value}
 use Rattle.pac_table_names.specs.Words.{operation_names}
-use Rattle.pac_table_names.specs.WordsProofs.{word_list, letters_of, is_text}
+use Rattle.pac_table_names.specs.WordsProofs.{every_name, word_list, letters_of, is_text}
 
 pub not-longer : (word name : List ℕ) (most : ℕ) → length name ≤ most → most < length word → is_written word name ≡ false
 not-longer word name most within longer =
@@ -36,8 +37,7 @@ none-longer name_in word most (x ∷ xs) all longer =
     none-longer name_in word most xs parts.1 longer
 
 pub no-name : (word : List ℕ) → 2 < length word → name_of word ≡ None
-unfolding name_of
-no-name word longer = none-longer text_of_name word 2 every_name refl longer
+no-name word longer = sym (name-found word) ∙ none-longer text_of_name word 2 every_name refl longer
 
 within-four : list_all (λ name. nat_le (length (letters_of name)) 4) word_list ≡ true
 unfolding word_list operation_names rows_named family_value table

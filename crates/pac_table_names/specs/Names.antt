@@ -4,7 +4,11 @@
 use Rattle.std.specs.Prelude.{ℕ, ◌==◌, Bool, false, ◌||◌, if◌then◌else◌, List, [], ◌∷◌, get_or, codes}
 use Rattle.std.specs.Prelude.{Option, Some, None, is_some, position, find}
 use Rattle.std.specs.List.{list_any}
+use Rattle.std.specs.Map.{lookup}
+use Rattle.std.specs.Option.{option_map_or}
 use Rattle.std.specs.Str.{str_eq_ignore_ascii_case}
+use denote.Enum.Bare.{sameb}
+use Rattle.pac_table.specs.contracts.operands.Name.{the_type}
 use Rattle.pac_table.specs.declared.operands.Mnemonic.{Mnemonic}
 use Rattle.pac_table.specs.declared.operands.Mnemonic.TheVariants as mnemonic
 use Rattle.pac_table.specs.declared.operands.Shape.{Shape}
@@ -35,41 +39,26 @@ unfoldable pub is_operation : List ℕ → Bool
 is_operation word = list_any (λ row. is_some (value_named row.operands.mnemonic word)) table
 
 -- how registers, pairs and conditions are written
-abbrev pub text_of_name : Name → List ℕ
-text_of_name name.A = codes "A"
-text_of_name name.B = codes "B"
-text_of_name name.C = codes "C"
-text_of_name name.D = codes "D"
-text_of_name name.E = codes "E"
-text_of_name name.H = codes "H"
-text_of_name name.L = codes "L"
-text_of_name name.I = codes "I"
-text_of_name name.R = codes "R"
-text_of_name name.Af = codes "AF"
-text_of_name name.Bc = codes "BC"
-text_of_name name.De = codes "DE"
-text_of_name name.Hl = codes "HL"
-text_of_name name.Sp = codes "SP"
-text_of_name name.Ix = codes "IX"
-text_of_name name.Iy = codes "IY"
-text_of_name name.Nz = codes "NZ"
-text_of_name name.Z = codes "Z"
-text_of_name name.Nc = codes "NC"
-text_of_name name.Po = codes "PO"
-text_of_name name.Pe = codes "PE"
-text_of_name name.P = codes "P"
-text_of_name name.M = codes "M"
-
--- all of these names
-abbrev pub every_name : List Name
-every_name =
-    name.A ∷ name.B ∷ name.C ∷ name.D ∷ name.E ∷ name.H ∷ name.L ∷ name.I ∷ name.R ∷
-    name.Af ∷ name.Bc ∷ name.De ∷ name.Hl ∷ name.Sp ∷ name.Ix ∷ name.Iy ∷
-    name.Nz ∷ name.Z ∷ name.Nc ∷ name.Po ∷ name.Pe ∷ name.P ∷ name.M ∷ []
+abbrev pub name_texts : List (List ℕ × Name)
+name_texts =
+    (codes "A", name.A) ∷ (codes "B", name.B) ∷ (codes "C", name.C) ∷ (codes "D", name.D) ∷ (codes "E", name.E) ∷ (codes "H", name.H) ∷
+    (codes "L", name.L) ∷ (codes "I", name.I) ∷ (codes "R", name.R) ∷
+    (codes "AF", name.Af) ∷ (codes "BC", name.Bc) ∷ (codes "DE", name.De) ∷ (codes "HL", name.Hl) ∷ (codes "SP", name.Sp) ∷
+    (codes "IX", name.Ix) ∷ (codes "IY", name.Iy) ∷
+    (codes "NZ", name.Nz) ∷ (codes "Z", name.Z) ∷ (codes "NC", name.Nc) ∷ (codes "PO", name.Po) ∷ (codes "PE", name.Pe) ∷
+    (codes "P", name.P) ∷ (codes "M", name.M) ∷ []
 
 -- the register, pair or condition that a word names, if it names one; C is both a register and a condition
 unfoldable pub name_of : List ℕ → Option Name
-name_of word = find (λ some. is_written word (text_of_name some)) every_name
+name_of word = lookup (is_written word) name_texts
+
+-- two names are one
+abbrev pub is_same_name : Name → Name → Bool
+is_same_name one other = sameb the_type one other
+
+-- how a name is written
+abbrev pub text_of_name : Name → List ℕ
+text_of_name some = option_map_or (λ entry. entry.0) (find (λ entry. is_same_name entry.1 some) name_texts) []
 
 -- what the values of a field name; among the registers 6 is none
 abbrev pub names_in : NameList → List (Option Name)
@@ -86,10 +75,6 @@ names_in list.RelativeConditions = Some name.Nz ∷ Some name.Z ∷ Some name.Nc
 -- the name of a field's value
 abbrev pub name_at : NameList → ℕ → Option Name
 name_at names value = get_or (names_in names) value None
-
--- two names are one
-abbrev pub is_same_name : Name → Name → Bool
-is_same_name one other = is_written (text_of_name one) (text_of_name other)
 
 abbrev pub is_entry_name : Name → Option Name → Bool
 is_entry_name one None = false

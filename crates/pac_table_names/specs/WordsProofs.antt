@@ -6,7 +6,8 @@ use Rattle.pac_table_names.specs.Words.{operation_names}
 use Rattle.pac_table_names.specs.declared.by_name.Word.{Word}
 use Rattle.std.specs.Char.{to_ascii_lowercase}
 use Rattle.pac_table.specs.declared.operands.Name.{Name}
-use Rattle.pac_table_names.specs.Names.{text_of_name, is_written}
+use Rattle.std.specs.Map.{values_of}
+use Rattle.pac_table_names.specs.Names.{name_texts, text_of_name, is_written}
 
 -- the rows of each name, one after another
 unfoldable pub row_list : List ℕ
@@ -44,6 +45,10 @@ letters_of name = take name.length name.letters
 -- whether a name begins with a letter, in either case
 abbrev pub begins_with : ℕ → Word → Bool
 begins_with letter name = to_ascii_lowercase (slice_index name.letters 0) == to_ascii_lowercase letter
+
+-- all names of registers, pairs and conditions
+abbrev pub every_name : List Name
+every_name = values_of name_texts
 
 -- whether the name of a register, a pair or a condition begins with a letter, in either case
 abbrev pub begins_name : ℕ → Name → Bool
