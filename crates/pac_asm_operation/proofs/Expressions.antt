@@ -11,7 +11,7 @@ use Rattle.pac_lex.specs.declared.token.TokenKind.TheVariants as kinds
 use Rattle.pac_lex.specs.Tokens.{Lexeme}
 use Rattle.pac_lex.specs.TokensProofs.{views}
 use Rattle.pac_lex.specs.TextsProofs.{one_character}
-use Rattle.pac_expr.specs.Trees.{Tree, atom, group, signed, joined, here, Mark, opening, closing, single, other, kind_mark, marks_of, spelling}
+use Rattle.pac_expr.specs.Trees.{Tree, atom, group, signed, joined, here, Mark, opening, closing, kind_mark, marks_of, spelling}
 use Rattle.pac_expr.specs.Trees as trees
 use Rattle.pac_expr.specs.ParsingProofs.{tree_of}
 use Rattle.pac_expr.specs.Parsing.{tree_in}
@@ -59,11 +59,11 @@ closes-mark : (kind : TokenKind) (text : List ℕ) → closes kind ≡ true → 
 closes-mark kinds.Close text is = refl
 closes-mark _ text is = absurd (false≢true is)
 
-text-opens : (character : Option ℕ) → option_map_or (λ c. single (trees.character c)) character other ≡ opening → ⊥
+text-opens : (character : Option ℕ) → option_map_or (λ c. trees.single (trees.character c)) character trees.other ≡ opening → ⊥
 text-opens None is = absurd (cc)
 text-opens (Some c) is = absurd (cc)
 
-text-closes : (character : Option ℕ) → option_map_or (λ c. single (trees.character c)) character other ≡ closing → ⊥
+text-closes : (character : Option ℕ) → option_map_or (λ c. trees.single (trees.character c)) character trees.other ≡ closing → ⊥
 text-closes None is = absurd (cc)
 text-closes (Some c) is = absurd (cc)
 

@@ -8,6 +8,8 @@ use Rattle.pac_cpu.specs.declared.once.Once.{Once}
 use Rattle.pac_cpu.specs.declared.once.Stop.{Stop}
 use Rattle.pac_map.specs.Entry.{Entry}
 use Rattle.pac_map.specs.View.{held_with, held_without}
+use Rattle.pac_cpu.specs.Tabulate.{tabulate}
+use Rattle.pac_picture.specs.Tiles.{height}
 use Rattle.pac_map.specs.RomParts.{Parts, IsWhole}
 use Rattle.pac_board_model.specs.BoardView.{IsBoard}
 use Rattle.pac_board_model.specs.Carried.{moment_view}
@@ -16,7 +18,7 @@ use Rattle.pac_board_model.specs.Host.{Act, StepOn, ResetBoard, HoldToo, LetGo, 
 use Rattle.pac_board_model.specs.Host.{account_by_view, host_at, after_acts}
 use Rattle.pac_board_model.specs.Laws.{HasLinesInTime}
 use Rattle.pac_board_model.specs.Output.{Output}
-use Rattle.pac_board_model.specs.Shown.{lines_at}
+use Rattle.pac_board_model.specs.Shown.{line_at}
 use Rattle.pac_board.specs.declared.exec.Ran.{Ran}
 use Rattle.pac_board.specs.declared.fault.Fault.{Fault}
 use Rattle.pac_board.specs.declared.fault.Fault.TheVariants.{TooFar, Refused}
@@ -218,7 +220,8 @@ pub record IsOfTheHistory (old : HostedBoard) (told : Host (List Entry)) (calls 
   pub kept : map (λ (state : BoardState). state.now) (drop (length old.kept) new.kept)
       ≡ map (moment_view (board_after_entries old.board.set old.board.state.now.board)) told.kept
   -- each line of its picture is as it was last composed, and lines were composed at their moments and at no others
-  pub picture : new.board.state.now.board.lines ≡ lines_at old.board.set old.board.state.now.board told.now.board
+  pub picture : new.board.state.now.board.lines 
+      ≡ tabulate height (line_at old.board.set old.board.state.now.board told.now.board)
   pub lines : HasLinesInTime old.board.set old.board.state.now.board old.board.state.now.time told.now
   -- where it wasn't brought back, the sinks took what was due and what the history's steps gave, once and in order, or it is due
   pub outputs : goes_back calls ≡ false → due_outputs old.board ++ told.outputs ≡ taken ++ due_outputs new.board

@@ -1,5 +1,5 @@
 -- A step and a run over one account of the board are those over the other, seen through the view.
-use Rattle.std.proofs.Common.{◌≡◌, ℕ, zero, suc, List, [], ◌∷◌, ◌++◌, ◌+◌, ◌-◌, ◌*◌, ◌/◌, ◌%◌, ◌==◌, ◌&&◌, nat_le, Option, None, Some}
+use Rattle.std.proofs.Common.{fold, ◌≡◌, ℕ, zero, suc, List, [], ◌∷◌, ◌++◌, ◌+◌, ◌-◌, ◌*◌, ◌/◌, ◌%◌, ◌==◌, ◌&&◌, nat_le, Option, None, Some}
 use Rattle.std.proofs.Common.{Bool, true, false, cond, refl, ap, ◌∙◌}
 use Rattle.pac_cpu.specs.Action.{Action}
 use Rattle.pac_cpu.specs.Regs.{Regs}
@@ -11,7 +11,7 @@ use Rattle.pac_cpu.specs.Step.{CpuStep, Steps, Stops, cpu_step}
 use Rattle.pac_map.specs.Entry.{Entry, Sample, Line, Blank, Accept, Reset, Hold, entries_of}
 use Rattle.pac_map.specs.Lookups.{port_byte}
 use Rattle.pac_board_model.specs.Output.{Sound, Show}
-use Rattle.pac_board_model.specs.Step.{Questions, Moment, StepProgress, Next, Goes, Ends, put_all, put_actions, put_kind, surroundings}
+use Rattle.pac_board_model.specs.Step.{Questions, Moment, StepProgress, Next, Goes, Ends, put_actions, put_kind, surroundings}
 use Rattle.pac_board_model.specs.Step.{note, give}
 use Rattle.pac_board_model.specs.Step.{sample_ticks, line_ticks, frame_ticks, hidden_lines, scan_line, scan_frame, sample_event}
 use Rattle.pac_board_model.specs.Step.{line_event, reset_event, watchdog_event}
@@ -47,16 +47,16 @@ module _ {From To : Type 0} (view : From → To) (one : Moment From → Next Fro
 module _ {From To : Type 0} (view : From → To) (ask : Questions From) (told : Questions To) (carries : Carries view ask told) where
   -- ---- the processor's part
 
-  pub put-all-carried : (entries : List Entry) (board : From) → view (put_all ask board entries) ≡ put_all told (view board) entries
+  pub put-all-carried : (entries : List Entry) (board : From) → view (fold ask.put board entries) ≡ fold told.put (view board) entries
   put-all-carried [] board = refl
   put-all-carried (entry ∷ entries) board =
-      put-all-carried entries (ask.put board entry) ∙ ap (λ b. put_all told b entries) (carries.put board entry)
+      put-all-carried entries (ask.put board entry) ∙ ap (λ b. fold told.put b entries) (carries.put board entry)
 
   pub put-actions-carried : (actions : List Action) (board : From)
       → view (put_actions ask board actions) ≡ put_actions told (view board) actions
   put-actions-carried [] board = refl
   put-actions-carried (action ∷ actions) board =
-      put-actions-carried actions (put_all ask board (entries_of action))
+      put-actions-carried actions (fold ask.put board (entries_of action))
       ∙ ap (λ b. put_actions told b actions) (put-all-carried (entries_of action) board)
 
   pub put-kind-carried : (kind : StepKind) (board : From) → view (put_kind ask board kind) ≡ put_kind told (view board) kind

@@ -160,7 +160,8 @@ module _ (again : DecodesPrefix) (short : (instruction : Instruction) → IsInst
 
   sample-viewed : {set : Parts} {start : BoardView} {entries : List Entry} → TellsHistory set start entries
       → (by_view set).sample (board_after_entries set start entries) ≡ sample_at set start entries
-  sample-viewed {set = set} tells = λ i. sound_sample set.wave (tells.registers i) (tells.accumulators i) (tells.bits sound_enable i)
+  sample-viewed {set = set} tells =
+      λ i. sound_sample set.wave (tells.registers i) (λ voice. tells.accumulators voice i) (tells.bits sound_enable i)
 
   pub view-carries : (set : Parts) (items : List Item) (start : BoardView) → IsWhole set → AllLie set.program items
       → IsBoard start → Carries (board_after_entries set start) (by_history set items start) (by_view set)

@@ -11,7 +11,7 @@ use Rattle.pac_map.specs.declared.bus_table.BusPlace.TheVariants.{Latch, Kick}
 use Rattle.pac_map.specs.View.{View}
 use Rattle.pac_map.specs.Entry.{Entry, Write, Vector, Blank, Accept, Reset, view_after_write}
 use Rattle.pac_board_model.specs.HistoryProofs.{view_after_entries}
-use Rattle.pac_board_model.specs.Queries.{lowest, is_latch, last_bit, bit_at, history_vector, takes_back, is_requested, history_request}
+use Rattle.pac_board_model.specs.Queries.{lowest, is_latch, last_bit, bit_at, last_vector, takes_back, is_requested, history_request}
 use Rattle.pac_board_model.specs.Queries.{blanks_since, is_reset_due}
 
 clear-at : (count place : ℕ) → slice_index_or (replicate count false) place false ≡ false
@@ -58,7 +58,8 @@ vector-written view (Latch place) byte = refl
 vector-written view Kick byte = refl
 vector-written view _ byte = refl
 
-pub vector-viewed : (start : View) (entries : List Entry) → (view_after_entries start entries).latched.vector ≡ history_vector start entries
+pub vector-viewed : (start : View) (entries : List Entry) → (view_after_entries start entries).latched.vector
+    ≡ unwrap_or (last_vector entries) start.latched.vector
 vector-viewed start [] = refl
 vector-viewed start (Vector byte ∷ older) = refl
 vector-viewed start (Write to byte ∷ older) = vector-written (view_after_entries start older) to byte ∙ vector-viewed start older

@@ -6,12 +6,13 @@ use Rattle.std.proofs.lemmas.Grind.{get_or-set_at}
 use Rattle.std.proofs.lemmas.List.{ext_get_or, get_or-set_other}
 use Rattle.pac_map.specs.RomParts.{Parts}
 use Rattle.pac_picture.specs.Tiles.{height}
+use Rattle.pac_cpu.specs.Tabulate.{tabulate}
 use Rattle.pac_cpu.proofs.Tabulated.{length-tabulate, get_or-tabulate}
 use Rattle.pac_picture.specs.Picture.{picture_line}
 use Rattle.pac_map.specs.Entry.{Entry, Line}
 use Rattle.pac_board_model.specs.BoardView.{BoardView, IsBoard, video_roms, video_memory}
 use Rattle.pac_board_model.specs.History.{board_after_entries}
-use Rattle.pac_board_model.specs.Shown.{line_at, lines_at}
+use Rattle.pac_board_model.specs.Shown.{line_at}
 use Rattle.pac_board_model.proofs.Memories.{video-memory-kept}
 
 pub lines-high : (set : Parts) (start : BoardView) (entries : List Entry) → IsBoard start
@@ -49,10 +50,11 @@ line-viewed set start (Line frame line ∷ older) y fit below =
 line-viewed set start (entry ∷ older) y fit below = line-viewed set start older y fit below
 
 pub lines-viewed : (set : Parts) (start : BoardView) (entries : List Entry) → IsBoard start
-    → (board_after_entries set start entries).lines ≡ lines_at set start entries
+    → (board_after_entries set start entries).lines ≡ tabulate height (line_at set start entries)
 lines-viewed set start entries fit =
     let lines = (board_after_entries set start entries).lines in
     let long = lines-high set start entries fit in
-    ext_get_or [] lines (lines_at set start entries) (long ∙ sym (length-tabulate height (line_at set start entries))) (λ y below.
+    let line = line_at set start entries in
+    ext_get_or [] lines (tabulate height line) (long ∙ sym (length-tabulate height line)) (λ y below.
     let within : y < height = omega (arith, long, below) in
-    line-viewed set start entries y fit within ∙ sym (get_or-tabulate height (line_at set start entries) y [] within))
+    line-viewed set start entries y fit within ∙ sym (get_or-tabulate height line y [] within))

@@ -2,14 +2,14 @@
 use Rattle.std.proofs.Common.{◌≡◌, ℕ, ◌+◌, ◌-◌, ◌<◌, List, length, slice_index, drop, sym, ap, ◌∙◌, arith}
 use Rattle.std.proofs.lemmas.List.{ext_get_or, get_or-drop, length-drop}
 use Rattle.pac_map.specs.Place.{ram_size, coordinates_size, registers_size}
-use Rattle.pac_map.specs.View.{View, IsWellFormed}
+use Rattle.pac_map.specs.View.{View, IsWellFormed, attributes_size}
 use Rattle.pac_map.specs.View as view
 use Rattle.pac_map.specs.Entry.{Entry}
 use Rattle.pac_cpu.specs.Tabulate.{tabulate}
 use Rattle.pac_cpu.proofs.Tabulated.{length-tabulate, get_or-tabulate}
 use Rattle.pac_board_model.specs.HistoryProofs.{view_after_entries}
-use Rattle.pac_board_model.specs.History.{tile_at, colour_at, work_at, coordinate_at, register_at, history_attributes}
-use Rattle.pac_board_model.specs.History.{history_coordinates, history_registers}
+use Rattle.pac_board_model.specs.History.{tile_at, colour_at, work_at, coordinate_at, register_at}
+use Rattle.pac_board_model.specs.History.{history_registers}
 use Rattle.pac_board_model.proofs.Views.{view-of-well-formed, tile-viewed, colour-viewed, work-viewed, coordinate-viewed, register-viewed}
 
 -- a list of a known length is that of its elements by their places
@@ -32,7 +32,8 @@ colour-listed start entries well =
     (view-of-well-formed start entries well).colour (λ cell below. colour-viewed start entries cell well below)
 
 pub attributes-listed : (start : View) (entries : List Entry) → IsWellFormed start
-    → view.sprite_attributes (view_after_entries start entries) ≡ history_attributes start entries
+    → view.sprite_attributes (view_after_entries start entries)
+    ≡ tabulate attributes_size (λ place. work_at start entries (ram_size - attributes_size + place))
 attributes-listed start entries well =
     let work = (view_after_entries start entries).work in
     let long : length (drop 1008 work) ≡ 16 =
@@ -41,7 +42,7 @@ attributes-listed start entries well =
     get_or-drop 1008 work place 0 ∙ work-viewed start entries (1008 + place) well (omega arith))
 
 pub coordinates-listed : (start : View) (entries : List Entry) → IsWellFormed start
-    → (view_after_entries start entries).coordinates ≡ history_coordinates start entries
+    → (view_after_entries start entries).coordinates ≡ tabulate coordinates_size (coordinate_at start entries)
 coordinates-listed start entries well =
     listed (view_after_entries start entries).coordinates coordinates_size (coordinate_at start entries)
     (view-of-well-formed start entries well).coordinates (λ place below. coordinate-viewed start entries place well below)

@@ -1,5 +1,6 @@
 -- What every run keeps: a fact of the time, of what was given out so far and of the board, which no write, output, acceptance,
 -- reset or held input changes, and which the events of each moment carry on to the next.
+use Rattle.std.proofs.Common.{fold}
 use Rattle.std.proofs.Common.{◌≡◌, ◌≢◌, ℕ, zero, suc, ◌+◌, ◌-◌, ◌*◌, ◌/◌, ◌%◌, ◌==◌, if◌then◌else◌, Option, None, Some, Bool, true, false}
 use Rattle.std.proofs.Common.{nat_le, ◌&&◌, List, [], ◌∷◌, ◌++◌, refl, sym, subst, arith}
 use Rattle.std.proofs.lemmas.Bool.Decides.{nat_tests}
@@ -12,7 +13,7 @@ use Rattle.pac_cpu.specs.Step.{CpuStep, Steps, Stops, cpu_step}
 use Rattle.pac_map.specs.Entry.{Entry, Write, Vector, Sample, Line, Blank, Accept, Hold}
 use Rattle.pac_map.specs.Place.{write_place}
 use Rattle.pac_board_model.specs.Output.{Output, Sound, Show}
-use Rattle.pac_board_model.specs.Step.{Questions, Moment, StepProgress, Next, Goes, Ends, put_all, put_actions, put_kind, at_moment}
+use Rattle.pac_board_model.specs.Step.{Questions, Moment, StepProgress, Next, Goes, Ends, put_actions, put_kind, at_moment}
 use Rattle.pac_board_model.specs.Step.{through, progress_after_cpu}
 use Rattle.pac_board_model.specs.Step.{surroundings, after_cpu_step, step, note, give, sample_event, line_event, reset_event}
 use Rattle.pac_board_model.specs.Step.{watchdog_event, blank_event}
@@ -91,7 +92,7 @@ module _ {Board : Type 0} (ask : Questions Board) (Told : ℕ → List Output �
     Told time (given ++ met.outputs) met.board
     → Told moment (given ++ (at_moment ask moment met).outputs) (at_moment ask moment met).board) where
   port-told : (time : ℕ) (given : List Output) (board : Board) (byte : ℕ) (wired : Bool) → Told time given board
-      → Told time given (put_all ask board (if wired then Vector byte ∷ [] else []))
+      → Told time given (fold ask.put board (if wired then Vector byte ∷ [] else []))
   port-told time given board byte true told = quiet time given board (Vector byte) refl told
   port-told time given board byte false told = told
 
@@ -102,7 +103,7 @@ module _ {Board : Type 0} (ask : Questions Board) (Told : ℕ → List Output �
       actions-told time given (ask.put board (Write (write_place at) byte)) actions
       (quiet time given board (Write (write_place at) byte) refl told)
   actions-told time given board (Sent port byte ∷ actions) told =
-      actions-told time given (put_all ask board (if port == 0 then Vector byte ∷ [] else [])) actions
+      actions-told time given (fold ask.put board (if port == 0 then Vector byte ∷ [] else [])) actions
       (port-told time given board byte (port == 0) told)
 
   kind-told : (time : ℕ) (given : List Output) (board : Board) (kind : StepKind) → Told time given board

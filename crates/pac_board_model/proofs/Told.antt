@@ -9,7 +9,7 @@ use Rattle.pac_board_model.proofs.Views.{read-viewed, tile-viewed, colour-viewed
 use Rattle.pac_board_model.proofs.Lists.{attributes-listed, coordinates-listed}
 use Rattle.pac_board_model.proofs.Latches.{bit-viewed, vector-viewed, request-viewed, count-viewed, due-viewed}
 use Rattle.pac_board_model.proofs.Memories.{memory-viewed, registers-kept}
-use Rattle.pac_board_model.proofs.Voices.{voices-viewed}
+use Rattle.pac_board_model.proofs.Voices.{voice-viewed}
 use Rattle.pac_board_model.proofs.Lines.{lines-viewed}
 
 pub view-answers : ViewAnswers
@@ -34,6 +34,6 @@ view-tells set start entries fit =
       request = ap (λ memory. interrupt_request memory.latched) kept ∙ request-viewed first entries;
       count = ap (λ memory. memory.latched.count) kept ∙ count-viewed first entries well.count;
       due = ap (λ memory. latch.is_watchdog_due memory.latched) kept ∙ due-viewed first entries well.count;
-      accumulators = voices-viewed set start entries fit;
+      accumulators = λ voice. voice-viewed set start entries voice fit;
       lines = lines-viewed set start entries fit;
     }

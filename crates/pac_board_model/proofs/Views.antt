@@ -16,7 +16,7 @@ use Rattle.pac_map.specs.Latched.{Latched, latched_after_vector, latched_after_b
 use Rattle.pac_map.specs.View.{View, IsWellFormed, kept_nibble}
 use Rattle.pac_map.specs.Contents.{lookups_of, read_of}
 use Rattle.pac_map.proofs.WellFormed.{view-after-well-formed}
-use Rattle.pac_board_model.specs.History.{is_same_place, last_written, tile_at, colour_at, work_at, history_inputs}
+use Rattle.pac_board_model.specs.History.{is_same_place, last_written, tile_at, colour_at, work_at, last_held}
 use Rattle.pac_board_model.specs.History.{history_lookups, read}
 use Rattle.pac_board_model.specs.HistoryProofs.{view_after_entries}
 use Rattle.pac_board_model.specs.History.{coordinate_at, register_at}
@@ -164,7 +164,7 @@ written-held view (Colour cell) byte = refl
 written-held view (Work cell) byte = refl
 written-held view _ byte = refl
 
-pub held-viewed : (start : View) (entries : List Entry) → (view_after_entries start entries).held ≡ history_inputs start entries
+pub held-viewed : (start : View) (entries : List Entry) → (view_after_entries start entries).held ≡ unwrap_or (last_held entries) start.held
 held-viewed start [] = refl
 held-viewed start (Hold mask ∷ older) = refl
 held-viewed start (Write place byte ∷ older) = written-held (view_after_entries start older) place byte ∙ held-viewed start older

@@ -8,7 +8,7 @@ use Rattle.pac_map.specs.Entry.{Entry, Sample}
 use Rattle.pac_board_model.specs.BoardView.{BoardView, IsBoard}
 use Rattle.pac_board_model.specs.History.{board_after_entries, history_registers}
 use Rattle.pac_board_model.specs.Queries.{bit_at}
-use Rattle.pac_board_model.specs.Shown.{history_growth, accumulator_at, accumulators_at, sound_enable}
+use Rattle.pac_board_model.specs.Shown.{history_growth, accumulator_at, sound_enable}
 use Rattle.pac_board_model.proofs.Memories.{registers-kept, sound-kept}
 
 -- a voice after a sample
@@ -42,11 +42,3 @@ voice-viewed set start (Sample number ∷ older) voice fit =
     (history_growth start.memory voice older) (frequency (history_registers start.memory older) voice)
     (voice-viewed set start older voice fit)
 voice-viewed set start (entry ∷ older) voice fit = voice-viewed set start older voice fit
-
-pub voices-viewed : (set : Parts) (start : BoardView) (entries : List Entry) → IsBoard start
-    → (board_after_entries set start entries).accumulators ≡ accumulators_at start entries
-voices-viewed set start entries fit = λ i. record {
-  first = voice-viewed set start entries First fit i;
-  second = voice-viewed set start entries Second fit i;
-  third = voice-viewed set start entries Third fit i;
-}

@@ -1,12 +1,12 @@
 -- Believed: what has happened to the board: a start view and the list of entries since, the newest first. Whatever the
 -- board answers is asked of these two: the last entry that decides, and where none does, the start view.
-use Rattle.std.specs.Prelude.{ℕ, ◌+◌, ◌-◌, List, [], ◌∷◌, ◌==◌, Bool, false, Option, Some, None, unwrap_or, if◌then◌else◌, slice_index}
+use Rattle.std.specs.Prelude.{ℕ, List, [], ◌∷◌, ◌==◌, Bool, false, Option, Some, None, unwrap_or, if◌then◌else◌, slice_index}
 use Rattle.pac_map.specs.declared.bus_table.BusPlace.{BusPlace}
 use Rattle.pac_map.specs.declared.bus_table.BusPlace.TheVariants.{Tile, Colour, Work, Wave, Coordinate}
-use Rattle.pac_map.specs.Lookups.{Lookups, answer_at}
+use Rattle.pac_map.specs.Lookups.{Lookups, answer}
 use Rattle.pac_map.specs.Entry.{Entry, Write, Hold}
-use Rattle.pac_map.specs.Place.{ram_size, coordinates_size, registers_size}
-use Rattle.pac_map.specs.View.{View, kept_nibble, attributes_size}
+use Rattle.pac_map.specs.Place.{registers_size, read_place}
+use Rattle.pac_map.specs.View.{View, kept_nibble}
 use Rattle.pac_cpu.specs.Tabulate.{tabulate}
 use Rattle.pac_map.specs.RomParts.{Parts}
 use Rattle.pac_board_model.specs.BoardView.{BoardView, board_after}
@@ -49,18 +49,9 @@ abbrev pub register_at : View → List Entry → ℕ → ℕ
 register_at start entries register =
     kept_nibble register (unwrap_or (last_written (is_same_place (Wave register)) entries) (slice_index start.registers register))
 
--- sprite coordinates and wave registers as lists, and the sprites' attributes, which are the last bytes of work RAM
-abbrev pub history_coordinates : View → List Entry → List ℕ
-history_coordinates start entries = tabulate coordinates_size (λ place. coordinate_at start entries place)
-
+-- the wave registers as a list
 abbrev pub history_registers : View → List Entry → List ℕ
 history_registers start entries = tabulate registers_size (λ register. register_at start entries register)
-
-abbrev pub history_attributes : View → List Entry → List ℕ
-history_attributes start entries = tabulate attributes_size (λ place. work_at start entries (ram_size - attributes_size + place))
-
-abbrev pub history_inputs : View → List Entry → ℕ
-history_inputs start entries = unwrap_or (last_held entries) start.held
 
 -- what reads ask of a program ROM and a history
 abbrev pub history_lookups : List ℕ → View → List Entry → Lookups
@@ -69,13 +60,13 @@ history_lookups program start entries = record {
   tile = tile_at start entries;
   colour = colour_at start entries;
   work = work_at start entries;
-  held = history_inputs start entries;
+  held = unwrap_or (last_held entries) start.held;
   switches = start.switches;
 }
 
 -- the byte that a read from an address gives
 abbrev pub read : List ℕ → View → List Entry → ℕ → ℕ
-read program start entries address = answer_at (history_lookups program start entries) address
+read program start entries address = answer (history_lookups program start entries) (read_place address)
 
 -- the board that a history leaves, and its memory: each entry in turn, the oldest first
 abbrev pub board_after_entries : Parts → BoardView → List Entry → BoardView

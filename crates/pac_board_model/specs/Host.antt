@@ -1,6 +1,6 @@
 -- Law: what a host does to a board, one act after another: steps, resets, inputs held and let go, and moments kept
 -- and gone back to. Like the step it is told over whatever stands for the board, by its history or by its view.
-use Rattle.std.specs.Prelude.{ℕ, List, [], ◌∷◌, ◌++◌, map, slice_index_or}
+use Rattle.std.specs.Prelude.{ℕ, List, [], ◌∷◌, ◌++◌, map, slice_index_or, unwrap_or}
 use Rattle.pac_cpu.specs.PlacedItems.{Item}
 use Rattle.pac_cpu.specs.Power.{reset_regs}
 use Rattle.pac_map.specs.Entry.{Entry, Reset, Hold}
@@ -8,7 +8,7 @@ use Rattle.pac_map.specs.View.{held_with, held_without}
 use Rattle.pac_map.specs.RomParts.{Parts}
 use Rattle.pac_board_model.specs.BoardView.{BoardView}
 use Rattle.pac_board_model.specs.Carried.{moment_view}
-use Rattle.pac_board_model.specs.History.{history_inputs}
+use Rattle.pac_board_model.specs.History.{last_held}
 use Rattle.pac_board_model.specs.Output.{Output}
 use Rattle.pac_board_model.specs.Step.{Questions, Moment, Next, Goes, Ends, step}
 use Rattle.pac_board_model.specs.Trace.{by_history, by_view}
@@ -32,7 +32,8 @@ pub record Account (Board : Type 0) : Type 0 where
   pub held : Board → ℕ
 
 abbrev pub account_by_history : Parts → List Item → BoardView → Account (List Entry)
-account_by_history set items start = record { ask = by_history set items start; held = λ entries. history_inputs start.memory entries }
+account_by_history set items start =
+    record { ask = by_history set items start; held = λ entries. unwrap_or (last_held entries) start.memory.held }
 
 abbrev pub account_by_view : Parts → Account BoardView
 account_by_view set = record { ask = by_view set; held = λ view. view.memory.held }

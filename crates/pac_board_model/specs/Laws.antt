@@ -1,6 +1,6 @@
 -- Law: laws of the board's definitions, each proved on a public function of the crate.
 use Rattle.std.specs.Prelude.{◌≡◌, ◌≢◌, ◌<◌, ◌≤◌, ℕ, zero, suc, ◌+◌, ◌-◌, ◌*◌, ◌/◌, Option, None, Some, true, min}
-use Rattle.std.specs.Prelude.{List, [], ◌++◌, ◌∷◌, slice_index, slice_index_or}
+use Rattle.std.specs.Prelude.{List, [], ◌++◌, ◌∷◌, slice_index, slice_index_or, unwrap_or}
 use mathlib.Core.List.{IsPrefix}
 use Rattle.pac_cpu.specs.PlacedItems.{Item, AllLie}
 use Rattle.pac_cpu.specs.declared.once.Stop.{Stop}
@@ -10,17 +10,21 @@ use Rattle.pac_map.specs.RomParts.{Parts, IsWhole}
 use Rattle.pac_map.specs.Latched.{is_latch_bit_set, interrupt_request, watchdog_limit}
 use Rattle.pac_map.specs.Latched as latch
 use Rattle.pac_picture.specs.Tiles.{height}
+use Rattle.pac_cpu.specs.Tabulate.{tabulate}
+use Rattle.pac_wave.specs.declared.Voice.{Voice}
+use Rattle.pac_wave.specs.Wave.{accumulator}
 use Rattle.pac_map.specs.Contents.{read_of}
 use Rattle.pac_map.specs.Entry.{Entry, Sample, Line, Blank, Hold}
-use Rattle.pac_map.specs.Place.{ram_size}
+use Rattle.pac_map.specs.Place.{ram_size, coordinates_size}
+use Rattle.pac_map.specs.View.{attributes_size}
 use Rattle.pac_map.specs.View as view
 use Rattle.pac_picture.specs.Picture.{picture_line}
 use Rattle.pac_board_model.specs.BoardView.{BoardView, IsBoard, power_on_board_view, video_roms}
-use Rattle.pac_board_model.specs.History.{read, board_after_entries, tile_at, colour_at, work_at, history_attributes, history_coordinates}
-use Rattle.pac_board_model.specs.History.{history_registers, history_inputs}
-use Rattle.pac_board_model.specs.Queries.{bit_at, history_vector, history_request, blanks_since, is_reset_due}
+use Rattle.pac_board_model.specs.History.{read, board_after_entries, tile_at, colour_at, work_at, coordinate_at}
+use Rattle.pac_board_model.specs.History.{history_registers, last_held}
+use Rattle.pac_board_model.specs.Queries.{bit_at, last_vector, history_request, blanks_since, is_reset_due}
 use Rattle.pac_board_model.specs.Output.{sound_count, picture_count}
-use Rattle.pac_board_model.specs.Shown.{accumulators_at, memory_at, lines_at, blank_count}
+use Rattle.pac_board_model.specs.Shown.{accumulator_at, memory_at, line_at, blank_count}
 use Rattle.pac_board_model.specs.ShownLaws.{history_outputs, sample_count}
 use Rattle.pac_board_model.specs.Step.{Questions, Moment, Next, Goes, Ends, StepProgress, note, line_event, step, line_ticks, frame_ticks}
 use Rattle.pac_board_model.specs.Step.{sample_ticks}
@@ -49,14 +53,15 @@ pub record TellsHistory (set : Parts) (start : BoardView) (entries : List Entry)
   pub work : (cell : ℕ) → cell < ram_size
       → slice_index (board_after_entries set start entries).memory.work cell ≡ work_at start.memory entries cell
   pub attributes : view.sprite_attributes (board_after_entries set start entries).memory
-      ≡ history_attributes start.memory entries
+      ≡ tabulate attributes_size (λ place. work_at start.memory entries (ram_size - attributes_size + place))
   pub coordinates : (board_after_entries set start entries).memory.coordinates
-      ≡ history_coordinates start.memory entries
+      ≡ tabulate coordinates_size (coordinate_at start.memory entries)
   pub registers : (board_after_entries set start entries).memory.registers ≡ history_registers start.memory entries
-  pub held : (board_after_entries set start entries).memory.held ≡ history_inputs start.memory entries
+  pub held : (board_after_entries set start entries).memory.held ≡ unwrap_or (last_held entries) start.memory.held
   pub bits : (place : ℕ) → is_latch_bit_set (board_after_entries set start entries).memory.latched place
       ≡ bit_at start.memory entries place
-  pub vector : (board_after_entries set start entries).memory.latched.vector ≡ history_vector start.memory entries
+  pub vector : (board_after_entries set start entries).memory.latched.vector
+      ≡ unwrap_or (last_vector entries) start.memory.latched.vector
   pub request : interrupt_request (board_after_entries set start entries).memory.latched
       ≡ history_request start.memory entries
   pub count :
@@ -64,8 +69,9 @@ pub record TellsHistory (set : Parts) (start : BoardView) (entries : List Entry)
       ≡ min watchdog_limit (blanks_since start.memory.latched.count entries)
   pub due : latch.is_watchdog_due (board_after_entries set start entries).memory.latched
       ≡ is_reset_due start.memory entries
-  pub accumulators : (board_after_entries set start entries).accumulators ≡ accumulators_at start entries
-  pub lines : (board_after_entries set start entries).lines ≡ lines_at set start entries
+  pub accumulators : (voice : Voice)
+      → accumulator (board_after_entries set start entries).accumulators voice ≡ accumulator_at start entries voice
+  pub lines : (board_after_entries set start entries).lines ≡ tabulate height (line_at set start entries)
 
 abbrev pub ViewTells : Type 0
 ViewTells = (set : Parts) (start : BoardView) (entries : List Entry) → IsBoard start →
@@ -153,7 +159,7 @@ pub record IsComposed (set : Parts) (start : BoardView) (frame y : ℕ) (entries
   pub after : List Entry
   pub before : List Entry
   pub among : entries ≡ after ++ Line frame y ∷ before
-  pub line : slice_index_or (lines_at set start entries) y []
+  pub line : slice_index_or (tabulate height (line_at set start entries)) y []
       ≡ picture_line (video_roms set) (memory_at start.memory before) y
 
 -- Each frame's picture is, line by line, that of the entries before the line's own.

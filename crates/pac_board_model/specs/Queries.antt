@@ -32,9 +32,6 @@ last_vector [] = None
 last_vector (Vector byte ∷ older) = Some byte
 last_vector (entry ∷ older) = last_vector older
 
-abbrev pub history_vector : View → List Entry → ℕ
-history_vector start entries = unwrap_or (last_vector entries) start.latched.vector
-
 -- whether a write takes the request back: that of a 0 to the latch's interrupt enable does
 abbrev pub takes_back : BusPlace → ℕ → Bool
 takes_back (Latch place) byte = withdraws place (lowest byte)
@@ -52,7 +49,7 @@ is_requested start (entry ∷ older) = is_requested start older
 
 -- the vector where a request stands
 abbrev pub history_request : View → List Entry → Option ℕ
-history_request start entries = if is_requested start entries then Some (history_vector start entries) else None
+history_request start entries = if is_requested start entries then Some (unwrap_or (last_vector entries) start.latched.vector) else None
 
 -- the blanks since the last kick or reset, after so many at the start
 abbrev pub blanks_since : ℕ → List Entry → ℕ

@@ -1,19 +1,17 @@
 -- Believed: what a history sounds and shows: the voices' accumulators as sums over all samples, and each line of the
 -- picture as it was last composed. No loop and no buffer stands here.
-use Rattle.std.specs.Prelude.{ℕ, ℤ, suc, ◌+◌, ◌%◌, ◌==◌, if◌then◌else◌, List, [], ◌∷◌, slice_index_or}
+use Rattle.std.specs.Prelude.{ℕ, ℤ, suc, ◌+◌, ◌-◌, ◌%◌, ◌==◌, if◌then◌else◌, List, [], ◌∷◌, slice_index_or}
 use Rattle.pac_map.specs.RomParts.{Parts}
 use Rattle.pac_cpu.specs.Tabulate.{tabulate}
 use Rattle.pac_picture.specs.Tiles.{height}
 use Rattle.pac_map.specs.Entry.{Entry, Sample, Line, Blank}
-use Rattle.pac_map.specs.Place.{ram_size}
-use Rattle.pac_map.specs.View.{View}
+use Rattle.pac_map.specs.Place.{ram_size, coordinates_size}
+use Rattle.pac_map.specs.View.{View, attributes_size}
 use Rattle.pac_wave.specs.declared.Voice.{Voice}
-use Rattle.pac_wave.specs.declared.Voice.TheVariants.{First, Second, Third}
-use Rattle.pac_wave.specs.Wave.{Accumulators, accumulator, accumulator_range, frequency, sound_sample}
+use Rattle.pac_wave.specs.Wave.{accumulator, accumulator_range, frequency, sound_sample}
 use Rattle.pac_picture.specs.Picture.{VideoMemory, picture_line}
 use Rattle.pac_board_model.specs.BoardView.{BoardView, video_roms}
-use Rattle.pac_board_model.specs.History.{tile_at, colour_at, history_attributes, history_coordinates, history_registers}
-use Rattle.pac_board_model.specs.Output.{Image, image_of}
+use Rattle.pac_board_model.specs.History.{tile_at, colour_at, work_at, coordinate_at, history_registers}
 use Rattle.pac_board_model.specs.Queries.{bit_at}
 
 -- the places of two bits of the latch
@@ -35,18 +33,10 @@ history_growth start voice (entry ∷ older) = history_growth start voice older
 abbrev pub accumulator_at : BoardView → List Entry → Voice → ℕ
 accumulator_at start entries voice = (accumulator start.accumulators voice + history_growth start.memory voice entries) % accumulator_range
 
-abbrev pub accumulators_at : BoardView → List Entry → Accumulators
-accumulators_at start entries = record {
-  first = accumulator_at start entries First;
-  second = accumulator_at start entries Second;
-  third = accumulator_at start entries Third;
-}
-
 -- the sample that the voices add up to after these entries
 abbrev pub sample_at : Parts → BoardView → List Entry → ℤ
 sample_at set start entries =
-    sound_sample set.wave (history_registers start.memory entries) (accumulators_at start entries)
-    (bit_at start.memory entries sound_enable)
+    sound_sample set.wave (history_registers start.memory entries) (accumulator_at start entries) (bit_at start.memory entries sound_enable)
 
 -- ---- picture
 
@@ -55,8 +45,8 @@ abbrev pub memory_at : View → List Entry → VideoMemory
 memory_at start entries = record {
   tile_ram = tabulate ram_size (tile_at start entries);
   colour_ram = tabulate ram_size (colour_at start entries);
-  attributes = history_attributes start entries;
-  coordinates = history_coordinates start entries;
+  attributes = tabulate attributes_size (λ place. work_at start entries (ram_size - attributes_size + place));
+  coordinates = tabulate coordinates_size (coordinate_at start entries);
   flip = bit_at start entries flip;
 }
 
@@ -66,12 +56,6 @@ line_at set start [] y = slice_index_or start.lines y []
 line_at set start (Line frame line ∷ older) y =
     if line == y then picture_line (video_roms set) (memory_at start.memory older) y else line_at set start older y
 line_at set start (entry ∷ older) y = line_at set start older y
-
-abbrev pub lines_at : Parts → BoardView → List Entry → List (List ℕ)
-lines_at set start entries = tabulate height (line_at set start entries)
-
-abbrev pub image_at : Parts → BoardView → List Entry → Image
-image_at set start entries = image_of set (lines_at set start entries)
 
 -- ---- all that was given out
 

@@ -1,5 +1,5 @@
 -- The answers of a run, one by one.
-use Rattle.std.proofs.Common.{◌≡◌, ℕ, List, Option, None, Some, Result, Ok, Err, refl, subst}
+use Rattle.std.proofs.Common.{◌≡◌, ℕ, List, Option, None, Some, Result, Ok, Err, option_copied, refl, subst}
 use Rattle.pac_asm.specs.declared.fault.AsmFault.{AsmFault}
 use Rattle.pac_asm.specs.Programs.{program_of}
 use Rattle.pac_board_course.specs.Script.{script_of}
@@ -18,8 +18,8 @@ use Rattle.pac_run.specs.declared.fault.RunFault.TheVariants as fault
 use Rattle.pac_run.specs.declared.inputs.RunInputs.{RunInputs}
 use Rattle.pac_board_course.specs.declared.outcome.Outcome.{Outcome}
 use Rattle.pac_asm.specs.Results.{◌>>=◌}
-use Rattle.pac_run.specs.Plan.{Plan, plan_of, program_in, source_in, program_told}
-use Rattle.pac_run.specs.Plan.{set_in, set_told, script_told}
+use Rattle.pac_run.specs.Plan.{Plan, plan_of, program_in, set_in}
+use Rattle.pac_run.specs.PlanProofs.{program_told, set_told, script_told}
 use Rattle.pac_run.specs.declared.run.RunEnd.{RunEnd}
 use Rattle.pac_run.specs.Recorded.{FilmStops, RunsTo, WritesRun}
 use Rattle.pac_run.specs.Resumes.{IsSaveCutAt, Resumes, contents_from, end_state, run_from, state_text}
@@ -67,10 +67,9 @@ script-writes (Err refused) = tt
 pub plan-writes : (inputs : RunInputs) → NoWrite (plan_of inputs)
 unfolding plan_of
 plan-writes inputs =
-    one-then (program_in (source_in inputs)) _ (program-writes (source_in inputs))
+    one-then (program_in (option_copied inputs.source)) _ (program-writes (option_copied inputs.source))
     (λ program. one-then (set_in inputs.manifest.now inputs.parts.now program) _
-    (one-then (set_told (manifest_of inputs.manifest.now)) _ (set-writes (manifest_of inputs.manifest.now))
-    (λ read. set-writes (set_of read inputs.parts.now _)))
+    (set-writes (manifest_of inputs.manifest.now >>= λ read. set_of read inputs.parts.now _))
     (λ set. one-then (script_told (script_of inputs.script.now)) _ (script-writes (script_of inputs.script.now)) (λ script. tt)))
 
 -- ---- a run is written

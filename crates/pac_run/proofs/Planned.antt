@@ -1,13 +1,14 @@
 -- A set that plays a program has the program's ROM, in which the program's items lie.
-use Rattle.std.proofs.Common.{◌≡◌, ℕ, List, Option, None, Some, option_map, Result, Ok, Err, refl, sym, subst, ap, ◌∙◌, true}
+use Rattle.std.proofs.Common.{◌≡◌, ℕ, List, Option, None, Some, option_map, option_copied, Result, Ok, Err, refl, sym, subst, ap, ◌∙◌, true}
 use Rattle.std.proofs.lemmas.Bool.{false≢true}
 use Rattle.std.specs.Prelude.{is_ok}
+use Rattle.std.specs.Option.{option_map_or}
 use Rattle.std.proofs.lemmas.Result.{IfOk-at_ok}
 use Rattle.std.proofs.lemmas.List.Elements.{All-nil}
 use Rattle.std.specs.Global.{Box}
 use Rattle.pac_asm.specs.PlacedItems.{AllLie, Lies}
 use Rattle.pac_roms_manifest.specs.Manifests.{manifest_of}
-use Rattle.pac_roms_manifest.specs.Sets.{set_of, unless_fault, fault_of_set, parts_of_set}
+use Rattle.pac_roms_manifest.specs.Sets.{set_of, fault_of_set, parts_of_set}
 use Rattle.pac_roms_manifest.specs.Results.{SetGives}
 use Rattle.pac_roms_manifest.specs.declared.fault.SetFault.{SetFault}
 use Rattle.pac_roms_manifest.specs.declared.fault.SetError.{SetError}
@@ -25,23 +26,23 @@ use Rattle.pac_board_course.specs.State.{BoardValue}
 use Rattle.pac_run.specs.declared.inputs.RunInputs.{RunInputs}
 use Rattle.pac_run.specs.declared.fault.StateFault.{StateFault}
 use Rattle.pac_asm.specs.Results.{◌>>=◌}
-use Rattle.pac_run.specs.Plan.{set_told, set_in, script_told, program_items, IsStateRefused}
-use Rattle.pac_run.specs.PlanProofs.{fault_told, LieIn, Judges, PlaysProgram}
+use Rattle.pac_run.specs.Plan.{set_in, IsStateRefused}
+use Rattle.pac_run.specs.PlanProofs.{fault_told, set_told, script_told, program_items, LieIn, Judges, PlaysProgram}
 use Rattle.pac_run.specs.Start.{IsFirstBoard, RefusesState}
 use Rattle.pac_run.specs.Started.{IsPrepared, IsStarted, Prepares, StartsBoard}
 use Rattle.pac_run.proofs.Answered.{NoWrite, script-writes}
-use Rattle.pac_run.specs.Plan.{program_in, source_in, plan_of, plan_with}
+use Rattle.pac_run.specs.Plan.{program_in, plan_of, plan_with}
 
 pub err-ok : {A : Type 0} (refused : RunFault) (value : A) → ◌≡◌ {A = Result A RunFault} (Err refused) (Ok value) → ⊥
 err-ok refused value e = false≢true (ap is_ok e)
 
-told-program : (refused : Option SetFault) (parts set : Parts) → set_told (unless_fault refused parts) ≡ Ok set
+told-program : (refused : Option SetFault) (parts set : Parts) → set_told (option_map_or Err refused (Ok parts)) ≡ Ok set
     → parts.program ≡ set.program
 told-program None parts set e = IfOk-at_ok (λ (it : Parts). parts.program ≡ it.program) e refl
 told-program (Some refused) parts set e = absurd (err-ok (fault.Set refused) set e)
 
 read-program : (read : Result Manifest SetFault) (files : List Part) (program : Assembled) (set : Parts)
-    → (set_told read >>= λ manifest. set_told (set_of manifest files (Some program.rom))) ≡ Ok set → program.rom ≡ set.program
+    → set_told (read >>= λ manifest. set_of manifest files (Some program.rom)) ≡ Ok set → program.rom ≡ set.program
 unfolding set_of
 read-program (Ok manifest) files program set e =
     told-program (fault_of_set manifest files true) (parts_of_set manifest files (Some program.rom)) set e
@@ -60,14 +61,13 @@ pub refused-set : (manifest : List ℕ) (files : List Part) (program : Option As
     → SetGives {A = Parts} (Err error) (set_of read files rom) → Judges {A = Parts} (Err (fault_told error)) (set_in manifest files program)
 refused-set manifest files program read rom reading.Memory m r gives = tt
 refused-set manifest files program read rom (reading.Fault refused) m r gives =
-    ap (λ (it : Result Manifest SetFault). set_told it >>= λ one.
-    set_told (set_of one files (option_map (λ (it : Assembled). it.rom) program))) m
+    ap (λ (it : Result Manifest SetFault). set_told (it >>= λ one. set_of one files (option_map (λ (it : Assembled). it.rom) program))) m
     ∙ (ap (λ it. set_told (set_of read files it)) (sym r)
     ∙ ap set_told gives)
 
 -- the plan of inputs, of which each part is told
 plan-is : (inputs : RunInputs) (program : Option Assembled) (set : Parts) (script : List Stretch)
-    → program_in (source_in inputs) ≡ Ok program
+    → program_in (option_copied inputs.source) ≡ Ok program
     → set_in inputs.manifest.now inputs.parts.now program ≡ Ok set → script_told (script_of inputs.script.now) ≡ Ok script
     → plan_of inputs ≡ Ok (plan_with inputs program set script)
 unfolding plan_of
@@ -78,7 +78,7 @@ plan-is inputs program set script one other third =
     ∙ ap (λ it. it >>= λ script. Ok (plan_with inputs program set script)) third)
 
 -- the script is refused, after a source and a set without a fault
-module _ (inputs : RunInputs) (program : Option Assembled) (set : Parts) (one : program_in (source_in inputs) ≡ Ok program)
+module _ (inputs : RunInputs) (program : Option Assembled) (set : Parts) (one : program_in (option_copied inputs.source) ≡ Ok program)
     (other : set_in inputs.manifest.now inputs.parts.now program ≡ Ok set) (from : Option (List ℕ))
   where
     abbrev judged : Result (List Stretch) RunFault
@@ -101,7 +101,7 @@ module _ (inputs : RunInputs) (program : Option Assembled) (set : Parts) (one : 
     script-refused fault.NoMemory refused = tt
 
 module _ (inputs : RunInputs) (program : Option Assembled) (set : Parts) (script : List Stretch)
-    (one : program_in (source_in inputs) ≡ Ok program) (other : set_in inputs.manifest.now inputs.parts.now program ≡ Ok set)
+    (one : program_in (option_copied inputs.source) ≡ Ok program) (other : set_in inputs.manifest.now inputs.parts.now program ≡ Ok set)
     (third : script_told (script_of inputs.script.now) ≡ Ok script)
   where
     pub prepared : (from : Option (List ℕ)) (board : Box BoardValue) (image : List ℕ) → IsWhole set → LieIn program

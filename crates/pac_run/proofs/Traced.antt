@@ -33,7 +33,8 @@ use Rattle.pac_board_course.specs.declared.outcome.Outcome.{Outcome}
 use Rattle.pac_run.specs.declared.inputs.RunInputs.{RunInputs}
 use Rattle.pac_run.specs.DebugsProofs.{IsReady}
 use Rattle.pac_run.specs.Debugs.{IsSeenThrough, setting_of_plan}
-use Rattle.pac_run.specs.Plan.{Plan, plan_with, program_items}
+use Rattle.pac_run.specs.Plan.{Plan, plan_with}
+use Rattle.pac_run.specs.PlanProofs.{program_items}
 use Rattle.pac_run.specs.PlanProofs.{PlaysProgram}
 use Rattle.pac_run.specs.Recorded.{course_contents, outcome_between}
 use Rattle.pac_run.specs.Resumes.{contents_from, end_state, resumed_of, run_from, without_history}

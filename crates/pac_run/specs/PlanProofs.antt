@@ -3,11 +3,31 @@ use Rattle.pac_roms_manifest.specs.declared.fault.SetError.TheVariants as readin
 use Rattle.pac_run.specs.declared.fault.RunFault.TheVariants as fault
 use Rattle.pac_roms_manifest.specs.declared.fault.SetError.{SetError}
 use Rattle.pac_run.specs.declared.fault.RunFault.{RunFault}
-use Rattle.std.specs.Prelude.{Result, Ok, Err, ◌≡◌, Option, None, Some}
+use Rattle.std.specs.Prelude.{Result, Ok, Err, ◌≡◌, Option, None, Some, List, []}
 use Rattle.pac_asm.specs.Assembled.{Assembled, items_of}
 use Rattle.pac_asm.specs.PlacedItems.{AllLie}
 use Rattle.pac_board_course.specs.RomParts.{Parts}
-use Rattle.pac_run.specs.Plan.{program_items}
+use Rattle.pac_asm.specs.PlacedItems.{Item}
+use Rattle.pac_asm.specs.declared.fault.AsmFault.{AsmFault}
+use Rattle.pac_board_course.specs.Stretch.{Stretch}
+use Rattle.pac_board_course.specs.ScriptFault.{ScriptFault}
+use Rattle.pac_roms_manifest.specs.declared.fault.SetFault.{SetFault}
+use Rattle.std.specs.Option.{option_map_or}
+use Rattle.std.specs.Result.{result_map_both}
+
+-- what is judged, with its fault as one of the run
+abbrev pub program_told : Result Assembled AsmFault → Result (Option Assembled) RunFault
+program_told judged = result_map_both Some fault.Source judged
+
+abbrev pub set_told : {A : Type 0} → Result A SetFault → Result A RunFault
+set_told judged = result_map_both (λ value. value) fault.Set judged
+
+abbrev pub script_told : Result (List Stretch) ScriptFault → Result (List Stretch) RunFault
+script_told judged = result_map_both (λ script. script) fault.Script judged
+
+-- the items of a program, where there is one
+abbrev pub program_items : Option Assembled → List Item
+program_items program = option_map_or items_of program []
 
 -- a fault of the set, or want of memory
 abbrev pub fault_told : SetError → RunFault

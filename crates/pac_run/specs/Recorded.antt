@@ -1,5 +1,5 @@
 -- For proofs: what recording a board's outputs leaves of frames and wave, side by side, and of a session's text beside them.
-use Rattle.std.specs.Prelude.{◌≡◌, ℕ, ◌-◌, ◌*◌, ◌/◌, List, [], Option, Result, Ok, Err}
+use Rattle.std.specs.Prelude.{◌≡◌, ℕ, ◌-◌, ◌*◌, ◌/◌, List, [], Option, option_copied, Result, Ok, Err}
 use Rattle.pac_board_course.specs.Stop.{Stop}
 use Rattle.pac_board_course.specs.Stretches.{total_frames}
 use Rattle.pac_media.specs.CountedLaws.{HasTaken}
@@ -15,7 +15,7 @@ use Rattle.pac_debug.specs.Running.{Setting}
 use Rattle.pac_debug.specs.RunningLaws.{whole_run}
 use Rattle.pac_asm.specs.Assembled.{Assembled}
 use Rattle.pac_run.specs.declared.inputs.RunInputs.{RunInputs}
-use Rattle.pac_run.specs.Plan.{Plan, IsStateRefused, listing_in, plan_of, source_in}
+use Rattle.pac_run.specs.Plan.{Plan, IsStateRefused, listing_in, plan_of}
 use Rattle.pac_run.specs.declared.fault.Output.{Output as Which}
 use Rattle.pac_run.specs.declared.fault.Output.TheVariants as which
 use Rattle.pac_run.specs.declared.fault.OutputFault.{OutputFault}
@@ -111,7 +111,7 @@ abbrev pub course_contents : RunInputs → Option Assembled → CourseValue → 
 course_contents inputs program course = record {
   outputs = (way_on course).outputs;
   frames = total_frames course.script;
-  listing = listing_in (source_in inputs) program;
+  listing = listing_in (option_copied inputs.source) program;
   outcome = outcome_between course.board.state.now.time course.board.state.now.steps (way_on course).now (way_on course).stop;
 }
 

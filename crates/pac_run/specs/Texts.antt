@@ -31,14 +31,11 @@ samples_in (Show image ∷ more) = samples_in more
 abbrev pub images_text : List Output → List ℕ
 images_text outputs = flat_map image_bytes outputs
 
--- a wave file of so many frames: after a stop zeros stand in for the samples that never came
-abbrev pub filled_samples : ℕ → List ℤ → List ℤ
-filled_samples count samples = samples ++ replicate (count - length samples) (pos 0)
-
--- the bytes of so many samples
+-- the bytes of so many samples: after a stop zeros stand in for those that never came
 abbrev pub sound_text : ℕ → List Output → List ℕ
-sound_text count outputs = samples_text (filled_samples count (samples_in outputs))
+sound_text count outputs = samples_text (samples_in outputs ++ replicate (count - length (samples_in outputs)) (pos 0))
 
+-- a wave file of so many frames
 abbrev pub wave_file_text : ℕ → List Output → List ℕ
 wave_file_text frames outputs = wav_header (frame_samples * frames) ++ sound_text (frame_samples * frames) outputs
 

@@ -4,8 +4,8 @@ ghost use Rattle.std.specs.Prelude.{◌≡◌, length, option_map, option_copied
 ghost use Rattle.pac_board_course.specs.Script.{script_of};
 ghost use Rattle.pac_asm.specs.Assembled.{Assembled};
 ghost use Rattle.pac_board_course.specs.RomParts.{IsWhole, program_size};
-ghost use Rattle.pac_run.specs.Plan.{program_in, set_in, script_told};
-ghost use Rattle.pac_run.specs.PlanProofs.{fault_told, Judges, LieIn};
+ghost use Rattle.pac_run.specs.Plan.{program_in, set_in};
+ghost use Rattle.pac_run.specs.PlanProofs.{fault_told, script_told, Judges, LieIn};
 ghost use Rattle.pac_run.specs.Started.{Prepares};
 
 use crate::fault::RunFault;

@@ -1,6 +1,6 @@
 -- Believed: what the program does with the files of a run: which it reads, which it creates, what these have then, and
 -- how it ends.
-use Rattle.std.specs.Prelude.{◌≡◌, ◌⊎◌, ℕ, List, [], ◌∷◌, ◌++◌, map, Option, Some, None, option_map, option_to_list}
+use Rattle.std.specs.Prelude.{◌≡◌, ◌⊎◌, ℕ, List, [], ◌∷◌, ◌++◌, map, Option, Some, None, option_copied, option_map, option_to_list}
 use Rattle.std.specs.Prelude.{Bool, if◌then◌else◌, Result, Ok, Err}
 use Rattle.pac_run.specs.Saved.{file_size}
 use Rattle.pac_run_files.specs.declared.files.FileKind.TheVariants.{Any}
@@ -10,7 +10,6 @@ use Rattle.pac_run_files.specs.Read.{HasIfNamed, HasRead, PartUnread, played_fil
 use Rattle.pac_run_files.specs.declared.given.Given.{Given}
 use Rattle.pac_run_files.specs.declared.parts.NamedFile.{NamedFile}
 use Rattle.pac_run_options.specs.CommandLine.{AskedRun, AskedPlay, AskedDebug}
-use Rattle.pac_run.specs.Plan.{source_in}
 use Rattle.pac_run.specs.declared.fault.Output.TheVariants.{Frames, Wave, Listing, State}
 use Rattle.pac_run.specs.declared.inputs.RunInputs.{RunInputs}
 use Rattle.pac_run.specs.Outcome.{Outcome}
@@ -26,7 +25,7 @@ use Rattle.pac_run_command.specs.Programs.{Performing}
 
 -- a run's inputs are what was read
 pub record IsInputs (asked : AskedRun) (given : Given) (parts : List NamedFile) (inputs : RunInputs) : Type 0 where
-  pub source : source_in inputs ≡ option_map (λ bytes. bytes.items) given.source
+  pub source : option_copied inputs.source ≡ option_map (λ bytes. bytes.items) given.source
   pub manifest : inputs.manifest.now ≡ given.manifest.items
   pub parts_are : map told_part inputs.parts.now ≡ map told_file parts
   pub dip : inputs.dip ≡ asked.dip
