@@ -192,6 +192,14 @@ static int keeps_picture(const host *of, size_t size, uint32_t code)
     return pac_draw(&of->board, of->roms, of->length, rgba, size) == code && is_all(rgba, sizeof rgba, UNTOUCHED);
 }
 
+/* Whether no byte of memory is written, for a reason, and the buffer stays. */
+static int keeps_bytes(const host *of, uint32_t code)
+{
+    uint8_t bytes[4];
+    memset(bytes, UNTOUCHED, sizeof bytes);
+    return pac_peek(&of->board, of->roms, of->length, 0, bytes, sizeof bytes) == code && is_all(bytes, sizeof bytes, UNTOUCHED);
+}
+
 /* Whether a state file isn't written into a buffer of so many bytes, for a reason, and the buffer stays. */
 static int keeps_text(const host *of, size_t size, uint32_t code)
 {
@@ -250,6 +258,7 @@ static void try_rom_lengths(void)
         row_at("pac_exec, ROMs of another length", length, keeps_run(&one, FRAME, ROOM, PAC_LENGTH));
         row_at("pac_draw, ROMs of another length", length, keeps_picture(&one, PAC_RGBA_SIZE, PAC_LENGTH));
         row_at("pac_save, ROMs of another length", length, keeps_text(&one, PAC_STATE_SIZE, PAC_LENGTH));
+        row_at("pac_peek, ROMs of another length", length, keeps_bytes(&one, PAC_LENGTH));
     }
 }
 
@@ -274,6 +283,7 @@ static void try_no_block(long at)
     row_at("pac_exec, a block that is none", at, keeps_run(&one, FRAME, ROOM, PAC_STATE));
     row_at("pac_draw, a block that is none", at, keeps_picture(&one, PAC_RGBA_SIZE, PAC_STATE));
     row_at("pac_save, a block that is none", at, keeps_text(&one, PAC_STATE_SIZE, PAC_STATE));
+    row_at("pac_peek, a block that is none", at, keeps_bytes(&one, PAC_STATE));
 }
 
 /* A block of zeros, and those of power-on but for a byte. */
@@ -495,14 +505,30 @@ static void try_registers(void)
     row("IFF2, halted and mode 2", has(&one.board, FLAGS, 2 + 4, 2));
 }
 
+/* What the processor would read at an address; -1 where that isn't told. */
+static int peeked(const host *of, uint16_t at)
+{
+    uint8_t byte = UNTOUCHED;
+    return pac_peek_checked(&of->board, of->roms, of->length, at, &byte, 1) == PAC_DONE ? byte : -1;
+}
+
 /* The RAMs of a block, its inputs and its switches, as a program reads them. */
 static void try_memory(void)
 {
     static const uint8_t wanted[] = {0x11, 0x22, 0x33, 0x44, 0xFE, 0xDF, 0x55};
+    static const uint16_t places[] = {0x4000, 0x4400, 0x4C00, 0x4FFF, 0x5000, 0x5040, 0x5080};
     power_on(&one, copies);
     one.board.bytes[TILE_RAM] = 0x11, one.board.bytes[COLOUR_RAM] = 0x22;
     one.board.bytes[READ] = 0x33, one.board.bytes[LAST_RAM] = 0x44;
     one.board.bytes[HELD] = 0x01, one.board.bytes[HELD + 1] = 0x20, one.board.bytes[SWITCHES] = 0x55;
+    pac_board before = one.board;
+    for (size_t at = 0; at < sizeof places / sizeof *places; at++)
+        row_at("what it will read", places[at], peeked(&one, places[at]) == wanted[at] && peeked(&one, 0x8000 | places[at]) == wanted[at]);
+    uint8_t bytes[5] = {UNTOUCHED, UNTOUCHED, UNTOUCHED, UNTOUCHED, UNTOUCHED};
+    row("from FFFEH on", pac_peek(&one.board, one.roms, one.length, 0xFFFE, bytes, 4) == PAC_DONE && bytes[4] == UNTOUCHED);
+    row("and at 0000H", memcmp(bytes + 2, copies, 2) == 0);
+    row("no byte", pac_peek(&one.board, one.roms, one.length, 0, bytes + 4, 0) == PAC_DONE && bytes[4] == UNTOUCHED);
+    row("a look changes nothing", is_same(&one.board, &before));
     row("a run that copies", run(&one, 100, ROOM) == PAC_DONE);
     row("what it has read", memcmp(one.board.bytes + READ + 0x10, wanted, sizeof wanted) == 0);
 }
