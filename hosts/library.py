@@ -84,18 +84,18 @@ def lay_kit(flags, to, kept):
     return to / "bin/rt"
 
 
-def run(rt, folder):
-    """Proves and builds the crate in a folder by `rt lib`, over what is proved below it, and tells how far it is; ends where it fails."""
-    begun = time.monotonic()
+def run(rt, folder, *words):
+    """Runs `rt` with these words in the folder of a crate, over what is proved below it, and tells how far it is; ends where it fails."""
+    begun, command = time.monotonic(), f"rt {words[0]}"
     with tempfile.TemporaryFile("w+") as said:
-        with subprocess.Popen([rt, "lib"], cwd=folder, stdout=said, stderr=subprocess.STDOUT) as process:
+        with subprocess.Popen([rt, *words], cwd=folder, stdout=said, stderr=subprocess.STDOUT) as process:
             while process.poll() is None:
                 with contextlib.suppress(subprocess.TimeoutExpired):
                     process.wait(TOLD)
                 lines = text_of(said).splitlines() or [""]
-                print(f"rt lib, {time.monotonic() - begun:.0f} s: {lines[-1].strip()[:100]}", file=sys.stderr, flush=True)
+                print(f"{command}, {time.monotonic() - begun:.0f} s: {lines[-1].strip()[:100]}", file=sys.stderr, flush=True)
         if process.returncode:
-            sys.exit("\n".join(text_of(said).splitlines()[-40:]) + f"\nrt lib: status {process.returncode}")
+            sys.exit("\n".join(text_of(said).splitlines()[-40:]) + f"\n{command}: status {process.returncode}")
 
 
 def text_of(file):
@@ -103,31 +103,38 @@ def text_of(file):
     return os.pread(file.fileno(), os.fstat(file.fileno()).st_size, 0).decode(errors="replace")
 
 
-def build(name, kind, file, to, is_after_ci, flags=()):
-    """Builds a library as a crate of this kind, in a copy of it and of all below it, and takes the file that it leaves.
-
-    The copy's crates.txt says which kind it is, and the repository is left as it is. The flags are for the compiler. What an earlier build
-    of either kind has checked, and nothing has changed since, isn't checked again. Beside the file, with the end .bc, stands the bitcode
-    of which the compiler made it.
-    """
-    table = crates()
-    if not table.get(name, (False, []))[0]:
-        sys.exit(f"crates.txt has no static library {name}")
+@contextlib.contextmanager
+def laid(table, name, kind, is_after_ci):
+    """Lays a crate, as one of this kind, and all below it into another folder, which is there as long as it's needed: its crates.txt says which
+    kind it is, and the repository is left as it is."""
     below = crates_below(table, name)
     with tempfile.TemporaryDirectory(prefix="hosts-") as room:
         folder = pathlib.Path(room).resolve()
         lines = [f"{crate}: {' '.join(uses)}" for crate, (_, uses) in table.items() if crate in below]
-        (folder / "crates.txt").write_text("\n".join([*lines, f"{name} {kind}: {' '.join(table[name][1])}", ""]))
+        (folder / "crates.txt").write_text("\n".join([*lines, f"{f'{name} {kind}'.strip()}: {' '.join(table[name][1])}", ""]))
         shutil.copy(ROOT / "HANDLES", folder / "HANDLES")
         for crate in [*below, name]:
             lay_crate(crate, folder / "crates" / crate)
         if is_after_ci:
             stamp(folder)
+        yield folder
+
+
+def build(name, kind, file, to, is_after_ci, flags=()):
+    """Builds a library as a crate of this kind, in a copy of it and of all below it, and takes the file that it leaves.
+
+    The flags are for the compiler. What an earlier build of either kind has checked, and nothing has changed since, isn't checked again. Beside
+    the file, with the end .bc, stands the bitcode of which the compiler made it.
+    """
+    table = crates()
+    if not table.get(name, (False, []))[0]:
+        sys.exit(f"crates.txt has no static library {name}")
+    with laid(table, name, kind, is_after_ci) as folder:
         built = folder / "crates" / name / "out"
         if (KEPT / name).is_dir():
             shutil.copytree(KEPT / name, built / "incremental")
         OUT.mkdir(exist_ok=True)
-        run(lay_kit(flags, folder / "kit", (OUT / to).with_suffix(".bc")), folder / "crates" / name)
+        run(lay_kit(flags, folder / "kit", (OUT / to).with_suffix(".bc")), folder / "crates" / name, "lib")
         shutil.copy(built / file.format(name), OUT / to)
         shutil.rmtree(KEPT / name, ignore_errors=True)
         shutil.copytree(built / "incremental", KEPT / name)
