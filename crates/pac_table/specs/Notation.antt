@@ -1,7 +1,7 @@
 -- Believed: the notation of the instruction table, which is the manual's (Zilog Z80 CPU User Manual UM0080, "Z80 Instruction
 -- Description"): how a form in source and a code in letters are read.
 use Prim.Native.String.{String}
-use Rattle.std.specs.Prelude.{ℕ, ◌+◌, ◌*◌, ◌==◌, ◌||◌, Bool, not, nat_eq, if◌then◌else◌, codes, bytes_eq}
+use Rattle.std.specs.Prelude.{ℕ, ◌+◌, ◌*◌, ◌==◌, ◌||◌, not, nat_eq, if◌then◌else◌, codes, bytes_eq}
 use Rattle.std.specs.Prelude.{List, [], ◌∷◌, ◌++◌, map, fold, filter, find, take, drop, get_or}
 use Rattle.std.specs.Prelude.{Option, unwrap_or, option_map, option_to_list}
 use Rattle.std.specs.List.{before_first, after_first}
@@ -13,8 +13,7 @@ use Rattle.pac_table.specs.declared.patterns.Field.TheVariants as field
 use Rattle.pac_table.specs.declared.patterns.Immediate.{Immediate}
 use Rattle.pac_table.specs.declared.patterns.Immediate.TheVariants as immediate
 use Rattle.pac_table.specs.declared.patterns.Pattern.{Pattern}
-use Rattle.pac_table.specs.declared.operands.Mnemonic.{Mnemonic}
-use Rattle.pac_table.specs.declared.operands.Mnemonic.TheVariants.{Alu, Shift, Nop}
+use Rattle.pac_table.specs.declared.operands.Mnemonic.TheVariants.{Nop}
 use Rattle.pac_table.specs.declared.operands.Name.{Name}
 use Rattle.pac_table.specs.declared.operands.Name.TheVariants as name
 use Rattle.pac_table.specs.declared.operands.NameList.{NameList}
@@ -28,7 +27,7 @@ use Rattle.pac_table.specs.declared.operands.Operands.{Operands}
 use Rattle.pac_table.specs.declared.effects.Effect.{Effect}
 use Rattle.pac_table.specs.declared.table.Row.{Row}
 use Rattle.pac_table.specs.Patterns.{is_displacement_first}
-use Rattle.pac_table.specs.Mnemonics.{mnemonics, operation_name}
+use Rattle.pac_table.specs.Mnemonics.{operation_words}
 
 -- what a word stands for in a list of words
 abbrev pub stands_for : {A : Type 0} → List (List ℕ × A) → List ℕ → Option A
@@ -77,12 +76,6 @@ pattern_read page code =
       immediate = immediate_read page code;
     }
 
--- whether a word of a form is an operation's: its name, and of a family `alu` or `shift`
-abbrev pub is_called : List ℕ → Mnemonic → Bool
-is_called word Alu = bytes_eq word (codes "alu")
-is_called word Shift = bytes_eq word (codes "shift")
-is_called word mnemonic = bytes_eq word (unwrap_or (operation_name mnemonic 0) [])
-
 -- the operands of a form: r is the register in the code's first field, s the one in its second
 abbrev pub operands : List (List ℕ × Shape)
 operands =
@@ -115,7 +108,7 @@ abbrev pub form_read : Page → List ℕ → Operands
 form_read page form =
     let written = after_first (nat_eq (byte " ")) form in
     record {
-      mnemonic = unwrap_or (find (is_called (before_first (nat_eq (byte " ")) form)) mnemonics) Nop;
+      mnemonic = unwrap_or (stands_for operation_words (before_first (nat_eq (byte " ")) form)) Nop;
       first = shape_read page (before_first (nat_eq (byte ",")) written);
       second = shape_read page (after_first (nat_eq (byte ",")) written);
     }

@@ -52,7 +52,7 @@ name_texts =
 unfoldable pub name_of : List ℕ → Option Name
 name_of word = lookup (is_written word) name_texts
 
--- two names are one
+-- two names are one, as Rust's `==` tells it
 abbrev pub is_same_name : Name → Name → Bool
 is_same_name one other = sameb the_type one other
 
