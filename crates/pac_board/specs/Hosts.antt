@@ -220,7 +220,7 @@ pub record IsOfTheHistory (old : HostedBoard) (told : Host (List Entry)) (calls 
   pub kept : map (λ (state : BoardState). state.now) (drop (length old.kept) new.kept)
       ≡ map (moment_view (board_after_entries old.board.set old.board.state.now.board)) told.kept
   -- each line of its picture is as it was last composed, and lines were composed at their moments and at no others
-  pub picture : new.board.state.now.board.lines 
+  pub picture : new.board.state.now.board.lines
       ≡ tabulate height (line_at old.board.set old.board.state.now.board told.now.board)
   pub lines : HasLinesInTime old.board.set old.board.state.now.board old.board.state.now.time told.now
   -- where it wasn't brought back, the sinks took what was due and what the history's steps gave, once and in order, or it is due

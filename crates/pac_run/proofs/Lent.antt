@@ -50,27 +50,27 @@ module _ {W : Type 0} (took : W → List ℕ → W → Type 0) (refused : W → 
     still = λ same. ends (ap (λ (it : MutBor W). it.ghost_name) (sym same)) ∙ ap (λ (it : MutBor W). it.now) same;
   }
 
--- a text that was put into a new file
-pub written : {W A : Type 0} (took : W → List ℕ → W → Type 0) (refused : W → W → Type 0) (owner : MutBor W) (left : W)
-    (result : Result A WriteFault) (text : List ℕ) (file new : Counted (MutBor W))
-    → HasTaken (lent_took took) owner [] file → Puts (lent_took took) (lent_refused refused) file text result new
-    → Ends owner new.writer left → WritesWholeText (writing took refused owner.now left) text result
-written took refused owner left (Ok done) text file new fresh puts ends =
-    (carries took refused owner new.writer left ends).takes text (puts.takes.after owner [] fresh).written
-written took refused owner left (Err fault) text file new fresh puts ends =
-    let stop = puts.after owner [] fresh in
-    record {
-      taken = stop.taken;
-      stopped = (carries took refused owner new.writer left ends).stops text stop.taken stop.stopped;
-      count_is = puts.told ∙ stop.count_is;
-    }
-
 -- a writer that is handed back is the one that was lent
 pub carries-back : {W : Type 0} (took : W → List ℕ → W → Type 0) (refused : W → W → Type 0) (owner new writer : MutBor W) (left : W)
     → writer ≡ new → Ends owner writer left
     → Carries (writing (lent_took took) (lent_refused refused) owner new) (writing took refused owner.now left)
 carries-back took refused owner new writer left same ends =
     carries took refused owner new left (subst (λ it. Ends owner it left) same ends)
+
+-- a text that was put into a new file, whose writer is handed back
+pub written : {W A : Type 0} (took : W → List ℕ → W → Type 0) (refused : W → W → Type 0) (owner : MutBor W) (left : W)
+    (result : Result A WriteFault) (text : List ℕ) (file new : Counted (MutBor W))
+    → HasTaken (lent_took took) owner [] file → Puts (lent_took took) (lent_refused refused) file text result new
+    → (writer : MutBor W) → writer ≡ new.writer → Ends owner writer left → WritesWholeText (writing took refused owner.now left) text result
+written took refused owner left (Ok done) text file new fresh puts writer same ends =
+    (carries-back took refused owner new.writer writer left same ends).takes text (puts.takes.after owner [] fresh).written
+written took refused owner left (Err fault) text file new fresh puts writer same ends =
+    let stop = puts.after owner [] fresh in
+    record {
+      taken = stop.taken;
+      stopped = (carries-back took refused owner new.writer writer left same ends).stops text stop.taken stop.stopped;
+      count_is = puts.told ∙ stop.count_is;
+    }
 
 -- ---- one writer
 
@@ -225,11 +225,11 @@ module _ {F W A : Type 0} (took_f : F → List ℕ → F → Type 0) (refused_f 
       → WatchesOutputs (writing (lent_took took_f) (lent_refused refused_f) frames new_frames)
       (writing (lent_took took_w) (lent_refused refused_w) wave new_wave) (writing (lent_took took) (lent_refused refused) words later)
       total outputs setting lines answer
-      → (writer_f : MutBor F) (writer_w : MutBor W) → writer_f ≡ new_frames → writer_w ≡ new_wave → Ends frames writer_f left_f
-      → Ends wave writer_w left_w → Ends words later left
+      → (writer_f : MutBor F) (writer_w : MutBor W) (writer : MutBor T) → writer_f ≡ new_frames → writer_w ≡ new_wave → writer ≡ later
+      → Ends frames writer_f left_f → Ends wave writer_w left_w → Ends words writer left
       → WatchesOutputs (writing took_f refused_f frames.now left_f) (writing took_w refused_w wave.now left_w)
       (writing took refused words.now left) total outputs setting lines answer
-  watches-back took refused words later left setting lines film writer_f writer_w same_f same_w ends_f ends_w ends_t =
+  watches-back took refused words later left setting lines film writer_f writer_w writer same_f same_w same ends_f ends_w ends =
       watches (carries-back took_f refused_f frames new_frames writer_f left_f same_f ends_f)
-      (carries-back took_w refused_w wave new_wave writer_w left_w same_w ends_w) (carries took refused words later left ends_t) total
+      (carries-back took_w refused_w wave new_wave writer_w left_w same_w ends_w) (carries-back took refused words later writer left same ends) total
       outputs setting lines answer film

@@ -50,7 +50,9 @@ pub(crate) fn list<L: Out>(
         (listing_in (option_copied source.entry) program.now) result }
 {
     let mut file = Counted::new(listing);
-    put_listing(&mut file, source, program)
+    let written = put_listing(&mut file, source, program);
+    let _ = file.into_writer();
+    written
 }
 
 /// Writes the report of what a run of so many frames came to.
@@ -64,7 +66,9 @@ pub(crate) fn report_on<R: Out>(
         (text.report outcome total) result }
 {
     let mut file = Counted::new(report);
-    put_report(&mut file, outcome, total)
+    let written = put_report(&mut file, outcome, total);
+    let _ = file.into_writer();
+    written
 }
 
 /// What a run came to that began at this time, after so many steps, and ended on this board.

@@ -88,5 +88,6 @@ pub fn watch_run<F: Out, W: Out, T: Out>(
     } = film;
     let _ = frames.into_writer();
     let _ = wave.into_writer();
+    let _ = words.into_writer();
     watched
 }

@@ -23,7 +23,9 @@ fn put_rom<R: Out>(rom: &mut R, program: &Program) -> Result<(), WriteFault>
     ensures { WritesWholeText (writing R.took R.refused rom.old rom.new) program.now.rom result }
 {
     let mut file = Counted::new(rom);
-    file.put(program.rom())
+    let written = file.put(program.rom());
+    let _ = file.into_writer();
+    written
 }
 
 /// Writes the listing of a program.
@@ -32,7 +34,9 @@ fn put_listing<L: Out>(listing: &mut L, program: &Program, source: &[u8]) -> Res
         (texts.listing program.now source.now) result }
 {
     let mut file = Counted::new(listing);
-    write_listing(&mut file, program, source)
+    let written = write_listing(&mut file, program, source);
+    let _ = file.into_writer();
+    written
 }
 
 /// Assembles a source, and writes the 16,384 bytes of its ROM, and then its listing. The source is judged and all

@@ -21,7 +21,9 @@ fn put_text<W: Out>(text: &mut W, bytes: &[u8]) -> Result<(), WriteFault>
     ensures { WritesWholeText (writing W.took W.refused text.old text.new) (disassembly bytes.now) result }
 {
     let mut file = Counted::new(text);
-    put_disassembly(&mut file, bytes)
+    let written = put_disassembly(&mut file, bytes);
+    let _ = file.into_writer();
+    written
 }
 
 /// Writes the instructions of 1 to 65,536 bytes, from address 0000H on, a line each.

@@ -62,5 +62,7 @@ pub fn save<W: Out>(board: &Board, out: &mut W) -> Result<(), WriteFault>
         (text.save_text text.written_version board.now.set board.now.state) result out.new }
 {
     let mut file = Counted::new(out);
-    put_state(&mut file, &digest(board.set()), &board.fields())
+    let written = put_state(&mut file, &digest(board.set()), &board.fields());
+    let _ = file.into_writer();
+    written
 }

@@ -5,6 +5,6 @@ use Rattle.pac_run.proofs.run.list.Goals as goal
 
 pub returns : goal.returns
 returns g c =
-    written g.L.Out.took g.L.Out.refused _ _ c.put_listing.result
-    (listing_in (option_copied c.args.source) c.args.program.now) c.new-file.result c.put_listing.new.file c.new-file.ensures
-    c.put_listing.ensures assumption
+    written g.L.Out.took g.L.Out.refused _ _ c.put_listing-written.result
+    (listing_in (option_copied c.args.source) c.args.program.now) c.new-file.result c.put_listing-written.new.file c.new-file.ensures
+    c.put_listing-written.ensures _ c.into_writer.ensures assumption

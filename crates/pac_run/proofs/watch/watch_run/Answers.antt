@@ -38,4 +38,4 @@ returns-clause-texts g c =
     (whole_run c.args.session.setting).outputs c.watch-watched.result g.T.Out.took g.T.Out.refused _ c.watch-watched.new.text.writer _
     c.args.session.setting (lines c.args.commands.now)
     (c.watch-watched.ensures.film _ _ _ total ready c.new-words.ensures)
-    _ _ c.into_writer-2.ensures c.into_writer-3.ensures (assumption) (assumption) (assumption)
+    _ _ _ c.into_writer-2.ensures c.into_writer-3.ensures c.into_writer-4.ensures (assumption) (assumption) (assumption)

@@ -4,5 +4,5 @@ use Rattle.pac_run_command.proofs.asm.put_listing.Goals as goal
 
 pub returns : goal.returns
 returns g c =
-    written g.L.Out.took g.L.Out.refused _ _ c.write_listing.result (listing c.args.program.now c.args.source.now) c.new-file.result
-    c.write_listing.new.file c.new-file.ensures c.write_listing.ensures assumption
+    written g.L.Out.took g.L.Out.refused _ _ c.write_listing-written.result (listing c.args.program.now c.args.source.now) c.new-file.result
+    c.write_listing-written.new.file c.new-file.ensures c.write_listing-written.ensures _ c.into_writer.ensures assumption

@@ -4,5 +4,5 @@ use Rattle.pac_run_command.proofs.dis.put_text.Goals as goal
 
 pub returns : goal.returns
 returns g c =
-    written g.W.Out.took g.W.Out.refused _ _ c.put_disassembly.result (disassembly c.args.bytes.now) c.new-file.result
-    c.put_disassembly.new.file c.new-file.ensures c.put_disassembly.ensures assumption
+    written g.W.Out.took g.W.Out.refused _ _ c.put_disassembly-written.result (disassembly c.args.bytes.now) c.new-file.result
+    c.put_disassembly-written.new.file c.new-file.ensures c.put_disassembly-written.ensures _ c.into_writer.ensures assumption

@@ -14,8 +14,8 @@ returns g c =
     ap (λ digest. sealed_file (body written_version digest (state_of c.fields.result))) (c.digest.ensures ∙ ap digest_of c.set.ensures)
     ∙ ap (λ state. sealed_file (body written_version (digest_of c.args.board.now.set) state)) c.fields.ensures.fields in
     saves g.W.Out.took g.W.Out.refused c.new-file.ensures (save_text written_version c.args.board.now.set c.args.board.now.state)
-    c.put_state.result c.put_state.new.file _
+    c.put_state-written.result c.put_state-written.new.file _
     (subst (λ (text : List ℕ). Puts (lent_took g.W.Out.took) (lent_refused g.W.Out.refused) c.new-file.result text
-    c.put_state.result c.put_state.new.file)
-    text c.put_state.ensures)
-    assumption
+    c.put_state-written.result c.put_state-written.new.file)
+    text c.put_state-written.ensures)
+    _ c.into_writer.ensures assumption
