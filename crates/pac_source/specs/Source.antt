@@ -5,16 +5,15 @@ use Rattle.pac_asm_program.specs.Programs.{Assembled, rom_size}
 use Rattle.pac_dis.specs.Texts.{text_at, size_at}
 use Rattle.pac_listing.specs.Listing.{listing}
 use Rattle.pac_out.specs.Counted.{file_count}
-use Rattle.pac_source.specs.declared.codes.PacTold.{PacTold}
 use Rattle.pac_source.specs.declared.codes.SourceFault.{SourceFault}
 use Rattle.pac_source.specs.declared.codes.SourceFault.TheVariants.{WrongLength, NoRoom, NoMemory, Fault}
-use Rattle.pac_source.specs.Codes.{source_code, answer_told}
+use Rattle.pac_source.specs.Codes.{source_code, answer_told, told_bytes}
 
--- A call tells by numbers what it came to.
-pub record AnswersAndTells (comes_to : Result ℕ SourceFault → Type 0) (code : ℕ) (told : PacTold) : Type 0 where
+-- A call tells by a number and in 16 bytes what it came to.
+pub record AnswersAndTells (comes_to : Result ℕ SourceFault → Type 0) (code : ℕ) (told : List ℕ) : Type 0 where
   pub answer : Result ℕ SourceFault
   pub code_is : code ≡ source_code answer
-  pub told_is : told ≡ answer_told answer
+  pub told_is : told ≡ told_bytes (answer_told answer)
   pub done : comes_to answer
 
 -- ---- a source

@@ -99,3 +99,24 @@ pub(crate) fn told_of(answer: Result<u64, SourceFault>) -> PacTold
         token,
     }
 }
+
+/// The bytes of a `PacTold` as C lays it out, in a host's memory: what a call for a source writes.
+#[repr(C)]
+#[derive(Drop)]
+pub struct ToldBytes {
+    /// Numbers with the low byte first.
+    pub bytes: [u8; 16],
+}
+
+/// The bytes of what is told.
+pub(crate) fn bytes_of(told: &PacTold) -> [u8; 16]
+    ensures { result ≡ codes.told_bytes told.now }
+{
+    let [s0, s1, s2, s3, s4, s5, s6, s7] = told.listing.to_le_bytes();
+    let [l0, l1, l2, l3] = told.line.to_le_bytes();
+    let [fault, fault_high] = told.fault.to_le_bytes();
+    let [token, token_high] = told.token.to_le_bytes();
+    [
+        s0, s1, s2, s3, s4, s5, s6, s7, l0, l1, l2, l3, fault, fault_high, token, token_high,
+    ]
+}

@@ -8,8 +8,8 @@ mod assembly;
 mod codes;
 mod instruction;
 
-pub use codes::{PacTold, SourceFault};
-use codes::{code, told_of};
+pub use codes::{PacTold, SourceFault, ToldBytes};
+use codes::{bytes_of, code, told_of};
 pub use instruction::PacText;
 use std::alloc::Global;
 
@@ -24,12 +24,12 @@ pub extern "C" fn pac_assemble(
     source: &[u8],
     rom: &mut [u8],
     listing: &mut [u8],
-    told: &mut PacTold,
+    told: &mut ToldBytes,
 ) -> u32
-    ensures { calls.AnswersAndTells (λ answer. calls.AssemblesInto source.now rom.old listing.old answer rom.new listing.new) result told.new }
+    ensures { calls.AnswersAndTells (λ answer. calls.AssemblesInto source.now rom.old listing.old answer rom.new listing.new) result told.new.bytes }
 {
     let answer = assembly::assemble_into(alloc, source, rom, listing);
-    *told = told_of(answer);
+    told.bytes = bytes_of(&told_of(answer));
     code(answer)
 }
 
