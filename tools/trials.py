@@ -14,7 +14,7 @@ OUT, HOSTS, TOOLS = ROOT / "hosts/out", ROOT / "hosts", ROOT / "tools"
 MEMORY = "/dev/shm" if os.access("/dev/shm", os.W_OK) else None  # where files cost least; None is the usual folder
 TELLING = 2  # seconds from one line about what is being done to the next
 LONGEST = 900  # seconds of a job
-SHOWN = 25  # last lines of a job that fails
+SHOWN = 12  # last lines of a job that fails, and lines about its rows
 Words = list[str | pathlib.Path]
 
 
@@ -67,7 +67,9 @@ def try_all(teller: str, what: str, jobs: dict[str, Job]) -> dict[str, bool]:
                 name, (status, said) = waiting.pop(future), future.result()
                 rows[f"{what}: {name}"] = is_so = status == jobs[name].status
                 if not is_so:
-                    print("\n".join([f"{what}: {name}: status {status}", *said.splitlines()[-SHOWN:]]), flush=True)
+                    lines = said.splitlines()
+                    failed = [line for line in lines[:-SHOWN] if line.startswith("FAILED")]
+                    print("\n".join([f"{what}: {name}: status {status}", *failed[:SHOWN], *lines[-SHOWN:]]), flush=True)
             if waiting:
                 print(f"{teller}: {what}: {', '.join(waiting.values())}, {time.monotonic() - begun:.0f} s", file=sys.stderr, flush=True)
     return rows
