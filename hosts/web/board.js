@@ -65,9 +65,20 @@ export class Board {
         this.trap = null;
         this.place(Number(calls.__heap_base.value));
         if (calls.pac_size() !== BigInt(SIZES.board)) throw new Error("the module's board has another size");
+        this.begin(roms, switches);
+    }
+
+    // Becomes a board at power-on, with another ROM block in its sockets.
+    begin(roms, switches = SWITCHES) {
+        this.sockets = roms;
+        this.call('pac_init', this.at.board, ...this.part('roms'), number('switches', switches, 8));
+    }
+
+    // Puts another ROM block into the sockets; the board stays as it is.
+    set sockets(roms) {
+        this.intact();
         if (roms.length !== SIZES.roms) throw new Refused(1);
         this.bytes('roms').set(roms);
-        this.call('pac_init', this.at.board, ...this.part('roms'), number('switches', switches, 8));
     }
 
     // Places the buffers, each at a multiple of 8.

@@ -1,0 +1,223 @@
+// The transport under the picture: play and pause, frames and steps on and back, the slider over all that was played; and what the picture tells.
+
+import { counted, hex } from './bytes.js';
+import { backTo, onTo, stepBack, stepOn } from './look.js';
+import { at, icon, tell } from './parts.js';
+import { shownAt } from './pixel.js';
+import { HEIGHT, WIDTH } from '../board.js';
+
+const FAR = 36000; // frames in which a line is looked for
+const MODES = { live: 'Live', replay: 'Played again', demo: 'Demo · press a key to play', paused: 'Paused', stopped: 'Stopped', busy: 'Playing it again' };
+const SHORT = 30; // frames below which no progress is told
+
+export class Deck {
+    constructor(studio) {
+        this.studio = studio;
+        for (const name of ['back-frame', 'back-step', 'on-step', 'on-frame', 'again', 'sound', 'turn', 'full']) icon(at(name), name);
+        const clicks = {
+            play: () => this.toggle(), 'back-frame': () => this.byFrames(-1), 'on-frame': () => this.byFrames(1), 'back-step': () => this.byStep(stepBack),
+            'on-step': () => this.byStep(stepOn), again: () => this.anew(), sound: () => this.mute(), turn: () => this.turn(), full: () => this.full(),
+        };
+        for (const [name, does] of Object.entries(clicks)) at(name).addEventListener('click', does);
+        at('moment').addEventListener('input', ({ target }) => this.slides(Number(target.value)));
+        at('moment').addEventListener('change', () => this.slid());
+        at('frame').addEventListener('pointerdown', (event) => this.points(event));
+        for (const name of ['keydown', 'pointerdown']) addEventListener(name, () => this.studio.speaker.begin().catch(() => undefined));
+        addEventListener('keydown', (event) => this.key(event));
+        const { controls } = studio;
+        controls.joystick(at('stick'));
+        controls.button(at('coin'), 'COIN1');
+        controls.button(at('start'), 'START1');
+        this.label();
+    }
+
+    get session() {
+        return this.studio.session;
+    }
+
+    // ---- Playing
+
+    play() {
+        const { session } = this;
+        if (!session.run.canGo) return;
+        at('cross').hidden = true;
+        this.studio.loop.play();
+        this.label();
+        this.studio.editor.at(null);
+    }
+
+    pause() {
+        if (!this.studio.loop.isPlaying) return;
+        this.studio.loop.pause();
+        this.label();
+        this.studio.told();
+        this.studio.exits.keeps();
+    }
+
+    toggle() {
+        if (this.studio.loop.isPlaying) this.pause();
+        else this.play();
+    }
+
+    // The button's picture and name.
+    label() {
+        const { isPlaying } = this.studio.loop;
+        icon(at('play'), isPlaying ? 'pause' : 'play');
+        at('play').setAttribute('aria-label', isPlaying ? 'Pause' : 'Play');
+        this.show();
+    }
+
+    async byFrames(count) {
+        this.pause();
+        const { session } = this, { frame, inside } = session.run;
+        const to = count < 0 && inside > 0 ? frame : Math.max(0, frame + count);
+        if (to > frame && frame >= session.tape.length) session.tape.add(this.studio.controls.held);
+        await session.go(to);
+        this.studio.speaker.rest(true);
+    }
+
+    byStep(step) {
+        this.pause();
+        const { session } = this;
+        session.wish++;
+        if (session.run.frame >= session.tape.length) session.tape.add(this.studio.controls.held);
+        step(session.run);
+        this.studio.told();
+        this.follows();
+    }
+
+    // Brings the line that comes next into view.
+    follows() {
+        const { editor } = this.studio;
+        if (editor.current) editor.show(editor.current);
+    }
+
+    anew() {
+        const { session } = this;
+        session.begin(session.roms, [], { start: null });
+        this.play();
+    }
+
+    // Runs on, or back, to an address.
+    async runsTo(address, isBack) {
+        this.pause();
+        const { session, studio } = this, { frame, inside } = session.run, scout = session.scout();
+        scout.go(frame, inside);
+        const steps = isBack ? backTo(scout, address) : onTo(scout, address, session.tape.length > frame ? session.tape.length - frame + 600 : 600);
+        const isThere = await session.does(function* () { return yield* steps; });
+        if (isThere === undefined) return;
+        const name = studio.listing?.nameOf(address) ?? `${hex(address)}H`;
+        if (!isThere) {
+            tell('', isBack ? `The processor wasn't at ${name} before.` : `The processor doesn't come to ${name} within the next ten seconds.`);
+            return;
+        }
+        while (session.tape.length <= scout.frame) session.tape.add(0);
+        await session.go(scout.frame, scout.inside);
+        this.follows();
+    }
+
+    // ---- The slider
+
+    slides(frame) {
+        if (this.wasPlaying === undefined) this.wasPlaying = this.studio.loop.isPlaying;
+        this.studio.loop.pause();
+        this.session.isDemo = false;
+        this.session.go(frame);
+    }
+
+    slid() {
+        if (this.wasPlaying) this.play();
+        this.wasPlaying = undefined;
+        this.label();
+    }
+
+    // Shows where it is.
+    show() {
+        const { session, studio } = this, { run, tape } = session, slider = at('moment');
+        if (this.wasPlaying === undefined) {
+            slider.max = Math.max(1, tape.length);
+            slider.value = run.frame;
+        }
+        const { frame, tick, line, isInside } = studio.when();
+        at('when').textContent = isInside ? `frame ${counted(frame)} + T ${counted(tick)}${line === null ? '' : ` · line ${line}`}`
+            : `frame ${counted(frame)} of ${counted(tape.length)} · ${(frame * 0.0165).toFixed(1)} s`;
+        slider.setAttribute('aria-valuetext', `frame ${frame} of ${tape.length}`);
+        const mode = run.stop ? 'stopped' : !studio.loop.isPlaying ? 'paused' : session.isDemo ? 'demo' : session.isReplay ? 'replay' : 'live';
+        at('mode').dataset.mode = this.busy ? 'busy' : mode;
+        at('mode').textContent = this.busy ?? MODES[mode];
+    }
+
+    // Tells how far it is played again under new code; nothing once that is done.
+    progress(frame, all) {
+        const text = frame === null || all - frame < SHORT && !this.busy ? null : `${MODES.busy}: ${Math.floor(100 * frame / Math.max(1, all))}%`;
+        if (text === this.busy) return;
+        this.busy = text;
+        this.show();
+    }
+
+    // Tells that the board has stopped, and where.
+    stopped(stop, listing) {
+        at('stopped').hidden = stop === null;
+        if (stop === null) return;
+        const line = listing?.lineAt.get(stop.pc), where = `${hex(stop.pc)}H${line ? `, line ${line}` : ''}`;
+        at('stopped').querySelector('b').textContent = `The board stopped at ${where}.`;
+        at('stopped').querySelector('p').textContent = stop.stop === 1
+            ? 'The bytes there are no documented instruction, most often because the program ran into data. Step back to see how it came there.'
+            : 'In interrupt mode 0 the vector was no RST.';
+    }
+
+    // ---- What else the picture does
+
+    // Where the picture is clicked on: while it rests, what shows there is told; while it plays it takes the keys.
+    points(event) {
+        at('frame').focus({ preventScroll: true });
+        if (this.studio.loop.isPlaying) return;
+        const { left, top, width, height } = at('frame').getBoundingClientRect();
+        const across = (event.clientX - left) / width, down = (event.clientY - top) / height, isTurned = at('stage').classList.contains('turned');
+        const [u, v] = isTurned ? [1 - down, across] : [across, down];
+        const x = Math.min(WIDTH - 1, Math.max(0, Math.floor(u * WIDTH))), y = Math.min(HEIGHT - 1, Math.max(0, Math.floor(v * HEIGHT)));
+        this.tellPixel(x, y);
+        Object.assign(at('cross').style, { left: `${100 * across}%`, top: `${100 * down}%` });
+        at('cross').hidden = false;
+    }
+
+    // Tells what shows at a pixel.
+    tellPixel(x, y) {
+        const { run } = this.session, scout = this.session.scout();
+        scout.go(run.frame, run.inside);
+        const found = shownAt(scout, x, y);
+        this.studio.panes.open('pictures');
+        this.studio.panes.all.pictures.tell(found, x, y);
+        return found;
+    }
+
+    mute() {
+        const { speaker } = this.studio;
+        speaker.mute(!speaker.isMuted);
+        at('sound').setAttribute('aria-pressed', !speaker.isMuted);
+        icon(at('sound'), speaker.isMuted ? 'quiet' : 'sound');
+        if (!speaker.isMuted && this.studio.loop.isPlaying) speaker.rest(false);
+    }
+
+    turn() {
+        at('turn').setAttribute('aria-pressed', at('stage').classList.toggle('turned'));
+        at('cross').hidden = true;
+    }
+
+    full() {
+        if (document.fullscreenElement) document.exitFullscreen();
+        else at('stage').requestFullscreen?.().catch(() => undefined);
+        at('frame').focus();
+    }
+
+    // The keys of the studio itself; those of the board are the controls'.
+    key(event) {
+        const isInText = event.target.closest?.('textarea, input:not([type=range]), select') !== null, { key } = event;
+        const any = { F10: () => this.byStep(event.shiftKey ? stepBack : stepOn), F9: () => this.studio.runsTo(this.studio.editor.line, event.shiftKey) };
+        const free = { p: () => this.toggle(), ',': () => this.byFrames(-1), '.': () => this.byFrames(1) };
+        const does = any[key] ?? (event.ctrlKey && event.code === 'Space' ? () => this.toggle() : isInText || event.ctrlKey || event.metaKey ? undefined : free[key]);
+        if (!does) return;
+        event.preventDefault();
+        does();
+    }
+}

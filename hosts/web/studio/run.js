@@ -1,0 +1,114 @@
+// A run: a board that plays a tape, with a snapshot each second, so that each moment is one short play away.
+//
+// A moment is a frame and the microseconds of it that have gone by. Time counts from the run's beginning, a power-on or a state that was read.
+
+import { FRAME_MICROSECONDS, HEIGHT } from '../board.js';
+import { PLACES } from './tables.js';
+
+export const STRIDE = 60; // frames between two snapshots
+export const FRAME_TICKS = 50688, LINE_TICKS = 192;
+const FIRST_LINE = 41; // of a frame's 264: the one before it is the last that isn't seen
+
+// A number of a block, its low byte first.
+export function numberIn(block, at, size = 2) {
+    let value = 0;
+    for (let byte = size - 1; byte >= 0; byte--) value = value * 256 + block[at + byte];
+    return value;
+}
+
+// The clocks of a block: T-states, steps and microseconds asked.
+export function clocksOf(block) {
+    return { ticks: numberIn(block, PLACES.AT_TIME, 8), steps: numberIn(block, PLACES.AT_STEPS, 8), asked: numberIn(block, PLACES.AT_ASKED, 8) };
+}
+
+// Where in a frame a time is: the T-state since the blank, and the line of the picture that is drawn then, if one is.
+export function placeInFrame(ticks) {
+    const tick = ticks % FRAME_TICKS, line = Math.floor(tick / LINE_TICKS) - FIRST_LINE;
+    return { tick, line: line >= 0 && line < HEIGHT ? line : null };
+}
+
+export class Run {
+    constructor(board, roms, tape, start = null) {
+        Object.assign(this, { board, roms, tape });
+        board.begin(roms);
+        if (start) board.block = start;
+        this.snapshots = [board.block];
+        this.origin = clocksOf(this.snapshots[0]).asked;
+        this.frame = 0;
+        this.inside = 0;
+        this.stop = null;
+    }
+
+    // The block that it began with.
+    get start() {
+        return this.snapshots[0];
+    }
+
+    // Whether nothing has stopped it, and no time is left to ask for.
+    get canGo() {
+        return this.stop === null;
+    }
+
+    // Runs to the end of this frame, with what the tape has: the samples.
+    next() {
+        const samples = this.part(FRAME_MICROSECONDS - this.inside);
+        if (this.canGo) {
+            this.frame++;
+            this.inside = 0;
+        }
+        return samples;
+    }
+
+    // Lets microseconds of this frame go by: the samples.
+    part(microseconds) {
+        if (this.inside === 0) {
+            if (this.frame === this.snapshots.length * STRIDE) this.snapshots.push(this.board.block);
+            this.board.hold(this.tape.at(this.frame));
+        }
+        const { samples, stop, pc } = this.board.run(microseconds);
+        this.inside += microseconds;
+        if (stop !== 0) this.stop = { stop, pc };
+        return samples;
+    }
+
+    // Forgets the snapshots after a moment, since what comes then has changed.
+    forget() {
+        this.snapshots.length = Math.min(this.snapshots.length, Math.floor(this.frame / STRIDE) + 1);
+    }
+
+    // Goes back to the last snapshot that is no later than a frame.
+    restore(frame) {
+        const at = Math.min(Math.floor(frame / STRIDE), this.snapshots.length - 1);
+        this.board.block = this.snapshots[at];
+        this.frame = at * STRIDE;
+        this.inside = 0;
+        this.stop = null;
+    }
+
+    // The steps to a moment, each at most a frame; where the board stops on the way it stays there.
+    *to(frame, inside = 0) {
+        const isAhead = this.canGo && (frame > this.frame || frame === this.frame && inside >= this.inside);
+        const nearest = STRIDE * Math.min(Math.floor(frame / STRIDE), this.snapshots.length - 1);
+        if (!isAhead || nearest > this.frame) this.restore(frame);
+        while (this.canGo && this.frame < frame) {
+            this.next();
+            yield this.frame;
+        }
+        if (this.canGo && inside > this.inside) this.part(inside - this.inside);
+        return this;
+    }
+
+    // Goes to a moment at once.
+    go(frame, inside = 0) {
+        for (const _ of this.to(frame, inside));
+        return this;
+    }
+}
+
+// Another board with the ROMs, the tape and the snapshots of a run, that goes where that one doesn't.
+export function beside(run, board) {
+    const other = Object.assign(Object.create(Run.prototype), run, { board, snapshots: run.snapshots.slice() });
+    board.begin(run.roms);
+    other.restore(run.frame);
+    return other;
+}

@@ -1,0 +1,114 @@
+// What the studio plays: a run that is live, or played again, or gone through; and the same moment of it under new code.
+
+import { Board, FRAME_SAMPLES } from '../board.js';
+import { sliced } from './bytes.js';
+import { beside, Run } from './run.js';
+import { LONGEST, Tape } from './tape.js';
+
+const SILENCE = new Int16Array(FRAME_SAMPLES);
+
+export class Session {
+    // `module` is the compiled one; `told` is called where something has changed that is to be shown.
+    constructor(module, roms, controls, told) {
+        const board = () => new Board(new WebAssembly.Instance(module, {}).exports, roms);
+        Object.assign(this, { controls, told, spare: board(), probe: board(), easel: board() });
+        this.run = new Run(board(), roms, new Tape());
+        this.isDemo = false;
+        this.wish = 0; // counts wishes, so that the last one calls the others off
+        this.isBusy = false;
+    }
+
+    get roms() {
+        return this.run.roms;
+    }
+
+    get tape() {
+        return this.run.tape;
+    }
+
+    // Whether what is played next is on the tape already.
+    get isReplay() {
+        return this.run.frame < this.tape.length;
+    }
+
+    // Begins anew: with a ROM block, a tape, and from a state where one is given.
+    begin(roms, masks = [], { isDemo = false, start = null } = {}) {
+        this.wish++;
+        this.isBusy = false;
+        this.run = new Run(this.run.board, roms, new Tape(masks), start);
+        this.isDemo = isDemo;
+        this.told();
+    }
+
+    // Runs a frame: the samples; nothing where the run can't go on.
+    advance() {
+        const { run, tape } = this;
+        if (this.isDemo && run.frame >= tape.length) run.go(0);
+        if (!run.canGo || run.frame >= LONGEST) return null;
+        if (run.frame >= tape.length) tape.add(this.controls.held);
+        const samples = run.next();
+        if (!run.canGo) this.told();
+        return run.canGo ? samples : null;
+    }
+
+    // Somebody has pressed or let go: from here on the tape has what they hold.
+    take() {
+        this.isDemo = false;
+        if (this.run.frame < this.tape.length) {
+            this.tape.cut(this.run.frame + (this.run.inside > 0 ? 1 : 0));
+            this.run.forget();
+        }
+    }
+
+    // Goes to a moment; the next wish calls it off. Whether it came there.
+    async go(frame, inside = 0) {
+        return this.does((run) => run.to(frame, inside));
+    }
+
+    // Does steps on the run, in slices: what they give, or undefined where another wish has called them off.
+    async does(steps) {
+        const wish = ++this.wish;
+        this.isBusy = true;
+        const value = await sliced(steps(this.run), () => wish === this.wish);
+        if (wish !== this.wish) return undefined;
+        this.isBusy = false;
+        this.told();
+        return value;
+    }
+
+    // Plays what was played again under another ROM block, up to the moment that is shown, and takes its place; `progress` hears of each slice.
+    // Meanwhile the old one goes on. Whether it came there.
+    async replace(roms, progress = () => undefined) {
+        const wish = ++this.wish, old = this.run, isWanted = () => wish === this.wish;
+        const run = new Run(this.spare, roms, old.tape, old.start);
+        function* steps(session) {
+            for (;;) {
+                const { frame, inside } = session.run;
+                for (const at of run.to(frame, inside)) {
+                    progress(at, frame);
+                    yield at;
+                }
+                if (!run.canGo || run.frame >= session.run.frame) return run;
+            }
+        }
+        if (await sliced(steps(this), isWanted) === undefined || !isWanted()) return false;
+        this.spare = old.board;
+        this.run = run;
+        this.told();
+        return true;
+    }
+
+    // The run once more, on another board: to look around without moving it.
+    scout() {
+        return beside(this.run, this.probe);
+    }
+
+    // The picture as it is now.
+    draw() {
+        return this.run.board.draw();
+    }
+
+    get silence() {
+        return SILENCE;
+    }
+}

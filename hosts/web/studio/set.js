@@ -1,0 +1,118 @@
+// A ROM set as files: by a manifest, or by the chips that dumps are named after. Refused as docs/FORMATS.md says.
+//
+// The reader of manifests takes the part of TOML that sets are written in: tables, arrays of tables, and keys with values in one line.
+
+import { digestOf, Fault, textOf } from './bytes.js';
+import { PARTS } from './tables.js';
+
+const CHIPS = {
+    '6e': 'program1', '6f': 'program2', '6h': 'program3', '6j': 'program4', '5e': 'tiles', '5f': 'sprites',
+    '7f': 'colours', '4a': 'lookup', '1m': 'wave', '3m': 'timing',
+};
+const SIZES = Object.fromEntries(PARTS);
+const ESCAPES = { b: '\b', t: '\t', n: '\n', f: '\f', r: '\r', '"': '"', '\\': '\\' };
+const HEADER = /^\[(\[)?[ \t]*("[^"\\]*"|'[^']*'|[\w-]+)[ \t]*\](\])?[ \t]*(?:#.*)?$/;
+const PAIR = /^("[^"\\]*"|'[^']*'|[\w.-]+)[ \t]*=[ \t]*(.*)$/;
+const TEXT = /^(?:"((?:[^"\\]|\\.)*)"|'([^']*)')[ \t]*(?:#.*)?$/;
+const OTHER = /^(?:true|false|[+-]?[\w.:+-]+|\[[^\]]*\]|\{[^}]*\})[ \t]*(?:#.*)?$/;
+
+// A text of TOML without its quotes.
+function unquoted(text) {
+    return text.replace(/\\(?:u([0-9A-Fa-f]{4})|(.))/g, (_, code, letter) => (code ? String.fromCharCode(parseInt(code, 16)) : ESCAPES[letter] ?? '\ufffd'));
+}
+
+// The tables of a manifest: each name with its pairs; of the program with an array of them.
+export function tablesOf(text) {
+    const tables = new Map();
+    let pairs = new Map();
+    text.split('\n').forEach((row, at) => {
+        const line = row.trim(), refused = (cause) => new Fault('M1', `line ${at + 1} of the manifest: ${cause}`, `line ${at + 1}`);
+        if (line === '' || line.startsWith('#')) return;
+        const head = HEADER.exec(line), pair = PAIR.exec(line);
+        if (head) {
+            const name = head[2].replace(/^["']|["']$/g, ''), isArray = head[1] !== undefined;
+            if (isArray !== (head[3] !== undefined)) throw refused('a bracket has no other');
+            if (isArray ? !Array.isArray(tables.get(name) ?? []) : tables.has(name)) throw refused(`${name} is there twice`);
+            pairs = new Map();
+            tables.set(name, isArray ? [...tables.get(name) ?? [], pairs] : pairs);
+        } else if (pair) {
+            const key = pair[1].replace(/^["']|["']$/g, ''), value = TEXT.exec(pair[2]);
+            if (pairs.has(key)) throw refused(`${key} is there twice`);
+            if (!value && !OTHER.test(pair[2])) throw refused("this page's reader of TOML doesn't know this value");
+            pairs.set(key, value ? (value[1] === undefined ? value[2] : unquoted(value[1])) : null);
+        } else throw refused('this is no table and no key with a value');
+    });
+    return tables;
+}
+
+// The table of each part that a manifest names; whether it has the program is up to it.
+function partsOf(tables, hasSource) {
+    const found = new Map(), program = tables.get('program');
+    if (program !== undefined && (!Array.isArray(program) || program.length !== 4)) throw new Fault('M1', 'program isn\'t four tables');
+    program?.forEach((table, at) => found.set(`program${at + 1}`, table));
+    for (const [name] of PARTS.slice(4)) if (tables.has(name)) found.set(name, tables.get(name));
+    for (const [name, table] of found) {
+        if (!(table instanceof Map) || table.get('file') === null || table.has('sha1') && !/^[0-9A-Fa-f]{40}$/.test(table.get('sha1') ?? ''))
+            throw new Fault('M1', `${name} isn't a table with file and sha1 as texts, 40 digits for the latter`, name);
+    }
+    for (const [name] of PARTS) {
+        const isNeeded = name.startsWith('program') ? program !== undefined || name === 'program1' && !hasSource : name !== 'timing' || found.has(name);
+        if (isNeeded && !found.get(name)?.has('file')) throw new Fault('M2', `there is no table ${name} with a file`, name);
+    }
+    if (program !== undefined && hasSource) throw new Fault('M6', 'there is a source, and the set has a program too');
+    return found;
+}
+
+// The file of a name among files, whose names may have folders before them.
+function fileOf(files, name) {
+    return files.find((file) => file.name === name) ?? files.find((file) => file.name.endsWith(`/${name}`) || name.endsWith(`/${file.name}`));
+}
+
+// The bytes of a part, whose size and digest are looked at.
+async function checked(name, table, files) {
+    const file = fileOf(files, table.get('file'));
+    if (!file) throw new Fault('M5', `${name}: the file ${table.get('file')} isn't there`, name);
+    if (file.bytes.length !== SIZES[name]) throw new Fault('M3', `${name}: ${file.name} has ${file.bytes.length} bytes; ${SIZES[name]} are wanted`, name);
+    const digest = table.has('sha1') ? await digestOf(file.bytes) : null;
+    if (digest !== null && digest !== table.get('sha1').toLowerCase()) throw new Fault('M4', `${name}: the SHA-1 of ${file.name} is another one`, name);
+    return file.bytes;
+}
+
+// The part that a dump is named after, as pacman.6e.
+function chipOf(name) {
+    return CHIPS[/\.([^./]+)$/.exec(name)?.[1].toLowerCase()];
+}
+
+// The tables of dumps by their chips' names.
+function tablesOfDumps(files) {
+    const tables = new Map();
+    for (const { name } of files) {
+        const part = chipOf(name);
+        if (part && tables.has(part)) throw new Fault('two dumps', `${tables.get(part).get('file')} and ${name} are both dumps of ${part}`);
+        if (part) tables.set(part, new Map([['file', name]]));
+    }
+    const program = [1, 2, 3, 4].map((quarter) => tables.get(`program${quarter}`));
+    if (program.every(Boolean)) tables.set('program', program);
+    else if (program.some(Boolean)) throw new Fault('M2', `there is no ${[1, 2, 3, 4].map((quarter) => `program${quarter}`)[program.indexOf(undefined)]}`);
+    return tables;
+}
+
+// Whether files have a set among them.
+export function hasSet(files) {
+    return files.some(({ name }) => name.toLowerCase().endsWith('.toml')) || files.some(({ name }) => chipOf(name));
+}
+
+// The parts of a set among files, one after another in the order of a ROM block, and whether its program is one of them. `hasSource` says that
+// another program stands beside it.
+export async function setOf(files, hasSource) {
+    const manifest = files.find(({ name }) => name.toLowerCase().endsWith('.toml'));
+    const tables = partsOf(manifest ? tablesOf(textOf(manifest.bytes)) : tablesOfDumps(files), hasSource);
+    const parts = [];
+    for (const [name, table] of [...tables].sort(([one], [other]) => orderOf(one) - orderOf(other))) parts.push([name, await checked(name, table, files)]);
+    const bytes = parts.filter(([name]) => name !== 'timing').flatMap(([, part]) => Array.from(part));
+    return { bytes: Uint8Array.from(bytes), hasProgram: tables.has('program1') };
+}
+
+function orderOf(name) {
+    return PARTS.findIndex(([part]) => part === name);
+}

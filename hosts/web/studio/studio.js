@@ -1,0 +1,294 @@
+// The studio: a source on the left, the board that plays it on the right.
+
+import { canRun } from '../board.js';
+import { Assembler } from './assembler.js';
+import { causesOf, meaningOf } from './causes.js';
+import { bytesOf, counted, equal, Fault, hex, textOf } from './bytes.js';
+import { Deck } from './deck.js';
+import { Editor } from './editor.js';
+import { Exits } from './exits.js';
+import { readFile, sourceOf, stemOf, taken } from './files.js';
+import { Listing } from './listing.js';
+import { Live } from './live.js';
+import { fromFragment } from './outputs.js';
+import { Panes } from './panes.js';
+import { at, made, refuse, tell } from './parts.js';
+import { filesOfPage } from './payload.js';
+import { Controls, Loop, Screen, Speaker } from './player.js';
+import { clocksOf, placeInFrame } from './run.js';
+import { Session } from './session.js';
+import { PLACES } from './tables.js';
+import { masksOf } from './tape.js';
+import { placeOf } from './who.js';
+
+const EXAMPLES = { starfall: 'Starfall, a game', hello: 'Hello, ten lines', welcome: 'Welcome, a picture', sunset: 'Sunset, drawn by the beam' };
+const PROGRAM = 16384; // bytes of a ROM block that the source makes
+const TYPED = 160; // milliseconds without a key after which the source is assembled
+
+class Studio {
+    constructor(files, module, assembler) {
+        Object.assign(this, { files, assembler, listing: null, name: 'starfall', latchAt: PLACES.AT_LATCH });
+        this.set = files.set; // what is in the sockets beside the program
+        this.screen = new Screen(at('picture'));
+        this.controls = new Controls((before) => this.taken(before));
+        this.speaker = new Speaker(textOf(files['sound.js']));
+        this.session = new Session(module, this.romsOf(files['starfall.rom']), this.controls, () => this.told());
+        this.loop = new Loop({ advance: () => this.advance(), show: () => this.show() }, this.speaker, this.controls);
+        this.editor = new Editor(at('source'), () => this.typed(), (line) => this.runsTo(line));
+        this.deck = new Deck(this);
+        this.exits = new Exits(this);
+        this.panes = new Panes(this);
+        this.live = new Live((changed, isFirst) => this.follows(changed, isFirst));
+    }
+
+    get roms() {
+        return this.session.roms;
+    }
+
+    // The moment that is shown, as a text.
+    get moment() {
+        return `${this.session.run.frame}:${this.session.run.inside}`;
+    }
+
+    // The ROM block of a program in the set.
+    romsOf(program) {
+        const roms = new Uint8Array(PROGRAM + this.set.length);
+        roms.set(program);
+        roms.set(this.set, PROGRAM);
+        return roms;
+    }
+
+    // ---- Playing
+
+    advance() {
+        const samples = this.session.advance();
+        if (samples === null) this.deck.pause();
+        return samples;
+    }
+
+    show() {
+        this.screen.show(this.session.draw());
+        this.exits.film?.show();
+        this.deck.show();
+        if (this.loop.frames % 6 === 0 || !this.loop.isPlaying) this.look();
+    }
+
+    // Shows what is looked at.
+    look() {
+        this.panes.show(this.session.run.board.bytes('board'));
+    }
+
+    // Something has changed: all is shown anew.
+    told() {
+        if (!this.deck) return;
+        this.show();
+        const { run } = this.session, { listing } = this;
+        const pc = run.board.bytes('board')[PLACES.AT_PC] + 256 * run.board.bytes('board')[PLACES.AT_PC + 1];
+        this.editor.at(this.loop.isPlaying ? null : listing?.lineAt.get(pc) ?? null, !this.loop.isPlaying && this.follows_pc);
+        this.deck.stopped(run.stop, listing);
+    }
+
+    // Somebody pressed or let go.
+    taken() {
+        this.session.take();
+        if (!this.loop.isPlaying && this.session.run.canGo && this.controls.held) this.deck.play();
+    }
+
+    // ---- The source
+
+    typed() {
+        clearTimeout(this.typing);
+        this.typing = setTimeout(() => this.assemble(), TYPED);
+        at('caret').textContent = `line ${this.editor.line} of ${this.editor.lines.length}`;
+    }
+
+    // Assembles what stands in the editor: the same moment under it, where it is a program.
+    async assemble() {
+        clearTimeout(this.typing);
+        if (!this.assembler.isThere) return;
+        const begun = performance.now(), source = bytesOf(this.editor.text), { rom, listing, fault } = this.assembler.assemble(source);
+        const milliseconds = performance.now() - begun;
+        if (fault) {
+            this.refused(fault);
+            return;
+        }
+        this.listing = new Listing(textOf(listing), this.editor.lines);
+        this.listingText = listing;
+        this.editor.say(this.listing);
+        at('problem').hidden = true;
+        const told = `${counted(this.listing.size)} of 16,384 bytes, assembled in ${milliseconds.toFixed(1)} ms`;
+        at('assembled').textContent = told;
+        const roms = this.romsOf(rom);
+        if (equal(roms, this.session.roms)) this.told();
+        else await this.replays(roms, told);
+    }
+
+    // Plays what was played again under another ROM block.
+    async replays(roms, told) {
+        const begun = performance.now();
+        const isDone = await this.session.replace(roms, (frame, all) => this.deck.progress(frame, all));
+        this.deck.progress(null);
+        if (!isDone) return;
+        const { run } = this.session;
+        at('assembled').textContent = `${told} · the same moment in ${Math.round(performance.now() - begun)} ms (${counted(run.frame)} frames)`;
+        if (!this.loop.isPlaying && run.canGo && this.wasStopped) this.deck.play();
+        this.wasStopped = false;
+    }
+
+    // Tells a fault, with its line and its likely cause; what played before goes on.
+    refused({ code, line }) {
+        this.wasStopped = this.session.run.stop !== null;
+        this.editor.say(null, line);
+        this.fault = { code, line };
+        at('problem').hidden = false;
+        at('problem-code').textContent = `${code}  line ${counted(line)}`;
+        at('problem-meaning').textContent = meaningOf(code);
+        at('problem-causes').replaceChildren(...causesOf(code, this.editor.lines, line).map((cause) => made('li', {}, cause)));
+        at('assembled').textContent = 'refused; the program before it goes on';
+    }
+
+    // Begins from a source, with what is held, from power-on.
+    async begin(name, text, masks = [], { isDemo = false, rom = null } = {}) {
+        this.name = name;
+        at('name').textContent = `${name}.asm`;
+        this.editor.text = text;
+        const made_ = rom ? { rom } : this.assembler.isThere ? this.assembler.assemble(bytesOf(text)) : { rom: new Uint8Array(PROGRAM) };
+        if (made_.rom) this.session.begin(this.romsOf(made_.rom), masks, { isDemo });
+        else this.session.begin(this.session.roms, masks, { isDemo });
+        await this.assemble();
+        this.deck.play();
+        this.typedCaret();
+    }
+
+    typedCaret() {
+        at('caret').textContent = `line ${this.editor.line} of ${counted(this.editor.lines.length)}`;
+    }
+
+    // ---- Looking in
+
+    // The bytes that are kept at addresses: those of the program, of the RAM and of what the board keeps at its ports.
+    bytesAt(block, address, count, roms = this.roms) {
+        return Array.from({ length: count }, (_, more) => {
+            const place = address + more & 0x7fff;
+            if (place < 0x4000) return roms[place];
+            const kept = placeOf(place);
+            return kept === null || block === null ? 0 : block[kept];
+        });
+    }
+
+    // Asks who wrote a byte.
+    asks(address) {
+        if (this.loop.isPlaying) this.deck.pause();
+        this.panes.open('who');
+        this.panes.all.who.ask(address);
+    }
+
+    // Goes to a moment, and rests there.
+    async visits(frame, inside) {
+        this.deck.pause();
+        await this.session.go(frame, inside);
+    }
+
+    // Runs to a line of the source: on, or back where one wants so.
+    async runsTo(line, isBack = false) {
+        const row = this.listing?.lines[line] ?? this.listing?.lines.slice(line).find(Boolean);
+        if (!row) tell('', 'No line from there on has bytes.');
+        else await this.deck.runsTo(row.address, isBack);
+    }
+
+    // Where the run is, in words.
+    when() {
+        const { run } = this.session, { ticks } = clocksOf(run.board.bytes('board')), { tick, line } = placeInFrame(ticks);
+        return { frame: run.frame, tick, line, isInside: run.inside > 0 };
+    }
+
+    // ---- Into it
+
+    async opens(files) {
+        try {
+            await this.takes(await taken(await Promise.all(files.map(readFile))));
+        } catch (error) {
+            refuse(error);
+        }
+    }
+
+    // Takes what files have in them, all of it or nothing.
+    async takes({ source, script, state, set, program }, isQuiet = false) {
+        const kept = this.set, text = source?.text ?? this.editor.text;
+        const own = set?.hasProgram ? set.bytes.slice(0, PROGRAM) : program?.bytes ?? null;
+        if (set) this.set = set.hasProgram ? set.bytes.slice(PROGRAM) : set.bytes;
+        try {
+            if (state) this.loads(state, own);
+            else if (source) await this.begin(stemOf(source.name), text, script?.masks ?? []);
+            else if (own) await this.begin(program ? stemOf(program.name) : 'set', this.sourceOfRom(own), script?.masks ?? [], { rom: own });
+            else this.session.begin(this.romsOf(this.session.roms.slice(0, PROGRAM)), script?.masks ?? this.session.tape.all());
+        } catch (error) {
+            this.set = kept;
+            throw error;
+        }
+        const names = [source, script, state, set && { name: 'a set' }, program].filter(Boolean).map(({ name }) => name);
+        if (!isQuiet) tell('Opened', names.join(', '));
+        if (!this.loop.isPlaying) this.deck.play();
+    }
+
+    // A source for a program that came as bytes.
+    sourceOfRom(rom) {
+        const rows = ['; A program that came as bytes.', ''];
+        for (let row = 0; row < rom.length; row += 16) rows.push(`        DEFB ${Array.from(rom.subarray(row, row + 16), (byte) => `0${hex(byte, 2)}H`).join(',')}`);
+        return `${rows.join('\n')}\n`;
+    }
+
+    // Goes on from a state file; refused before anything is changed.
+    loads({ name, bytes }, program) {
+        const { probe } = this.session, roms = program ? this.romsOf(program) : this.romsOf(this.session.roms.slice(0, PROGRAM));
+        probe.begin(roms);
+        try {
+            probe.load(bytes);
+        } catch (error) {
+            const code = /V\d/.exec(error.message)?.[0];
+            throw code ? new Fault(code, `${name}: ${meaningOf(code)}`) : error;
+        }
+        this.session.begin(roms, [], { start: probe.block });
+    }
+
+    // What ./play sends: the source, its script and its set as they are on the disk.
+    async follows(files, isFirst) {
+        try {
+            const found = await taken(files);
+            if (isFirst || !found.source || found.set) await this.takes(found, true);
+            else if (found.source.text !== this.editor.text) {
+                this.editor.replace(found.source.text);
+                await this.assemble();
+            }
+        } catch (error) {
+            refuse(error);
+        }
+    }
+}
+
+async function open() {
+    const files = await filesOfPage();
+    if (!canRun(files['pac_host.wasm'])) throw new Fault('Too old', "this browser can't run the board, which needs WebAssembly's vectors");
+    const module = await WebAssembly.compile(files['pac_host.wasm']), assembler = await Assembler.of(files['pac_source.wasm']);
+    const studio = new Studio(files, module, assembler);
+    window.studio = studio;
+    at('examples').append(...Object.entries(EXAMPLES).map(([name, text]) => made('option', { value: name }, text)));
+    const example = (name, isDemo) => studio.begin(name, textOf(files[`${name}.asm`]), masksOf(textOf(files[`${name}.script`])), { isDemo, rom: files[`${name}.rom`] });
+    at('examples').addEventListener('change', ({ target }) => {
+        studio.set = files.set;
+        example(target.value, true);
+    });
+    try {
+        const linked = await fromFragment(location.hash);
+        if (linked) return await studio.begin('linked', linked.source, linked.script ? masksOf(linked.script) : []);
+    } catch (error) {
+        refuse(error);
+    }
+    if (studio.live.isThere) return studio.live.follow();
+    return example('starfall', true);
+}
+
+open().catch((error) => {
+    tell(error.name === 'Error' ? '' : error.name, error.message, true);
+    console.error(error);
+});

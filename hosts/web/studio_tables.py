@@ -1,0 +1,85 @@
+"""Tables of the project that the studio's page shares, as a JavaScript file: hosts/web/studio/tables.js, which hosts/web/studio-build writes
+and compares.
+
+Where a block has what is that of hosts/pacboard.h; T-states are those of the instructions' table; words are those of the checker in Python;
+what a refusal means, and the likely causes that hang on words alone, are those of tools/explain.
+"""
+import importlib.machinery
+import importlib.util
+import json
+import pathlib
+import re
+import sys
+from typing import Any
+
+ROOT = pathlib.Path(__file__).resolve().parent.parent.parent
+PAGES = ["Plain", "Cb", "Ed", "Dd", "Fd", "DdCb", "FdCb"]  # of the table of instructions
+HEAD = "// Made by hosts/web/studio-build --tables from hosts/pacboard.h, the table of instructions, tools/judge_source.py and tools/explain.\n"
+
+sys.path.insert(0, str(ROOT / "tools"))
+
+import causes_of_files
+import causes_of_lines
+import instructions
+import judge_run
+import judge_source
+
+
+def explain() -> Any:
+    """The tool tools/explain as a module."""
+    loader = importlib.machinery.SourceFileLoader("explain", str(ROOT / "tools/explain"))
+    spec = importlib.util.spec_from_loader("explain", loader)
+    assert spec is not None
+    module = importlib.util.module_from_spec(spec)
+    loader.exec_module(module)
+    return module
+
+
+def places() -> dict[str, int]:
+    """Where a block has what, and how many bytes that has, by the header's names without PAC_."""
+    header = (ROOT / "hosts/pacboard.h").read_text()
+    return {name: int(number) for name, number in re.findall(r"\bPAC_((?:AT_|IFF|HALTED|AFTER_EI|STOP_)\w*|\w+_SIZE) = (\d+),", header)}
+
+
+def ticks() -> dict[str, list[str]]:
+    """For each page and opcode the T-states of the instruction, two where it has two; nothing where it is undocumented."""
+    codes = instructions.by_code()
+    told = lambda form: "" if form is None else f"{form.ticks}" if form.ticks == form.other else f"{form.ticks}/{form.other}"
+    return {page: [told(codes.get((page, opcode))) for opcode in range(256)] for page in PAGES}
+
+
+def forms() -> dict[str, list[str]]:
+    """The forms of each operation, as docs/ASSEMBLER.md has them."""
+    section = causes_of_lines.PAGE.read_text().partition("## Instructions")[2].partition("\nOther spellings")[0]
+    found: dict[str, list[str]] = {}
+    for form in re.findall(r"`([A-Z]+(?: [^`]*)?)`", section):
+        if form.split()[0] in judge_source.MNEMONICS:
+            found.setdefault(form.split()[0], []).append(form)
+    return found
+
+
+def tables() -> dict[str, Any]:
+    """Each table by its name."""
+    parts = [[name, size] for name, size in judge_run.PARTS]
+    return {
+        "PLACES": places(),
+        "TICKS": ticks(),
+        "MNEMONICS": sorted(judge_source.MNEMONICS),
+        "DIRECTIVES": sorted(judge_source.DIRECTIVES),
+        "REGISTERS": sorted(judge_source.REGISTERS),
+        "FORMS": forms(),
+        "MEANINGS": explain().MEANINGS,
+        "SIGNS": [[sign, text] for sign, text in causes_of_lines.SIGNS],
+        "FOREIGN": causes_of_lines.FOREIGN,
+        "SPELLINGS": [[sign, text] for sign, text in causes_of_lines.SPELLINGS],
+        "PARTS": parts,
+    }
+
+
+def text() -> str:
+    """The file."""
+    lines = [f"export const {name} = {json.dumps(table, ensure_ascii=True, separators=(',', ':'))};\n" for name, table in tables().items()]
+    return HEAD + "\n" + "".join(lines)
+
+
+assert causes_of_files  # (tools/explain imports it by its name)
