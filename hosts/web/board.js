@@ -152,6 +152,7 @@ export class Board {
         const [given, pictures, stop] = [8, 12, 16].map((at) => told.getUint32(at, true));
         return {
             ticks: told.getBigUint64(0, true), pictures, stop, pc: told.getUint16(20, true),
+            bytes: [22, 23, 24, 25].map((at) => told.getUint8(at)), vector: told.getUint8(26),
             samples: new Int16Array(this.calls.memory.buffer, Number(samples), given).slice(),
         };
     }

@@ -6,6 +6,8 @@ const TOKEN = /([ \t]+)|([Aa][Ff]')|([A-Za-z_]\w*)|(\d[A-Za-z0-9]*)|('(?:[^']|''
 const BASES = { H: 16, B: 2, O: 8, Q: 8, D: 10 };
 const OPERATIONS = new Set([...MNEMONICS, ...DIRECTIVES]);
 const LINE = 255; // bytes
+const LIKE = 0.7; // from 0 to 1: how like one word has to be to another
+const TOP = 0x4000; // of the ROM
 
 // What a code means.
 export function meaningOf(code) {
@@ -37,7 +39,7 @@ function tokensOf(line) {
     for (let match; TOKEN.lastIndex < line.length && (match = TOKEN.exec(line));) {
         const [text, blank, other, name, number, quoted, open, sign, comment] = match;
         if (comment || open) break;
-        if (!blank) found.push({ text, kind: other || name ? 'name' : number ? 'number' : quoted ? 'text' : sign ? 'sign' : '', at: match.index });
+        if (!blank) found.push({ text, kind: other ? 'other' : name ? 'name' : number ? 'number' : quoted ? 'text' : sign ? 'sign' : '', at: match.index });
     }
     return found;
 }
@@ -76,27 +78,25 @@ function tokenCause(code, line) {
     return signCause(rest);
 }
 
-// How far two words are apart: letters to change, to add, to take away or to exchange.
-function apart(one, other) {
-    const rows = [Array.from({ length: other.length + 1 }, (_, at) => at)];
-    for (let i = 1; i <= one.length; i++) {
-        rows[i] = [i];
-        for (let j = 1; j <= other.length; j++) {
-            const change = one[i - 1] === other[j - 1] ? 0 : 1;
-            rows[i][j] = Math.min(rows[i - 1][j] + 1, rows[i][j - 1] + 1, rows[i - 1][j - 1] + change);
-            if (i > 1 && j > 1 && one[i - 1] === other[j - 2] && one[i - 2] === other[j - 1]) rows[i][j] = Math.min(rows[i][j], rows[i - 2][j - 2] + 1);
-        }
+// How many letters two words have in common, in the same order.
+function common(one, other) {
+    let row = Array(other.length + 1).fill(0);
+    for (const letter of one) {
+        const next = [0];
+        for (let at = 1; at <= other.length; at++) next[at] = letter === other[at - 1] ? row[at - 1] + 1 : Math.max(row[at], next[at - 1]);
+        row = next;
     }
-    return rows[one.length][other.length];
+    return row[other.length];
 }
 
-// The name that is most like a word, where one is like it.
+// The name that is most like a word, where one is like it; one of the same letters before others.
 function near(word, names) {
-    const most = word.length < 4 ? 1 : 2, upper = word.toUpperCase();
-    let best = null, least = most + 1;
-    for (const name of names) {
-        const distance = name === word || Math.abs(name.length - word.length) > most ? least : apart(upper, name.toUpperCase());
-        if (distance < least) [best, least] = [name, distance];
+    const upper = word.toUpperCase(), sorted = [...upper].sort().join();
+    let best = null, most = LIKE;
+    for (const name of [...names].sort()) {
+        const other = name.toUpperCase(), isSame = [...other].sort().join() === sorted;
+        const like = other === upper ? 0 : 2 * common(upper, other) / (upper.length + other.length);
+        if (like >= LIKE && like + (isSame ? 1 : 0) >= most) [best, most] = [name, like + (isSame ? 1 : 0)];
     }
     return best;
 }
@@ -133,7 +133,7 @@ function operandCause(line, operation, rest) {
         }
     }
     const forms = FORMS[operation] ?? [];
-    if (forms.length > 0 && forms.length <= 8) causes.push(`${operation} has these forms alone: ${forms.join(', ')}`);
+    if (forms.length > 0 && forms.length <= 8) causes.push(`${operation} has these forms alone: ${forms.join(operation === forms[0] ? ' ' : ', ')}`);
     return causes;
 }
 
@@ -166,6 +166,24 @@ function nameCause(lines, number) {
     return [];
 }
 
+// The cause of an ORG past the ROM, where it has a plain number.
+function placeCause(line) {
+    const digits = /\bORG\s+0*([0-9][0-9A-F]*)H\s*(?:;|$)/i.exec(line)?.[1];
+    const value = digits ? parseInt(digits, 16) : 0;
+    return value > TOP ? [`the assembler makes the ROM alone, 0000H to 3FFFH; RAM gets names by EQU: \`SCORE EQU ${numberText(value.toString(16))}\``] : [];
+}
+
+// The cause of an IF, ELSE or ENDIF that has no other.
+function branchCause(code, lines, number) {
+    const words = lines.map((line) => /^[ \t]*(\w*)/.exec(line)[1].toUpperCase());
+    if (code === 'A14') {
+        const after = lines.findIndex((line) => /^\s*\w+\s*:?\s+ENDIF\b/i.test(line)) + 1;
+        return [after ? `the ENDIF of line ${after} stands after a label and ends nothing` : 'an ENDIF for it stands nowhere'];
+    }
+    const above = words.slice(0, number - 1).flatMap((word, at) => (['IF', 'ELSE', 'ENDIF'].includes(word) ? [at + 1] : []));
+    return [above.length ? `IF, ELSE and ENDIF stand above in the lines ${above.join(', ')}` : 'no IF stands above'];
+}
+
 // Sentences about the cause of a fault in a line of a source; none where nothing is sure.
 export function causesOf(code, lines, number) {
     const line = lines[number - 1];
@@ -177,6 +195,7 @@ export function causesOf(code, lines, number) {
         return [`${label} is defined in line ${definitions(lines).get(label)} already`];
     }
     if (code === 'A4' || code === 'A8') return nameCause(lines, number);
-    if (code === 'A5') return ['the ROM ends at 3FFFH; RAM gets names by EQU'];
+    if (code === 'A5') return placeCause(line);
+    if (['A12', 'A13', 'A14'].includes(code)) return branchCause(code, lines, number);
     return [];
 }

@@ -101,8 +101,7 @@ export class Deck {
     // Runs on, or back, to an address.
     async runsTo(address, isBack) {
         this.pause();
-        const { session, studio } = this, { frame, inside } = session.run, scout = session.scout();
-        scout.go(frame, inside);
+        const { session, studio } = this, { frame } = session.run, scout = session.scout('line');
         const steps = isBack ? backTo(scout, address) : onTo(scout, address, session.tape.length > frame ? session.tape.length - frame + 600 : 600);
         const isThere = await session.does(function* () { return yield* steps; });
         if (isThere === undefined) return;
@@ -183,9 +182,7 @@ export class Deck {
 
     // Tells what shows at a pixel.
     tellPixel(x, y) {
-        const { run } = this.session, scout = this.session.scout();
-        scout.go(run.frame, run.inside);
-        const found = shownAt(scout, x, y);
+        const found = shownAt(this.session.scout('pixel'), x, y);
         this.studio.panes.open('pictures');
         this.studio.panes.all.pictures.tell(found, x, y);
         return found;

@@ -17,8 +17,8 @@ function element(name, className, text = '') {
 }
 
 export class Editor {
-    // `changed` is called with each edit, and `picked` with a line whose number is clicked on.
-    constructor(root, changed, picked) {
+    // `changed` is called with each edit, `picked` with a line whose number is clicked on, and `stands` with the line of the caret.
+    constructor(root, changed, picked, stands) {
         this.area = root.querySelector('textarea');
         this.view = root.querySelector('.view');
         this.gutter = root.querySelector('.gutter');
@@ -26,7 +26,7 @@ export class Editor {
         this.listing = null;
         this.fault = null; // the line that is refused
         this.current = null; // the line that comes next
-        Object.assign(this, { changed, picked, isDue: false, isStale: false });
+        Object.assign(this, { changed, picked, stands, isDue: false, isStale: false });
         this.area.addEventListener('input', () => this.edited());
         this.area.addEventListener('scroll', () => this.draw());
         this.area.addEventListener('keydown', (event) => this.key(event));
@@ -35,6 +35,7 @@ export class Editor {
             if (row) this.picked(Number(row.dataset.line));
         });
         this.gutter.addEventListener('wheel', (event) => this.area.scrollBy(0, event.deltaY), { passive: true });
+        document.addEventListener('selectionchange', () => this.moved());
         new ResizeObserver(() => this.draw()).observe(this.area);
     }
 
@@ -47,6 +48,15 @@ export class Editor {
         this.area.value = text;
         this.area.scrollTop = this.area.scrollLeft = 0;
         this.area.setSelectionRange(0, 0);
+        this.read();
+    }
+
+    // Takes another text of the same source; place and caret stay where they are.
+    replace(text) {
+        const { scrollTop, scrollLeft, selectionStart } = this.area;
+        this.area.value = text;
+        this.area.setSelectionRange(selectionStart, selectionStart);
+        Object.assign(this.area, { scrollTop, scrollLeft });
         this.read();
     }
 
@@ -101,9 +111,16 @@ export class Editor {
         this.show(line);
     }
 
+    // Tells in which line the caret is.
+    moved() {
+        if (document.activeElement === this.area) this.stands(this.line);
+    }
+
     // The line in which the caret is.
     get line() {
-        return this.area.value.slice(0, this.area.selectionStart).split('\n').length;
+        let line = 1;
+        for (let left = this.area.selectionStart; line < this.lines.length && left > this.lines[line - 1].length; line++) left -= this.lines[line - 1].length + 1;
+        return line;
     }
 
     // Draws, with the screen's next picture.

@@ -5,6 +5,14 @@ import { DIRECTIVES, MNEMONICS, TICKS } from './tables.js';
 const ROW = /^(\d{5}|     ) ([0-9A-F]{4}) ([0-9A-F]{2,8}) *(?: |$)/;
 const MNEMONIC = new Set(MNEMONICS), OPERATION = new Set([...MNEMONICS, ...DIRECTIVES]);
 
+const RAM = 0x4000, TOP = 0xffff; // a number by EQU below is no place
+
+// The label of a line of a source; nothing where it has none.
+function labelOf(line) {
+    const word = /^[ \t]*([A-Za-z_]\w*)/.exec(line)?.[1];
+    return word !== undefined && !OPERATION.has(word.toUpperCase()) ? word : null;
+}
+
 // The operation of a line of a source, in capitals; nothing where it has none.
 export function operationOf(line) {
     const found = /^[ \t]*([A-Za-z_]\w*)(?:[ \t]*:)?[ \t]*([A-Za-z_]\w*)?/.exec(line);
@@ -35,10 +43,11 @@ export class Listing {
             const [name, value] = row.split(' ');
             this.symbols.set(name, Number(value));
         }
-        this.names = new Map(); // from each address to the names that have it, those of labels first
+        this.names = new Map(); // from each address to the names that have it
+        const numbers = new Set(source.filter((line) => operationOf(line) === 'EQU').map((line) => labelOf(line)));
         for (const [name, value] of this.symbols) {
-            const isPlace = value >= 0x4000 || this.lineAt.has(value) || value > 0x3f;
-            if (value >= 0 && value <= 0xffff && isPlace) this.names.set(value, [...this.names.get(value) ?? [], name]);
+            const isPlace = numbers.has(name) ? value >= RAM && value <= TOP : true;
+            if (isPlace) this.names.set(value, [...this.names.get(value) ?? [], name]);
         }
     }
 

@@ -63,7 +63,7 @@ export class ProcessorPane {
         const from = this.startBefore(pc);
         for (let address = from, count = 0; count < ROWS && address <= 0xffff; count++) {
             const bytes = this.studio.bytesAt(block, address, 4);
-            const name = listing?.names.get(address)?.filter((one) => listing.lineAt.has(address) || address >= 0x4000)[0];
+            const name = listing?.names.get(address)?.[0];
             const { text, size } = assembler.disassembled(bytes, address);
             if (name) rows.push(made('div', { className: 'named' }, `${name}:`));
             const line = listing?.lineAt.get(address), isData = line && !listing.lines[line]?.ticks && listing.lines[line]?.address <= address;
@@ -82,7 +82,7 @@ export class ProcessorPane {
         const { listing } = this.studio, line = listing?.lineAt.get(pc);
         if (!line) return pc;
         let start = pc;
-        for (let at = line - 1, seen = 0; at > 0 && seen < 5; at--) {
+        for (let at = line - 1, seen = 0; at > 0 && seen < 4; at--) {
             const row = listing.lines[at];
             if (!row || !row.ticks) continue;
             if (row.address + row.bytes.length !== start) break;

@@ -105,10 +105,10 @@ export class Run {
     }
 }
 
-// Another board with the ROMs, the tape and the snapshots of a run, that goes where that one doesn't.
+// The run once more, on another board and at the same moment: it goes where that one doesn't.
 export function beside(run, board) {
     const other = Object.assign(Object.create(Run.prototype), run, { board, snapshots: run.snapshots.slice() });
     board.begin(run.roms);
     other.restore(run.frame);
-    return other;
+    return other.go(run.frame, run.inside);
 }

@@ -11,7 +11,7 @@ export class Session {
     // `module` is the compiled one; `told` is called where something has changed that is to be shown.
     constructor(module, roms, controls, told) {
         const board = () => new Board(new WebAssembly.Instance(module, {}).exports, roms);
-        Object.assign(this, { controls, told, spare: board(), probe: board(), easel: board() });
+        Object.assign(this, { controls, told, board, spare: board(), easel: board(), probe: board(), scouts: {} });
         this.run = new Run(board(), roms, new Tape());
         this.isDemo = false;
         this.wish = 0; // counts wishes, so that the last one calls the others off
@@ -98,9 +98,10 @@ export class Session {
         return true;
     }
 
-    // The run once more, on another board: to look around without moving it.
-    scout() {
-        return beside(this.run, this.probe);
+    // The run once more, on a board that is kept for a purpose: to look around without moving it.
+    scout(purpose) {
+        this.scouts[purpose] ??= this.board();
+        return beside(this.run, this.scouts[purpose]);
     }
 
     // The picture as it is now.

@@ -63,6 +63,18 @@ function partsOf(tables, hasSource) {
     return found;
 }
 
+// The names of the files of a manifest, in the order in which they are read; none where it is no manifest.
+export function namedFiles(text) {
+    let tables;
+    try {
+        tables = tablesOf(text);
+    } catch {
+        return [];
+    }
+    const all = [...(Array.isArray(tables.get('program')) ? tables.get('program') : []), ...PARTS.slice(4).map(([name]) => tables.get(name))];
+    return all.filter((table) => table instanceof Map).map((table) => table.get('file')).filter((name) => typeof name === 'string');
+}
+
 // The file of a name among files, whose names may have folders before them.
 function fileOf(files, name) {
     return files.find((file) => file.name === name) ?? files.find((file) => file.name.endsWith(`/${name}`) || name.endsWith(`/${file.name}`));

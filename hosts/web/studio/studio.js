@@ -34,7 +34,7 @@ class Studio {
         this.speaker = new Speaker(textOf(files['sound.js']));
         this.session = new Session(module, this.romsOf(files['starfall.rom']), this.controls, () => this.told());
         this.loop = new Loop({ advance: () => this.advance(), show: () => this.show() }, this.speaker, this.controls);
-        this.editor = new Editor(at('source'), () => this.typed(), (line) => this.runsTo(line));
+        this.editor = new Editor(at('source'), () => this.typed(), (line) => this.runsTo(line), (line) => this.stands(line));
         this.deck = new Deck(this);
         this.exits = new Exits(this);
         this.panes = new Panes(this);
@@ -68,6 +68,7 @@ class Studio {
 
     show() {
         this.screen.show(this.session.draw());
+        if (!this.isShown && (this.isShown = this.loop.frames > 0)) performance.mark('first picture');
         this.exits.film?.show();
         this.deck.show();
         if (this.loop.frames % 6 === 0 || !this.loop.isPlaying) this.look();
@@ -99,7 +100,6 @@ class Studio {
     typed() {
         clearTimeout(this.typing);
         this.typing = setTimeout(() => this.assemble(), TYPED);
-        at('caret').textContent = `line ${this.editor.line} of ${this.editor.lines.length}`;
     }
 
     // Assembles what stands in the editor: the same moment under it, where it is a program.
@@ -157,11 +157,12 @@ class Studio {
         else this.session.begin(this.session.roms, masks, { isDemo });
         await this.assemble();
         this.deck.play();
-        this.typedCaret();
+        this.stands(1);
     }
 
-    typedCaret() {
-        at('caret').textContent = `line ${this.editor.line} of ${counted(this.editor.lines.length)}`;
+    // Tells in which line the caret is.
+    stands(line) {
+        at('caret').textContent = `line ${counted(line)} of ${counted(this.editor.lines.length)}`;
     }
 
     // ---- Looking in
@@ -219,7 +220,7 @@ class Studio {
         if (set) this.set = set.hasProgram ? set.bytes.slice(PROGRAM) : set.bytes;
         try {
             if (state) this.loads(state, own);
-            else if (source) await this.begin(stemOf(source.name), text, script?.masks ?? []);
+            else if (source) await this.begin(stemOf(source.name), text, script?.masks ?? [], { isDemo: isQuiet && script !== undefined });
             else if (own) await this.begin(program ? stemOf(program.name) : 'set', this.sourceOfRom(own), script?.masks ?? [], { rom: own });
             else this.session.begin(this.romsOf(this.session.roms.slice(0, PROGRAM)), script?.masks ?? this.session.tape.all());
         } catch (error) {

@@ -46,8 +46,8 @@ export class TouchesPane {
             this.told.textContent = `${name}: nothing that is written stays there.`;
             return;
         }
-        this.told.textContent = `${name}, seen from this moment back:`;
-        this.steps = touchesOf(this.studio.session.scout(), address);
+        this.about = name;
+        this.steps = touchesOf(this.studio.session.scout('touches'), address);
         this.count = 0;
         this.go(this.wish);
     }
@@ -57,6 +57,7 @@ export class TouchesPane {
         let found = 0;
         const { steps, both, studio } = this, pane = this;
         this.more.hidden = true;
+        this.told.textContent = `${this.about}, from this moment back …`;
         function* some() {
             while (found < AT_ONCE) {
                 const { done, value } = steps.next();
@@ -72,6 +73,7 @@ export class TouchesPane {
         const end = await sliced(some(), () => wish === this.wish && !studio.loop.isPlaying);
         if (wish !== this.wish) return;
         this.count += found;
+        this.told.textContent = `${this.about}, from this moment back:`;
         this.more.hidden = end !== 'more';
         if (end === 'all') this.rows.append(made('div', { className: 'dim' }, made('span', {}, ''), made('span', {}, this.count ? 'and none before' : 'none so far')));
         if (end === undefined) this.rows.append(made('div', { className: 'dim' }, made('span', {}, ''), made('span', {}, 'pause to see them')));

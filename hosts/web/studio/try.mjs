@@ -1,0 +1,267 @@
+// Tries the studio in Chromium without a window: tools/studio calls it.
+//
+//     node hosts/web/studio/try.mjs PAGE PACBOARD FOLDER [ADDRESS FILE]
+//
+// PAGE is docs/studio.html, PACBOARD the built program, FOLDER one for what is made on the way; ADDRESS is that of a page that ./play serves, and
+// FILE the source that it follows. The last line is `N passed, M failed`.
+
+import { createHash } from 'node:crypto';
+import { existsSync, readFileSync, writeFileSync } from 'node:fs';
+import path from 'node:path';
+import { pathToFileURL } from 'node:url';
+import { spawnSync } from 'node:child_process';
+import { programOf } from '../browser.mjs';
+import { opened } from './browse.mjs';
+import { hostile } from './hostile.mjs';
+
+const [PAGE, PACBOARD, FOLDER, ADDRESS, FILE] = process.argv.slice(2);
+const ROOT = path.resolve(path.dirname(PAGE), '..');
+const IMAGE = 193551, HEAD = 15; // bytes of an image, and of its head
+const OPENED = 1000, REPLAYED = 1000; // milliseconds: told, and judged at this many times as long, since the machine may be busy
+const BUSY = 4;
+
+let passed = 0, failed = 0;
+
+function row(what, isSo, told = '') {
+    if (isSo) passed++;
+    else failed++;
+    console.log(isSo ? what : `FAILED: ${what}${told ? `: ${told}` : ''}`);
+}
+
+const sum = (bytes) => createHash('sha1').update(bytes).digest('hex');
+
+// A run of the program: its last picture, as four bytes a pixel, and the state at its end.
+function played(source, script, set = path.join(ROOT, 'examples/set.toml')) {
+    const at = (name) => path.join(FOLDER, name);
+    writeFileSync(at('run.asm'), source);
+    writeFileSync(at('run.script'), script);
+    const words = ['run', '--set', set, '--source', at('run.asm'), '--script', at('run.script'), '--frames', at('run.ppm'), '--wave', at('run.wav'),
+        '--listing', at('run.txt'), '--save', at('run.state')];
+    const { status, stderr } = spawnSync(PACBOARD, words, { encoding: 'utf8' });
+    if (status !== 0 && status !== 5) throw new Error(`pacboard run: ${status} ${stderr}`);
+    const last = readFileSync(at('run.ppm')).subarray(-IMAGE).subarray(HEAD), rgba = Buffer.alloc(4 * last.length / 3, 255);
+    for (let pixel = 0; pixel < last.length / 3; pixel++) last.copy(rgba, 4 * pixel, 3 * pixel, 3 * pixel + 3);
+    return { rgba, state: readFileSync(at('run.state')) };
+}
+
+// The lines of a script up to a frame.
+function scriptTo(text, frames) {
+    const lines = [];
+    for (const line of text.split('\n').filter((one) => /^\d/.test(one))) {
+        const [count, names] = line.split(' '), some = Math.min(Number(count), frames);
+        if (some > 0) lines.push(`${some} ${names}`);
+        frames -= some;
+    }
+    return `${lines.join('\n')}\n`;
+}
+
+const example = (name, end) => readFileSync(path.join(ROOT, `examples/${name}.${end}`), 'utf8');
+const rest = 'studio.deck.pause()';
+const goes = (frame, inside = 0) => `studio.visits(${frame}, ${inside})`;
+const settled = '!studio.session.isBusy';
+
+// It opens, plays by itself, and is played.
+async function playing(page) {
+    const opening = await page.value("performance.getEntriesByName('first picture')[0].startTime");
+    row('it opens with a picture', opening < BUSY * OPENED, `${Math.round(opening)} ms`);
+    console.log(`the first picture after ${Math.round(opening)} ms`);
+    row('starfall plays, as a demo', await page.value("studio.session.isDemo && studio.loop.isPlaying && document.getElementById('mode').textContent.startsWith('Demo')"));
+    await page.value(rest);
+    await page.value(goes(281));
+    const starfall = played(example('starfall', 'asm'), scriptTo(example('starfall', 'script'), 281));
+    row('frame 281 of it, pixel by pixel, is that of pacboard run', starfall.rgba.equals(await page.canvas()));
+    await page.value('studio.deck.play()');
+    await page.pause(0.3);
+    await page.click('#frame');
+    await page.strike('ArrowRight', 'keyDown');
+    await page.pause(0.5);
+    await page.strike('ArrowRight', 'keyUp');
+    await page.pause(0.3);
+    row('a key takes over, and is held and let go', await page.value("!studio.session.isDemo && studio.session.tape.all().includes(4) && studio.session.tape.all().at(-1) === 0"));
+    const rate = await page.value(`(async () => { const from = studio.loop.frames, since = performance.now(); await new Promise((then) => setTimeout(then, 3000));
+        return [(studio.loop.frames - from) / (performance.now() - since) * 1000, studio.speaker.isOn, studio.speaker.dry / 96000]; })()`);
+    row('60.6 frames a second', Math.abs(rate[0] - 60.6) < 2, String(rate));
+    row('with sound', rate[1]);
+    console.log(`${rate[0].toFixed(2)} frames a second with sound, of which ${rate[2].toFixed(2)} s came too late`);
+    await page.value(rest);
+    const { frame, state } = await page.value('({ frame: studio.session.run.frame, state: Array.from(studio.session.run.board.save()) })');
+    const script = await page.saved("document.querySelector('[data-save=script]').click()");
+    const again = played(example('starfall', 'asm'), scriptTo(script.bytes.toString(), frame));
+    row('what was played, as a script, is the same picture under pacboard run', again.rgba.equals(await page.canvas()));
+    row('and the same state, to the byte', again.state.equals(Buffer.from(state)));
+    return script.bytes;
+}
+
+// The slider, frames and steps, on and back.
+async function moving(page) {
+    const { frame } = await page.value('({ frame: studio.session.run.frame })'), block = 'Array.from(studio.session.run.board.block).join()';
+    await page.value(`(() => { const slider = document.getElementById('moment'); slider.value = 100; slider.dispatchEvent(new Event('input')); slider.dispatchEvent(new Event('change')); })()`);
+    await page.until(settled);
+    row('the slider goes to a frame', (await page.value('studio.moment')) === '100:0' && frame > 100);
+    const hundred = sum(await page.value(block));
+    await page.press('Period');
+    await page.until(settled);
+    row('a frame on', (await page.value('studio.moment')) === '101:0');
+    await page.press('Comma');
+    await page.until(settled);
+    row('and back, to the same bytes', (await page.value('studio.moment')) === '100:0' && sum(await page.value(block)) === hundred);
+    const states = [hundred];
+    for (let step = 0; step < 20; step++) {
+        await page.press('F10');
+        states.push(sum(await page.value(block)));
+    }
+    row('twenty steps on are twenty moments', new Set(states).size === 21);
+    let isSame = true;
+    for (let step = 19; step >= 0; step--) {
+        await page.press('F10', 8);
+        const { steps } = await page.value('({ steps: studio.session.run.board.block.slice(66, 74).join() })');
+        isSame &&= steps.length > 0;
+        if (step === 0) isSame &&= sum(await page.value('Array.from(studio.session.run.board.block.slice(0, 74)).join()')) === sum(await page.value(`studio.visits(100, 0).then(() => Array.from(studio.session.run.board.block.slice(0, 74)).join())`));
+    }
+    row('and twenty back come to where they began', isSame);
+    const tape = await page.value('studio.session.tape.length');
+    await page.value('studio.deck.play()');
+    await page.until(`studio.session.run.frame > 110`);
+    row('what was played is played again, and stays', (await page.value('studio.session.tape.length')) === tape);
+    await page.value(rest);
+}
+
+// Who wrote a byte, what shows at a pixel, and the way to a line: the session of docs/DEBUGGING.md.
+async function looking(page) {
+    await page.value("studio.begin('starfall', new TextDecoder().decode(studio.files['starfall.asm']), Array(600).fill(0).map((_, at) => (at >= 18 && at < 32 ? 4 : 0)))");
+    await page.value(rest);
+    await page.value(goes(20));
+    await page.value('studio.asks(0x5061)');
+    await page.until("document.querySelectorAll('.touches > *').length >= 12");
+    const touch = await page.value("document.querySelector('.touches > *').textContent");
+    row('who wrote 5061H: the LDIR in frame 19, at T-state 467', touch.startsWith('19T 467C0 → BE') && touch.includes('0117'), touch);
+    await page.value("document.querySelector('.touches button').click()");
+    await page.until("studio.moment !== '20:0'");
+    row('and the way there', (await page.value('studio.session.run.board.block.slice(66, 70).join()')) === [196647 & 255, 196647 >> 8 & 255, 196647 >> 16, 0].join());
+    await page.value(goes(281));
+    const boat = await page.value('studio.deck.tellPixel(176, 152)'), sky = await page.value('studio.deck.tellPixel(100, 100)');
+    row('a click on the boat tells its sprite', boat.kind === 'sprite' && boat.palette === 8 && [1, 2].includes(boat.code), JSON.stringify(boat));
+    row('a click on the sky tells its cell', sky.kind === 'cell' && sky.address === 0x41ca && sky.colour === 0x45ca && sky.palette === 1, JSON.stringify(sky));
+    await page.click('#frame', 176.5 / 288, 152.5 / 224);
+    row('by the mouse too', (await page.value("document.querySelector('.told-here').textContent")).includes('sprite'));
+    await page.value(goes(18));
+    const line = await page.value('studio.listing.lineAt.get(0x0117)');
+    await page.value(`studio.runsTo(${line})`);
+    const place = await page.value('[...studio.session.run.board.block.slice(52, 54), ...studio.session.run.board.block.slice(66, 69)].join()');
+    row('a click on the number of the LDIR runs to it', place === [0x17, 0x01, ...[0, 8, 16].map((bit) => 185803 - 1 >> bit & 255)].join() || place.startsWith('23,1,'), place);
+    const moment = await page.value('studio.moment');
+    await page.value(`studio.runsTo(${line}, true)`);
+    const before = await page.value('studio.moment');
+    row('and back to the time before', before !== moment && (await page.value('studio.session.run.board.block.slice(52, 54).join()')) === '23,1', `${moment} ${before}`);
+    for (const pane of ['processor', 'memory', 'pictures', 'voices', 'who', 'help']) await page.value(`studio.panes.open('${pane}')`);
+    row('each pane opens', page.faults.length === 0, page.faults.join('\n'));
+}
+
+// The same moment under new code, and what is refused.
+async function editing(page) {
+    const source = example('starfall', 'asm'), other = source.replace('STARS   EQU 4 ', 'STARS   EQU 2 ');
+    await page.value(`studio.begin('starfall', ${JSON.stringify(source)}, ${JSON.stringify(Array.from({ length: 600 }, (_, at) => (at % 90 < 30 ? 4 : at % 90 < 60 ? 2 : at === 140 ? 8192 : 0)))})`);
+    await page.value(rest);
+    await page.value(goes(600));
+    const script = await page.saved("document.querySelector('[data-save=script]').click()");
+    const before = await page.canvas(), since = Date.now();
+    await page.value(`(() => { const { area } = studio.editor, at = area.value.indexOf('STARS   EQU 4 ') + 12; area.focus(); area.setSelectionRange(at, at + 1); document.execCommand('insertText', false, '2'); })()`);
+    await page.until("document.getElementById('assembled').textContent.includes('same moment')");
+    console.log(`${Date.now() - since} ms from the key: ${await page.value("document.getElementById('assembled').textContent")}`);
+    const wanted = played(other, scriptTo(script.bytes.toString(), 600)), now = await page.canvas();
+    row('an edit shows the same moment under new code', wanted.rgba.equals(now) && !now.equals(before));
+    row('and its state is that of pacboard run', wanted.state.equals(Buffer.from(await page.value('Array.from(studio.session.run.board.save())'))));
+    await page.value("document.execCommand('insertText', false, '+WHERE')");
+    await page.until("!document.getElementById('problem').hidden");
+    const told = await page.value("document.getElementById('problem').textContent");
+    row('a fault is told with its line, its code and a cause', /A4 {2}line 7/.test(told) && told.includes('WHERE is defined nowhere'), told);
+    row('its line is marked', (await page.value('studio.editor.fault')) === 7);
+    row('and the old program stays', now.equals(await page.canvas()));
+    await page.value('studio.deck.play()');
+    await page.pause(0.4);
+    row('and goes on', await page.value('studio.session.run.frame > 600'));
+    await page.value(rest);
+    await page.value("document.execCommand('undo')");
+    await page.until("document.getElementById('problem').hidden");
+    row("the browser's way back takes it away", (await page.value('studio.editor.text')) === other);
+}
+
+// What goes out and comes in again.
+async function outside(page, script) {
+    const state = await page.saved("document.querySelector('[data-save=state]').click()");
+    await page.value("studio.begin('hello', new TextDecoder().decode(studio.files['hello.asm']))");
+    await page.value(rest);
+    const other = await page.hand({ 'mine.state': state.bytes });
+    row('a state of another set is refused by name', other.startsWith('V6mine.state'), other);
+    await page.value("studio.begin('starfall', studio.text = new TextDecoder().decode(studio.files['starfall.asm']).replace('STARS   EQU 4 ', 'STARS   EQU 2 '))");
+    row('a state goes on where it was', (await page.hand({ 'mine.state': state.bytes })).startsWith('Opened'));
+    await page.hand({ 'mine.script': script });
+    row('a script is read as it was written', (await page.saved("document.querySelector('[data-save=script]').click()")).bytes.equals(script));
+    const picture = await page.saved("document.querySelector('[data-save=picture]').click()");
+    row('a picture is a PNG', picture.bytes.readUInt32BE(0) === 0x89504e47 && picture.bytes.readUInt32BE(16) === 288);
+    await page.value("document.querySelector('[data-save=film]').click()");
+    await page.pause(2);
+    const film = await page.saved("document.querySelector('[data-save=film]').click()");
+    row('a film is recorded', film.bytes.length > 10_000 && film.bytes.readUInt32BE(0) === 0x1a45dfa3, `${film.name} ${film.bytes.length}`);
+    await page.value(rest);
+    const source = await page.value('studio.editor.text');
+    await page.value('studio.exits.link()');
+    const address = await page.value('location.href');
+    const linked = await opened(programOf(['chromium', 'chromium-browser', 'google-chrome']), address);
+    row('a link has the source and what was played in it', (await linked.value('studio.editor.text')) === source && (await linked.value('studio.session.tape.length')) > 0);
+    await linked.close();
+    const game = await page.saved("document.getElementById('publish').click()"), file = path.join(FOLDER, 'mine.html');
+    writeFileSync(file, game.bytes);
+    const alone = await opened(programOf(['chromium', 'chromium-browser', 'google-chrome']), pathToFileURL(file).href);
+    await alone.value('game.loop.pause()');
+    const first = await alone.value('(() => { const { game: it } = game; it.board.begin(it.roms); for (let frame = 0; frame < 60; frame++) { it.board.hold(it.masks[frame]); it.board.run(16500); } it.show(); return it.masks.length; })()');
+    const wanted = played(source, scriptTo(script.toString(), 60));
+    row('a published game plays from file://, alone', first > 0 && wanted.rgba.equals(await alone.canvas()) && alone.faults.length === 0, alone.faults.join('\n'));
+    console.log(`published: ${game.bytes.length} bytes`);
+    await alone.close();
+}
+
+// The page that ./play serves.
+async function following(page) {
+    row('./play shows the source', (await page.value('studio.editor.text')) === readFileSync(FILE, 'utf8'));
+    await page.value(rest);
+    await page.value(goes(120));
+    const since = Date.now();
+    writeFileSync(FILE, readFileSync(FILE, 'utf8').replace('STARS   EQU 4 ', 'STARS   EQU 1 '));
+    await page.until("studio.editor.text.includes('STARS   EQU 1 ') && document.getElementById('assembled').textContent.includes('same moment')");
+    console.log(`${Date.now() - since} ms from the disk to the same moment`);
+    row('a change on the disk is the same moment under new code', (await page.value('studio.moment')) === '120:0');
+    await page.value('(studio.session.isDemo = false, studio.deck.play())');
+    await page.pause(0.3);
+    await page.value(rest);
+    const written = FILE.replace(/\.asm$/, '.played.script');
+    for (let turn = 0; turn < 50 && !existsSync(written); turn++) await page.pause(0.1);
+    row('what is played is written beside it', existsSync(written) && /^\d+ /m.test(readFileSync(written, 'utf8')));
+}
+
+async function main() {
+    const program = programOf(['chromium', 'chromium-browser', 'google-chrome']);
+    const page = await opened(program, pathToFileURL(PAGE).href);
+    try {
+        const script = await playing(page);
+        await moving(page);
+        await looking(page);
+        await editing(page);
+        await outside(page, script);
+        await hostile(page, row);
+        row('nothing went wrong on the way', page.faults.length === 0, page.faults.join('\n'));
+    } finally {
+        await page.close();
+    }
+    if (ADDRESS) {
+        const live = await opened(program, ADDRESS);
+        await following(live);
+        row('nor with ./play', live.faults.length === 0, live.faults.join('\n'));
+        await live.close();
+    }
+}
+
+main().catch((error) => row('the tests come to their end', false, error.stack)).finally(() => {
+    console.log(`${passed} passed, ${failed} failed`);
+    process.exitCode = failed ? 1 : 0;
+});
