@@ -15,7 +15,7 @@ export async function opened(program, address, { width = 1440, height = 900 } = 
     const read = browser.read.bind(browser);
     browser.read = (piece) => {
         for (const message of piece.split('\0')) {
-            const isFault = /"Runtime\.exceptionThrown"|"Log\.entryAdded"|"Runtime\.consoleAPICalled","params":\{"type":"error"/.test(message);
+            const isFault = /"Runtime\.exceptionThrown"|"Log\.entryAdded".*"level":"error"|"Runtime\.consoleAPICalled","params":\{"type":"error"/.test(message);
             if (isFault && !message.includes('favicon')) browser.faults.push(message.slice(0, 600));
         }
         read(piece);

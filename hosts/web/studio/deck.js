@@ -173,7 +173,7 @@ export class Deck {
         if (this.studio.loop.isPlaying) return;
         const { left, top, width, height } = at('frame').getBoundingClientRect();
         const across = (event.clientX - left) / width, down = (event.clientY - top) / height, isTurned = at('stage').classList.contains('turned');
-        const [u, v] = isTurned ? [1 - down, across] : [across, down];
+        const [u, v] = isTurned ? [down, 1 - across] : [across, down];
         const x = Math.min(WIDTH - 1, Math.max(0, Math.floor(u * WIDTH))), y = Math.min(HEIGHT - 1, Math.max(0, Math.floor(v * HEIGHT)));
         this.tellPixel(x, y);
         Object.assign(at('cross').style, { left: `${100 * across}%`, top: `${100 * down}%` });

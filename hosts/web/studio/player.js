@@ -42,7 +42,7 @@ export class Speaker {
         this.node = new AudioWorkletNode(this.context, 'sound', { outputChannelCount: [1] });
         this.node.port.onmessage = ({ data }) => Object.assign(this, data);
         this.node.connect(this.context.destination);
-        await this.context.resume();
+        this.context.resume(); // (which isn't done before somebody touches the page)
     }
 
     // Whether it takes samples, so that they lead.

@@ -19,6 +19,7 @@ const ROOT = path.resolve(path.dirname(PAGE), '..');
 const IMAGE = 193551, HEAD = 15; // bytes of an image, and of its head
 const OPENED = 1000, REPLAYED = 1000; // milliseconds: told, and judged at this many times as long, since the machine may be busy
 const BUSY = 4;
+const HELD = 3218, DIGEST = 20; // of a state file: where what is held is, and the bytes at its end
 
 let passed = 0, failed = 0;
 
@@ -26,6 +27,12 @@ function row(what, isSo, told = '') {
     if (isSo) passed++;
     else failed++;
     console.log(isSo ? what : `FAILED: ${what}${told ? `: ${told}` : ''}`);
+}
+
+// Whether two state files are those of one board, whatever it holds: the program lets all go at a run's end.
+function isSameBoard(one, other) {
+    const parts = [[0, HELD], [HELD + 2, one.length - DIGEST]];
+    return one.length === other.length && parts.every(([from, to]) => one.subarray(from, to).equals(other.subarray(from, to)));
 }
 
 const sum = (bytes) => createHash('sha1').update(bytes).digest('hex');
@@ -88,7 +95,7 @@ async function playing(page) {
     const script = await page.saved("document.querySelector('[data-save=script]').click()");
     const again = played(example('starfall', 'asm'), scriptTo(script.bytes.toString(), frame));
     row('what was played, as a script, is the same picture under pacboard run', again.rgba.equals(await page.canvas()));
-    row('and the same state, to the byte', again.state.equals(Buffer.from(state)));
+    row('and the same state, to the byte, but for what is held', isSameBoard(again.state, Buffer.from(state)));
     return script.bytes;
 }
 
@@ -139,10 +146,11 @@ async function looking(page) {
     await page.until("studio.moment !== '20:0'");
     row('and the way there', (await page.value('studio.session.run.board.block.slice(66, 70).join()')) === [196647 & 255, 196647 >> 8 & 255, 196647 >> 16, 0].join());
     await page.value(goes(281));
-    const boat = await page.value('studio.deck.tellPixel(176, 152)'), sky = await page.value('studio.deck.tellPixel(100, 100)');
+    const [top, left] = await page.value('Array.from(studio.session.run.board.block.slice(3154, 3156))'), x = 272 - left + 8, y = top - 31 + 10;
+    const boat = await page.value(`studio.deck.tellPixel(${x}, ${y})`), sky = await page.value('studio.deck.tellPixel(100, 100)');
     row('a click on the boat tells its sprite', boat.kind === 'sprite' && boat.palette === 8 && [1, 2].includes(boat.code), JSON.stringify(boat));
     row('a click on the sky tells its cell', sky.kind === 'cell' && sky.address === 0x41ca && sky.colour === 0x45ca && sky.palette === 1, JSON.stringify(sky));
-    await page.click('#frame', 176.5 / 288, 152.5 / 224);
+    await page.click('#frame', (x + 0.5) / 288, (y + 0.5) / 224);
     row('by the mouse too', (await page.value("document.querySelector('.told-here').textContent")).includes('sprite'));
     await page.value(goes(18));
     const line = await page.value('studio.listing.lineAt.get(0x0117)');
@@ -160,7 +168,7 @@ async function looking(page) {
 // The same moment under new code, and what is refused.
 async function editing(page) {
     const source = example('starfall', 'asm'), other = source.replace('STARS   EQU 4 ', 'STARS   EQU 2 ');
-    await page.value(`studio.begin('starfall', ${JSON.stringify(source)}, ${JSON.stringify(Array.from({ length: 600 }, (_, at) => (at % 90 < 30 ? 4 : at % 90 < 60 ? 2 : at === 140 ? 8192 : 0)))})`);
+    await page.value(`studio.begin('starfall', ${JSON.stringify(source)}, ${JSON.stringify(Array.from({ length: 600 }, (_, at) => (at >= 140 && at < 144 ? 8192 : at % 90 < 30 ? 4 : at % 90 < 60 ? 2 : 0)))})`);
     await page.value(rest);
     await page.value(goes(600));
     const script = await page.saved("document.querySelector('[data-save=script]').click()");
@@ -170,7 +178,7 @@ async function editing(page) {
     console.log(`${Date.now() - since} ms from the key: ${await page.value("document.getElementById('assembled').textContent")}`);
     const wanted = played(other, scriptTo(script.bytes.toString(), 600)), now = await page.canvas();
     row('an edit shows the same moment under new code', wanted.rgba.equals(now) && !now.equals(before));
-    row('and its state is that of pacboard run', wanted.state.equals(Buffer.from(await page.value('Array.from(studio.session.run.board.save())'))));
+    row('and its state is that of pacboard run', isSameBoard(wanted.state, Buffer.from(await page.value('Array.from(studio.session.run.board.save())'))));
     await page.value("document.execCommand('insertText', false, '+WHERE')");
     await page.until("!document.getElementById('problem').hidden");
     const told = await page.value("document.getElementById('problem').textContent");
