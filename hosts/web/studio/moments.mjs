@@ -83,8 +83,10 @@ export async function moments(files, assembler, { example, pacboard, at, row, RO
     }
     const [copy] = first(beside(run.go(20), board()), 0x5061, 1);
     row('the write of docs/DEBUGGING.md', copy.frame === 19 && copy.steps === 196647 && copy.tick === 467 && copy.pc === 0x117 && copy.old === 0xc0 && copy.value === 0xbe);
-    const scout = beside(run.go(20), board()), reads = first(scout, 0x4c31, 1, ({ isWrite }) => !isWrite);
-    row('and who read the byte that it copies', reads[0].pc === 0x117 && reads[0].steps === 196647);
+    const writes = first(beside(run, board()), 0x5061, 3).map(({ frame, pc }) => `${frame} ${pc}`);
+    row('writes that change nothing are told too', writes.join() === '19 279,18 279,17 279', writes.join());
+    const reads = first(beside(run, board()), 0x4c31, 8, ({ isWrite }) => !isWrite);
+    row('and who read the byte that it copies', reads.some(({ pc, steps }) => pc === 0x117 && steps === 196647));
 
     for (const address of [0x0117, 0x0102, 0x0000]) {
         run.go(20);

@@ -71,9 +71,10 @@ export class Run {
         return samples;
     }
 
-    // Forgets the snapshots after a moment, since what comes then has changed.
-    forget() {
-        this.snapshots.length = Math.min(this.snapshots.length, Math.floor(this.frame / STRIDE) + 1);
+    // Forgets what comes after a frame's beginning, since what is held from there on has changed.
+    forget(frame) {
+        this.snapshots.length = Math.min(this.snapshots.length, Math.floor(frame / STRIDE) + 1);
+        if (this.frame > frame || this.frame === frame && this.inside > 0) this.restore(frame);
     }
 
     // Goes back to the last snapshot that is no later than a frame.

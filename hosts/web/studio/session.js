@@ -14,7 +14,10 @@ export class Session {
         Object.assign(this, { controls, told, board, spare: board(), easel: board(), probe: board(), scouts: {} });
         this.run = new Run(board(), roms, new Tape());
         this.isDemo = false;
-        this.wish = 0; // counts wishes, so that the last one calls the others off
+        this.wish = 0; // counts what was wished to go to, so that the last one calls the others off
+        this.edit = 0; // and the ROM blocks
+        this.target = null; // the moment that is gone to
+        this.coming = null; // the run under the next ROM block, while it's played up to the moment of this one
         this.isBusy = false;
     }
 
@@ -34,7 +37,8 @@ export class Session {
     // Begins anew: with a ROM block, a tape, and from a state where one is given.
     begin(roms, masks = [], { isDemo = false, start = null } = {}) {
         this.wish++;
-        this.isBusy = false;
+        this.edit++;
+        Object.assign(this, { target: null, coming: null, isBusy: false });
         this.run = new Run(this.run.board, roms, new Tape(masks), start);
         this.isDemo = isDemo;
         this.told();
@@ -55,14 +59,18 @@ export class Session {
     take() {
         this.isDemo = false;
         if (this.run.frame < this.tape.length) {
-            this.tape.cut(this.run.frame + (this.run.inside > 0 ? 1 : 0));
-            this.run.forget();
+            const { frame, inside } = this.run, from = frame + (inside > 0 ? 1 : 0);
+            this.tape.cut(from);
+            for (const run of [this.run, this.coming]) run?.forget(from);
         }
     }
 
-    // Goes to a moment; the next wish calls it off. Whether it came there.
+    // Goes to a moment; the next one that is wished for calls it off. Whether it came there.
     async go(frame, inside = 0) {
-        return this.does((run) => run.to(frame, inside));
+        this.target = { frame, inside };
+        const came = await this.does((run) => run.to(frame, inside));
+        if (came !== undefined) this.target = null;
+        return came !== undefined;
     }
 
     // Does steps on the run, in slices: what they give, or undefined where another wish has called them off.
@@ -76,25 +84,32 @@ export class Session {
         return value;
     }
 
-    // Plays what was played again under another ROM block, up to the moment that is shown, and takes its place; `progress` hears of each slice.
-    // Meanwhile the old one goes on. Whether it came there.
-    async replace(roms, progress = () => undefined) {
-        const wish = ++this.wish, old = this.run, isWanted = () => wish === this.wish;
-        const run = new Run(this.spare, roms, old.tape, old.start);
-        function* steps(session) {
-            for (;;) {
-                const { frame, inside } = session.run;
-                for (const at of run.to(frame, inside)) {
-                    progress(at, frame);
-                    yield at;
-                }
-                if (!run.canGo || run.frame >= session.run.frame) return run;
+    // The steps by which another run comes to the moment of this one, wherever that goes meanwhile.
+    *following(run, progress) {
+        for (;;) {
+            const { frame, inside } = this.run;
+            for (const at of run.to(frame, inside)) {
+                progress(at, frame);
+                yield at;
             }
+            if (!run.canGo || run.frame === this.run.frame && run.inside === this.run.inside) return run;
+            yield frame;
         }
-        if (await sliced(steps(this), isWanted) === undefined || !isWanted()) return false;
+    }
+
+    // Plays what was played again under another ROM block, up to the moment that is shown, and takes its place; `progress` hears of each slice.
+    // Meanwhile the old one goes on, and may be gone through. Whether it came there: the next replacement calls it off.
+    async replace(roms, progress = () => undefined) {
+        const edit = ++this.edit, old = this.run, run = this.coming = new Run(this.spare, roms, old.tape, old.start);
+        const end = await sliced(this.following(run, progress), () => edit === this.edit);
+        if (end === undefined || edit !== this.edit) return false;
         this.spare = old.board;
         this.run = run;
+        this.coming = null;
+        this.wish++; // what went through the old one ends
+        this.isBusy = false;
         this.told();
+        if (this.target) this.go(this.target.frame, this.target.inside);
         return true;
     }
 
