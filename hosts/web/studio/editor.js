@@ -30,9 +30,9 @@ export class Editor {
         this.area.addEventListener('input', () => this.edited());
         this.area.addEventListener('scroll', () => this.draw());
         this.area.addEventListener('keydown', (event) => this.key(event));
-        this.gutter.addEventListener('click', ({ target }) => {
+        this.gutter.addEventListener('click', ({ target, shiftKey }) => {
             const row = target.closest('[data-line]');
-            if (row) this.picked(Number(row.dataset.line));
+            if (row) this.picked(Number(row.dataset.line), shiftKey);
         });
         this.gutter.addEventListener('wheel', (event) => this.area.scrollBy(0, event.deltaY), { passive: true });
         document.addEventListener('selectionchange', () => this.moved());

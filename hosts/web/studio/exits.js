@@ -49,6 +49,7 @@ export class Exits {
     async save(kind) {
         const { studio } = this, { name, session } = studio;
         document.querySelector('.menu').open = kind === 'film' ? document.querySelector('.menu').open : false;
+        if (kind === 'source') studio.isChanged = false;
         if (kind === 'source') download(`${name}.asm`, studio.editor.text, 'text/plain');
         else if (kind === 'script') await this.script();
         else if (kind === 'state') download(`${name}.state`, session.run.board.save());
@@ -94,6 +95,7 @@ export class Exits {
     async link() {
         const { studio } = this, address = `${location.href.replace(/#.*$/s, '')}${await fragmentOf(studio.editor.text, this.masks)}`;
         history.replaceState(null, '', address);
+        studio.isChanged = false;
         try {
             await navigator.clipboard.writeText(address);
             tell('Copied', 'The link has the source and what was played in it.');

@@ -20,7 +20,8 @@ export class MemoryPane {
         this.field.setAttribute('list', 'names');
         Object.assign(this, { parts, names });
         this.told = made('span', { className: 'dim mono' });
-        this.view = made('div', { className: 'bytes' });
+        this.view = made('div', { className: 'bytes', 'data-keys': '' });
+        this.view.addEventListener('keydown', (event) => this.key(event));
         root.append(made('div', { className: 'tools' }, parts, this.field, names, this.told), this.view);
         this.view.addEventListener('click', ({ target }) => {
             const byte = target.closest('button');
@@ -30,6 +31,14 @@ export class MemoryPane {
             const byte = target.closest('button');
             this.told.textContent = byte ? this.saying(Number(byte.dataset.at)) : '';
         });
+    }
+
+    // Arrows go from byte to byte.
+    key(event) {
+        const step = { ArrowLeft: -1, ArrowRight: 1, ArrowUp: -16, ArrowDown: 16 }[event.key], from = Number(event.target.dataset.at);
+        if (step === undefined || Number.isNaN(from)) return;
+        event.preventDefault();
+        this.view.querySelector(`[data-at="${from + step}"]`)?.focus();
     }
 
     // Goes to an address or a name.

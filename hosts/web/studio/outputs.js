@@ -8,8 +8,8 @@ import { sourceOf } from './files.js';
 
 const LONGEST = 60_000; // letters of a link
 const SOUND_RATE = 128_000, FILM_RATE = 4_000_000; // bits a second
-const KINDS = ['video/webm;codecs=vp9,opus', 'video/webm;codecs=vp8,opus', 'video/webm', 'video/mp4'];
-const SCALE = 3; // of a film's pixels
+const KINDS = ['video/webm;codecs=vp8,opus', 'video/webm;codecs=vp9,opus', 'video/webm', 'video/mp4']; // the first takes the least time
+const SCALE = 2; // of a film's pixels
 
 // A source and what was held as the end of a link.
 export async function fragmentOf(source, masks) {

@@ -10,7 +10,7 @@ import { TouchesPane } from './touches.js';
 const KEYS = [
     ['Arrows', 'joystick of player 1; R D F G that of player 2'], ['1 2', 'start buttons'], ['5 6 7', 'coins, and a credit'], ['P', 'play or pause; Ctrl Space everywhere'],
     [', .', 'a frame back, a frame on'], ['F10', 'a step on; with Shift a step back'], ['F9', 'run to the line with the caret; with Shift back to it'],
-    ['Click', 'on a line\'s number: run to it; on the paused picture: what shows there; on a byte: who wrote it'], ['Esc Tab', 'out of the editor'],
+    ['Click', 'on a line\'s number: run to it, with Shift back to it; on the paused picture: what shows there; on a byte: who wrote it'], ['Esc Tab', 'out of the editor'],
 ];
 const WORDS = 'A page can look in but promise nothing: the board and the assembler inside are proved, and what is around them is tested.';
 

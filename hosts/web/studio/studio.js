@@ -34,10 +34,11 @@ class Studio {
         this.speaker = new Speaker(textOf(files['sound.js']));
         this.session = new Session(module, this.romsOf(files['starfall.rom']), this.controls, () => this.told());
         this.loop = new Loop({ advance: () => this.advance(), show: () => this.show() }, this.speaker, this.controls);
-        this.editor = new Editor(at('source'), () => this.typed(), (line) => this.runsTo(line), (line) => this.stands(line));
+        this.editor = new Editor(at('source'), () => this.typed(), (line, isBack) => this.runsTo(line, isBack), (line) => this.stands(line));
         this.deck = new Deck(this);
         this.exits = new Exits(this);
         this.panes = new Panes(this);
+        addEventListener('beforeunload', (event) => { if (this.isChanged) event.preventDefault(); });
         this.live = new Live((changed, isFirst) => this.follows(changed, isFirst));
     }
 
@@ -98,6 +99,7 @@ class Studio {
     // ---- The source
 
     typed() {
+        this.isChanged = true;
         clearTimeout(this.typing);
         this.typing = setTimeout(() => this.assemble(), TYPED);
     }
@@ -151,6 +153,8 @@ class Studio {
     async begin(name, text, masks = [], { isDemo = false, rom = null } = {}) {
         this.name = name;
         at('name').textContent = `${name}.asm`;
+        document.title = `${name} · Studio`;
+        this.isChanged = false;
         this.editor.text = text;
         const made_ = rom ? { rom } : this.assembler.isThere ? this.assembler.assemble(bytesOf(text)) : { rom: new Uint8Array(PROGRAM) };
         if (made_.rom) this.session.begin(this.romsOf(made_.rom), masks, { isDemo });
@@ -259,6 +263,7 @@ class Studio {
             if (isFirst || !found.source || found.set) await this.takes(found, true);
             else if (found.source.text !== this.editor.text) {
                 this.editor.replace(found.source.text);
+                this.isChanged = false;
                 await this.assemble();
             }
         } catch (error) {
