@@ -1,5 +1,6 @@
 // The likely cause of a refusal, by the tables of tools/explain: what other assemblers write, and where a name is defined.
 
+import { valueCauses } from './values.js';
 import { DIRECTIVES, FOREIGN, FORMS, MEANINGS, MNEMONICS, REGISTERS, SIGNS, SPELLINGS } from './tables.js';
 
 const TOKEN = /([ \t]+)|([Aa][Ff]')|([A-Za-z_]\w*)|(\d[A-Za-z0-9]*)|('(?:[^']|'')*')|(')|([$:,()+*/-])|(;)/y;
@@ -155,6 +156,7 @@ function nameCause(lines, number) {
         if (OPERATIONS.has(upper) || REGISTERS.includes(upper) || upper === "AF'") continue;
         const place = defined.get(text);
         if (place === number && at === tokens[0].at) continue;
+        if (place === number) return [`${text} is defined by itself`];
         if (place > number) return [`${text} is defined below, in line ${place}: here it has to be defined in a line above`];
         if (place) continue;
         if (/^[A-Fa-f][0-9A-Fa-f]*[Hh]$/.test(text)) return [`${text} is a name, since it begins with a letter; the hexadecimal number is 0${text}`];
@@ -184,8 +186,8 @@ function branchCause(code, lines, number) {
     return [above.length ? `IF, ELSE and ENDIF stand above in the lines ${above.join(', ')}` : 'no IF stands above'];
 }
 
-// Sentences about the cause of a fault in a line of a source; none where nothing is sure.
-export function causesOf(code, lines, number) {
+// Sentences about the cause of a fault in a line of a source; none where nothing is sure. Of a value the assembler is asked.
+export function causesOf(code, lines, number, assembler) {
     const line = lines[number - 1];
     if (line === undefined) return [];
     if (code.startsWith('A1 ')) return tokenCause(code, line);
@@ -196,6 +198,8 @@ export function causesOf(code, lines, number) {
     }
     if (code === 'A4' || code === 'A8') return nameCause(lines, number);
     if (code === 'A5') return placeCause(line);
+    if (code === 'A9') return valueCauses(assembler, lines, number);
+    if (code === 'A10' && !line.split(';')[0].includes('/')) return ['a result is past 32 bits'];
     if (['A12', 'A13', 'A14'].includes(code)) return branchCause(code, lines, number);
     return [];
 }

@@ -12,7 +12,7 @@ const PARTS_OF_MEMORY = [
 export class MemoryPane {
     constructor(root, studio) {
         Object.assign(this, { root, studio, from: 0x4c00, chosen: null, before: null });
-        this.field = made('input', { className: 'field', size: 14, placeholder: 'address or name', 'aria-label': 'Address in hexadecimal, or a name', 'data-keys': '' });
+        this.field = made('input', { className: 'field', size: 17, placeholder: 'address or name', 'aria-label': 'Address in hexadecimal, or a name', 'data-keys': '' });
         this.field.addEventListener('change', () => this.find(this.field.value.trim()));
         const parts = made('select', { 'aria-label': 'Part of the memory' }, ...PARTS_OF_MEMORY.map(([name, from]) => made('option', { value: from }, `${hex(from)}  ${name}`)));
         parts.addEventListener('change', () => this.at(Number(parts.value)));

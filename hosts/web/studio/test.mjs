@@ -140,19 +140,19 @@ function listings(assembler) {
 }
 
 // What is said of faults: nothing that tools/explain doesn't say.
-function causes(rows) {
+function causes(rows, assembler) {
     let same = 0, all = 0;
     const others = [];
     for (const { source, fault, causes: wanted } of rows.filter((one) => one.fault && one.causes)) {
         const [, code, line] = /^refused (A\d+(?: L\d)?) line (\d+)$/.exec(fault), lines = source.split('\n').map((text) => text.replace(/\r$/, ''));
-        const said = causesOf(code, lines, Number(line));
+        const said = causesOf(code, lines, Number(line), assembler);
         all++;
         same += said.length > 0 && wanted.includes(said[0]) || said.length + wanted.length === 0 ? 1 : 0;
         if (said.some((one) => !wanted.includes(one))) others.push({ code, line: lines[line - 1]?.slice(0, 60), said, wanted });
         if (!meaningOf(code)) others.push(code);
     }
     row(`causes of ${all} faults: none is said that tools/explain doesn't say`, all > 100 && others.length === 0, `${others.length}: ${JSON.stringify(others.slice(0, 6))}`);
-    row(`for most of them the first is the same (${same})`, same > all / 2);
+    row(`for most of them the first is the same (${same})`, same > 0.6 * all);
 }
 
 // Scripts, sets and what is packed.
@@ -233,7 +233,7 @@ async function main() {
     sources(assembler, rows);
     disassembly(assembler);
     listings(assembler);
-    causes(rows);
+    causes(rows, assembler);
     await inputs(files);
     await moments(files, assembler, { example, pacboard, at, row, ROOT });
     await sessions(files, assembler, { example, row });

@@ -9,7 +9,7 @@ const AT_ONCE = 12; // that are told, before one asks for more
 export class TouchesPane {
     constructor(root, studio) {
         Object.assign(this, { root, studio, address: null, wish: 0, reads: false });
-        this.field = made('input', { className: 'field', size: 14, placeholder: 'address or name', 'aria-label': 'Address in hexadecimal, or a name', 'data-keys': '' });
+        this.field = made('input', { className: 'field', size: 17, placeholder: 'address or name', 'aria-label': 'Address in hexadecimal, or a name', 'data-keys': '' });
         this.field.setAttribute('list', 'names');
         this.field.addEventListener('change', () => this.find(this.field.value.trim()));
         this.both = made('input', { type: 'checkbox', id: 'reads' });

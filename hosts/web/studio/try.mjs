@@ -17,7 +17,7 @@ import { hostile } from './hostile.mjs';
 const [PAGE, PACBOARD, FOLDER, ADDRESS, FILE] = process.argv.slice(2);
 const ROOT = path.resolve(path.dirname(PAGE), '..');
 const IMAGE = 193551, HEAD = 15; // bytes of an image, and of its head
-const OPENED = 1000, REPLAYED = 1000; // milliseconds: told, and judged at this many times as long, since the machine may be busy
+const OPENED = 1000, KEYED = 100; // milliseconds: told, and judged at this many times as long, since the machine may be busy
 const BUSY = 4;
 const HELD = 3218, DIGEST = 20; // of a state file: where what is held is, and the bytes at its end
 
@@ -131,6 +131,58 @@ async function moving(page) {
     await page.until(`studio.session.run.frame > 110`);
     row('what was played is played again, and stays', (await page.value('studio.session.tape.length')) === tape);
     await page.value(rest);
+}
+
+// Gamepads, fingers, the quarter turn and the full screen.
+async function holding(page) {
+    await page.value('studio.deck.play()');
+    const waited = await page.value(`new Promise((then) => { const since = performance.now(), from = studio.loop.frames;
+        dispatchEvent(new KeyboardEvent('keydown', { code: 'ArrowLeft' }));
+        (function wait() { if (studio.loop.frames > from) then(performance.now() - since); else requestAnimationFrame(wait); })(); })`);
+    console.log(`${waited.toFixed(0)} ms from a key to its frame`);
+    row('a key is in a frame within a tenth of a second', waited < BUSY * KEYED, String(waited));
+    await page.value("dispatchEvent(new Event('blur'))");
+    row('where the window loses the keys all are let go', await page.value('studio.controls.held === 0'));
+    await page.value('navigator.getGamepads = () => [null, { connected: true, axes: [0.9, -0.9], buttons: Array.from({ length: 16 }, (_, at) => ({ pressed: at === 9 })) }]');
+    await page.until('studio.controls.held === 0x2005');
+    row('a gamepad holds joystick and start', true);
+    await page.value('(navigator.getGamepads = () => [])');
+    await page.until('studio.controls.held === 0');
+    await page.value("studio.editor.area.focus()");
+    await page.strike('ArrowLeft', 'keyDown');
+    await page.strike('ArrowLeft', 'keyUp');
+    row('keys in the editor are not the board\'s', await page.value('!studio.session.tape.all().slice(-3).includes(2)'));
+    await page.value(rest);
+    await page.click('#turn');
+    const { width, height } = await page.value("document.getElementById('frame').getBoundingClientRect().toJSON()");
+    row('a quarter turn', height > width && await page.value("document.getElementById('turn').getAttribute('aria-pressed') === 'true'"));
+    await page.click('#frame', 1 - 100.5 / 224, 60.5 / 288);
+    const told = await page.value("document.querySelector('.told-here').textContent");
+    row('a click on it tells the pixel', told.startsWith('Pixel 60, 100:'), told);
+    await page.click('#turn');
+    await page.click('#full');
+    await page.pause(0.5);
+    row('full screen', await page.value("document.fullscreenElement === document.getElementById('stage')"));
+    await page.value('document.exitFullscreen()');
+    await page.pause(0.3);
+}
+
+// The player on a phone.
+async function touching(program) {
+    const page = await opened(program, pathToFileURL(PAGE).href, { width: 390, height: 844 });
+    await page.call('Emulation.setTouchEmulationEnabled', { enabled: true });
+    await page.call('Emulation.setDeviceMetricsOverride', { width: 390, height: 844, deviceScaleFactor: 2, mobile: true });
+    await page.pause(0.5);
+    const { x, y, width, height } = await page.value("document.getElementById('stick').getBoundingClientRect().toJSON()");
+    row('on a phone there is a joystick for a finger', width > 100 && y + height < 844);
+    await page.call('Input.dispatchTouchEvent', { type: 'touchStart', touchPoints: [{ x: x + 0.9 * width, y: y + 0.5 * height }] });
+    await page.pause(0.2);
+    row('which is held', await page.value('studio.controls.held === 4 && !studio.session.isDemo'));
+    await page.call('Input.dispatchTouchEvent', { type: 'touchEnd', touchPoints: [] });
+    await page.pause(0.2);
+    row('and let go', await page.value('studio.controls.held === 0'));
+    row('the picture is as wide as the phone', await page.value("document.getElementById('frame').getBoundingClientRect().width === 390 && document.documentElement.scrollWidth <= 390"));
+    await page.close();
 }
 
 // Who wrote a byte, what shows at a pixel, and the way to a line: the session of docs/DEBUGGING.md.
@@ -253,6 +305,7 @@ async function main() {
     try {
         const script = await playing(page);
         await moving(page);
+        await holding(page);
         await looking(page);
         await editing(page);
         await outside(page, script);
@@ -261,6 +314,7 @@ async function main() {
     } finally {
         await page.close();
     }
+    await touching(program);
     if (ADDRESS) {
         const live = await opened(program, ADDRESS);
         await following(live);
