@@ -1,6 +1,6 @@
 -- Law: laws of a host's calls, each proved on a public function of the crate.
 use Rattle.std.specs.Prelude.{◌≡◌, ◌≢◌, ◌≤◌, ℕ, ℤ, ◌+◌, ◌*◌, ◌/◌, None, List, [], ◌∷◌, ◌++◌, take}
-use Rattle.pac_board.specs.State.{BoardState, BoardValue, power_on_board, board_after_reset}
+use Rattle.pac_board.specs.State.{BoardState, BoardValue, power_on_board, board_after_reset, time_of}
 use Rattle.pac_state.specs.Files.{IsFile, board_of_file}
 use Rattle.pac_state.specs.Reading.{state_in}
 use Rattle.pac_host.specs.declared.ran.PacRan.{PacRan}
