@@ -15,7 +15,7 @@ use pac_cpu::Regs;
 use pac_machine::{Due, Machine};
 use pac_map::{Inputs, Raw, RomSet};
 use pac_picture::Picture;
-use std::alloc::Global;
+use std::alloc::{AllocError, Global};
 use std::marker::Model;
 
 /// The main board (Namco Pac-Man service schematics). Clauses see its ROM set, its state, and the count of the steps
@@ -50,20 +50,6 @@ impl Model for Board {
 }
 
 impl Board {
-    /// The board at power-on, with a copy of this ROM set and the byte of the DIP switches. Takes no memory.
-    #[inline(always)]
-    pub fn power_on(set: &RomSet, switches: u8) -> Board
-        ensures { result ≡ state.power_on_board set.now switches }
-    {
-        Board {
-            machine: Machine::power_on(set, switches),
-            asked: 0,
-            due: Due::NOTHING,
-            made: 0,
-            since: 0,
-        }
-    }
-
     /// The board at power-on with ROMs of zeros, over which others are put, and the byte of the DIP switches. Takes no memory.
     pub fn without_roms(switches: u8) -> Board
         ensures { result ≡ state.power_on_board zero_parts switches }
@@ -91,10 +77,32 @@ impl Board {
         ensures board { IfOk result (λ board. board.value ≡ state.power_on_board set switches) }
         ensures refused { IfErr result (λ refused. refused.set ≡ set) }
     {
-        match Box::new(alloc, Board::power_on(&set, switches)) {
+        match Board::boxed(alloc, &set, switches) {
             Ok(board) => Ok(board),
             Err(_) => Err(InitRefused { set }),
         }
+    }
+
+    /// The board at power-on with a copy of this ROM set, in a block of memory, where all of it is made: no part of a board goes by the stack
+    /// of a caller, who has this call's frame to spare only while it is made.
+    #[inline(never)]
+    pub(crate) fn boxed(
+        alloc: Global,
+        set: &RomSet,
+        switches: u8,
+    ) -> Result<Box<Board>, AllocError>
+        ensures { IfOk result (λ board. board.value ≡ state.power_on_board set.now switches) }
+    {
+        let mut board = Box::new(alloc, Board::without_roms(switches))?;
+        let raw = Raw {
+            tiles: set.tiles(),
+            sprites: set.sprites(),
+            colours: set.colours(),
+            lookup: set.lookup(),
+            wave: set.wave(),
+        };
+        board.put_roms(set.program(), &raw);
+        Ok(board)
     }
 
     /// Resets the board as the watchdog does: latch, request, count and processor. Time, steps, what is due and the

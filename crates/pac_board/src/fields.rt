@@ -7,26 +7,11 @@ ghost use Rattle.pac_machine.specs.Fields.{state_of, AreBoardFields};
 
 use crate::board::Board;
 use crate::fault::InitRefused;
-use pac_machine::{Fields, Machine};
+use pac_machine::Fields;
 use pac_map::RomSet;
 use std::alloc::Global;
 
 impl Board {
-    /// The board that has these fields, each in its range, with a copy of this ROM set. Takes no memory.
-    #[inline(always)]
-    pub fn with_fields(set: &RomSet, fields: &Fields) -> Board
-        requires { AreBoardFields fields.now }
-        ensures { result ≡ record { set = set.now; state = state_of fields.now; made = 0 } }
-    {
-        Board {
-            machine: Machine::of(set, fields),
-            asked: fields.asked,
-            due: fields.due,
-            made: 0,
-            since: fields.steps,
-        }
-    }
-
     /// The board that has these fields, in a block of memory, with this ROM set. Refused for want of memory alone; the set comes back then.
     pub fn of(alloc: Global, set: RomSet, fields: &Fields) -> Result<Box<Board>, InitRefused>
         requires { AreBoardFields fields.now }
@@ -34,8 +19,11 @@ impl Board {
             (λ board. board.value ≡ record { set = set; state = state_of fields.now; made = 0 }) }
         ensures refused { IfErr result (λ refused. refused.set ≡ set) }
     {
-        match Box::new(alloc, Board::with_fields(&set, fields)) {
-            Ok(board) => Ok(board),
+        match Board::boxed(alloc, &set, 0) {
+            Ok(mut board) => {
+                board.put_fields(fields);
+                Ok(board)
+            }
             Err(_) => Err(InitRefused { set }),
         }
     }

@@ -1,19 +1,17 @@
 //! A machine made from the fields of a board, as a save file has them, and told by them.
 
 ghost use Rattle.std.specs.Prelude.{◌≡◌, ◌≤◌, ◌<◌, ◌↔◌, true, length};
-ghost use Rattle.pac_picture.specs.State.{IsPicture};
 ghost use Rattle.pac_wave.specs.Wave.{Fit20Bits};
 ghost use Rattle.pac_wave.specs.WaveLaws.{accumulators_of_list};
 ghost use Rattle.pac_machine.specs.Standing.{most_asked, passed_lines, recomposed_view};
 ghost use Rattle.pac_machine.specs.Fields.{moment_of, state_of, AreBoardFields};
-ghost use Rattle.pac_machine.specs.Events.{IsUndrawn};
 
 use crate::due::Due;
-use crate::machine::{Machine, picture_of};
+use crate::machine::Machine;
 use crate::timing::{FRAME_TICKS, HIDDEN_LINES, LINE_TICKS};
 use pac_cpu::{Cpu, Regs};
-use pac_map::{Map, Memory, RomSet};
-use pac_picture::{Picture, RawLines, is_picture};
+use pac_map::Memory;
+use pac_picture::{RawLines, is_picture};
 use pac_wave::Wave;
 
 /// The fields of a board's state, as a save file has them.
@@ -65,38 +63,7 @@ impl Fields<'_> {
     }
 }
 
-/// A set's picture with the lines of these fields.
-#[inline(always)]
-fn picture_with(set: &RomSet, lines: &RawLines) -> Picture
-    requires { IsPicture lines.now }
-    ensures { IsUndrawn set.now lines.now result }
-{
-    let mut picture = picture_of(set);
-    picture.copy_from(lines);
-    picture
-}
-
 impl Machine {
-    /// The machine of these fields, with a copy of this ROM set.
-    #[inline(always)]
-    pub fn of(set: &RomSet, fields: &Fields) -> Machine
-        requires { AreBoardFields fields.now }
-        ensures { result ≡ record { set = set.now; now = moment_of fields.now } }
-    {
-        let picture = picture_with(set, fields.lines);
-        Machine {
-            cpu: Cpu::with_regs(fields.regs),
-            map: Map {
-                set: set.copied(),
-                memory: Memory::of(&fields.memory),
-            },
-            wave: Wave::of(fields.accumulators),
-            picture,
-            clock: fields.time,
-            steps: fields.steps,
-        }
-    }
-
     /// Becomes the machine of these fields, in place; its ROM set stays.
     pub fn put_fields(&mut self, fields: &Fields)
         requires { AreBoardFields fields.now }

@@ -57,15 +57,6 @@ impl Model for RomSet {
     }) };
 }
 
-/// A part of the set: these bytes, which are N.
-#[inline(always)]
-fn part<const N: usize>(bytes: &[u8]) -> [u8; N]
-    requires { length bytes.now ≡ N }
-    ensures { result ≡ bytes.now }
-{
-    *bytes.first_chunk().unwrap()
-}
-
 impl RomSet {
     /// The set of these bytes: a program of 16,384, tiles and sprites of 4,096 each, 32 of the colour PROM, and 256 each of
     /// the lookup PROM and of the wave PROM.
@@ -86,14 +77,9 @@ impl RomSet {
           wave = raw.now.wave.now;
         } }
     {
-        RomSet {
-            program: part(program),
-            tiles: part(raw.tiles),
-            sprites: part(raw.sprites),
-            colours: part(raw.colours),
-            lookup: part(raw.lookup),
-            wave: part(raw.wave),
-        }
+        let mut set = RomSet::zeroed();
+        set.put(program, raw);
+        set
     }
 
     /// A set of zeros, over which another is put.
@@ -122,21 +108,6 @@ impl RomSet {
         self.colours.copy_from_slice(raw.colours);
         self.lookup.copy_from_slice(raw.lookup);
         self.wave.copy_from_slice(raw.wave);
-    }
-
-    /// A copy of the set, by value.
-    #[inline(always)]
-    pub fn copied(&self) -> RomSet
-        ensures { result ≡ self.now }
-    {
-        let raw = Raw {
-            tiles: self.tiles(),
-            sprites: self.sprites(),
-            colours: self.colours(),
-            lookup: self.lookup(),
-            wave: self.wave(),
-        };
-        RomSet::of(self.program(), &raw)
     }
 
     /// The program ROM, 16,384 bytes.

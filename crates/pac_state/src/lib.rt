@@ -17,5 +17,5 @@ mod sizes;
 pub use block::{read_block, write_block};
 pub use fault::{LoadFault, LoadRefused};
 pub use in_place::read_file_into;
-pub use loading::{load, read_file};
+pub use loading::load;
 pub use saving::save;

@@ -1,0 +1,115 @@
+/* Makes each call of the library on a thread whose stack has no more room than docs/HOSTS.md and the header say, and tells how much it takes.
+ *
+ *   stack
+ *
+ * A thread's stack is filled with one byte before the call, so what is another one afterwards was used; a page that nobody may touch lies below
+ * it. What a thread without a call takes is subtracted. The last line is `N passed, M failed`; the exit status is 0 where M is 0.
+ */
+#define _GNU_SOURCE
+#include "../pacboard.h"
+
+#include <pthread.h>
+#include <stdio.h>
+#include <stdlib.h>
+#include <string.h>
+#include <sys/mman.h>
+
+enum { PAGE = 4096, SIZE = 1 << 20, KB = 1024, FILLED = 0xA5 };
+
+static pac_board board;
+static uint8_t roms[PAC_ROMS_SIZE] = {0x3E, 0x42, 0x32, 0x40, 0x40, 0x76}; /* LD A,42H / LD (4040H),A / HALT */
+static uint8_t rgba[PAC_RGBA_SIZE], text[PAC_STATE_SIZE];
+static int16_t samples[PAC_FRAME_SAMPLES + 2];
+static uint32_t code;
+static int passed, failed;
+
+static void *nothing(void *unused)
+{
+    return unused;
+}
+
+static void *init(void *unused)
+{
+    code = pac_init(&board, roms, sizeof roms, PAC_SWITCHES);
+    return unused;
+}
+
+static void *hold(void *unused)
+{
+    code = pac_hold(&board, PAC_START1, 0xFFFF);
+    return unused;
+}
+
+static void *exec(void *unused)
+{
+    pac_ran ran;
+    code = pac_exec(&board, roms, sizeof roms, PAC_FRAME_MICROSECONDS, samples, PAC_FRAME_SAMPLES + 2, &ran);
+    return unused;
+}
+
+static void *draw(void *unused)
+{
+    code = pac_draw(&board, roms, sizeof roms, rgba, sizeof rgba);
+    return unused;
+}
+
+static void *reset(void *unused)
+{
+    code = pac_reset(&board);
+    return unused;
+}
+
+static void *save(void *unused)
+{
+    code = pac_save(&board, roms, sizeof roms, text, sizeof text);
+    return unused;
+}
+
+static void *load(void *unused)
+{
+    code = pac_load(&board, roms, sizeof roms, text, sizeof text);
+    return unused;
+}
+
+/* The bytes that a thread takes of a stack of this size, whose end is the end of a page; 0 where there can be no such thread. */
+static size_t taken(void *(*call)(void *), size_t size)
+{
+    uint8_t *room = mmap(NULL, SIZE + PAGE, PROT_READ | PROT_WRITE, MAP_PRIVATE | MAP_ANONYMOUS, -1, 0);
+    size_t untouched = 0;
+    pthread_attr_t attributes;
+    pthread_t thread;
+    if (room == MAP_FAILED || mprotect(room, SIZE + PAGE - size, PROT_NONE) != 0 || pthread_attr_init(&attributes) != 0)
+        return 0;
+    uint8_t *stack = room + SIZE + PAGE - size;
+    memset(stack, FILLED, size);
+    if (pthread_attr_setstack(&attributes, stack, size) != 0 || pthread_create(&thread, &attributes, call, NULL) != 0)
+        return 0;
+    pthread_join(thread, NULL);
+    while (untouched < size && stack[untouched] == FILLED)
+        untouched++;
+    pthread_attr_destroy(&attributes), munmap(room, SIZE + PAGE);
+    return size - untouched;
+}
+
+int main(void)
+{
+    /* a call, and its room in KB: what the page and the header say */
+    static const struct {
+        const char *what;
+        void *(*call)(void *);
+        size_t most;
+    } calls[] = {
+        {"pac_init", init, 208}, {"pac_hold", hold, 208}, {"pac_exec", exec, 208}, {"pac_draw", draw, 208},
+        {"pac_reset", reset, 208}, {"pac_save", save, 208}, {"pac_load", load, 208},
+    };
+    size_t thread = taken(nothing, 64 * KB);
+    for (size_t at = 0; at < sizeof calls / sizeof *calls; at++) {
+        code = PAC_NULL;
+        size_t bytes = taken(calls[at].call, (calls[at].most * KB + thread + PAGE - 1) / PAGE * PAGE);
+        int is_so = code == PAC_DONE && bytes > thread && bytes - thread <= calls[at].most * KB;
+        passed += is_so, failed += !is_so;
+        printf("%s%s: %zu bytes of stack\n", is_so ? "" : "FAILED: ", calls[at].what, bytes - thread);
+    }
+    printf("%d passed, %d failed\n", passed, failed);
+    return failed != 0;
+}
