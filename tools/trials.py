@@ -27,10 +27,11 @@ class Job:
     status: int = 0
 
 
-def program_tools(program: pathlib.Path) -> dict[str, Job]:
-    """The tools with rows about the program, over one build of it."""
-    names = ("command-lines", "sources", "sets", "explanations", "resumed-runs")
+def program_tools(program: pathlib.Path, is_slow: bool = False) -> dict[str, Job]:
+    """The tools with rows about the program, over one build of it; of one that is slow all but the scripts of very many frames."""
+    names = ("command-lines", "sources", "explanations", "resumed-runs")
     jobs = {name: Job([TOOLS / name, program]) for name in names}
+    jobs["sets"] = Job([TOOLS / "sets", *["--short"] * is_slow, program])
     return jobs | {"check-programs": Job([TOOLS / "check-programs", ROOT / "examples", "--program", program])}
 
 
