@@ -53,8 +53,8 @@ def lay_crate(crate, to):
 
 def stamp(folder):
     """Lets the kit take the libraries of a copy as they are: `rt ci` leaves them without the stamp that says of which files they are."""
-    sys.path.insert(0, os.path.dirname(os.path.realpath(shutil.which("rt"))))
-    import rtlib  # pylint: disable=import-error,import-outside-toplevel
+    sys.path.insert(0, os.path.dirname(os.path.realpath(shutil.which("rt") or "rt")))
+    import rtlib  # type: ignore[import]  # pylint: disable=import-error,import-outside-toplevel
 
     os.chdir(folder)
     for crate in rtlib.crates_below(str(folder)):
@@ -69,7 +69,7 @@ def lay_kit(flags, to, kept):
     The copy proves the same, and hands the compiler the same program, as LLVM's bitcode, which is kept in a file; the flags say which
     instructions of the processor it may use.
     """
-    kit = pathlib.Path(shutil.which("rt")).resolve().parent.parent
+    kit = pathlib.Path(shutil.which("rt") or "rt").resolve().parent.parent
     compiler = "toolchain/bin/clang"
     for file in [*kit.iterdir(), *(kit / "bin").iterdir(), *(kit / "toolchain").iterdir(), *(kit / "toolchain/bin").iterdir()]:
         name = file.relative_to(kit)

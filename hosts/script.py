@@ -23,8 +23,8 @@ class Refused(Exception):
 
 def mask_of(names):
     """The mask of the names of a line; None where one is unknown."""
-    masks = [0] if names == "-" else [MASKS.get(name) for name in names.split(",")]
-    return None if None in masks else sum(set(masks))
+    words = [] if names == "-" else names.split(",")
+    return sum(MASKS[name] for name in set(words)) if all(name in MASKS for name in words) else None
 
 
 def count_of(word):

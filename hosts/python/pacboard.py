@@ -60,7 +60,7 @@ def shared_object():
     if not archive.exists():
         raise OSError(f"{archive} isn't there: hosts/build makes it")
     if not shared.exists() or shared.stat().st_mtime < archive.stat().st_mtime:
-        words = ["cc", "-shared", "-o", shared, "-Wl,--whole-archive", archive, "-Wl,--no-whole-archive"]
+        words = ["cc", "-shared", "-o", str(shared), "-Wl,--whole-archive", str(archive), "-Wl,--no-whole-archive"]
         print("pacboard.py:", *words, file=sys.stderr)
         if subprocess.run(words, check=False).returncode:
             raise OSError(f"{shared} isn't made: cc refuses the library")
@@ -127,9 +127,9 @@ def status_of(name, main, words):
     try:
         return main(words)
     except OSError as error:
-        status, told = 3, error
+        status, told = 3, str(error)
     except (Refused, ValueError) as error:
-        status, told = 4, error
+        status, told = 4, str(error)
     print(f"{name}: {told}", file=sys.stderr)
     return status
 
