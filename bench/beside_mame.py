@@ -169,24 +169,24 @@ def run_mame(name, rom, script, folder, has_pictures=False):
     frames = sum(part[0] for part in script) + has_pictures
     log = f"{room}/writes"
     held = ", ".join("{%d, %d, %d}" % part for part in script)
-    with open(f"{room}/taps.lua", "w") as file:
-        file.write(LUA % dict(log=log, held=held, frame=FRAME, second=SECOND, last=frames * FRAME + LINE, switches=SWITCHES))
-        file.write(PICTURES % dict(pictures=f"{room}/pictures") if has_pictures else "")
-    words = [MAME, "pacman", "-rompath", f"{room}/roms", "-autoboot_script", f"{room}/taps.lua", "-autoboot_delay", "0"]
+    with open(f"{room}/taps.lua", "w") as script_file:
+        script_file.write(LUA % dict(log=log, held=held, frame=FRAME, second=SECOND, last=frames * FRAME + LINE, switches=SWITCHES))
+        script_file.write(PICTURES % dict(pictures=f"{room}/pictures") if has_pictures else "")
+    words = [str(MAME), "pacman", "-rompath", f"{room}/roms", "-autoboot_script", f"{room}/taps.lua", "-autoboot_delay", "0"]
     words += ["-video", "none", "-sound", "none", "-nothrottle", "-skip_gameinfo", "-noreadconfig", "-homepath", room]
     words += ["-cfg_directory", room, "-nvram_directory", room, "-seconds_to_run", str(frames * FRAME // SECOND + 2)]
     said = f"{room}/said"
-    with open(said, "w") as file:
-        mame = subprocess.Popen(words, stdout=file, stderr=file, cwd=room, env=os.environ | {"SDL_VIDEODRIVER": "dummy", "HOME": room})
+    with open(said, "w") as told:
+        mame = subprocess.Popen(words, stdout=told, stderr=told, cwd=room, env=os.environ | {"SDL_VIDEODRIVER": "dummy", "HOME": room})
         while mame.poll() is None:
             time.sleep(1)
             size = os.path.getsize(log) // EVENT.size * EVENT.size if os.path.exists(log) else 0
             print(f"{name}: MAME plays, {min(last_time(log, size) // FRAME, frames)} of {frames} frames", flush=True)
     if not os.path.exists(log):
-        with open(said) as file:
-            sys.exit(f"beside_mame: MAME ended with status {mame.returncode}, without a write: {file.read()}")
-    with open(log, "rb") as file:
-        return list(EVENT.iter_unpack(file.read()))
+        with open(said) as text:
+            sys.exit(f"beside_mame: MAME ended with status {mame.returncode}, without a write: {text.read()}")
+    with open(log, "rb") as written:
+        return list(EVENT.iter_unpack(written.read()))
 
 
 def last_time(log, size):

@@ -55,7 +55,7 @@ def timed(words):
 
 def compare(where, rounds, commands):
     """Runs both in turn so many times, and prints the least times of each."""
-    times = {name: [] for name in commands}
+    times: dict[str, list[tuple[float, float]]] = {name: [] for name in commands}
     for _ in range(rounds):
         for name, words in commands.items():
             times[name].append(timed(words))
@@ -71,14 +71,14 @@ def main():
     if len(sys.argv) not in (3, 4, 7) or not "".join(sys.argv[3:4] or "1").isdigit():
         print("film.py: usage: bench/film.py PLAIN PACBOARD[,PACBOARD ..] [ROUNDS [SOURCE SET SCRIPT]]; --help tells more", file=sys.stderr)
         return 2
-    plain, *builds = map(os.path.abspath, [sys.argv[1], *sys.argv[2].split(",")])
+    plain, *builds = [os.path.abspath(word) for word in (sys.argv[1], *sys.argv[2].split(","))]
     for program in (plain, *builds):
         if not os.access(program, os.X_OK):
             print(f"film.py: {program} isn't there", file=sys.stderr)
             return 2
     rounds = int(sys.argv[3]) if len(sys.argv) > 3 else 1
     with tempfile.TemporaryDirectory(dir="/dev/shm") as folder:
-        at = lambda name: os.path.join(folder, name)
+        at = lambda name: f"{folder}/{name}"
         source, manifest, script = map(os.path.abspath, sys.argv[4:] or lay_set(folder, FRAMES))
         lay_plain(at, builds[0], source, manifest, script)
         lay(at("commands"), b"frames %d\n" % sum(int(span.split()[0]) for span in spans_of(script)))

@@ -32,7 +32,7 @@ def pictures(path, first, count, step):
 def packed(numbers, bits):
     """Numbers below 2^bits by LZW, as a GIF has them: in blocks of 255 bytes, after the count of bits."""
     clear, end = 1 << bits, (1 << bits) + 1
-    codes, width, out, filled, data = {}, bits + 1, clear, bits + 1, bytearray()
+    codes, width, out, filled, data = dict[tuple[int, int], int](), bits + 1, clear, bits + 1, bytearray()
     word = numbers[0]
 
     def put(code):
@@ -93,7 +93,7 @@ def main():
     if len(words) not in (2, 5) or not all(word.isdigit() for word in words[2:]):
         sys.exit("animation.py: usage: docs/animation.py FRAMES.ppm OUT.gif [FIRST COUNT STEP]; --help tells more")
     first, count, step = map(int, words[2:] or (0, 100, 3))
-    colours, film = {}, []
+    colours, film = dict[bytes, int](), []
     for picture in pictures(words[0], first, count, step):
         film.append([colours.setdefault(colour, len(colours)) for colour in picture])
     bits = 5  # 16 colours, and one that leaves a pixel as it was

@@ -630,7 +630,7 @@ def quarters(bits):
 
 def cut(drawing, from_code):
     """The tiles of a drawing by their codes, row by row; cells that are empty have none."""
-    tiles = {}
+    tiles: dict[int, list[str]] = {}
     for row in range(0, len(drawing), 8):
         for column in range(0, len(drawing[0]), 8):
             tile = [line[column:column + 8] for line in drawing[row:row + 8]]
@@ -641,7 +641,7 @@ def cut(drawing, from_code):
 
 def scrolled(drawing, from_code):
     """The tiles of a drawing of one cell's height that goes round, moved to the left by 0 to 7 pixels."""
-    tiles, width = {}, len(drawing[0])
+    tiles, width = dict[int, list[list[str]]](), len(drawing[0])
     for shift in range(8):
         for column in range(0, width, 8):
             tiles[from_code + len(tiles)] = [

@@ -7,6 +7,7 @@ import difflib
 import re
 import tomllib
 import zlib
+from typing import Any
 
 import judge_run
 import judge_source
@@ -81,7 +82,8 @@ def in_manifest(code, said, content):
 
 def in_commands(code, said, content):
     """The lines of commands that a session refuses with a code; of G2 those that may be meant, since it hangs on the run."""
-    session, found = judge_run.Session(judge_run.Run(bytes(0x4000), 0, 0)), []
+    session: Any = judge_run.Session(judge_run.Run(bytes(0x4000), 0, 0))
+    found = list[Any]()
     session.place = lambda word: word
     session.back = None
     for number, line in enumerate(judge_source.lines_of(content), 1):

@@ -423,7 +423,7 @@ def member_of(source: Source, member: str) -> str:
 
 def without_ghosts(text: str) -> str:
     """A text without its clauses and ghost members, and without attributes."""
-    kept, at = [], 0
+    kept, at = list[str](), 0
     while True:
         match = CLAUSE.search(text, at)
         if not match:

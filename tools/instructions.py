@@ -6,6 +6,7 @@ The table's effects say which flags an instruction changes by what they are; FLA
 import collections
 import pathlib
 import re
+from typing import Any
 
 TABLE = pathlib.Path(__file__).resolve().parent.parent / "crates/pac_table/src/table.rt"
 SHAPE = r"(\w+|\(\w+ \w+\))"
@@ -97,7 +98,8 @@ def opcode_text(opcode, fields):
 
 def expanded(page, opcode, first, second, immediate, mnemonic, left, right, ticks, other, effect):
     """The forms of a row: one for each name of a family and each condition of a relative jump, which has its own code."""
-    values = FIELDS[first][2] if mnemonic in FAMILIES or first == "RelativeCondition" else [None]
+    is_several = mnemonic in FAMILIES or first == "RelativeCondition"
+    values: list[Any] = [*FIELDS[first][2]] if is_several else [None]
     for value in values:
         at = opcode + (FIELDS[first][0] * value if value is not None else 0)
         fields = [name for name in (first, second) if value is None or name != first]
@@ -122,14 +124,14 @@ def forms():
     """All forms, in the order of the table."""
     text = TABLE.read_text()
     found = ROW.findall(text)
-    if len(found) != int(re.search(r"static ROWS: \[Row; (\d+)\]", text)[1]):
+    if [str(len(found))] != re.findall(r"static ROWS: \[Row; (\d+)\]", text):
         raise ValueError("table.rt: a row isn't of the form that this script reads")
     return [form for row in found for form in expanded(row[0], int(row[1], 16), *row[2:])]
 
 
 def by_code():
     """The forms by page and opcode byte."""
-    found = {}
+    found: dict[tuple[str, int], Form] = {}
     for form in forms():
         for opcode in form.opcodes:
             found.setdefault((form.page, opcode), form)

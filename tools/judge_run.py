@@ -12,6 +12,7 @@ import hashlib
 import os
 import re
 import tomllib
+from typing import Any
 
 import judge_source
 
@@ -323,7 +324,7 @@ class Session:
         return "\n".join(f"{at} {at:04X} NOP" for at in range(max(0, self.index - count), self.index))
 
     # Each command: what it takes, and what does it. `a` is an address, a number the most that it may be.
-    COMMANDS = {
+    COMMANDS: dict[bytes, tuple[tuple[Any, ...], Any]] = {
         b"step": ((1_000_000,), step),
         b"continue": ((), proceed),
         b"frames": ((36_000,), frame),
@@ -344,7 +345,7 @@ class Session:
         if not words:
             return ""
         takes, does = self.COMMANDS.get(words[0], (None, None))
-        if takes is None or len(takes) != len(words) - 1:
+        if takes is None or does is None or len(takes) != len(words) - 1:
             return "refused G1"
         given = []
         for most, word in zip(takes, words[1:]):

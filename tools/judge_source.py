@@ -12,6 +12,7 @@ import functools
 import itertools
 import re
 import sys
+from typing import Any
 
 # A line of 255 bytes may nest an expression deeper than Python lets functions call themselves by itself.
 sys.setrecursionlimit(10_000)
@@ -104,7 +105,7 @@ def all_forms():
 
 
 # Each mnemonic with its operands: its code, or its codes by the number that the source gives. Of two codes the first one counts.
-FORMS = {}
+FORMS: dict[Any, Any] = {}
 # Each code's bytes that are fixed: its form.
 CODES = {}
 for _form in all_forms():
@@ -144,7 +145,7 @@ def tokens(line):
     """The tokens of a line, each its kind and what it says."""
     if len(line) > 255:
         raise Fault("A1 L4")
-    text, at, found = line.decode("latin-1"), 0, []
+    text, at, found = line.decode("latin-1"), 0, list[Any]()
     while at < len(text):
         match = TOKEN.match(text, at)
         if not match:
@@ -244,13 +245,14 @@ def value_of(tree, symbols, here):
         result = abs(parts[0]) // abs(parts[1])
         result = result if (parts[0] < 0) == (parts[1] < 0) else -result
     else:
-        result = {
+        signs: dict[str, Any] = {
             "sign +": lambda x: x,
             "sign -": lambda x: -x,
             "+": lambda x, y: x + y,
             "-": lambda x, y: x - y,
             "*": lambda x, y: x * y,
-        }[kind](*parts)
+        }
+        result = signs[kind](*parts)
     if not -(2**31) <= result < 2**31:
         raise Fault("A10")
     return result
@@ -268,7 +270,7 @@ def parted(found):
     """Operands, parted by commas."""
     if not found:
         return []
-    operands = [[]]
+    operands: list[list[Any]] = [[]]
     for token in found:
         if token == ("sign", ","):
             operands.append([])
@@ -386,7 +388,8 @@ def lines_of(text):
 
 def first_word(line):
     """A line's first word in capitals: what letters, digits and `_` stand first."""
-    return re.match(rb"[ \t]*([A-Za-z0-9_]*)", line)[1].upper()
+    found = re.match(rb"[ \t]*([A-Za-z0-9_]*)", line)
+    return found[1].upper() if found else b""
 
 
 def open_if(lines):
@@ -580,7 +583,7 @@ def disassembled(code, at):
 
 def shown(form, code, at):
     """The text of an instruction of this form."""
-    texts, place = {}, 0
+    texts, place = dict[str, str](), 0
     for word in form.code:
         byte = code[place]
         if word == "n":
@@ -595,7 +598,7 @@ def shown(form, code, at):
     for letter in ("b", "m"):
         texts[letter] = str(form.number)
     texts["t"] = hexadecimal(form.number or 0, 2)
-    operands = (re.sub(r"\+d|[nebtm]+", lambda match: texts[match[0]], operand) for operand in form.operands)
+    operands = (re.sub(r"\+d|[nebtm]+", lambda match: texts[str(match[0])], operand) for operand in form.operands)
     return f"{form.mnemonic} {','.join(operands)}".strip()
 
 
