@@ -65,7 +65,7 @@ Browser.prototype.click = async function click(selector, across = 0.5, down = 0.
 // Hands files to the page as if they were opened: names with bytes.
 Browser.prototype.hand = function hand(files) {
     const told = Object.entries(files).map(([name, bytes]) => [name, Buffer.from(bytes).toString('base64')]);
-    return this.value(`studio.opens(${JSON.stringify(told)}.map(([name, text]) => new File([Uint8Array.from(atob(text), (one) => one.charCodeAt(0))], name)))
+    return this.value(`studio.entries.opens(${JSON.stringify(told)}.map(([name, text]) => new File([Uint8Array.from(atob(text), (one) => one.charCodeAt(0))], name)))
         .then(() => { const toast = document.getElementById('toast'); return toast.hidden ? '' : toast.textContent; })`);
 };
 

@@ -92,7 +92,8 @@ function filesBeside(manifest, text) {
 // A refusal as the program tells it.
 function told(error) {
     if (!(error instanceof Fault)) return error;
-    return new Ending(REFUSED, `refused ${error.name}${error.place ? ` ${error.place}` : ''}`);
+    const isNamed = error.place && !(error.name === 'M1'); // (an M1 is told without its place)
+    return new Ending(REFUSED, `refused ${error.name}${isNamed ? ` ${error.place}` : ''}`);
 }
 
 // What a source assembles to.

@@ -37,7 +37,7 @@ export class Exits {
             event.preventDefault();
             depth = 0;
             at('drop').hidden = true;
-            this.studio.opens([...event.dataTransfer.files]);
+            this.studio.entries.opens([...event.dataTransfer.files]);
         });
     }
 

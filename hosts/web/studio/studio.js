@@ -3,11 +3,11 @@
 import { canRun } from '../board.js';
 import { Assembler } from './assembler.js';
 import { causesOf, meaningOf } from './causes.js';
-import { bytesOf, counted, equal, Fault, hex, textOf } from './bytes.js';
+import { bytesOf, counted, equal, Fault, textOf } from './bytes.js';
 import { Deck } from './deck.js';
 import { Editor } from './editor.js';
+import { Entries } from './entries.js';
 import { Exits } from './exits.js';
-import { readFile, sourceOf, stemOf, taken } from './files.js';
 import { Listing } from './listing.js';
 import { Live } from './live.js';
 import { fromFragment } from './outputs.js';
@@ -36,10 +36,11 @@ class Studio {
         this.loop = new Loop({ advance: () => this.advance(), show: () => this.show() }, this.speaker, this.controls);
         this.editor = new Editor(at('source'), () => this.typed(), (line, isBack) => this.runsTo(line, isBack), (line) => this.stands(line));
         this.deck = new Deck(this);
+        this.entries = new Entries(this);
         this.exits = new Exits(this);
         this.panes = new Panes(this);
         addEventListener('beforeunload', (event) => { if (this.isChanged) event.preventDefault(); });
-        this.live = new Live((changed, isFirst) => this.follows(changed, isFirst));
+        this.live = new Live((changed, isFirst) => this.entries.follows(changed, isFirst));
     }
 
     get roms() {
@@ -205,70 +206,6 @@ class Studio {
     when() {
         const { run } = this.session, { ticks } = clocksOf(run.board.bytes('board')), { tick, line } = placeInFrame(ticks);
         return { frame: run.frame, tick, line, isInside: run.inside > 0 };
-    }
-
-    // ---- Into it
-
-    async opens(files) {
-        try {
-            await this.takes(await taken(await Promise.all(files.map(readFile))));
-        } catch (error) {
-            refuse(error);
-        }
-    }
-
-    // Takes what files have in them, all of it or nothing.
-    async takes({ source, script, state, set, program }, isQuiet = false) {
-        const kept = this.set, text = source?.text ?? this.editor.text;
-        const own = set?.hasProgram ? set.bytes.slice(0, PROGRAM) : program?.bytes ?? null;
-        if (set) this.set = set.hasProgram ? set.bytes.slice(PROGRAM) : set.bytes;
-        try {
-            if (state) this.loads(state, own);
-            else if (source) await this.begin(stemOf(source.name), text, script?.masks ?? [], { isDemo: isQuiet && script !== undefined });
-            else if (own) await this.begin(program ? stemOf(program.name) : 'set', this.sourceOfRom(own), script?.masks ?? [], { rom: own });
-            else this.session.begin(this.romsOf(this.session.roms.slice(0, PROGRAM)), script?.masks ?? this.session.tape.all());
-        } catch (error) {
-            this.set = kept;
-            throw error;
-        }
-        const names = [source, script, state, set && { name: 'a set' }, program].filter(Boolean).map(({ name }) => name);
-        if (!isQuiet) tell('Opened', names.join(', '));
-        if (!this.loop.isPlaying) this.deck.play();
-    }
-
-    // A source for a program that came as bytes.
-    sourceOfRom(rom) {
-        const rows = ['; A program that came as bytes.', ''];
-        for (let row = 0; row < rom.length; row += 16) rows.push(`        DEFB ${Array.from(rom.subarray(row, row + 16), (byte) => `0${hex(byte, 2)}H`).join(',')}`);
-        return `${rows.join('\n')}\n`;
-    }
-
-    // Goes on from a state file; refused before anything is changed.
-    loads({ name, bytes }, program) {
-        const { probe } = this.session, roms = program ? this.romsOf(program) : this.romsOf(this.session.roms.slice(0, PROGRAM));
-        probe.begin(roms);
-        try {
-            probe.load(bytes);
-        } catch (error) {
-            const code = /V\d/.exec(error.message)?.[0];
-            throw code ? new Fault(code, `${name}: ${meaningOf(code)}`) : error;
-        }
-        this.session.begin(roms, [], { start: probe.block });
-    }
-
-    // What ./play sends: the source, its script and its set as they are on the disk.
-    async follows(files, isFirst) {
-        try {
-            const found = await taken(files);
-            if (isFirst || !found.source || found.set) await this.takes(found, true);
-            else if (found.source.text !== this.editor.text) {
-                this.editor.replace(found.source.text);
-                this.isChanged = false;
-                await this.assemble();
-            }
-        } catch (error) {
-            refuse(error);
-        }
     }
 }
 

@@ -72,10 +72,11 @@ function sources(assembler, rows) {
     const chance = numbers(7), lines = EXAMPLES.flatMap((name) => example(name, 'asm').toString().split('\n'));
     let faults = 0, others = 0;
     for (let turn = 0; turn < RANDOM; turn++) {
-        const some = Array.from({ length: 1 + chance(30) }, () => lines[chance(lines.length)]);
-        if (chance(2)) some.unshift(...lines.slice(0, chance(250)));
-        let text = some.join('\n');
-        if (chance(3) === 0) text = text.slice(0, chance(text.length)) + String.fromCharCode(chance(256)) + text.slice(chance(text.length));
+        const whole = example(EXAMPLES[chance(EXAMPLES.length)], 'asm').toString().split('\n');
+        const some = chance(4) ? whole : Array.from({ length: 1 + chance(30) }, () => lines[chance(lines.length)]);
+        for (let edits = chance(3); edits > 0; edits--) some[chance(some.length)] = chance(2) ? '        NOP' : lines[chance(lines.length)];
+        let text = some.join('\n').replace(/\b\d\b/g, (digit) => (chance(100) ? digit : String(chance(400))));
+        if (chance(5) === 0) text = text.slice(0, chance(text.length)) + String.fromCharCode(chance(256)) + text.slice(chance(text.length));
         const source = Buffer.from(text, 'latin1');
         faults += assembler.assemble(new Uint8Array(source)).fault ? 1 : 0;
         others += isSame(assembler, source) ? 0 : 1;
