@@ -25,5 +25,4 @@ pub use Rattle.pac_media.specs.WriteFault
 pub use Rattle.pac_media.specs.Writes
 pub use Rattle.pac_media.specs.CountedProofs
 pub use Rattle.pac_media.specs.WritesProofs
-pub use Rattle.pac_state.specs.Saved
 pub use Rattle.pac_board_course.specs.State

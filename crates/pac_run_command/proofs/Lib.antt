@@ -1,3 +1,4 @@
 pub mod Reading
 pub mod Performed
-pub mod WholeStates
+pub mod Unbegun
+pub mod WholeOutputs

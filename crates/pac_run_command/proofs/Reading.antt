@@ -12,7 +12,6 @@ use Rattle.pac_run_files.specs.declared.given.ReadFault.{ReadFault}
 use Rattle.pac_run_files.specs.declared.given.ReadFault.TheVariants.{Unreadable, Memory}
 use Rattle.pac_run_files.specs.declared.parts.NamedFile.{NamedFile}
 use Rattle.pac_run_command.specs.Endings.{IsOfReading}
-use Rattle.pac_run_command.specs.Failures as told
 use Rattle.pac_run_command.specs.declared.failure.Failure.{Failure}
 use Rattle.pac_run_command.specs.FailuresProofs as failures_proofs
 

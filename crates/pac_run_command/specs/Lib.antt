@@ -4,7 +4,8 @@ pub mod FailuresProofs
 pub mod Machine
 pub mod Making
 pub mod Outputs
+pub mod OutputsProofs
 pub mod Programs
 pub mod Texts
 pub mod Works
-pub mod WholeStates
+pub mod WholeOutputs

@@ -1,15 +1,16 @@
 -- Believed: what the program does with the files of a run: which it reads, which it creates, what these have then, and
 -- how it ends.
-use Rattle.std.specs.Prelude.{◌≡◌, ◌⊎◌, ℕ, List, [], ◌∷◌, ◌++◌, map, Option, Some, None, option_copied, option_map, option_to_list}
-use Rattle.std.specs.Prelude.{Bool, if◌then◌else◌, Result, Ok, Err}
-use Rattle.pac_run.specs.Saved.{file_size}
+use Rattle.std.specs.Prelude.{◌≡◌, ◌⊎◌, ℕ, List, ◌∷◌, map, Option, Some, None, option_copied, option_map, option_to_list}
+use Rattle.std.specs.Prelude.{Bool, true, false, Result, Ok, Err}
+use Rattle.pac_run.specs.WriteFault.{WriteFault}
 use Rattle.pac_run_files.specs.declared.files.FileKind.TheVariants.{Any}
-use Rattle.pac_run_files.specs.Files.{FindsFile, WantedFile, FirstUnread, Handling, WantedOutput, AllBegun, AllClosed, FirstUnbegun}
-use Rattle.pac_run_files.specs.Files.{created_empty, drafted}
+use Rattle.pac_run_files.specs.Files.{FindsFile, WantedFile, FirstUnread, Handling, WantedOutput, AllBegun, FirstUnbegun, IsLetGo}
+use Rattle.pac_run_files.specs.Files.{drafted}
 use Rattle.pac_run_files.specs.Read.{HasIfNamed, HasRead, PartUnread, played_files, watched_files, told_file, told_part}
 use Rattle.pac_run_files.specs.declared.given.Given.{Given}
 use Rattle.pac_run_files.specs.declared.parts.NamedFile.{NamedFile}
 use Rattle.pac_run_options.specs.CommandLine.{AskedRun, AskedPlay, AskedDebug}
+use Rattle.pac_run.specs.declared.fault.Output.{Output}
 use Rattle.pac_run.specs.declared.fault.Output.TheVariants.{Frames, Wave, Listing, State}
 use Rattle.pac_run.specs.declared.inputs.RunInputs.{RunInputs}
 use Rattle.pac_run.specs.Outcome.{Outcome}
@@ -17,7 +18,7 @@ use Rattle.pac_run_command.specs.declared.failure.Failure.{Failure}
 use Rattle.pac_run_command.specs.declared.failure.Failure.TheVariants.{Write, Memory}
 use Rattle.pac_run_command.specs.declared.failure.Target.{Target}
 use Rattle.pac_run_command.specs.declared.failure.Target.TheVariants.{Of}
-use Rattle.pac_run_command.specs.declared.play.Outputs.{Outputs}
+use Rattle.pac_run_command.specs.declared.outputs.Outputs.{Outputs}
 use Rattle.pac_run_command.specs.Endings.{Ending, FailureEnds, IsOfReading, RunEnds}
 use Rattle.pac_run_command.specs.Programs.{Performing}
 
@@ -35,43 +36,87 @@ pub record IsInputs (asked : AskedRun) (given : Given) (parts : List NamedFile) 
 abbrev pub from_power_on : AskedRun → AskedPlay
 from_power_on asked = record { run = asked; load = None; save = None }
 
--- ---- what is created
+-- ---- what is begun
 
--- The outputs of a run, in the order in which they are begun. Frames, wave and listing are created; the state is the last one, where a
--- file is named for it, and is begun as a draft.
+-- an output of the film, which is a draft where the run's outputs are to take their places once all of them are whole
+abbrev pub film_output : AskedRun → Output → (path : List ℕ) → WantedOutput Target
+film_output asked which path = record { output = Of which; path = path; is_draft = asked.whole }
+
+-- The outputs of a run, in the order in which they are begun. The state is the last one, where a file is named for it, and a draft in any
+-- case.
 abbrev pub state_output : Option (List ℕ) → List (WantedOutput Target)
 state_output named = map (drafted (Of State)) (option_to_list named)
 
 abbrev pub run_outputs : AskedPlay → List (WantedOutput Target)
 run_outputs asked =
-    created_empty (Of Frames) asked.run.frames ∷ created_empty (Of Wave) asked.run.wave ∷ created_empty (Of Listing) asked.run.listing
-    ∷ state_output asked.save
-
-abbrev pub film_files : {File : Type 0} → Outputs File → List File
-film_files outputs = outputs.frames ∷ outputs.wave ∷ outputs.listing ∷ []
+    film_output asked.run Frames asked.run.frames ∷ film_output asked.run Wave asked.run.wave
+    ∷ film_output asked.run Listing asked.run.listing ∷ state_output asked.save
 
 abbrev pub run_output_files : {File : Type 0} → Outputs File → List File
-run_output_files outputs = film_files outputs ++ option_to_list outputs.state
+run_output_files outputs = outputs.frames ∷ outputs.wave ∷ outputs.listing ∷ option_to_list outputs.state
 
--- ---- what becomes of the state
+-- ---- what becomes of them
 
--- A state that is whole takes the place of the file that was named for it. Where it can't, that is a refused write of the state, all
--- of which was taken before.
-pub record IsPublished {Disk File : Type 0} (handling : Handling Disk File) (path : List ℕ) (draft : File) (outcome : Outcome) (old : Disk)
+-- what a call for an output comes to, after a run that is done: where the system refuses it, that is a refused write of the output
+abbrev pub by_call : (output : Target) → Outcome → Result Unit WriteFault → Result Outcome Failure
+by_call output outcome (Ok done) = Ok outcome
+by_call output outcome (Err fault) = Err (Write output fault.count)
+
+pub record IsCalled {Disk : Type 0} (calls : Result Unit WriteFault → Disk → Type 0) (output : Target) (outcome : Outcome)
     (answer : Result Outcome Failure) (new : Disk) : Type 0 where
-  pub done : Bool
-  pub published : handling.publishes old path draft done new
-  pub answer_is : answer ≡ (if done then Ok outcome else Err (Write (Of State) file_size))
+  pub done : Result Unit WriteFault
+  pub called : calls done new
+  pub answer_is : answer ≡ by_call output outcome done
 
--- Of a run that is done the state takes its place, and that of a run that failed is thrown away.
-abbrev pub SettlesState : {Disk File : Type 0} → Handling Disk File → (named : Option (List ℕ)) → (draft : Option File) → Disk
+-- An output is written out, by what the run came to so far: the system is to write out the draft of a run that is done. What was created
+-- stays as it is, and so do all outputs from the first failure on.
+abbrev pub writes_out_by : {Disk File : Type 0} → Handling Disk File → (is_draft : Bool) → Disk → Target → File → Outcome
+    → (answer : Result Outcome Failure) → Disk → Type 0
+writes_out_by handling true old output file outcome answer new = IsCalled (handling.syncs old file) output outcome answer new
+writes_out_by handling false old output file outcome answer new = (answer ≡ Ok outcome) × (new ≡ old)
+
+abbrev pub IsWrittenOut : {Disk File : Type 0} → Handling Disk File → Disk → WantedOutput Target → File
     → (ran answer : Result Outcome Failure) → Disk → Type 0
-SettlesState handling (Some path) (Some draft) old (Ok outcome) answer new = IsPublished handling path draft outcome old answer new
-SettlesState handling (Some path) (Some draft) old (Err failure) answer new = (answer ≡ Err failure) × handling.discards old path draft new
-SettlesState handling named draft old ran answer new = (answer ≡ ran) × (new ≡ old)
+IsWrittenOut handling old wanted file (Ok outcome) answer new =
+    writes_out_by handling wanted.is_draft old wanted.output file outcome answer new
+IsWrittenOut handling old wanted file (Err failure) answer new = (answer ≡ Err failure) × (new ≡ old)
 
--- The outputs were begun, then the run was done, then those that were created were closed as it left them, and no more is written to
--- them; and last of all it was settled what becomes of the state.
+-- An output is settled, by what the run came to so far: the draft of a run that is done takes its place, and what was created is closed.
+-- From the first failure on each is let go.
+abbrev pub takes_place_by : {Disk File : Type 0} → Handling Disk File → (is_draft : Bool) → Disk → Target → (path : List ℕ) → File → Outcome
+    → (answer : Result Outcome Failure) → Disk → Type 0
+takes_place_by handling true old output path file outcome answer new = IsCalled (handling.publishes old path file) output outcome answer new
+takes_place_by handling false old output path file outcome answer new = (answer ≡ Ok outcome) × handling.closes old file new
+
+abbrev pub IsSettled : {Disk File : Type 0} → Handling Disk File → Disk → WantedOutput Target → File
+    → (ran answer : Result Outcome Failure) → Disk → Type 0
+IsSettled handling old wanted file (Ok outcome) answer new =
+    takes_place_by handling wanted.is_draft old wanted.output wanted.path file outcome answer new
+IsSettled handling old wanted file (Err failure) answer new = (answer ≡ Err failure) × IsLetGo handling old wanted file new
+
+-- this is done with each output in turn, as long as there are outputs with their files
+abbrev pub Does : (Disk File : Type 0) → Type 1
+Does Disk File = Disk → WantedOutput Target → File → (ran answer : Result Outcome Failure) → Disk → Type 0
+
+abbrev pub InTurn : {Disk File : Type 0} → Does Disk File → Disk → List (WantedOutput Target) → List File
+    → (ran answer : Result Outcome Failure) → Disk → Type 0
+InTurn {Disk} does old (wanted ∷ more) (file ∷ files) ran answer new =
+    (between : Disk) × (so_far : Result Outcome Failure) × does old wanted file ran so_far between
+    × InTurn does between more files so_far answer new
+InTurn does old wanted files ran answer new = (answer ≡ ran) × (new ≡ old)
+
+-- all are written out, in turn, before the first takes its place; then all are settled
+pub record Settles {Disk File : Type 0} (handling : Handling Disk File) (wanted : List (WantedOutput Target)) (files : List File)
+    (old : Disk)
+    (ran answer : Result Outcome Failure) (new : Disk) : Type 0 where
+  pub so_far : Result Outcome Failure
+  pub written : Disk
+  pub all_written : InTurn (IsWrittenOut handling) old wanted files ran so_far written
+  pub all_settled : InTurn (IsSettled handling) written wanted files so_far answer new
+
+-- ---- a run
+
+-- the outputs were begun, then the run was done, and then it was settled what becomes of them; no more is written to them
 pub record IsPerformed {Disk File : Type 0} (handling : Handling Disk File) (performs : Performing File) (asked : AskedPlay) (given : Given)
     (parts : List NamedFile) (old : Disk) (answer : Result Outcome Failure) (new : Disk) : Type 0 where
   pub inputs : RunInputs
@@ -82,9 +127,7 @@ pub record IsPerformed {Disk File : Type 0} (handling : Handling Disk File) (per
   pub left : Outputs File
   pub ran : Result Outcome Failure
   pub performed : performs ran inputs created left
-  pub closed : Disk
-  pub all_closed : AllClosed handling during (film_files left) closed
-  pub settled : SettlesState handling asked.save left.state closed ran answer new
+  pub settled : Settles handling (run_outputs asked) (run_output_files left) during ran answer new
 
 -- an output couldn't be begun
 pub record IsRunUncreated {Disk File : Type 0} (handling : Handling Disk File) (asked : AskedPlay) (old : Disk)

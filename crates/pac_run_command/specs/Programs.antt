@@ -15,7 +15,7 @@ use Rattle.pac_run_command.specs.declared.asm.AsmOutputs.{AsmOutputs}
 use Rattle.pac_run_command.specs.declared.failure.Failure.{Failure}
 use Rattle.pac_run_command.specs.declared.failure.Failure.TheVariants.{Source, Write, Memory}
 use Rattle.pac_run_command.specs.declared.failure.Target.TheVariants.{Of, Rom}
-use Rattle.pac_run_command.specs.declared.play.Outputs.{Outputs}
+use Rattle.pac_run_command.specs.declared.outputs.Outputs.{Outputs}
 use Rattle.pac_run_command.specs.Failures.{failure_of}
 
 -- the program of a source, and a fact of it

@@ -9,7 +9,8 @@ ghost use Rattle.pac_run_command.specs.Programs.{PerformsWatched, watching};
 
 use crate::failure::{Failure, failure_of, read_failure};
 use crate::given::inputs_of;
-use crate::play::{Outputs, close_film, create_outputs, end, settle_state};
+use crate::outputs::{Outputs, begin_outputs, outputs_of, settle};
+use crate::play::end;
 use crate::program::tell;
 use crate::teller::Teller;
 use pac_run::{Out, Outcome, RunInputs, Writers, debug_all};
@@ -58,7 +59,7 @@ fn debug_over<F: Out, R: Out, T: Out>(
     debug_inputs(alloc, inputs, commands, &mut to, text)
 }
 
-/// Creates the outputs, runs what was read under the debugger, and closes them.
+/// Begins the outputs, runs what was read under the debugger, and settles what becomes of them.
 pub fn record_watched<D: FileSystem, R: Out, T: Out>(
     alloc: Global,
     disk: &mut D,
@@ -84,13 +85,13 @@ pub fn record_watched<D: FileSystem, R: Out, T: Out>(
         load: None,
         save: None,
     };
-    let mut outputs = match create_outputs(disk, &files) {
+    let wanted = outputs_of(&files);
+    let mut outputs = match begin_outputs(disk, &wanted) {
         Ok(outputs) => outputs,
         Err(failure) => return Err(failure),
     };
     let ran = debug_over(alloc, &inputs, commands, &mut outputs, report, text);
-    let state = close_film(disk, outputs);
-    settle_state(disk, None, state, ran)
+    settle(disk, &wanted, outputs, ran)
 }
 
 /// Runs what the files of a command line hold under a debugger, and answers the exit status. All is read before an output is

@@ -7,6 +7,7 @@ mod dis;
 mod failure;
 mod given;
 pub mod laws;
+mod outputs;
 mod play;
 mod program;
 mod standard;

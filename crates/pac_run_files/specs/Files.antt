@@ -4,6 +4,7 @@ use Rattle.std.specs.Prelude.{◌≡◌, ◌≤◌, ◌⊎◌, ⊤, ℕ, Bool, t
 use Rattle.std.specs.Prelude.{if◌then◌else◌, ◌==◌}
 use Rattle.std.specs.Prelude.{Vec, Option, Some, None, IfSome, Result, Ok, Err}
 use Rattle.std.specs.declared.alloc.Global.{Global}
+use Rattle.pac_out.specs.declared.WriteFault.{WriteFault}
 use Rattle.pac_run_files.specs.Names.{slash, is_within_folder}
 use Rattle.pac_run_files.specs.declared.files.FileKind.{FileKind}
 use Rattle.pac_run_files.specs.declared.files.FileKind.TheVariants.{Any, Plain}
@@ -97,13 +98,14 @@ abbrev pub BeginsFile : (Disk File : Type 0) → Type 1
 BeginsFile Disk File = Disk → (path : List ℕ) → Option File → Disk → Type 0
 
 -- What a file system leaves by each call that changes it: where a file of a path was created, or couldn't be; where it is closed as it
--- is; where a draft for a path was begun, or couldn't be; where a draft took the place of the path's file, or couldn't; where a draft was
--- thrown away.
+-- is; where a draft for a path was begun, or couldn't be; where the system wrote a draft out, or couldn't; where a draft took the place of
+-- the path's file, or couldn't; where a draft was thrown away. A fault has the count of the bytes that the draft took.
 pub record Handling (Disk File : Type 0) : Type 1 where
   pub creates : BeginsFile Disk File
   pub closes : Disk → File → Disk → Type 0
   pub drafts : BeginsFile Disk File
-  pub publishes : Disk → (path : List ℕ) → File → (done : Bool) → Disk → Type 0
+  pub syncs : Disk → File → Result Unit WriteFault → Disk → Type 0
+  pub publishes : Disk → (path : List ℕ) → File → Result Unit WriteFault → Disk → Type 0
   pub discards : Disk → (path : List ℕ) → File → Disk → Type 0
 
 -- a file system of which no contract says what its calls leave
@@ -112,6 +114,7 @@ nothing_known = record {
   creates = λ old path file new. ⊤;
   closes = λ old file new. ⊤;
   drafts = λ old path draft new. ⊤;
+  syncs = λ old draft done new. ⊤;
   publishes = λ old path draft done new. ⊤;
   discards = λ old path draft new. ⊤;
 }
@@ -150,10 +153,18 @@ AllClosed handling old [] new = new ≡ old
 AllClosed {Disk} handling old (file ∷ files) new =
     (between : Disk) × handling.closes old file between × AllClosed handling between files new
 
--- this is the first of these outputs that couldn't be begun; those before it were, and are closed as they were begun, the last one first
+-- an output that was begun is let go: a draft is thrown away, and a file that was created is closed as it is
+abbrev pub lets_go_by : {Disk File : Type 0} → Handling Disk File → (is_draft : Bool) → Disk → (path : List ℕ) → File → Disk → Type 0
+lets_go_by handling true old path file new = handling.discards old path file new
+lets_go_by handling false old path file new = handling.closes old file new
+
+abbrev pub IsLetGo : {Disk File Which : Type 0} → Handling Disk File → Disk → WantedOutput Which → File → Disk → Type 0
+IsLetGo handling old wanted file new = lets_go_by handling wanted.is_draft old wanted.path file new
+
+-- this is the first of these outputs that couldn't be begun; those before it were, and are let go, the last one first
 abbrev pub FirstUnbegun : {Disk File Which : Type 0} → Handling Disk File → Disk → List (WantedOutput Which) → Which → Disk → Type 0
 FirstUnbegun handling old [] output new = ⊥
 FirstUnbegun {Disk} {File} handling old (wanted ∷ more) output new =
     ((output ≡ wanted.output) × IsBegun {File = File} handling old wanted None new)
     ⊎ ((file : File) × (begun : Disk) × IsBegun handling old wanted (Some file) begun
-    × (left : Disk) × FirstUnbegun handling begun more output left × handling.closes left file new)
+    × (left : Disk) × FirstUnbegun handling begun more output left × IsLetGo handling left wanted file new)

@@ -5,7 +5,7 @@ ghost use Rattle.pac_run_files.specs.declared.files.FileKind.{FileKind};
 ghost use Rattle.pac_run_files.specs.Files.{Handling, IsFound, most_read};
 ghost use Rattle.pac_run_files.specs.FilesProofs.{IsReadWhole};
 
-use pac_out::Out;
+use pac_out::{Out, WriteFault};
 use std::alloc::Global;
 use std::io::{ErrorKind, Read};
 
@@ -82,9 +82,13 @@ pub trait FileSystem {
     fn draft(&mut self, path: &str) -> Option<Self::File>
         ensures { handling.drafts self.old path.now result self.new };
 
-    /// Puts a draft, as it is, in the place of its path's file, and answers whether it is there for good. Where it isn't, the draft is thrown
-    /// away.
-    fn publish(&mut self, path: &str, draft: Self::File) -> bool
+    /// Has the system write out what a draft has. The fault has the count of all bytes that the draft took.
+    fn sync(&mut self, draft: &Self::File) -> Result<(), WriteFault>
+        ensures { handling.syncs self.old draft.now result self.new };
+
+    /// Puts a draft, as it is, in the place of its path's file. Where it can't be there, it is thrown away, and the fault has the count of all
+    /// bytes that it took.
+    fn publish(&mut self, path: &str, draft: Self::File) -> Result<(), WriteFault>
         ensures { handling.publishes self.old path.now draft result self.new };
 
     /// Throws a draft away.

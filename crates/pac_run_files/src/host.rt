@@ -7,7 +7,7 @@ use crate::drafts::{DRAFT_ENDINGS, draft_name};
 use crate::files::{FileKind, FileSystem, ReadError, read_whole};
 use crate::parts::folder_of;
 use pac_out::through::Through;
-use pac_out::{Failed, Out};
+use pac_out::{Failed, Out, WriteFault};
 use std::alloc::Global;
 use std::fs::{OpenFile, Permissions};
 use std::io::ErrorKind;
@@ -19,6 +19,8 @@ use std::{fs, io};
 pub struct HostFile<F> {
     /// The file.
     pub through: Through<F>,
+    /// The bytes that it took, exact below 2^64.
+    pub count: u64,
     /// What a draft's name has after its path; none where the file of the path itself is written.
     pub ending: Option<&'static str>,
 }
@@ -35,7 +37,9 @@ impl<F: io::Write> Out for HostFile<F> {
 
     /// Writes to the file.
     fn write(&mut self, bytes: &[u8]) -> Result<usize, Failed> {
-        self.through.write(bytes)
+        let taken = self.through.write(bytes)?;
+        self.count = self.count.saturating_add(taken as u64);
+        Ok(taken)
     }
 }
 
@@ -70,6 +74,7 @@ impl<R: Files> FileSystem for HostFiles<'_, R> {
         match fs::create(self.rt, path) {
             Ok(inner) => Some(HostFile {
                 through: Through { inner },
+                count: 0,
                 ending: None,
             }),
             Err(_) => None,
@@ -92,24 +97,35 @@ impl<R: Files> FileSystem for HostFiles<'_, R> {
         }
     }
 
-    /// Has the system write the draft out, and gives it the path's name, in the place of the file that had it, if one did.
-    fn publish(&mut self, path: &str, draft: HostFile<R::File>) -> bool {
-        let HostFile { through, ending } = draft;
-        let is_out = is_written_out(&through.inner);
+    /// Has the system write the draft out: what a close would tell comes up here.
+    fn sync(&mut self, draft: &HostFile<R::File>) -> Result<(), WriteFault> {
+        if is_written_out(&draft.through.inner) {
+            return Ok(());
+        }
+        Err(WriteFault { count: draft.count })
+    }
+
+    /// Drops the draft, which closes it, and gives it the path's name, in the place of the file that had it, if one did.
+    fn publish(&mut self, path: &str, draft: HostFile<R::File>) -> Result<(), WriteFault> {
+        let HostFile {
+            through,
+            count,
+            ending,
+        } = draft;
         drop(through);
         match ending {
-            None => is_out,
-            Some(ending) if is_out => takes_place(self.rt, path, ending),
-            Some(ending) => {
-                remove_draft(self.rt, path, ending);
-                false
-            }
+            Some(ending) if !takes_place(self.rt, path, ending) => Err(WriteFault { count }),
+            _ => Ok(()),
         }
     }
 
     /// Drops the draft and removes its file; what is no plain file is left as it is.
     fn discard(&mut self, path: &str, draft: HostFile<R::File>) {
-        let HostFile { through, ending } = draft;
+        let HostFile {
+            through,
+            count: _,
+            ending,
+        } = draft;
         drop(through);
         if let Some(ending) = ending {
             remove_draft(self.rt, path, ending);
@@ -144,6 +160,7 @@ fn begin_beside<R: Files>(
                 }
                 return Some(HostFile {
                     through: Through { inner },
+                    count: 0,
                     ending: Some(ending),
                 });
             }

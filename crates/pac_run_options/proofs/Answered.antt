@@ -148,7 +148,7 @@ run_rules_fine rest fine = (
         ((refl, λ e. absurd (true≢false (sym e))), refl),
         (
           ((refl, λ e. absurd (true≢false (sym e))), refl),
-          (((refl, λ e. absurd (true≢false (sym e))), refl), (((refl, λ e. refl), refl), fine)),
+          (((refl, λ e. absurd (true≢false (sym e))), refl), (((refl, refl), refl), (((refl, λ e. refl), refl), fine))),
         ),
       ),
     ),
@@ -233,7 +233,7 @@ module _ (words : List Text) where
   run_there : has_row (codes "dip") (rows_after run_built.rules [] words) ≡ true
   run_there =
       let end = (walk run_built.rules [] nothing_held words).held in
-      let before = fold with_default (settled run_built.rules end).rows (take 6 run_built.rules) in
+      let before = fold with_default (settled run_built.rules end).rows (take 7 run_built.rules) in
       let after = with_default before (filled dip_option) in
       let load = filled (option (codes "load")) in
       let save = filled (option (codes "save")) in
@@ -244,7 +244,7 @@ module _ (words : List Text) where
   debug_there : has_row (codes "dip") (rows_after debug_built.rules [] words) ≡ true
   debug_there =
       let end = (walk debug_built.rules [] nothing_held words).held in
-      let before = fold with_default (settled debug_built.rules end).rows (take 6 debug_built.rules) in
+      let before = fold with_default (settled debug_built.rules end).rows (take 7 debug_built.rules) in
       let after = with_default before (filled dip_option) in
       let commands = filled (required_option (codes "commands")) in
       no_default (codes "dip") (filled help_rule) (with_default after commands)

@@ -51,6 +51,7 @@ told-simple : (row : Argument) → (told_argument row).is_simple ≡ true
 told-simple (argument.Place name value help) = refl
 told-simple (argument.Required name help) = refl
 told-simple (argument.Optional name help) = refl
+told-simple (argument.Flag name help) = refl
 told-simple argument.Switches = refl
 
 -- one more argument, of those that are to be added by their rows

@@ -1,6 +1,6 @@
 -- What a level of a parse with no fault leaves: rows with a value each, and a byte in that of the DIP switches.
-use Rattle.std.proofs.Common.{◌≡◌, ◌∙◌, ◌&&◌, ◌||◌, ℕ, Bool, cond, codes, true, false, not, zero, suc, refl, sym, ap, List, [], ◌∷◌}
-use Rattle.std.proofs.Common.{◌++◌, length, drop, Option, Some, None, is_some, true≢false, nat_lt}
+use Rattle.std.proofs.Common.{◌≡◌, ◌∙◌, ◌&&◌, ◌||◌, ℕ, Bool, cond, codes, true, false, not, zero, suc, refl, sym, ap, subst, List, []}
+use Rattle.std.proofs.Common.{◌∷◌, ◌++◌, length, drop, Option, Some, None, is_some, true≢false, nat_lt}
 use Rattle.std.specs.Prelude.{⊤, encode_utf8, slice_get, find, fold, pos, option_and_then}
 use Rattle.std.specs.List.{list_all}
 use Rattle.std.specs.Str.{bytes_eq, chars}
@@ -87,10 +87,11 @@ accepted i p text e = go (accepts i p text) e
 
 -- ---- rules
 
--- an option with a value, a byte for the DIP switches, or a call for help
+-- an option with a value, a byte for the DIP switches; a flag; or a call for help
 abbrev pub IsFineAs : ArgAction → Rule → Type 0
 IsFineAs action.Set a = (nat_lt 0 (unwrap_or_range a.range).start_inclusive ≡ true)
     × (bytes_eq a.id (codes "dip") ≡ true → parser_of_value a.parser ≡ parser.Signed (pos 0) (pos 255))
+IsFineAs action.SetTrue a = (a.missing ≡ codes "true" ∷ []) × (bytes_eq a.id (codes "dip") ≡ false)
 IsFineAs action.Help a = ⊤
 IsFineAs _ a = ⊥
 
@@ -131,6 +132,21 @@ new_good a v vs byte passes = go (bytes_eq a.id (codes "dip")) byte
         let is = h refl in
         rw is (byte_in a.ignore_case v (ap (λ p. accepts a.ignore_case p v) (sym is) ∙ passes))
 
+taken_good : (a : Rule) (v : Text) (vs : List Text) (rows : List Row)
+    → (bytes_eq a.id (codes "dip") ≡ true → parser_of_value a.parser ≡ parser.Signed (pos 0) (pos 255))
+    → set_fault false a (v ∷ vs) rows ≡ [] → AreGood rows → AreGood (used_as action.Set a.id (reading_by a) (v ∷ vs) rows)
+taken_good a v vs rows byte none good =
+    let parts = or_both (repeat_fault false a.id rows) _ none in
+    let passes = or_both _ _ parts.1 in
+    let absent = fresh (has_row a.id rows) parts.0 in
+    rw (kept a.id rows absent)
+    (joined a.id (more_values CommandLine (v ∷ vs)) (new_row CommandLine a (v ∷ vs) ∷ []) rows absent
+    (rw (new_good a v vs byte (accepted _ _ v passes.0)) refl) good)
+  where
+    fresh : (b : Bool) → cond (b && true) (ArgumentConflict ∷ []) [] ≡ [] → b ≡ false
+    fresh false e = refl
+    fresh true e = absurd (true≢false (ap some_kind e))
+
 set_good : (a : Rule) (values : List Text) (rows : List Row) → IsFineAs action.Set a
     → range_kinds (unwrap_or_range a.range).start_inclusive (most_values a) (length values) ≡ []
     → set_fault false a (values_or_missing a values) rows ≡ [] → AreGood rows
@@ -139,17 +155,22 @@ set_good a [] rows fine range none good = absurd (true≢false (ap some_kind bad
   where
     bad : InvalidValue ∷ [] ≡ []
     bad = rw fine.0 at range
-set_good a (v ∷ vs) rows fine range none good =
-    let parts = or_both (repeat_fault false a.id rows) _ none in
-    let passes = or_both _ _ parts.1 in
-    let absent = fresh (has_row a.id rows) parts.0 in
-    rw (kept a.id rows absent)
-    (joined a.id (more_values CommandLine (v ∷ vs)) (new_row CommandLine a (v ∷ vs) ∷ []) rows absent
-    (rw (new_good a v vs fine.1 (accepted _ _ v passes.0)) refl) good)
+set_good a (v ∷ vs) rows fine range none good = taken_good a v vs rows fine.1 none good
+
+flag_use_good : (a : Rule) (values : List Text) (rows : List Row) → IsFineAs action.SetTrue a
+    → set_fault false a (values_or_missing a values) rows ≡ [] → AreGood rows
+    → AreGood (used_as action.Set a.id (reading_by a) (values_or_missing a values) rows)
+flag_use_good a values rows fine none good = go values none
   where
-    fresh : (b : Bool) → cond (b && true) (ArgumentConflict ∷ []) [] ≡ [] → b ≡ false
-    fresh false e = refl
-    fresh true e = absurd (true≢false (ap some_kind e))
+    other : bytes_eq a.id (codes "dip") ≡ true → parser_of_value a.parser ≡ parser.Signed (pos 0) (pos 255)
+    other e = absurd (true≢false (sym e ∙ fine.1))
+
+    go : (values : List Text) → set_fault false a (values_or_missing a values) rows ≡ []
+        → AreGood (used_as action.Set a.id (reading_by a) (values_or_missing a values) rows)
+    go [] e =
+        subst (λ taken. AreGood (used_as action.Set a.id (reading_by a) taken rows)) (sym fine.0)
+        (taken_good a (codes "true") [] rows other (subst (λ taken. set_fault false a taken rows ≡ []) fine.0 e) good)
+    go (v ∷ vs) e = taken_good a v vs rows other e good
 
 use_by : (x : ArgAction) (a : Rule) (values : List Text) (rows : List Row) → IsFineAs x a
     → range_kinds (unwrap_or_range a.range).start_inclusive (most_values a) (length values) ≡ []
@@ -158,7 +179,7 @@ use_by : (x : ArgAction) (a : Rule) (values : List Text) (rows : List Row) → I
 use_by action.Set a values rows fine range none good = set_good a values rows fine range none good
 use_by action.Help a values rows fine range none good = good
 use_by action.Append a values rows fine range none good = absurd fine
-use_by action.SetTrue a values rows fine range none good = absurd fine
+use_by action.SetTrue a values rows fine range none good = flag_use_good a values rows fine none good
 use_by action.SetFalse a values rows fine range none good = absurd fine
 use_by action.Count a values rows fine range none good = absurd fine
 use_by action.HelpShort a values rows fine range none good = absurd fine

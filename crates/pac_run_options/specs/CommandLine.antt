@@ -9,6 +9,7 @@ use Rattle.clap.specs.Simple.{new_shape}
 use Rattle.clap.specs.Kinds.{or_else}
 use Rattle.clap.specs.Takes.{is_given}
 use Rattle.clap.specs.ValueTests.{is_unsigned_in}
+use Rattle.clap.specs.declared.builder.action.ArgAction.TheVariants.{SetTrue}
 use Rattle.clap.specs.declared.error.kind.ErrorKind.TheVariants.{ArgumentConflict}
 use Rattle.clap.specs.declared.builder.value_parser.ValueParser.TheVariants as parser
 
@@ -25,6 +26,10 @@ option name = record (argument name) { long = Some name }
 abbrev pub required_option : Text → Rule
 required_option name = record (option name) { required = true }
 
+-- `--name` alone
+abbrev pub flag : Text → Rule
+flag name = record (new_rule name) { long = Some name; action = Some SetTrue }
+
 -- a word that stands by itself, and has to be there
 abbrev pub required_place : Text → Rule
 required_place name = record (argument name) { required = true }
@@ -38,7 +43,8 @@ dip_option = record (option (codes "dip")) {
 
 abbrev pub run_rules : List Rule
 run_rules = required_option (codes "set") ∷ required_option (codes "script") ∷ required_option (codes "frames")
-    ∷ required_option (codes "wave") ∷ required_option (codes "listing") ∷ option (codes "source") ∷ dip_option ∷ []
+    ∷ required_option (codes "wave") ∷ required_option (codes "listing") ∷ option (codes "source") ∷ flag (codes "whole") ∷ dip_option
+    ∷ []
 
 -- a run, and the states that it begins and ends with
 abbrev pub play_rules : List Rule
@@ -87,6 +93,7 @@ pub record AskedAsm : Type 0 where
   pub rom : Text
   pub listing : Text
 
+-- a run; `whole` says that its outputs take their places once all of them are whole
 pub record AskedRun : Type 0 where
   pub set : Text
   pub script : Text
@@ -94,6 +101,7 @@ pub record AskedRun : Type 0 where
   pub wave : Text
   pub listing : Text
   pub source : Option Text
+  pub whole : Bool
   pub dip : ℕ
 
 -- a run, and the names of the states that it begins and ends with
@@ -139,6 +147,7 @@ asked_run rows =
       wave = wave;
       listing = listing;
       source = first_of (codes "source") rows;
+      whole = is_given (codes "whole") rows;
       dip = dip;
     })
     (option_and_then byte_of_text (one_of (codes "dip") rows)))

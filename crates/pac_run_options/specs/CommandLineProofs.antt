@@ -27,6 +27,7 @@ told_run files = record {
   wave = files.wave.now;
   listing = files.listing.now;
   source = option_map (λ s. s.now) files.source;
+  whole = files.whole;
   dip = files.dip;
 }
 

@@ -8,7 +8,7 @@ ghost use Rattle.pac_run_options.specs.CommandLineProofs as command_line_proofs;
 ghost use Rattle.pac_run_options.specs.Rows.{told_argument};
 
 use clap::error::ErrorKind;
-use clap::{Arg, Command, Error};
+use clap::{Arg, ArgAction, Command, Error};
 use std::alloc::{AllocError, Global};
 
 /// An argument of a subcommand: its name first, and what the help says of it last.
@@ -20,6 +20,8 @@ enum Argument<'a> {
     Required(&'a str, &'a str),
     /// `--name FILE`, which may be given.
     Optional(&'a str, &'a str),
+    /// `--name` alone, which may be given.
+    Flag(&'a str, &'a str),
     /// `--dip N`, a byte, 201 where it isn't given.
     Switches,
 }
@@ -134,8 +136,8 @@ fn dis_command<'a>(alloc: Global) -> Result<Command<'a>, AllocError>
     )
 }
 
-/// The options of a run: `--set FILE --script FILE --frames FILE --wave FILE --listing FILE [--source FILE] [--dip N]`.
-fn run_options<'a>() -> [Argument<'a>; 7]
+/// The options of a run: `--set FILE --script FILE --frames FILE --wave FILE --listing FILE [--source FILE] [--whole] [--dip N]`.
+fn run_options<'a>() -> [Argument<'a>; 8]
     ensures { map told_argument result ≡ line.run_rules }
 {
     [
@@ -145,6 +147,10 @@ fn run_options<'a>() -> [Argument<'a>; 7]
         Argument::Required("wave", "Gets the sound, as WAV"),
         Argument::Required("listing", "Gets the listing"),
         Argument::Optional("source", "The source that stands for the set's program"),
+        Argument::Flag(
+            "whole",
+            "Leaves the outputs as they were unless all of them are whole",
+        ),
         Argument::Switches,
     ]
 }
@@ -197,6 +203,7 @@ fn argument_of<'a>(alloc: Global, row: Argument<'a>) -> Arg<'a>
         Argument::Place(name, value, help) => place(alloc, name, value, help, true),
         Argument::Required(name, help) => option(alloc, name, "FILE", help, true),
         Argument::Optional(name, help) => option(alloc, name, "FILE", help, false),
+        Argument::Flag(name, help) => flag(alloc, name, help),
         Argument::Switches => dip_option(alloc),
     }
 }
@@ -214,6 +221,16 @@ fn dip_option<'a>(alloc: Global) -> Arg<'a>
     )
     .value_parser(clap::value_parser!(u8))
     .default_value("201")
+}
+
+/// `--name` alone.
+fn flag<'a>(alloc: Global, name: &'a str, help: &'a str) -> Arg<'a>
+    ensures { rule_of result ≡ line.flag name.entry.now }
+{
+    Arg::new(alloc, name)
+        .help(help)
+        .long(name)
+        .action(ArgAction::SetTrue)
 }
 
 /// `--name VALUE`.

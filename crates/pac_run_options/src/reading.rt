@@ -134,6 +134,7 @@ fn run_files<'a>(values: &ArgMatches<'a>) -> Option<RunFiles<'a>>
         wave,
         listing,
         source: values.get_str("source"),
+        whole: is_given(values, "whole"),
         dip,
     })
 }

@@ -39,6 +39,8 @@ pub struct RunFiles<'a> {
     pub listing: &'a str,
     /// The source that stands in place of the set's program.
     pub source: Option<&'a str>,
+    /// Whether the outputs take their places once all of them are whole.
+    pub whole: bool,
     /// The byte of the DIP switches: 201 where the words don't say it.
     pub dip: u8,
 }

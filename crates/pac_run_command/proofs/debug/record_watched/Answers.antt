@@ -1,17 +1,28 @@
-use Rattle.std.proofs.Common.{inl, rules}
+use Rattle.std.proofs.Common.{inl, inr, refl, rules, subst}
+use Rattle.pac_run_files.specs.Files.{AllBegun}
+use Rattle.pac_run_command.specs.Outputs.{Settles, run_output_files}
+use Rattle.pac_run_command.proofs.Unbegun.{uncreated}
 use Rattle.pac_run_command.proofs.debug.record_watched.Goals as goal
 
 pub returns : goal.returns
 returns g c = inl (record {
   inputs = c.inputs_of-inputs.result;
   inputs_are = c.inputs_of-inputs.ensures.inputs c.args.named.now (search rules);
-  created = c.in-Ok-create_outputs.outputs;
-  during = c.create_outputs.new.disk;
-  all_begun = c.in-Ok-create_outputs.ensures;
+  created = c.in-Ok-begin_outputs.outputs;
+  during = c.begin_outputs.new.disk;
+  all_begun = subst (λ wanted. AllBegun g.D.FileSystem.handling c.args.disk.now wanted (run_output_files c.in-Ok-begin_outputs.outputs)
+      c.begin_outputs.new.disk) c.outputs_of-wanted.ensures c.in-Ok-begin_outputs.ensures;
   left = c.debug_over-ran.new.outputs;
   ran = c.debug_over-ran.result;
   performed = c.debug_over-ran.ensures;
-  closed = c.close_film-state.new.disk;
-  all_closed = c.close_film-state.ensures.closed;
-  settled = c.settle_state.ensures;
+  settled = subst (λ wanted. Settles g.D.FileSystem.handling wanted (run_output_files c.debug_over-ran.new.outputs) c.begin_outputs.new.disk
+      c.debug_over-ran.result c.settle.result c.settle.new.disk) c.outputs_of-wanted.ensures c.settle.ensures;
 })
+
+pub returns-in-Err : goal.returns-in-Err
+returns-in-Err g c =
+    inr (
+      (refl, refl),
+      inl (uncreated g.D.FileSystem.handling _ _ _ c.args.disk.now c.begin_outputs.new.disk c.outputs_of-wanted.ensures
+          c.begin_outputs.result c.in-Err.failure c.in-Err.is c.begin_outputs.ensures),
+    )

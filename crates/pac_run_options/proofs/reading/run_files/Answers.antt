@@ -73,4 +73,5 @@ returns c =
       same_first f (codes "source") _ c.get_str-6.ensures,
       dip_read f (codes "dip") (λ bs r. ParsesUnsigned 8 10 bs r × ExplainsUnsignedError 10 bs r × HasUnsignedDigitsIfOk bs r) _
           c.get_one.ensures.none c.get_one.ensures.value (λ u x g. g.0) ∙ c.in-Some-get_one.is,
+      ← c.is_given.ensures,
     ) refl

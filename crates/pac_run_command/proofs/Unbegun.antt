@@ -1,0 +1,33 @@
+-- A run whose outputs couldn't all be begun.
+use Rattle.std.proofs.Common.{◌≡◌, List, Result, Err, ap, subst}
+use Rattle.pac_run_files.specs.Files.{Handling, WantedOutput, FirstUnbegun}
+use Rattle.pac_run_options.specs.CommandLine.{AskedPlay}
+use Rattle.pac_run_command.specs.FailuresProofs.{Opens}
+use Rattle.pac_run_command.specs.Outputs.{IsRunUncreated, run_outputs}
+use Rattle.pac_run_command.specs.declared.failure.Failure.{Failure}
+use Rattle.pac_run_command.specs.declared.failure.Failure.TheVariants.{Read, Source, Set, Script, State, Extent, Write, Memory, Words}
+use Rattle.pac_run_command.specs.declared.failure.Target.{Target}
+
+module _ {Disk File A : Type 0} (handling : Handling Disk File) (asked : AskedPlay) (wanted : List (WantedOutput Target))
+    (begun : A → Type 0)
+    (old new : Disk) (is : wanted ≡ run_outputs asked) where
+  by-failure : (failure : Failure) → Opens begun (λ output. FirstUnbegun handling old wanted output new) (Err failure)
+      → IsRunUncreated handling asked old (Err failure) new
+  by-failure (Write output count) opens = record {
+    output = output;
+    answer_is = ap (λ k. Err (Write output k)) opens.0;
+    first = subst (λ all. FirstUnbegun handling old all output new) is opens.1;
+  }
+  by-failure (Read name) opens = absurd opens
+  by-failure (Source fault) opens = absurd opens
+  by-failure (Set fault) opens = absurd opens
+  by-failure (Script fault) opens = absurd opens
+  by-failure (State fault) opens = absurd opens
+  by-failure Extent opens = absurd opens
+  by-failure Memory opens = absurd opens
+  by-failure Words opens = absurd opens
+
+  pub uncreated : (answer : Result A Failure) (failure : Failure) → answer ≡ Err failure
+      → Opens begun (λ output. FirstUnbegun handling old wanted output new) answer → IsRunUncreated handling asked old (Err failure) new
+  uncreated answer failure fails opens =
+      by-failure failure (subst (Opens begun (λ output. FirstUnbegun handling old wanted output new)) fails opens)
