@@ -1,4 +1,4 @@
--- For proofs: names of files. Which names in a manifest are those of files of its folder, and how a name is told, in one
+-- Believed: names of files. Which names in a manifest are those of files of its folder, and how a name is told, in one
 -- line of any terminal (this profile).
 use Rattle.std.specs.Prelude.{ℕ, Bool, false, not, ◌&&◌, ◌==◌, if◌then◌else◌, List, [], ◌∷◌, ◌++◌, codes, chars, flat_map}
 use Rattle.std.specs.Char.{encode_utf8, is_ascii_control}

@@ -1,4 +1,4 @@
--- For proofs: what reading the files of a run comes to: those that the command line names, and then those that the manifest
+-- Believed: what reading the files of a run comes to: those that the command line names, and then those that the manifest
 -- names.
 use Rattle.std.specs.Prelude.{◌≡◌, ⊤, ℕ, List, [], ◌∷◌, ◌++◌, map, filter_map, Vec, string_bytes, Option, Some, None}
 use Rattle.std.specs.Result.{result_ok}
