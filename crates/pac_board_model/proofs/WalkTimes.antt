@@ -1,5 +1,5 @@
 -- The samples and the pictures of a walk: how many have come by when, and how far it goes.
-use Rattle.std.proofs.Common.{◌≡◌, ℕ, ◌+◌, ◌/◌, ◌<◌, ◌≤◌, [], ap, ◌∙◌, arith}
+use Rattle.std.proofs.Common.{◌≡◌, ℕ, ◌+◌, ◌/◌, ◌≤◌, ap, arith}
 use Rattle.pac_cpu.specs.Instructions.{most_ticks}
 use Rattle.pac_board_model.specs.Laws.{WalksAreTimed}
 use Rattle.pac_board_model.specs.Output.{sound_count, picture_count}

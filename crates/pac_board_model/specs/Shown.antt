@@ -3,7 +3,6 @@
 use Rattle.std.specs.Prelude.{ℕ, ℤ, suc, ◌+◌, ◌-◌, ◌%◌, ◌==◌, if◌then◌else◌, List, [], ◌∷◌, slice_index_or}
 use Rattle.pac_map.specs.RomParts.{Parts}
 use Rattle.pac_cpu.specs.Tabulate.{tabulate}
-use Rattle.pac_picture.specs.Tiles.{height}
 use Rattle.pac_map.specs.Entry.{Entry, Sample, Line, Blank}
 use Rattle.pac_map.specs.Place.{ram_size, coordinates_size}
 use Rattle.pac_map.specs.View.{View, attributes_size}

@@ -1,5 +1,5 @@
 -- Believed: what a run plays: the program of the source, the ROM set and the script; or the first of their faults.
-use Rattle.std.specs.Prelude.{◌≡◌, ℕ, List, [], Option, None, Some, option_map, option_copied, Result, Ok, Err}
+use Rattle.std.specs.Prelude.{◌≡◌, ℕ, List, [], Option, None, Some, option_map, option_copied, Result, Ok}
 use Rattle.std.specs.Option.{option_map_or}
 use Rattle.std.specs.Result.{result_map_both}
 use Rattle.pac_asm.specs.PlacedItems.{Item}
