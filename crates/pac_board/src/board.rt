@@ -83,10 +83,10 @@ impl Board {
         }
     }
 
-    /// The board at power-on with a copy of this ROM set, in a block of memory, where all of it is made: no part of a board goes by the stack
-    /// of a caller, who has this call's frame to spare only while it is made.
+    /// The board at power-on with a copy of this ROM set and the byte of the DIP switches, in a block of memory, where all of it is made: no
+    /// caller has room for a board on its stack. Refused for want of memory alone.
     #[inline(never)]
-    pub(crate) fn boxed(
+    pub fn boxed(
         alloc: Global,
         set: &RomSet,
         switches: u8,

@@ -124,7 +124,7 @@ pub fn prepare(alloc: Global, inputs: &RunInputs, from: Option<&[u8]>) -> Result
         Ok(script) => script,
         Err(fault) => return Err(fault),
     };
-    let board = match first_board(alloc, set, inputs.dip, from, &script) {
+    let board = match first_board(alloc, &set, inputs.dip, from, &script) {
         Ok(board) => board,
         Err(fault) => return Err(fault),
     };

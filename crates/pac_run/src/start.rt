@@ -11,7 +11,7 @@ use pac_board_course::{
     Board, FRAME_MICROSECONDS, FRAME_TICKS, LATEST, MOST_ASKED, RomSet, SAMPLE_TICKS, Script,
 };
 use pac_state::laws::boards_have_states;
-use pac_state::{LoadFault, load};
+use pac_state::{LoadFault, load_with};
 use std::alloc::Global;
 
 /// What keeps a run of so many frames from beginning with this board.
@@ -45,15 +45,15 @@ fn refusal(fault: LoadFault) -> RunFault
 /// The board of a state file, where a run of this script can begin with it.
 fn taken_up(
     alloc: Global,
-    set: RomSet,
+    set: &RomSet,
     bytes: &[u8],
     script: &Script,
 ) -> Result<Box<Board>, RunFault>
-    ensures { StartsWith set script.now bytes.now (unboxed result) }
+    ensures { StartsWith set.now script.now bytes.now (unboxed result) }
 {
-    let board = match load(alloc, bytes, set) {
+    let board = match load_with(alloc, bytes, set) {
         Ok(board) => board,
-        Err(refused) => return Err(refusal(refused.fault)),
+        Err(fault) => return Err(refusal(fault)),
     };
     // (a law, with nothing to run: a board's state is in its ranges)
     boards_have_states(&board);
@@ -66,18 +66,18 @@ fn taken_up(
 /// The board that a run of this script begins with.
 pub fn first_board(
     alloc: Global,
-    set: RomSet,
+    set: &RomSet,
     switches: u8,
     from: Option<&[u8]>,
     script: &Script,
 ) -> Result<Box<Board>, RunFault>
-    ensures { StartsBoard set switches script.now (option_copied from.entry) (unboxed result) }
+    ensures { StartsBoard set.now switches script.now (option_copied from.entry) (unboxed result) }
 {
     // (says that a script is short, so that its run fits the board's time)
     script.frames();
     match from {
         Some(bytes) => taken_up(alloc, set, bytes, script),
-        None => match Board::init(alloc, set, switches) {
+        None => match Board::boxed(alloc, set, switches) {
             Ok(board) => Ok(board),
             Err(_) => Err(RunFault::NoMemory),
         },

@@ -22,6 +22,11 @@ LoadsBoard set bytes (Err refused) = record {
   fault : RefusesFile set bytes refused.fault;
 }
 
+-- the answer of a call that takes the set, by that of one to which it is lent
+abbrev pub refused_with : Parts → Result BoardValue LoadFault → Result BoardValue LoadRefused
+refused_with set (Ok board) = Ok board
+refused_with set (Err fault) = Err (record { fault = fault; set = set })
+
 -- the board that is left where a file was taken
 abbrev pub board_left : Result (Unit {0}) LoadFault → BoardValue → Result BoardValue LoadFault
 board_left (Ok done) board = Ok board

@@ -17,5 +17,5 @@ mod sizes;
 pub use block::{read_block, write_block};
 pub use fault::{LoadFault, LoadRefused};
 pub use in_place::read_file_into;
-pub use loading::load;
+pub use loading::{load, load_with};
 pub use saving::save;

@@ -7,7 +7,7 @@ use Rattle.pac_run.proofs.start.first_board.Goals as goal
 
 pub returns-in-Ok : goal.returns-in-Ok
 returns-in-Ok c =
-    let set = c.args.set in
+    let set = c.args.set.now in
     let script = c.args.script.now in
     subst (λ from. IsStarted (IsFirstBoard set c.args.switches script (option_copied from)) set script c.in-Ok.board.value) (sym
     c.in-None.is)
