@@ -74,14 +74,23 @@ static void name_kept(const char *path)
     memcpy(kept + length, ".kept", sizeof ".kept");
 }
 
-/* Gives each draft another name, which its removal leaves. */
+/* Whether a descriptor's file has this path. */
+static int has_path(int file, const char *path)
+{
+    struct stat here, there;
+    return fstat(file, &here) == 0 && stat(path, &there) == 0 && here.st_dev == there.st_dev && here.st_ino == there.st_ino;
+}
+
+/* Gives each draft another name, which its removal leaves. The kernel tells no path of one that has been put back: that is known by then. */
 static void keep_drafts(void)
 {
     for (int file = 0; file < DESCRIPTORS; file++) {
         char link_name[64];
-        snprintf(link_name, sizeof link_name, "/proc/self/fd/%d", file);
-        ssize_t length = readlink(link_name, drafts[file], PATH_MAX - 1);
-        drafts[file][length > 0 ? length : 0] = 0;
+        if (!has_path(file, drafts[file])) {
+            snprintf(link_name, sizeof link_name, "/proc/self/fd/%d", file);
+            ssize_t length = readlink(link_name, drafts[file], PATH_MAX - 1);
+            drafts[file][length > 0 ? length : 0] = 0;
+        }
         if (strstr(drafts[file], ".unfinished-") == NULL) {
             drafts[file][0] = 0;
             continue;
@@ -96,17 +105,15 @@ static void keep_drafts(void)
 static void put_drafts_back(void)
 {
     for (int file = 0; file < DESCRIPTORS; file++) {
-        struct stat draft, there;
         if (drafts[file][0] == 0)
             continue;
         name_kept(drafts[file]);
         unlink(drafts[file]);
-        if (rename(kept, drafts[file]) != 0 || stat(drafts[file], &draft) != 0)
+        if (rename(kept, drafts[file]) != 0)
             _exit(123);
         *strstr(kept, ".unfinished-") = 0;
-        if (stat(kept, &there) == 0 && there.st_ino == draft.st_ino)
-            if (unlink(kept) != 0 || close(creat(kept, 0644)) != 0)
-                _exit(123);
+        if (has_path(file, kept) && (unlink(kept) != 0 || close(creat(kept, 0644)) != 0))
+            _exit(123);
     }
 }
 
@@ -198,8 +205,7 @@ static void grow_no_more(void)
 /* Whether a descriptor is that of the output whose writes are refused. */
 static int is_output(int file)
 {
-    struct stat here, there;
-    return fstat(file, &here) == 0 && stat(output, &there) == 0 && here.st_dev == there.st_dev && here.st_ino == there.st_ino;
+    return has_path(file, output);
 }
 
 ssize_t write(int file, const void *bytes, size_t count)
