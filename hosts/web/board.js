@@ -163,6 +163,12 @@ export class Board {
         return new Uint8ClampedArray(this.calls.memory.buffer, Number(this.at.rgba), SIZES.rgba);
     }
 
+    // What the processor would read at so many addresses from one on, without reading it: a buffer's worth of them at most.
+    peek(address, count) {
+        this.call('pac_peek', this.at.board, ...this.part('roms'), number('address', address, 16), this.at.text, BigInt(number('count', count, 16)));
+        return this.bytes('text').slice(0, count);
+    }
+
     // The board's state file.
     save() {
         this.call('pac_save', this.at.board, ...this.part('roms'), ...this.part('text'));

@@ -25,6 +25,11 @@ const EXAMPLES = { starfall: 'Starfall, a game', hello: 'Hello, ten lines', welc
 const PROGRAM = 16384; // bytes of a ROM block that the source makes
 const TYPED = 160; // milliseconds without a key after which the source is assembled
 
+// Whether what is written at an address can't be read there.
+function isPort(address) {
+    return (address & 0xff) >= 0x40 && (address & 0xff) < 0x70 && (address & 0x5000) === 0x5000;
+}
+
 class Studio {
     constructor(files, module, assembler) {
         Object.assign(this, { files, assembler, listing: null, name: 'starfall', latchAt: PLACES.AT_LATCH });
@@ -172,14 +177,11 @@ class Studio {
 
     // ---- Looking in
 
-    // The bytes that are kept at addresses: those of the program, of the RAM and of what the board keeps at its ports.
-    bytesAt(block, address, count, roms = this.roms) {
-        return Array.from({ length: count }, (_, more) => {
-            const place = address + more & 0x7fff;
-            if (place < 0x4000) return roms[place];
-            const kept = placeOf(place);
-            return kept === null || block === null ? 0 : block[kept];
-        });
+    // What the processor would read at addresses; but at the ports of the voices and of the sprites' places, where it would read inputs, what the
+    // board keeps there.
+    bytesAt(block, address, count) {
+        const bytes = Array.from(this.session.run.board.peek(address, count));
+        return bytes.map((byte, more) => (isPort(address + more) ? block[placeOf(address + more)] ?? byte : byte));
     }
 
     // Asks who wrote a byte.

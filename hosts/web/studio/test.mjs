@@ -121,6 +121,17 @@ async function films(files, assembler) {
     }
 }
 
+// What the processor would read.
+async function looks(files) {
+    const roms = Buffer.concat([files['starfall.rom'], files.set]), board = await Board.powerOn(files['pac_host.wasm'], roms);
+    board.hold(1);
+    for (let frame = 0; frame < 10; frame++) board.run(16500);
+    const before = board.block, memory = board.peek(0, 0x8000);
+    row('a look at the memory: program, RAM, inputs, switches', Buffer.from(memory.subarray(0, 0x4000)).equals(roms.subarray(0, 0x4000))
+        && equal(memory.subarray(0x4c00, 0x5000), before.subarray(2130, 3154)) && memory[0x5000] === 0xfe && memory[0x5080] === 0xc9 && memory[0x4800] === 0xbf);
+    row('which changes nothing, and goes round', equal(board.block, before) && equal(board.peek(0xffff, 2).subarray(1), memory.subarray(0, 1)));
+}
+
 // What listings tell beside the lines.
 function listings(assembler) {
     for (const name of EXAMPLES) {
@@ -231,6 +242,7 @@ function commands() {
 async function main() {
     const files = await inside(PAGE), assembler = await Assembler.of(files['pac_source.wasm']), rows = JSON.parse(readFileSync(at('rows.json'), 'utf8'));
     await films(files, assembler);
+    await looks(files);
     sources(assembler, rows);
     disassembly(assembler);
     listings(assembler);

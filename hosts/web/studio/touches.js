@@ -81,8 +81,8 @@ export class TouchesPane {
 
     // A touch as a row, with a way to its moment and to its line.
     row({ frame, inside, isWrite, old, value, pc, isInterrupt, tick, line }) {
-        const { listing, assembler, roms } = this.studio, code = listing?.lineAt.get(pc);
-        const text = isInterrupt ? 'the interrupt is accepted' : assembler.disassembled(this.studio.bytesAt(null, pc, 4, roms), pc).text;
+        const { listing, assembler, session } = this.studio, code = listing?.lineAt.get(pc);
+        const text = isInterrupt ? 'the interrupt is accepted' : assembler.disassembled(session.run.board.peek(pc, 4), pc).text;
         const where = line === null ? `T ${tick}` : `line ${line}`;
         return made('div', {},
             link(`${frame}`, 'To this moment', () => this.studio.visits(frame, inside)),
