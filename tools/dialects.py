@@ -8,7 +8,8 @@ from collections.abc import Callable, Mapping
 from dataclasses import dataclass, field
 
 Tree = tuple  # ("number", n), ("name", word), ("here",), ("unary", operator, tree), ("binary", operator, tree, tree), ("choice", tree, tree, tree)
-Rank = tuple[str, tuple[str, ...]]  # "unary" or "binary", and the operators of the rank; ranks begin with the one that binds least
+# "unary", "binary" or, where a op b op c is a op (b op c), "from right", and the operators of the rank; ranks begin with the one that binds least
+Rank = tuple[str, tuple[str, ...]]
 
 
 class Fault(Exception):
@@ -55,19 +56,19 @@ DIALECTS = {
     ),
     "z80asm": Dialect(
         "z80asm", (
-            ("binary", ("|",)), ("binary", ("^",)), ("binary", ("&",)), ("binary", ("=", "==", "!=")), ("binary", ("<", ">", "<=", ">=")),
+            ("binary", ("|",)), ("binary", ("^",)), ("binary", ("&",)), ("from right", ("=", "==", "!=")), ("from right", ("<", ">", "<=", ">=")),
             ("binary", ("<<", ">>")), ("binary", ("+", "-")), ("binary", ("*", "/", "%")), TIGHT,
         ), truth=1, bits=0, hexadecimal="$", has_octal_zero=True, has_choice=True, has_colons=True, locals="file", escapes="\"'",
     ),
     "gas": Dialect(
         "gas", (
-            ("binary", ("||",)), ("binary", ("&&",)), ("binary", ("+", "-", *COMPARISONS)), ("binary", ("|", "&", "^")),
+            ("binary", ("||",)), ("binary", ("&&",)), ("binary", COMPARISONS), ("binary", ("+", "-")), ("binary", ("|", "&", "^")),
             ("binary", ("*", "/", "%", "<<", ">>")), TIGHT,
         ), truth=-1, bits=0, hexadecimal="$", zero_bases="xb", has_colons=True, escapes='"', here=("$", "."), logical_truth=1,
     ),
     "sdas": Dialect(
         "sdas", (
-            ("binary", ("|",)), ("binary", ("^",)), ("binary", ("&",)), ("binary", ("<<", ">>")), ("binary", ("+", "-")), ("binary", ("*", "/", "%")),
+            ("binary", ("|",)), ("binary", ("&",)), ("binary", ("^",)), ("binary", ("<<", ">>")), ("binary", ("+", "-")), ("binary", ("*", "/", "%")),
             ("unary", ("~", "+", "-", "<", ">")),
         ), truth=1, bits=32, has_suffixes=False, zero_bases="xboqdh", has_colons=True, here=(".",),
     ),
@@ -177,7 +178,7 @@ class Reader:
             return self.rank(number + 1) if sign is None else ("unary", sign, self.rank(number))
         tree = self.rank(number + 1)
         while (sign := self.sign(operators)) is not None:
-            tree = ("binary", sign, tree, self.rank(number + 1))
+            tree = ("binary", sign, tree, self.rank(number + (kind == "binary")))
         return tree
 
     def operand(self) -> Tree:
@@ -279,6 +280,10 @@ def value_of(tree: Tree, dialect: Dialect, named: Callable[[str], int], here: in
     kind = tree[0]
     if kind in ("number", "name", "here"):
         return int(tree[1]) if kind == "number" else named(tree[1]) if kind == "name" else here
+    if kind == "binary" and tree[1] in ("&&", "||"):  # what the first decides, the second isn't asked for
+        first = value_of(tree[2], dialect, named, here)
+        if bool(first) == (tree[1] == "||"):
+            return binary(tree[1], first, first, dialect)
     parts = [value_of(part, dialect, named, here) for part in tree[1:] if isinstance(part, tuple)]
     if dialect.bits:
         parts = [part % (1 << dialect.bits) for part in parts]

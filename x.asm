@@ -1,0 +1,3 @@
+ .area X (ABS)
+ .org 0
+ .dw ~5&7
