@@ -231,5 +231,6 @@ module _ {F W A : Type 0} (took_f : F → List ℕ → F → Type 0) (refused_f 
       (writing took refused words.now left) total outputs setting lines answer
   watches-back took refused words later left setting lines film writer_f writer_w writer same_f same_w same ends_f ends_w ends =
       watches (carries-back took_f refused_f frames new_frames writer_f left_f same_f ends_f)
-      (carries-back took_w refused_w wave new_wave writer_w left_w same_w ends_w) (carries-back took refused words later writer left same ends) total
+      (carries-back took_w refused_w wave new_wave writer_w left_w same_w ends_w)
+      (carries-back took refused words later writer left same ends) total
       outputs setting lines answer film

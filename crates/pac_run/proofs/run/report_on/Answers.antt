@@ -5,5 +5,6 @@ use Rattle.pac_run.proofs.run.report_on.Goals as goal
 pub returns : goal.returns
 returns g c =
     written g.R.Out.took g.R.Out.refused _ _ c.put_report-written.result
-    (text.report c.args.outcome c.args.total) c.new-file.result c.put_report-written.new.output c.new-file.ensures c.put_report-written.ensures
+    (text.report c.args.outcome c.args.total) c.new-file.result
+    c.put_report-written.new.output c.new-file.ensures c.put_report-written.ensures
     _ c.into_writer.ensures assumption
