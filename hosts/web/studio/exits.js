@@ -41,8 +41,9 @@ export class Exits {
         });
     }
 
+    // What was played.
     get masks() {
-        return this.studio.session.tape.all().slice(0, Math.max(1, this.studio.session.tape.length));
+        return this.studio.session.tape.all();
     }
 
     // Hands over one of the files.

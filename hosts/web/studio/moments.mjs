@@ -134,6 +134,10 @@ export async function moments(files, assembler, { example, pacboard, at, row, RO
     run.go(300);
     const voices = voicesOf(run.board.block);
     row('three voices, each within hearing', voices.length === 3 && voices.every(({ hertz, waveform, volume }) => hertz > 20 && hertz < 10000 && waveform < 8 && volume < 16));
-    row('each sounds alone', [0, 1, 2].every((voice) => new Set(soundOf(easel, roms, run.board.block, voice)).size > 2));
+    const sounds = [0, 1, 2].map((voice) => soundOf(easel, roms, run.board.block, voice).join());
+    row('each sounds alone', new Set(sounds).size === 3 && sounds.every((sound) => new Set(sound.split(',')).size > 2));
+    const quiet = run.board.block;
+    quiet[3170 + 0x15] = 0;
+    row('and not at all without a volume', new Set(soundOf(easel, roms, quiet, 0)).size === 1);
     row('a frame has 16,500 microseconds', FRAME_MICROSECONDS === 16500);
 }

@@ -11,7 +11,7 @@ const SHAPES = PLACES.AT_WORK_RAM + 0x3f0;
 export const SHEETS = { tiles: { width: 256, height: 64 }, sprites: { width: 256, height: 64 }, palettes: { width: 256, height: 32 } };
 
 // The ROM block of a program that waits.
-function waiting(roms) {
+export function waiting(roms) {
     const other = roms.slice();
     other.fill(0, 0, 16384);
     other[0] = HALT;

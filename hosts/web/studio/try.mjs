@@ -263,7 +263,7 @@ async function outside(page, script) {
     const picture = await page.saved("document.querySelector('[data-save=picture]').click()");
     row('a picture is a PNG', picture.bytes.readUInt32BE(0) === 0x89504e47 && picture.bytes.readUInt32BE(16) === 288);
     await page.value("document.querySelector('[data-save=film]').click()");
-    await page.until('studio.exits.film?.pieces.some(({ size }) => size > 10000)');
+    await page.until('studio.exits.film?.pieces.reduce((sum, { size }) => sum + size, 0) > 10000');
     const film = await page.saved("document.querySelector('[data-save=film]').click()");
     row('a film is recorded', film.bytes.length > 10_000 && film.bytes.readUInt32BE(0) === 0x1a45dfa3, `${film.name} ${film.bytes.length}`);
     await page.value(rest);

@@ -1,6 +1,7 @@
 // The three voices: what their registers hold, and how each sounds alone, which the board plays.
 
 import { FRAME_MICROSECONDS, SAMPLE_RATE } from '../board.js';
+import { waiting } from './sheets.js';
 import { PLACES } from './tables.js';
 
 // Of each voice, counted from 5040H: its waveform, the lowest nibble of its frequency and how many it has, and its volume.
@@ -11,6 +12,7 @@ const VOICES = [
 ];
 const WHOLE = 20; // bits of a frequency
 const SHOWN = 480; // samples
+const SOUND = 2; // the latch that turns the sound on
 
 // The registers of each voice of a block.
 export function voicesOf(block) {
@@ -23,11 +25,12 @@ export function voicesOf(block) {
     });
 }
 
-// How a voice of a block sounds alone: samples of the next frame, with the others silent.
+// How a voice of a block sounds alone: samples of a board whose program waits, with the others silent.
 export function soundOf(board, roms, block, voice) {
-    board.begin(roms);
-    board.block = block;
-    const bytes = board.bytes('board');
+    board.begin(waiting(roms));
+    const bytes = board.bytes('board'), from = PLACES.AT_WAVE_REGISTERS;
+    bytes.set(block.subarray(from, from + PLACES.WAVE_REGISTERS_SIZE), from);
+    bytes[PLACES.AT_LATCH] |= SOUND;
     VOICES.forEach(({ volume }, other) => {
         if (other !== voice) bytes[PLACES.AT_WAVE_REGISTERS + volume] = 0;
     });
