@@ -314,6 +314,8 @@ KINDS = {"n": "n", "nn": "nn", "e": "e", "(n)": "n", "(nn)": "nn", "(IX+d)": "d"
 
 def instruction(label, mnemonic, operands):
     """The line of an instruction."""
+    if len(operands) > 2:
+        raise Fault("A2")
     for choice in itertools.product(*(shapes(operand) for operand in operands)):
         codes = FORMS.get((mnemonic, tuple(pattern for pattern, _ in choice)))
         if codes:

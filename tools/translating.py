@@ -643,7 +643,10 @@ class Translation:
     def take_all(self, path: pathlib.Path) -> None:
         """Goes through the source once."""
         line = Line(str(path), 1, "")
-        self.push([Line(str(path), at, text) for at, text in enumerate(self.read(path), 1)])
+        try:
+            self.push([Line(str(path), at, text) for at, text in enumerate(self.read(path), 1)])
+        except Fault as fault:
+            raise Refused(line.file, line.number, str(fault)) from None
         while self.pending and not self.is_ended:
             line = self.pending.popleft()
             self.lines += 1
