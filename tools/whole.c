@@ -9,7 +9,7 @@
  * - the exit status is one that the page tells for the command, and standard error has the line that goes with it, and no other;
  * - where an input is refused, or there was no memory, each output is empty; where a write is refused, the line tells the output, and
  *   how many bytes it has; where nothing is refused, film and sound have the length that the report tells;
- * - all memory is given back, and all files are closed; the same run again comes to the same bytes;
+ * - all memory is given back, all files are closed, and no other file is left; the same run again comes to the same bytes;
  * - a run that is cut in two by a saved state comes to the same film, sound and state as the whole one.
  */
 #define _GNU_SOURCE
@@ -21,7 +21,7 @@
 #include <string.h>
 #include <sys/stat.h>
 
-enum { MOST = 1000000, OPENED = 16, FIRST = 3, WORDS = 24, SEPARATOR = 0x1F, PICTURE = 15 + 3 * 288 * 224, HEADER = 44, STATE = 67756 };
+enum { MOST = 1000000, OPENED = 16, FIRST = 3, BESIDE = 5, NAME = 64, WORDS = 24, SEPARATOR = 0x1F, PICTURE = 15 + 3 * 288 * 224, HEADER = 44, STATE = 67756 };
 enum { ASM, DIS, RUN, DEBUG, CUT, MANIFEST, COMMANDS }; /* what the first byte says, in its low bits */
 enum { NOTHING, MEMORY, WRITE, MEMORY_ON };             /* and what is refused, in its high bits; the last is that and all after it */
 
@@ -43,6 +43,8 @@ static struct file files[FILES] = {
     {.name = "saved", .told = "state"}, {.name = "", .told = "text"}, {.name = ""},
 };
 static struct file folder; /* which the program opens to see that its streams are there */
+static struct file beside[BESIDE]; /* what it makes beside its outputs, and has to take away or rename */
+static char beside_names[BESIDE][NAME];
 static struct { struct file *file; size_t at; } opened[OPENED];
 static struct { size_t size; int is_there; uint8_t *bytes; } before[FILES]; /* what an earlier run has left */
 static const char *words[WORDS];
@@ -125,18 +127,42 @@ static struct file *file_of(const char *path)
     const char *slash = strrchr(path, '/');
     if (strcmp(path, "/") == 0 || strcmp(path, ".") == 0)
         return folder.is_there = 1, &folder;
+    path = slash == NULL ? path : slash + 1;
     for (int at = 0; at < OUTPUT; at++)
-        if (strcmp(files[at].name, slash == NULL ? path : slash + 1) == 0)
+        if (strcmp(files[at].name, path) == 0)
             return &files[at];
+    for (int at = 0; at < BESIDE; at++)
+        if (beside[at].is_there && strcmp(beside_names[at], path) == 0)
+            return &beside[at];
     return NULL;
+}
+
+/* A new file of this path; NULL where there are too many. */
+static struct file *new_file(const char *path)
+{
+    const char *slash = strrchr(path, '/');
+    for (int at = 0; at < BESIDE; at++)
+        if (!beside[at].is_there)
+            return snprintf(beside_names[at], NAME, "%s", slash == NULL ? path : slash + 1), &beside[at];
+    return NULL;
+}
+
+/* Whether the program may write to a file. */
+static int is_output(const struct file *file)
+{
+    return file != &folder && !(file >= &files[0] && file < &files[INPUTS]);
 }
 
 int memory_open(const char *path, int flags, ...)
 {
     struct file *file = file_of(path);
+    if (file == NULL && flags & O_CREAT)
+        file = new_file(path);
     if (file == NULL || (!file->is_there && !(flags & O_CREAT)))
         return fail(ENOENT);
-    HOLDS((flags & O_ACCMODE) == O_RDONLY || (file != &folder && file >= &files[INPUTS]));
+    if (file->is_there && flags & O_CREAT && flags & O_EXCL)
+        return fail(EEXIST);
+    HOLDS((flags & O_ACCMODE) == O_RDONLY || is_output(file));
     for (int at = 0; at < OPENED; at++)
         if (opened[at].file == NULL) {
             file->is_there = 1, file->size = flags & O_TRUNC ? 0 : file->size;
@@ -170,7 +196,7 @@ int64_t memory_read(int number, void *to, size_t count)
 int64_t memory_write(int number, const void *from, size_t count)
 {
     struct file *file = number >= FIRST ? opened[number - FIRST].file : &files[number == 1 ? OUTPUT : ERROR];
-    HOLDS(file != NULL && (file >= &files[INPUTS]));
+    HOLDS(file != NULL && is_output(file));
     size_t at = number >= FIRST ? opened[number - FIRST].at : file->size, room = MOST - at;
     if (file != &files[ERROR] && refuses == WRITE && ++written >= refused_at)
         room = 0;
@@ -187,8 +213,9 @@ int64_t memory_write(int number, const void *from, size_t count)
 int memory_statx(int at, const char *path, int flags, unsigned mask, struct statx *to)
 {
     (void)flags, (void)mask;
-    struct file *file = path != NULL && *path != 0 ? file_of(path) : at >= FIRST ? opened[at - FIRST].file : &files[OUTPUT];
-    if (file == NULL)
+    int is_named = path != NULL && *path != 0;
+    struct file *file = is_named ? file_of(path) : at >= FIRST ? opened[at - FIRST].file : &files[OUTPUT];
+    if (file == NULL || (is_named && !file->is_there))
         return fail(ENOENT);
     memset(to, 0, sizeof *to);
     to->stx_mask = STATX_BASIC_STATS, to->stx_mode = (file == &folder ? S_IFDIR : S_IFREG) | 0644, to->stx_size = file->size;
@@ -199,6 +226,59 @@ int memory_pipe2(int *ends, int flags)
 {
     (void)ends, (void)flags;
     return fail(EMFILE);
+}
+
+int memory_unlink(const char *path)
+{
+    struct file *file = file_of(path);
+    if (file == NULL || !file->is_there)
+        return fail(ENOENT);
+    HOLDS(is_output(file));
+    file->is_there = 0, file->size = 0;
+    return 0;
+}
+
+int memory_rename(const char *from, const char *to)
+{
+    struct file *old = file_of(from), *new = file_of(to);
+    if (old == NULL || !old->is_there || (new == NULL && (new = new_file(to)) == NULL))
+        return fail(ENOENT);
+    HOLDS(is_output(old) && is_output(new));
+    new->is_there = 1, new->size = old->size;
+    memcpy(new->bytes, old->bytes, old->size);
+    return memory_unlink(from);
+}
+
+int memory_ftruncate(int number, int64_t size)
+{
+    HOLDS(number >= FIRST && opened[number - FIRST].file != NULL && is_output(opened[number - FIRST].file));
+    if (size > MOST)
+        return fail(ENOSPC);
+    struct file *file = opened[number - FIRST].file;
+    if ((size_t)size > file->size)
+        memset(file->bytes + file->size, 0, (size_t)size - file->size);
+    file->size = (size_t)size;
+    return 0;
+}
+
+int memory_fsync(int number)
+{
+    return number < FIRST || opened[number - FIRST].file != NULL ? 0 : fail(EBADF);
+}
+
+int memory_fdatasync(int number)
+{
+    return memory_fsync(number);
+}
+
+int memory_fchmod(int number, unsigned mode)
+{
+    return (void)mode, memory_fsync(number);
+}
+
+int memory_flock(int number, int how)
+{
+    return (void)how, memory_fsync(number);
 }
 
 /* ---- A run, and what has to hold of it */
@@ -228,6 +308,8 @@ static int run(const char *const *line)
     HOLDS(blocks == 0);
     for (int at = 0; at < OPENED; at++)
         HOLDS(opened[at].file == NULL);
+    for (int at = 0; at < BESIDE; at++)
+        HOLDS(!beside[at].is_there);
     return status;
 }
 
@@ -253,7 +335,7 @@ static int are_empty(void)
     return is_so;
 }
 
-/* A refused write is told of the output that has so many bytes. Text and report share a stream. */
+/* A refused write is told of the output that has so many bytes. Text and report share a stream; of a state that isn't whole nothing may be left. */
 static void judge_refused_write(void)
 {
     char line[96];
@@ -263,7 +345,7 @@ static void judge_refused_write(void)
         is_so |= is_text(ERROR, line);
     }
     snprintf(line, sizeof line, "write fault text after %zu bytes\n", files[OUTPUT].size);
-    HOLDS(is_so || is_text(ERROR, line) || is_told("write fault report after "));
+    HOLDS(is_so || is_text(ERROR, line) || is_told("write fault report after ") || (files[SAVED].size == 0 && is_told("write fault state after ")));
 }
 
 /* What the report tells of film and sound has to be so. */
