@@ -86,7 +86,8 @@ tile-written view (Colour other) byte cell lt = refl
 tile-written view _ byte cell lt = refl
 
 colour-written : (view : View) (place : BusPlace) (byte cell : ℕ) → cell < length view.colour
-    → slice_index (view_after_write view place byte).colour cell ≡ cond (is_same_place (Colour cell) place) byte (slice_index view.colour cell)
+    → slice_index (view_after_write view place byte).colour cell
+    ≡ cond (is_same_place (Colour cell) place) byte (slice_index view.colour cell)
 colour-written view (Colour other) byte cell lt = cell-set view.colour other cell byte lt
 colour-written view (Tile other) byte cell lt = refl
 colour-written view _ byte cell lt = refl
@@ -137,7 +138,8 @@ tile-viewed start entries cell well lt =
 pub colour-viewed : (start : View) (entries : List Entry) (cell : ℕ) → IsWellFormed start → cell < ram_size
     → slice_index (view_after_entries start entries).colour cell ≡ colour_at start entries cell
 colour-viewed start entries cell well lt =
-    cell-viewed (λ view. view.colour) (λ place. is_same_place (Colour place)) whole colour-written (λ view inputs latched. refl) start cell refl
+    cell-viewed (λ view. view.colour) (λ place. is_same_place (Colour place)) whole colour-written (λ view inputs latched. refl)
+    start cell refl
     (λ older. let e = (view-of-well-formed start older well).colour in omega arith) entries
 
 pub work-viewed : (start : View) (entries : List Entry) (cell : ℕ) → IsWellFormed start → cell < ram_size
@@ -149,13 +151,15 @@ work-viewed start entries cell well lt =
 pub coordinate-viewed : (start : View) (entries : List Entry) (place : ℕ) → IsWellFormed start → place < coordinates_size
     → slice_index (view_after_entries start entries).coordinates place ≡ coordinate_at start entries place
 coordinate-viewed start entries place well lt =
-    cell-viewed (λ view. view.coordinates) (λ place. is_same_place (Coordinate place)) whole coordinate-written (λ view inputs latched. refl) start place refl
+    cell-viewed (λ view. view.coordinates) (λ place. is_same_place (Coordinate place)) whole coordinate-written
+    (λ view inputs latched. refl) start place refl
     (λ older. let e = (view-of-well-formed start older well).coordinates in omega arith) entries
 
 pub register-viewed : (start : View) (entries : List Entry) (register : ℕ) → IsWellFormed start → register < registers_size
     → slice_index (view_after_entries start entries).registers register ≡ register_at start entries register
 register-viewed start entries register well lt =
-    cell-viewed (λ view. view.registers) (λ place. is_same_place (Wave place)) kept_nibble register-written (λ view inputs latched. refl) start register
+    cell-viewed (λ view. view.registers) (λ place. is_same_place (Wave place)) kept_nibble register-written
+    (λ view inputs latched. refl) start register
     (sym (well.nibbles register)) (λ older. let e = (view-of-well-formed start older well).registers in omega arith) entries
 
 written-held : (view : View) (place : BusPlace) (byte : ℕ) → (view_after_write view place byte).held ≡ view.held

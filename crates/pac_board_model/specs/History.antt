@@ -42,7 +42,8 @@ abbrev pub work_at : View → List Entry → ℕ → ℕ
 work_at start entries cell = unwrap_or (last_written (is_same_place (Work cell)) entries) (slice_index start.work cell)
 
 abbrev pub coordinate_at : View → List Entry → ℕ → ℕ
-coordinate_at start entries place = unwrap_or (last_written (is_same_place (Coordinate place)) entries) (slice_index start.coordinates place)
+coordinate_at start entries place =
+    unwrap_or (last_written (is_same_place (Coordinate place)) entries) (slice_index start.coordinates place)
 
 -- a register of the wave generator holds what it can of the byte last written
 abbrev pub register_at : View → List Entry → ℕ → ℕ

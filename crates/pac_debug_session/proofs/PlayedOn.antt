@@ -163,7 +163,8 @@ module _ {S : Type 0} (to : Giving S) (old : SessionValue) (facts : IsSession ol
       ∙ ap (λ (m : Moment BoardView). due_outputs_in old.setting.set m.board after.board.state.due) at in
       let given = given-walked at_furthest opened-there (suc more) ∙ ap (λ n. (way_walked (course_of at_furthest) n).outputs) (sym count) in
       let most =
-      subst (λ outputs. IsPrefix outputs stopped.cut.taken) (sym (given-walked at_furthest opened-there more)) (stopped.of_last more count) in (
+      subst (λ outputs. IsPrefix outputs stopped.cut.taken) (sym (given-walked at_furthest opened-there more))
+      (stopped.of_last more count) in (
         left,
         record {
           last = last;

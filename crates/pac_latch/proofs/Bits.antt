@@ -25,7 +25,8 @@ after_bit-at latched place is_set other =
     (listed-of_list (set (latch_bits latched.bits) (latch_place place) is_set) (rw length-set refl))
 
 -- it is the bit of its place, and the others stay
-pub is_set-written : (latched : Latched) (place : ℕ) (is_set : Bool) → is_latch_bit_set (latched_after_bit latched place is_set) place ≡ is_set
+pub is_set-written : (latched : Latched) (place : ℕ) (is_set : Bool)
+    → is_latch_bit_set (latched_after_bit latched place is_set) place ≡ is_set
 is_set-written latched place is_set =
     let inside : latch_place place < length (latch_bits latched.bits) = omega arith in
     after_bit-at latched place is_set place ∙ rw get_or-set_same refl

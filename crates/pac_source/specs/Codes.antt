@@ -59,8 +59,8 @@ answer_told (Err (Fault fault)) =
     record { listing = 0; line = fault.line; fault = asm_number fault.code; token = token_number fault.code }
 answer_told (Err fault) = told_size 0
 
--- The 16 bytes in which it is told, as C lays out a `pac_told`: each field at its place, numbers with the low byte first. The listing's bytes
--- are at 0, the line at 8, the fault at 12, and what is no token at 14.
+-- The 16 bytes in which it is told, as C lays out a `pac_told`: each field at its place, numbers with the low byte first. The
+-- listing's bytes are at 0, the line at 8, the fault at 12, and what is no token at 14.
 unfoldable pub told_bytes : PacTold → List ℕ
 told_bytes told =
     to_le_bytes w64 told.listing ++ to_le_bytes w32 told.line ++ to_le_bytes w16 told.fault ++ to_le_bytes w16 told.token

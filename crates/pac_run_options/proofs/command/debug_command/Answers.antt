@@ -2,10 +2,10 @@ use Rattle.std.proofs.Common.{◌≡◌, ◌++◌, ◌∷◌, IfOk, List, [], co
 use Rattle.clap.specs.Words.{Rule, app_of}
 use Rattle.pac_run_options.specs.CommandLine as line
 use Rattle.pac_run_options.proofs.command.debug_command.Goals as goal
-use Rattle.pac_run_options.specs.CommandLineProofs as command_line_proofs
+use Rattle.pac_run_options.specs.CommandLineProofs.{app_of_command}
 
 pub returns : goal.returns
 returns c =
     let own : List Rule = line.required_option (codes "commands") ∷ [] in
     subst (λ (rules : List Rule). IfOk c.subcommand.result (λ command.
-    app_of command ≡ command_line_proofs.app_of_command (line.command (codes "debug") (rules ++ own)))) c.run_options.ensures c.subcommand.ensures
+    app_of command ≡ app_of_command (line.command (codes "debug") (rules ++ own)))) c.run_options.ensures c.subcommand.ensures

@@ -6,7 +6,7 @@ use Rattle.pac_run_options.specs.CommandLine as line
 use Rattle.pac_run_options.specs.CommandLine.{pacboard}
 use Rattle.pac_run_options.proofs.Commands.{added-commands}
 use Rattle.pac_run_options.proofs.command.pacboard.Goals as goal
-use Rattle.pac_run_options.specs.CommandLineProofs as command_line_proofs
+use Rattle.pac_run_options.specs.CommandLineProofs.{app_of_command}
 
 -- the program before its subcommands, and these
 abbrev bare : App
@@ -17,8 +17,8 @@ bare = record {
 
 abbrev four : List App
 four =
-    command_line_proofs.app_of_command line.asm_command ∷ command_line_proofs.app_of_command line.run_command ∷ command_line_proofs.app_of_command line.debug_command
-    ∷ command_line_proofs.app_of_command line.dis_command ∷ []
+    app_of_command line.asm_command ∷ app_of_command line.run_command ∷ app_of_command line.debug_command
+    ∷ app_of_command line.dis_command ∷ []
 
 with-four : fold (λ top below. with_subcommand top below.top) bare four ≡ pacboard
 unfolding pacboard
