@@ -17,6 +17,21 @@ DEFINED = re.compile(rf"define .*?{NAME}\(")
 LABEL = re.compile(r'("[^"]*"|[\w.$-]+):')
 CALLED = re.compile(rf"\bcall\b[^@]*{NAME}\(")
 WAY = re.compile(r'label %("[^"]*"|[\w.$-]+)')
+GROUP = re.compile(r"(attributes (#\d+) = \{ )")
+RANGE = re.compile(r"^(!\d+) = !\{i(\d+) (-?\d+), i\d+ (-?\d+)\}$")
+LOADED = re.compile(r"^  (%\S+) = load i(\d+), .*?, !range (!\d+)")
+HOLDS = """
+define internal void @"holds.i{bits}"(i{bits} %value, i{bits} %low, i{bits} %count) {{
+  %offset = sub i{bits} %value, %low
+  %is_so = icmp ult i{bits} %offset, %count
+  br i1 %is_so, label %yes, label %no
+yes:
+  ret void
+no:
+  call void @llvm.trap()
+  unreachable
+}}
+"""
 ENDS = ("ret", "br", "switch", "unreachable")
 Word = str | pathlib.Path  # of a command
 
@@ -164,23 +179,6 @@ def with_counters(lines: list[str], blocks: list[Block], array: str) -> list[str
 def is_drop(function: Function) -> bool:
     """Whether the kit has written a function to drop a value."""
     return "Destruct" in function.generic or function.generic.rpartition("::")[2] in ("drop", "drop_run")
-
-
-GROUP = re.compile(r"(attributes (#\d+) = \{ )")
-RANGE = re.compile(r"^(!\d+) = !\{i(\d+) (-?\d+), i\d+ (-?\d+)\}$")
-LOADED = re.compile(r"^  (%\S+) = load i(\d+), .*?, !range (!\d+)")
-HOLDS = """
-define internal void @"holds.i{bits}"(i{bits} %value, i{bits} %low, i{bits} %count) {{
-  %offset = sub i{bits} %value, %low
-  %is_so = icmp ult i{bits} %offset, %count
-  br i1 %is_so, label %yes, label %no
-yes:
-  ret void
-no:
-  call void @llvm.trap()
-  unreachable
-}}
-"""
 
 
 def with_attribute(lines: list[str], attribute: str) -> list[str]:

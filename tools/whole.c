@@ -21,7 +21,8 @@
 #include <string.h>
 #include <sys/stat.h>
 
-enum { MOST = 1000000, OPENED = 16, FIRST = 3, BESIDE = 5, NAME = 64, WORDS = 24, SEPARATOR = 0x1F, PICTURE = 15 + 3 * 288 * 224, HEADER = 44, STATE = 67756 };
+enum { MOST = 1000000, OPENED = 16, FIRST = 3, BESIDE = 5, NAME = 64,
+       WORDS = 24, SEPARATOR = 0x1F, PICTURE = 15 + 3 * 288 * 224, HEADER = 44, STATE = 67756 };
 enum { ASM, DIS, RUN, DEBUG, CUT, MANIFEST, COMMANDS }; /* what the first byte says, in its low bits */
 enum { NOTHING, MEMORY, WRITE, MEMORY_ON };             /* and what is refused, in its high bits; the last is that and all after it */
 
@@ -491,7 +492,8 @@ int LLVMFuzzerTestOneInput(const uint8_t *data, size_t size)
     if (command == MANIFEST)
         lay(MANIFEST_FILE, text, first), lay(SOURCE, mark == NULL ? text : mark + 1, rest);
     if (command == COMMANDS)
-        lay(SESSION, text, first), lay_text(SOURCE, "LD A,42H\nLD (4040H),A\nLOOP: INC A\nLD (5040H),A\nCALL DOWN\nJR LOOP\nDOWN: PUSH AF\nPOP BC\nRET\n");
+        lay(SESSION, text, first),
+        lay_text(SOURCE, "LD A,42H\nLD (4040H),A\nLOOP: INC A\nLD (5040H),A\nCALL DOWN\nJR LOOP\nDOWN: PUSH AF\nPOP BC\nRET\n");
     if (command == DEBUG)
         lay(SESSION, mark == NULL ? text : mark + 1, rest);
     if (command == RUN && mark != NULL)
