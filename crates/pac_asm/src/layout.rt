@@ -7,14 +7,15 @@ ghost use Rattle.pac_asm.specs.Layouts.{ArePlacesApart, IsFreePlace, cells_below
 ghost use Rattle.pac_asm.specs.Standings.{overlaps};
 
 use crate::place::{LineLayout, Span};
-use std::alloc::{AllocError, Global};
+use pac_heap::Global;
+use std::alloc::AllocError;
 use std::marker::Model;
 
 /// What became of the lines so far, with a mark for each byte of the ROM that one of them has. Clauses see the
 /// places alone.
 pub(crate) struct Layout {
-    places: Vec<LineLayout>,
-    taken: Box<[bool; 16384]>,
+    places: Vec<LineLayout, Global>,
+    taken: Box<[bool; 16384], Global>,
 }
 
 impl Drop for Layout {
@@ -89,7 +90,7 @@ impl Layout {
 
 /// N cells that no line takes.
 #[tactic(auto, using(crate::proofs::Coverage::none))]
-fn untaken<const N: usize>(alloc: Global) -> Result<Box<[bool; N]>, AllocError>
+fn untaken<const N: usize>(alloc: Global) -> Result<Box<[bool; N], Global>, AllocError>
     ensures { IfOk result (λ cells. cells.value ≡ cells_below N []) }
 {
     Ok(Box::new(alloc, [false; N])?)

@@ -16,8 +16,8 @@ use crate::fault::{AsmCode, AsmError, LineError};
 use crate::place::{LineLayout, Span};
 use pac_asm_line::form;
 use pac_asm_program::{Item, Line, Symbols};
+use pac_heap::Global;
 use pac_lex::{first_line, tokens};
-use std::alloc::Global;
 
 /// What all lines put into the program, at the places that the first phase gave them.
 pub(crate) fn fill_in(
@@ -25,7 +25,7 @@ pub(crate) fn fill_in(
     source: &[u8],
     symbols: &Symbols,
     places: &[LineLayout],
-) -> Result<Vec<Line>, AsmError>
+) -> Result<Vec<Line, Global>, AsmError>
     requires few { length (lines source.now) ≤ most_lines }
     requires apart { ArePlacesApart [] places.now }
     requires fit { AllFit (lines source.now) places.now }

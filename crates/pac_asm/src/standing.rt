@@ -17,7 +17,8 @@ use crate::place::{LineLayout, Span};
 use pac_asm_line::{Conditional, Expression};
 use pac_asm_program::Symbols;
 use pac_expr::{SymbolLookup as _, ValueError};
-use std::alloc::{AllocError, Global};
+use pac_heap::Global;
+use std::alloc::AllocError;
 use std::marker::Model;
 
 /// The bytes of the program ROM.

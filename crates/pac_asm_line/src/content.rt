@@ -17,9 +17,10 @@ use crate::statement::Statement;
 use pac_asm_operation::{OperationFault, next_part};
 use pac_asm_program::Content;
 use pac_expr::SymbolLookup;
+use pac_heap::Global;
 use pac_lex::{Token, characters};
 use pac_table::Instr;
-use std::alloc::{AllocError, Global};
+use std::alloc::AllocError;
 
 impl<'t, 'a> Statement<'t, 'a> {
     /// What the statement places, if it places something, where `here` is the address of the line and `size`
@@ -49,7 +50,7 @@ impl<'t, 'a> Statement<'t, 'a> {
 }
 
 /// Bytes as what is placed.
-fn placed(bytes: Vec<u8>) -> Result<Option<Content>, ContentError>
+fn placed(bytes: Vec<u8, Global>) -> Result<Option<Content>, ContentError>
     ensures { result ≡ Ok (Some (Data bytes.items)) }
 {
     Ok(Some(Content::data(bytes)))
@@ -68,7 +69,7 @@ fn bytes_of<S: SymbolLookup>(
     operands: OperandList<'_, '_>,
     symbols: &S,
     here: u16,
-) -> Result<Vec<u8>, ContentError>
+) -> Result<Vec<u8, Global>, ContentError>
     ensures { ContentGives (λ v. v.items) result
         (gathered_bytes (part_bytes (S.lookup symbols.now) here) (parts_of_operands operands.entry)) }
 {
@@ -106,7 +107,7 @@ fn words_of<S: SymbolLookup>(
     operands: OperandList<'_, '_>,
     symbols: &S,
     here: u16,
-) -> Result<Vec<u8>, ContentError>
+) -> Result<Vec<u8, Global>, ContentError>
     ensures { ContentGives (λ v. v.items) result (gathered_bytes (word_bytes (S.lookup symbols.now) here) (trees_of operands.entry)) }
 {
     let mut found = Gathered::new(alloc, usize::from(words_size(operands)))?;
@@ -126,7 +127,7 @@ fn space_of<S: SymbolLookup>(
     symbols: &S,
     here: u16,
     size: u16,
-) -> Result<Vec<u8>, ContentError>
+) -> Result<Vec<u8, Global>, ContentError>
     ensures { ContentGives (λ v. v.items) result
         (map_unless_fault (replicate size) (fill_value (S.lookup symbols.now) here (option_map expression_tree fill.now))) }
 {

@@ -8,9 +8,10 @@ ghost use Rattle.pac_asm_line.specs.Contents.{joined_bytes, map_unless_fault};
 ghost use Rattle.pac_asm_line.specs.Gathered.{ContentGives, gathered_so_far};
 
 use pac_asm_operation::OperationFault;
+use pac_heap::Global;
 use pac_lex::characters;
 use pac_num::{high_byte, low_byte};
-use std::alloc::{AllocError, AllocFailed, Global};
+use std::alloc::{AllocError, AllocFailed};
 
 /// Why a line has no content.
 #[derive(Clone, Copy, Debug, PartialEq, Eq)]
@@ -51,7 +52,7 @@ impl From<OperationFault> for ContentError {
 /// The bytes of a line's operands so far, or the first of their faults. Bytes after a fault aren't kept.
 #[derive(Drop)]
 pub(crate) struct Gathered {
-    bytes: Vec<u8>,
+    bytes: Vec<u8, Global>,
     fault: Option<OperationFault>,
 }
 
@@ -109,7 +110,7 @@ impl Gathered {
     }
 
     /// The bytes of all operands, or the first of their faults.
-    pub(crate) fn finish(self) -> Result<Vec<u8>, ContentError>
+    pub(crate) fn finish(self) -> Result<Vec<u8, Global>, ContentError>
         ensures { ContentGives (λ v. v.items) result (gathered_so_far self) }
     {
         match self.fault {

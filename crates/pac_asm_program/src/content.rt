@@ -4,6 +4,7 @@ ghost use Rattle.std.specs.Prelude.{◌≡◌};
 ghost use Rattle.pac_code.specs.Items.{Code, Data, bytes_in};
 
 use pac_code::encode;
+use pac_heap::Global;
 use pac_table::Instr;
 use std::marker::Model;
 
@@ -11,7 +12,7 @@ use std::marker::Model;
 #[derive(Drop)]
 enum Held {
     Code(Instr),
-    Data(Vec<u8>),
+    Data(Vec<u8, Global>),
 }
 
 /// What stands at an address: an instruction, or bytes that are none, which may be no bytes at all.
@@ -64,7 +65,7 @@ impl Content {
 
     /// Bytes that are no instruction.
     #[inline]
-    pub fn data(bytes: Vec<u8>) -> Content
+    pub fn data(bytes: Vec<u8, Global>) -> Content
         ensures { result ≡ Data bytes.items }
     {
         Content {

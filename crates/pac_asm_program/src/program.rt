@@ -5,13 +5,14 @@ ghost use Rattle.pac_asm_program.specs.Programs.{rom_size};
 
 use crate::line::Line;
 use crate::symbols::Symbols;
+use pac_heap::Global;
 use std::marker::Model;
 
 /// What a source becomes: an entry for each of its lines, the symbols, and the program ROM.
 pub struct Program {
-    lines: Vec<Line>,
+    lines: Vec<Line, Global>,
     symbols: Symbols,
-    rom: Box<[u8; 16384]>,
+    rom: Box<[u8; 16384], Global>,
 }
 
 impl Drop for Program {
@@ -36,7 +37,7 @@ impl Model for Program {
 
 impl Program {
     /// A program of these parts.
-    pub fn new(lines: Vec<Line>, symbols: Symbols, rom: Box<[u8; 16384]>) -> Program
+    pub fn new(lines: Vec<Line, Global>, symbols: Symbols, rom: Box<[u8; 16384], Global>) -> Program
         ensures { result ≡ record { lines = lines.items; symbols = symbols; rom = rom.value } }
     {
         Program {

@@ -8,13 +8,14 @@ ghost use Rattle.pac_asm_program.specs.RomLaws.{ApartItemsLie};
 ghost use Rattle.pac_asm_program.specs.RomProofs.{IsZeroElsewhere};
 
 use crate::line::{Item, Line};
-use std::alloc::{AllocError, Global};
+use pac_heap::Global;
+use std::alloc::AllocError;
 
 /// The bytes of the program ROM.
 const ROM_SIZE: usize = 16384;
 
 /// The 16,384 bytes of the program ROM that lines with these items make.
-pub fn rom_of(alloc: Global, lines: &[Line]) -> Result<Box<[u8; 16384]>, AllocError>
+pub fn rom_of(alloc: Global, lines: &[Line]) -> Result<Box<[u8; 16384], Global>, AllocError>
     ensures value { IfOk result (λ rom. rom.value ≡ rom_of (flat_map items_in lines.now)) }
     ensures zero { IfOk result (λ rom. IsZeroElsewhere rom.value (flat_map items_in lines.now)) }
 {

@@ -6,12 +6,13 @@ ghost use Rattle.pac_asm_program.specs.NamesProofs.{AreDistinct};
 
 use crate::seeded::Seeded;
 use indexmap::IndexMap;
-use std::alloc::{AllocError, Global};
+use pac_heap::Global;
+use std::alloc::AllocError;
 use std::marker::Model;
 
 /// Names that stand for numbers, in the order in which they were defined. Small and capital letters differ.
 pub struct Symbols {
-    names: IndexMap<Vec<u8>, i32, Seeded>,
+    names: IndexMap<Vec<u8, Global>, i32, Seeded, Global>,
 }
 
 impl Drop for Symbols {

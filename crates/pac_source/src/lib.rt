@@ -11,7 +11,7 @@ mod instruction;
 pub use codes::{PacTold, SourceFault, ToldBytes};
 use codes::{bytes_of, code, told_of};
 pub use instruction::PacText;
-use std::alloc::Global;
+use pac_heap::Global;
 
 /// Assembles a source: the bytes of its program go to `rom`, and its listing to the head of `listing`, whose rest stays. The listing has a
 /// row for each line of the source, with its address and its first four bytes, further rows where a line has more, and then the symbols, as
