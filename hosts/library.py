@@ -63,32 +63,37 @@ def stamp(folder):
             (built / "stamp").write_text(crate.stamp())
 
 
+def kit():
+    """The folder of the kit."""
+    return pathlib.Path(shutil.which("rt") or "rt").resolve().parent.parent
+
+
 def lay_kit(flags, to, kept):
     """Lays a copy of the kit into a folder, its files by links, whose C compiler gets these flags too, and answers the copy's `rt`.
 
     The copy proves the same, and hands the compiler the same program, as LLVM's bitcode, which is kept in a file; the flags say which
     instructions of the processor it may use.
     """
-    kit = pathlib.Path(shutil.which("rt") or "rt").resolve().parent.parent
-    compiler = "toolchain/bin/clang"
-    for file in [*kit.iterdir(), *(kit / "bin").iterdir(), *(kit / "toolchain").iterdir(), *(kit / "toolchain/bin").iterdir()]:
-        name = file.relative_to(kit)
+    whole, compiler = kit(), "toolchain/bin/clang"
+    for file in [*whole.iterdir(), *(whole / "bin").iterdir(), *(whole / "toolchain").iterdir(), *(whole / "toolchain/bin").iterdir()]:
+        name = file.relative_to(whole)
         (to / name).parent.mkdir(parents=True, exist_ok=True)
         if str(name) in ("bin/rt", "bin/rtlib.py"):
             shutil.copy(file, to / name)  # (they look for the rest beside themselves)
         elif str(name) not in ("bin", "toolchain", "toolchain/bin", compiler):
             (to / name).symlink_to(file)
     keep = f"[ ! -f module.bc ] || cp module.bc {shlex.quote(str(kept))}"
-    (to / compiler).write_text(f'#!/bin/sh\n{keep}\nexec {shlex.quote(str(kit / compiler))} "$@" {shlex.join(flags)}\n')
+    (to / compiler).write_text(f'#!/bin/sh\n{keep}\nexec {shlex.quote(str(whole / compiler))} "$@" {shlex.join(flags)}\n')
     (to / compiler).chmod(0o755)
     return to / "bin/rt"
 
 
-def run(rt, folder, *words):
-    """Runs `rt` with these words in the folder of a crate, over what is proved below it, and tells how far it is; ends where it fails."""
+def run(rt, folder, *words, declaring=""):
+    """Runs `rt` with these words in the folder of a crate, over what is proved below it, and tells how far it is; ends where it fails. The
+    crates that are named as declaring may declare functions of C."""
     begun, command = time.monotonic(), f"rt {words[0]}"
     with tempfile.TemporaryFile("w+") as said:
-        with subprocess.Popen([rt, *words], cwd=folder, stdout=said, stderr=subprocess.STDOUT) as process:
+        with subprocess.Popen([rt, *words], cwd=folder, env=os.environ | {"RT_ALLOW_C": declaring}, stdout=said, stderr=subprocess.STDOUT) as process:
             while process.poll() is None:
                 with contextlib.suppress(subprocess.TimeoutExpired):
                     process.wait(TOLD)
@@ -104,47 +109,58 @@ def text_of(file):
 
 
 @contextlib.contextmanager
-def laid(table, name, kind, is_after_ci):
+def laid(table, name, kind, is_after_ci, swapped="", lay=None):
     """Lays a crate, as one of this kind, and all below it into another folder, which is there as long as it's needed: its crates.txt says which
-    kind it is, and the repository is left as it is."""
+    kind it is, and the repository is left as it is. A crate that is swapped is laid by a call, which is handed the kit and a folder and answers
+    the libraries that it uses."""
     below = crates_below(table, name)
     with tempfile.TemporaryDirectory(prefix="hosts-") as room:
         folder = pathlib.Path(room).resolve()
-        lines = [f"{crate}: {' '.join(uses)}" for crate, (_, uses) in table.items() if crate in below]
+        for crate in [*below - {swapped}, name]:
+            lay_crate(crate, folder / "crates" / crate)
+        uses = {crate: " ".join(table[crate][1]) for crate in table if crate in below}
+        if swapped:
+            uses[swapped] = lay(kit(), folder / "crates" / swapped)
+        lines = [f"{crate}: {uses[crate]}" for crate in uses]
         (folder / "crates.txt").write_text("\n".join([*lines, f"{f'{name} {kind}'.strip()}: {' '.join(table[name][1])}", ""]))
         shutil.copy(ROOT / "HANDLES", folder / "HANDLES")
-        for crate in [*below, name]:
-            lay_crate(crate, folder / "crates" / crate)
         if is_after_ci:
             stamp(folder)
         yield folder
 
 
-def build(name, kind, file, to, is_after_ci, flags=()):
+def build(name, kind, file, to, is_after_ci, flags=(), swapped="", lay=None):
     """Builds a library as a crate of this kind, in a copy of it and of all below it, and takes the file that it leaves.
 
     The flags are for the compiler. What an earlier build of either kind has checked, and nothing has changed since, isn't checked again. Beside
-    the file, with the end .bc, stands the bitcode of which the compiler made it.
+    the file, with the end .bc, stands the bitcode of which the compiler made it. A crate that is swapped may declare functions of C, and all
+    crates above it are proved over it there.
     """
     table = crates()
     if not table.get(name, (False, []))[0]:
         sys.exit(f"crates.txt has no static library {name}")
-    with laid(table, name, kind, is_after_ci) as folder:
-        built = folder / "crates" / name / "out"
-        if (KEPT / name).is_dir():
-            shutil.copytree(KEPT / name, built / "incremental")
+    above = {crate for crate in crates_below(table, name) if swapped in crates_below(table, crate)}
+    with laid(table, name, kind, is_after_ci, swapped, lay) as folder:
+        kept = {crate: KEPT / (f"{name}-{swapped}" if swapped else name) / crate for crate in [*above, *([swapped] if swapped else []), name]}
+        for crate, place in kept.items():
+            built = folder / "crates" / crate / "out"
+            shutil.rmtree(built, ignore_errors=True)  # (what was proved over the crate that was swapped isn't so here)
+            if place.is_dir():
+                shutil.copytree(place, built, copy_function=lay_file)
         OUT.mkdir(exist_ok=True)
-        run(lay_kit(flags, folder / "kit", (OUT / to).with_suffix(".bc")), folder / "crates" / name, "lib")
-        shutil.copy(built / file.format(name), OUT / to)
-        shutil.rmtree(KEPT / name, ignore_errors=True)
-        shutil.copytree(built / "incremental", KEPT / name)
+        run(lay_kit(flags, folder / "kit", (OUT / to).with_suffix(".bc")), folder / "crates" / name, "lib", declaring=swapped)
+        shutil.copy(folder / "crates" / name / "out" / file.format(name), OUT / to)
+        for crate, place in kept.items():
+            shutil.rmtree(place, ignore_errors=True)
+            for part in ("incremental", "rlib"):
+                if (folder / "crates" / crate / "out" / part).is_dir():
+                    shutil.copytree(folder / "crates" / crate / "out" / part, place / part)
     print(f"{OUT / to}: {(OUT / to).stat().st_size:,} bytes", flush=True)
 
 
 def add_heap(to):
     """Adds the kit's three calls for memory to a library for C: they are the host's malloc, realloc and free, as heap.c of the kit has them."""
-    kit = pathlib.Path(shutil.which("rt")).resolve().parent.parent
     with tempfile.TemporaryDirectory() as room:
-        subprocess.run(["ar", "x", kit / "c/liblibc_c.a"], cwd=room, check=True)
+        subprocess.run(["ar", "x", kit() / "c/liblibc_c.a"], cwd=room, check=True)
         parts = [part for part in sorted(pathlib.Path(room).iterdir()) if part.name.startswith("heap")]
         subprocess.run(["ar", "qs", OUT / to, *parts], check=True)
