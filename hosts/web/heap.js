@@ -90,7 +90,7 @@ export class Heap {
     // Writes the answer of a call: whether there is memory, and where.
     tell(answer, at) {
         const view = new DataView(this.words.buffer, Number(answer), 16);
-        view.setUint8(0, at === 0 ? 0 : 1);
+        view.setBigUint64(0, at === 0 ? 0n : 1n, true);
         view.setBigUint64(8, at === 0 ? NOWHERE : BigInt(at), true);
     }
 }
