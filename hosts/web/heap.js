@@ -13,8 +13,8 @@ const NOWHERE = 16n; // what a refused call answers as a place: no block is ther
 
 export class Heap {
     constructor() {
-        this.words = null; // the module's memory
-        this.base = this.end = this.next = 0;
+        this.bytes = this.words = this.longs = null; // the module's memory
+        this.end = this.next = 0;
         this.out = 0; // blocks that aren't given back
         this.refused = 0; // the number of a call that is to be refused, from 1; 0 where none is
         this.asked = 0; // calls for memory so far
@@ -33,8 +33,11 @@ export class Heap {
 
     // Begins anew, between two places of a memory: no block is out.
     begin(memory, base, end) {
-        this.words = new Uint32Array(memory.buffer);
-        this.bytes = new Uint8Array(memory.buffer);
+        if (this.bytes?.buffer !== memory.buffer) {
+            this.bytes = new Uint8Array(memory.buffer);
+            this.words = new Uint32Array(memory.buffer);
+            this.longs = new BigUint64Array(memory.buffer); // (what tells an answer lies at a multiple of 8)
+        }
         this.next = Math.ceil(base / HEAD) * HEAD;
         this.end = end;
         this.lists = new Uint32Array(SIZES.length); // the first block that waits of each size, 0 where none does
@@ -89,8 +92,8 @@ export class Heap {
 
     // Writes the answer of a call: whether there is memory, and where.
     tell(answer, at) {
-        const view = new DataView(this.words.buffer, Number(answer), 16);
-        view.setBigUint64(0, at === 0 ? 0n : 1n, true);
-        view.setBigUint64(8, at === 0 ? NOWHERE : BigInt(at), true);
+        const place = Number(answer) / 8;
+        this.longs[place] = at === 0 ? 0n : 1n;
+        this.longs[place + 1] = at === 0 ? NOWHERE : BigInt(at);
     }
 }
