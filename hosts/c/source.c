@@ -112,8 +112,10 @@ static void try_small(void)
         row("its listing", memcmp(listing, small_listing, size) == 0 && is_untouched(listing + size, room + BEYOND - size));
         row("no block is kept", held == 0 && asked > 0);
     }
-    for (size_t room = 0; room < size; room++)
-        row("too little room", assemble(text, sizeof small - 1, PAC_SOURCE_ROM_SIZE, room) == PAC_SOURCE_ROOM && tells(size, 0, 0, 0) && is_kept(room));
+    for (size_t room = 0; room < size; room++) {
+        uint32_t code = assemble(text, sizeof small - 1, PAC_SOURCE_ROM_SIZE, room);
+        row("too little room", code == PAC_SOURCE_ROOM && tells(size, 0, 0, 0) && is_kept(room));
+    }
     for (size_t length = PAC_SOURCE_ROM_SIZE - 1; length <= PAC_SOURCE_ROM_SIZE + 1; length += 2)
         row("another ROM length", assemble(text, sizeof small - 1, length, size) == PAC_SOURCE_LENGTH && tells(0, 0, 0, 0) && is_kept(size));
     row("a ROM without a byte", assemble(text, sizeof small - 1, 0, size) == PAC_SOURCE_LENGTH && tells(0, 0, 0, 0) && is_kept(size));

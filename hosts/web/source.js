@@ -11,7 +11,12 @@ const ROW = 21; // bytes of a listing's row besides the line's text
 const ROWS = ROW * ROM_SIZE / 4; // bytes of all further rows, at most
 const NUMBER = 13; // bytes of a symbol besides its name, at most
 
-export const CODES = { 1: "the ROM hasn't 16,384 bytes", 4: "the listing has more bytes than there is room for", 5: 'memory ran out', 6: 'the source has a fault' };
+export const CODES = {
+    1: "the ROM hasn't 16,384 bytes",
+    4: 'the listing has more bytes than there is room for',
+    5: 'memory ran out',
+    6: 'the source has a fault',
+};
 
 // A call of the module has ended in a trap, or has kept memory: the assembler can't be used any more.
 export class Broken extends Error {
@@ -71,11 +76,11 @@ export class Assembler {
         if (places === null) return { code: 5, line: 0, fault: 0, token: 0 };
         const [told, rom, text, listing] = places, memory = this.calls.memory.buffer;
         new Uint8Array(memory, text, source.length).set(source);
-        const code = this.call('pac_assemble', BigInt(text), BigInt(source.length), BigInt(rom), BigInt(ROM_SIZE), BigInt(listing), BigInt(room), BigInt(told));
+        const code = this.call('pac_assemble', ...[text, source.length, rom, ROM_SIZE, listing, room, told].map(BigInt));
         const view = new DataView(memory, told, TOLD), size = Number(view.getBigUint64(0, true));
-        const [line, fault, token] = [view.getUint32(8, true), view.getUint16(12, true), view.getUint16(14, true)];
-        if (code !== 0) return { code, line, fault, token };
-        return { code, line, fault, token, rom: new Uint8Array(memory, rom, ROM_SIZE).slice(), listing: new Uint8Array(memory, listing, size).slice() };
+        const made = { code, line: view.getUint32(8, true), fault: view.getUint16(12, true), token: view.getUint16(14, true) };
+        if (code !== 0) return made;
+        return { ...made, rom: new Uint8Array(memory, rom, ROM_SIZE).slice(), listing: new Uint8Array(memory, listing, size).slice() };
     }
 
     // The text of the instruction that some bytes begin with, the first of them at an address, and how many of them it has.
