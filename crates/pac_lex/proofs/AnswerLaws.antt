@@ -9,12 +9,14 @@ use Rattle.pac_lex.specs.Tokens.{IsRead, HasLexFault}
 use Rattle.pac_lex.specs.Scan.{LexingGives, OnLexFault, tokens_of}
 use Rattle.pac_lex.proofs.LineLaws.{tokens-read, fault-told}
 
-pub is-read : {A : Type 0} (line : List ℕ) (answer : Result (Vec Token A) LexError) → LexingGives (λ v. views v.items) answer (tokens_of line)
+pub is-read : {A : Type 0} (line : List ℕ) (answer : Result (Vec Token A) LexError)
+    → LexingGives (λ v. views v.items) answer (tokens_of line)
     → IfOk answer (λ v. IsRead line (views v.items))
 is-read line (Ok v) e = tokens-read line (views v.items) e
 is-read line (Err e) h = tt
 
-pub is-fault : {A : Type 0} (line : List ℕ) (answer : Result (Vec Token A) LexError) → LexingGives (λ v. views v.items) answer (tokens_of line)
+pub is-fault : {A : Type 0} (line : List ℕ) (answer : Result (Vec Token A) LexError)
+    → LexingGives (λ v. views v.items) answer (tokens_of line)
     → IfErr answer (λ e. OnLexFault e (HasLexFault line))
 is-fault line (Ok v) e = tt
 is-fault line (Err errors.Memory) e = tt
