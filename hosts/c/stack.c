@@ -99,8 +99,8 @@ int main(void)
         void *(*call)(void *);
         size_t most;
     } calls[] = {
-        {"pac_init", init, 208}, {"pac_hold", hold, 208}, {"pac_exec", exec, 208}, {"pac_draw", draw, 208},
-        {"pac_reset", reset, 208}, {"pac_save", save, 208}, {"pac_load", load, 208},
+        {"pac_init", init, 200}, {"pac_hold", hold, 200}, {"pac_exec", exec, 200}, {"pac_draw", draw, 16},
+        {"pac_reset", reset, 200}, {"pac_save", save, 200}, {"pac_load", load, 200},
     };
     size_t thread = taken(nothing, 64 * KB);
     for (size_t at = 0; at < sizeof calls / sizeof *calls; at++) {

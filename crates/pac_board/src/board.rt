@@ -86,11 +86,7 @@ impl Board {
     /// The board at power-on with a copy of this ROM set and the byte of the DIP switches, in a block of memory, where all of it is made: no
     /// caller has room for a board on its stack. Refused for want of memory alone.
     #[inline(never)]
-    pub fn boxed(
-        alloc: Global,
-        set: &RomSet,
-        switches: u8,
-    ) -> Result<Box<Board>, AllocError>
+    pub fn boxed(alloc: Global, set: &RomSet, switches: u8) -> Result<Box<Board>, AllocError>
         ensures { IfOk result (λ board. board.value ≡ state.power_on_board set.now switches) }
     {
         let mut board = Box::new(alloc, Board::without_roms(switches))?;

@@ -7,6 +7,11 @@ use Rattle.pac_roms_manifest.specs.declared.fault.SetError.TheVariants.{Memory, 
 use Rattle.pac_roms_manifest.specs.declared.reading.Misread.{Misread}
 use Rattle.pac_roms_manifest.specs.declared.reading.Misread.TheVariants as misread
 
+-- what was returned of a call that fills a place, with what it has there then
+abbrev pub filled : {A E : Type 0} → Result (Unit {0}) E → A → Result A E
+filled (Ok done) value = Ok value
+filled (Err error) value = Err error
+
 -- What was returned is what there is, unless memory ran out.
 abbrev pub SetGives : {A : Type 0} → Result A SetError → Result A SetFault → Type 0
 SetGives (Ok value) answer = answer ≡ Ok value

@@ -8,7 +8,7 @@ mod part;
 mod reading;
 
 pub use fault::{ManifestCode, SetError, SetFault};
-pub use loading::{digest, load_set};
+pub use loading::{digest, load_set, load_set_into};
 pub use manifest::{Manifest, PartEntry};
 pub use part::{Part, PartName};
 pub use reading::read_manifest;

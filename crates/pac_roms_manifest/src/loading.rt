@@ -3,7 +3,7 @@
 ghost use Rattle.std.specs.Prelude.{◌≡◌, IfSome, length, option_copied, IfOk};
 ghost use Rattle.pac_roms.specs.Parts.{program_size};
 ghost use Rattle.pac_roms_manifest.specs.Manifests.{entry_of_part};
-ghost use Rattle.pac_roms_manifest.specs.Results.{SetGives, FindsFault};
+ghost use Rattle.pac_roms_manifest.specs.Results.{SetGives, FindsFault, filled};
 ghost use Rattle.pac_roms_manifest.specs.Parts.{parts_in_order};
 ghost use Rattle.pac_roms_manifest.specs.Sets.{first_answer, needs_table, is_unnamed, unnamed_fault, two_programs_fault, digest_differs};
 ghost use Rattle.pac_roms_manifest.specs.Sets.{code_of_part, fault_at, file_fault, bytes_named, rom_part_bytes, program_bytes, set_of, digest_of};
@@ -18,7 +18,6 @@ use std::alloc::{AllocError, Global};
 /// The ROM set of a manifest, where its files are handed in and, where a source is assembled, the 16,384 bytes of its
 /// program. The first fault is told, in this order: M2 over all parts; M6; then part by part M5, M3, M4. Of several
 /// files of one name the first counts. The timing PROM is looked at like the others and not used.
-#[tactic(auto, unfolding(crate::specs::Sets::set_of), using(crate::proofs::Sizes::same_test))]
 pub fn load_set(
     alloc: Global,
     manifest: &Manifest,
@@ -27,6 +26,25 @@ pub fn load_set(
 ) -> Result<RomSet, SetError>
     requires { IfSome assembled (λ rom. length rom.now ≡ program_size) }
     ensures { SetGives result (set_of manifest.now files.now (option_copied assembled.entry)) }
+{
+    let mut set = RomSet::zeroed();
+    match load_set_into(alloc, manifest, files, assembled, &mut set) {
+        Ok(()) => Ok(set),
+        Err(error) => Err(error),
+    }
+}
+
+/// The same set, put over one that is there, so that it isn't moved.
+#[tactic(auto, unfolding(crate::specs::Sets::set_of), using(crate::proofs::Sizes::same_test))]
+pub fn load_set_into(
+    alloc: Global,
+    manifest: &Manifest,
+    files: &[Part<'_>],
+    assembled: Option<&[u8]>,
+    set: &mut RomSet,
+) -> Result<(), SetError>
+    requires { IfSome assembled (λ rom. length rom.now ≡ program_size) }
+    ensures { SetGives (filled result set.new) (set_of manifest.now files.now (option_copied assembled.entry)) }
 {
     let has_source = assembled.is_some();
     check_names(manifest, has_source)?;
@@ -40,7 +58,8 @@ pub fn load_set(
         lookup: bytes(manifest, files, PartName::Lookup),
         wave: bytes(manifest, files, PartName::Wave),
     };
-    Ok(RomSet::of(&program, &raw))
+    set.put(&program, &raw);
+    Ok(())
 }
 
 /// The SHA-1 digest of a set: that of program, tiles, sprites, colours, lookup and wave, one after another.

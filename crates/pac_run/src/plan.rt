@@ -4,6 +4,7 @@ ghost use Rattle.std.specs.Prelude.{◌≡◌, length, option_map, option_copied
 ghost use Rattle.pac_board_course.specs.Script.{script_of};
 ghost use Rattle.pac_asm.specs.Assembled.{Assembled};
 ghost use Rattle.pac_board_course.specs.RomParts.{IsWhole, program_size};
+ghost use Rattle.pac_roms_manifest.specs.Results.{filled};
 ghost use Rattle.pac_run.specs.Plan.{program_in, set_in};
 ghost use Rattle.pac_run.specs.PlanProofs.{fault_told, script_told, Judges, LieIn};
 ghost use Rattle.pac_run.specs.Started.{Prepares};
@@ -14,7 +15,7 @@ use crate::start::first_board;
 use pac_asm::{AsmError, Program, assemble};
 use pac_board_course::{Board, RomSet, Script, ScriptError, read_script};
 use pac_media::Image;
-use pac_roms_manifest::{Part, SetError, load_set, read_manifest};
+use pac_roms_manifest::{Part, SetError, load_set_into, read_manifest};
 use std::alloc::Global;
 
 /// What a run plays, and room for its images.
@@ -78,24 +79,25 @@ fn is_whole(set: &RomSet)
     let _ = set.wave();
 }
 
-/// The ROM set of a manifest and its files, with the program's ROM where there is a program.
-fn set(
+/// Puts the ROM set of a manifest and its files over one that is there, with the program's ROM where there is a program.
+fn put_set(
     alloc: Global,
     manifest: &[u8],
     files: &[Part<'_>],
     program: &Option<Program>,
-) -> Result<RomSet, RunFault>
-    ensures exact { Judges result (set_in manifest.now files.now program.now) }
-    ensures whole { IfOk result IsWhole }
+    set: &mut RomSet,
+) -> Result<(), RunFault>
+    ensures exact { Judges (filled result set.new) (set_in manifest.now files.now program.now) }
+    ensures whole { IfOk (filled result set.new) IsWhole }
 {
     let manifest = match read_manifest(alloc, manifest) {
         Ok(manifest) => manifest,
         Err(error) => return Err(set_fault(error)),
     };
-    match load_set(alloc, &manifest, files, rom_in(program)) {
-        Ok(set) => {
-            is_whole(&set);
-            Ok(set)
+    match load_set_into(alloc, &manifest, files, rom_in(program), set) {
+        Ok(()) => {
+            is_whole(set);
+            Ok(())
         }
         Err(error) => Err(set_fault(error)),
     }
@@ -119,7 +121,8 @@ pub fn prepare(alloc: Global, inputs: &RunInputs, from: Option<&[u8]>) -> Result
     ensures { Prepares inputs.now (option_copied from.entry) result }
 {
     let program = program(alloc, inputs.source)?;
-    let set = set(alloc, inputs.manifest, inputs.parts, &program)?;
+    let mut set = RomSet::zeroed();
+    put_set(alloc, inputs.manifest, inputs.parts, &program, &mut set)?;
     let script = match script(alloc, inputs.script) {
         Ok(script) => script,
         Err(fault) => return Err(fault),

@@ -11,5 +11,5 @@ returns-in-Ok c =
     let script = c.args.script.now in
     subst (λ from. IsStarted (IsFirstBoard set c.args.switches script (option_copied from)) set script c.in-Ok.board.value) (sym
     c.in-None.is)
-    (from-power-on set c.args.switches script c.in-Ok.board.value c.in-Ok.ensures.board (rw c.frames.ensures.count at
+    (from-power-on set c.args.switches script c.in-Ok.board.value c.in-Ok.ensures (rw c.frames.ensures.count at
     c.frames.ensures.within))
