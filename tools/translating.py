@@ -155,6 +155,7 @@ class Translation:
         self.symbols = dict(self.defined)
         self.last_assigned, self.assigned = self.assigned, {}
         self.variables: dict[str, int] = {}
+        self.labelled: set[str] = set()
         self.macros: dict[str, Macro] = {}
         self.defines: dict[str, str] = {}
         self.items: list[Item] = []
@@ -178,7 +179,9 @@ class Translation:
         if word.startswith(".") and self.dialect.locals == "file":
             return f"{line.scope}{word}"
         if self.dialect.name == "sjasmplus" and word[:1] in "@!":
-            return word[1:]
+            word = word[1:]
+        if not re.search(r"\w", word):
+            raise Fault(f"{word or 'nothing'} is no name")
         return word
 
     def named(self, key: str) -> int:
@@ -410,7 +413,10 @@ class Translation:
             key = self.key(word, line)
             if not re.fullmatch(r"\d+\$", word) and not word.startswith("."):
                 self.main = key
+        if key in self.variables:
+            raise Fault(f"{key} is defined twice")
         self.define(key, self.at)
+        self.labelled.add(key)
         return key
 
     def take_definition(self, kind: str, labels: list[str], rest: str, line: Line, comment: str) -> None:
@@ -463,6 +469,8 @@ class Translation:
             if self.before and str(name) not in self.before:
                 raise Fault(f"{name} is defined nowhere") from None
             return
+        if key in self.labelled:
+            raise Fault(f"{key} is defined twice")
         if is_variable:
             self.symbols.pop(key, None)
             self.variables[key] = value
