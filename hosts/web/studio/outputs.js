@@ -2,6 +2,7 @@
 
 import { HEIGHT, WIDTH } from '../board.js';
 import { bytesOf, deflated, Fault, inflated, linkable, textOf, unbase64 } from './bytes.js';
+import { tell } from './parts.js';
 import { payloadOf } from './payload.js';
 import { scriptOf } from './tape.js';
 import { sourceOf } from './files.js';
@@ -47,7 +48,7 @@ export class Film {
         Object.assign(this.large, { width: SCALE * WIDTH, height: SCALE * HEIGHT });
         this.canvas = canvas;
         const stream = this.large.captureStream(60);
-        if (speaker.node) {
+        if (speaker.leads) {
             this.end = speaker.context.createMediaStreamDestination();
             speaker.node.connect(this.end);
             for (const track of this.end.stream.getAudioTracks()) stream.addTrack(track);
@@ -55,6 +56,7 @@ export class Film {
         const kind = KINDS.find((one) => MediaRecorder.isTypeSupported(one));
         this.recorder = new MediaRecorder(stream, { mimeType: kind, videoBitsPerSecond: FILM_RATE, audioBitsPerSecond: SOUND_RATE });
         this.pieces = [];
+        this.recorder.onerror = ({ error }) => tell('The film', error?.message ?? 'the recorder has failed', true);
         this.recorder.ondataavailable = ({ data }) => this.pieces.push(data);
         this.recorder.start(1000);
         this.show();

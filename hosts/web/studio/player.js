@@ -14,6 +14,8 @@ const KEYS = {
 };
 const BUTTONS = { 0: 'START1', 8: 'COIN1', 9: 'START1', 12: 'P1_UP', 13: 'P1_DOWN', 14: 'P1_LEFT', 15: 'P1_RIGHT' }; // of a standard gamepad
 const TILTED = 0.5; // of an axis
+const STALLED = 300; // milliseconds in which no sample is taken
+const AGAIN = 2000; // milliseconds between two tries to wake the sound
 
 // The picture on a canvas.
 export class Screen {
@@ -31,7 +33,7 @@ export class Screen {
 // The sound.
 export class Speaker {
     constructor(workletText) {
-        Object.assign(this, { workletText, sent: 0, taken: 0, dry: 0, isMuted: false, context: null });
+        Object.assign(this, { workletText, sent: 0, taken: 0, dry: 0, isMuted: false, isStalled: false, context: null, woken: 0, seen: 0, seenAt: 0 });
     }
 
     // Begins to sound; a browser lets no page do so before somebody has touched it.
@@ -50,12 +52,17 @@ export class Speaker {
         return !this.isMuted && this.node !== undefined && this.context.state === 'running';
     }
 
+    // Whether it sets the pace.
+    get leads() {
+        return this.isOn && !this.isStalled;
+    }
+
     get waiting() {
         return this.sent - this.taken;
     }
 
     push(samples) {
-        if (!this.isOn) return;
+        if (!this.isOn || this.waiting > 2 * AHEAD) return;
         this.sent += samples.length;
         this.node.port.postMessage(samples);
     }
@@ -63,6 +70,16 @@ export class Speaker {
     // Holds still, or goes on.
     rest(isResting) {
         if (this.context && this.context.state !== 'closed') (isResting || this.isMuted ? this.context.suspend() : this.context.resume());
+    }
+
+    // Looks, while a game is played, whether samples are taken: where they aren't, the clock has to lead, and the sound is woken now and then. So
+    // it is where a browser has put it to rest, or has lost the device for a while.
+    look(now) {
+        if (!this.context || this.isMuted || this.taken !== this.seen) Object.assign(this, { seen: this.taken, seenAt: now });
+        this.isStalled = now - this.seenAt > STALLED;
+        if (!this.isStalled || now - this.woken < AGAIN) return;
+        this.woken = now;
+        this.context.suspend().then(() => !this.isMuted && this.context.resume()).catch(() => undefined);
     }
 
     mute(isMuted) {
@@ -164,7 +181,7 @@ export class Loop {
     play() {
         if (this.isPlaying) return;
         this.isPlaying = true;
-        this.since = performance.now();
+        this.since = this.speaker.seenAt = performance.now();
         this.speaker.rest(false);
         requestAnimationFrame(() => this.turn());
     }
@@ -176,7 +193,7 @@ export class Loop {
 
     // Whether a frame is due.
     isDue(now) {
-        if (this.speaker.isOn) {
+        if (this.speaker.leads) {
             this.since = now;
             return this.speaker.waiting < AHEAD;
         }
@@ -189,6 +206,7 @@ export class Loop {
         if (!this.isPlaying) return;
         this.controls.poll();
         const now = performance.now();
+        this.speaker.look(now);
         let frames = 0;
         for (; this.isPlaying && frames < MOST && this.isDue(now); frames++) {
             const samples = this.source.advance();

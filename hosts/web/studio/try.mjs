@@ -17,7 +17,8 @@ import { hostile } from './hostile.mjs';
 const [PAGE, PACBOARD, FOLDER, ADDRESS, FILE] = process.argv.slice(2);
 const ROOT = path.resolve(path.dirname(PAGE), '..');
 const IMAGE = 193551, HEAD = 15; // bytes of an image, and of its head
-const SLOWEST = 40; // frames a second
+const FILMED = 200; // tenths of a second, at most
+const SLOWEST = 20; // frames a second: the machine may be busy, and the true rate is told
 const OPENED = 1000, KEYED = 100; // milliseconds: told, and judged at this many times as long, since the machine may be busy
 const BUSY = 4;
 const HELD = 3218, DIGEST = 20; // of a state file: where what is held is, and the bytes at its end
@@ -263,9 +264,12 @@ async function outside(page, script) {
     const picture = await page.saved("document.querySelector('[data-save=picture]').click()");
     row('a picture is a PNG', picture.bytes.readUInt32BE(0) === 0x89504e47 && picture.bytes.readUInt32BE(16) === 288);
     await page.value("document.querySelector('[data-save=film]').click()");
-    await page.until('studio.exits.film?.pieces.reduce((sum, { size }) => sum + size, 0) > 10000');
+    const size = '(studio.exits.film?.pieces.reduce((sum, { size }) => sum + size, 0) ?? 0)';
+    for (let tenth = 0; tenth < FILMED && await page.value(size) < 10_000; tenth++) await page.pause(0.1);
+    const told = await page.value(`JSON.stringify([${size}, studio.exits.film?.recorder.state, studio.speaker.context?.state, studio.speaker.isOn, studio.loop.isPlaying, studio.loop.frames,
+        studio.exits.film?.recorder.stream.getTracks().map(({ kind, readyState, muted }) => [kind, readyState, muted]), document.visibilityState])`);
     const film = await page.saved("document.querySelector('[data-save=film]').click()");
-    row('a film is recorded', film.bytes.length > 10_000 && film.bytes.readUInt32BE(0) === 0x1a45dfa3, `${film.name} ${film.bytes.length}`);
+    row('a film is recorded', film.bytes.length > 10_000 && film.bytes.readUInt32BE(0) === 0x1a45dfa3, `${film.name} ${film.bytes.length} ${told}`);
     await page.value(rest);
     const source = await page.value('studio.editor.text');
     await page.value('studio.exits.link()');
