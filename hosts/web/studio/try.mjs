@@ -302,8 +302,9 @@ async function following(page) {
     await page.pause(0.3);
     await page.value(rest);
     const written = FILE.replace(/\.asm$/, '.played.script');
-    for (let turn = 0; turn < 50 && !existsSync(written); turn++) await page.pause(0.1);
-    row('what is played is written beside it', existsSync(written) && /^\d+ /m.test(readFileSync(written, 'utf8')));
+    const isWritten = () => existsSync(written) && /^\d+ /m.test(readFileSync(written, 'utf8'));
+    for (let turn = 0; turn < 50 && !isWritten(); turn++) await page.pause(0.1);
+    row('what is played is written beside it', isWritten());
 }
 
 async function main() {
