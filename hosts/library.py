@@ -146,15 +146,16 @@ def build(name, kind, file, to, is_after_ci, flags=(), swapped="", lay=None):
             built = folder / "crates" / crate / "out"
             shutil.rmtree(built, ignore_errors=True)  # (what was proved over the crate that was swapped isn't so here)
             if place.is_dir():
-                shutil.copytree(place, built, copy_function=lay_file)
+                shutil.copytree(place, built)
         OUT.mkdir(exist_ok=True)
         run(lay_kit(flags, folder / "kit", (OUT / to).with_suffix(".bc")), folder / "crates" / name, "lib", declaring=swapped)
         shutil.copy(folder / "crates" / name / "out" / file.format(name), OUT / to)
         for crate, place in kept.items():
             shutil.rmtree(place, ignore_errors=True)
+            place.mkdir(parents=True)
             for part in ("incremental", "rlib"):
                 if (folder / "crates" / crate / "out" / part).is_dir():
-                    shutil.copytree(folder / "crates" / crate / "out" / part, place / part)
+                    shutil.move(folder / "crates" / crate / "out" / part, place / part)
     print(f"{OUT / to}: {(OUT / to).stat().st_size:,} bytes", flush=True)
 
 
