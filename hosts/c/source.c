@@ -225,6 +225,28 @@ static void refuse(const char *name, size_t size)
     row("refused memory", wrong == 0 && calls >= 2 && without < calls);
 }
 
+/* A block of so many bytes, or none. */
+static uint8_t *block_of(size_t size)
+{
+    uint8_t *block = __real_malloc(size + (size == 0));
+    if (block == NULL)
+        exit(3);
+    return block;
+}
+
+/* Whether a source that is a program comes to the same where it, the ROM and the listing lie in blocks of their very sizes, of which the
+ * sanitizers know the ends. */
+static int is_same_in_blocks(size_t size)
+{
+    size_t length = (size_t)told.listing;
+    uint8_t *text = block_of(size), *code = block_of(PAC_SOURCE_ROM_SIZE), *list = block_of(length);
+    memcpy(text, source, size);
+    int is_so = pac_assemble(text, size, code, PAC_SOURCE_ROM_SIZE, list, length, &told) == PAC_SOURCE_DONE && told.listing == length;
+    is_so = is_so && memcmp(code, rom, PAC_SOURCE_ROM_SIZE) == 0 && memcmp(list, listing, length) == 0;
+    __real_free(text), __real_free(code), __real_free(list);
+    return is_so;
+}
+
 /* Assembles sources from standard input. */
 static int assemble_all(void)
 {
@@ -237,7 +259,7 @@ static int assemble_all(void)
         uint32_t code = pac_assemble(source, size, rom, PAC_SOURCE_ROM_SIZE, listing, ROOM, &told);
         fwrite(&code, sizeof code, 1, stdout), fwrite(&told, sizeof told, 1, stdout), fwrite(rom, 1, PAC_SOURCE_ROM_SIZE, stdout);
         fwrite(listing, 1, code == PAC_SOURCE_DONE ? (size_t)told.listing : 0, stdout);
-        if (held != 0)
+        if (held != 0 || (code == PAC_SOURCE_DONE && !is_same_in_blocks(size)))
             return 4;
     }
     return 0;
