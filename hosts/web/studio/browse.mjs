@@ -3,7 +3,8 @@
 import { Browser } from '../browser.mjs';
 
 const KEYS = {
-    ArrowLeft: 37, ArrowUp: 38, ArrowRight: 39, ArrowDown: 40, Digit1: 49, Digit5: 53, KeyP: 80, Comma: 188, Period: 190, F9: 120, F10: 121, Tab: 9, Escape: 27,
+    ArrowLeft: 37, ArrowUp: 38, ArrowRight: 39, ArrowDown: 40, Digit1: 49, Digit5: 53, KeyP: 80, Comma: 188, Period: 190, F9: 120, F10: 121, Tab: 9,
+        Escape: 27,
 };
 const LONGEST = 60; // seconds until the page has to be so far
 const NAMES = { Digit1: '1', Digit5: '5', KeyP: 'p', Comma: ',', Period: '.' };

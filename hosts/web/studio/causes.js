@@ -40,7 +40,8 @@ function tokensOf(line) {
     for (let match; TOKEN.lastIndex < line.length && (match = TOKEN.exec(line));) {
         const [text, blank, other, name, number, quoted, open, sign, comment] = match;
         if (comment || open) break;
-        if (!blank) found.push({ text, kind: other ? 'other' : name ? 'name' : number ? 'number' : quoted ? 'text' : sign ? 'sign' : '', at: match.index });
+        if (!blank) found.push({ text, kind: other ? 'other' : name ? 'name' : number ? 'number' : quoted ? 'text' : sign ? 'sign' : '',
+            at: match.index });
     }
     return found;
 }
@@ -112,7 +113,8 @@ function formCause(line) {
         rest = tokens.slice(1).filter(({ text }, at) => at > 0 || text !== ':');
         if (!rest.length || !OPERATIONS.has(rest[0].text.toUpperCase())) {
             const said = foreign(names.slice(0, 2)), like = near(first, OPERATIONS);
-            return said.length ? said : [like ? `${first} is no operation; ${like} is one` : `${first} is no operation, so it is a label, and an operation should follow it`];
+            return said.length ? said : [like ? `${first} is no operation; ${like} is one`
+                : `${first} is no operation, so it is a label, and an operation should follow it`];
         }
         if (['ORG', 'IF', 'ELSE', 'ENDIF'].includes(rest[0].text.toUpperCase())) return [`${rest[0].text} takes no label`];
     }

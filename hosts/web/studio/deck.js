@@ -7,7 +7,8 @@ import { shownAt } from './pixel.js';
 import { HEIGHT, WIDTH } from '../board.js';
 
 const FAR = 36000; // frames in which a line is looked for
-const MODES = { live: 'Live', replay: 'Played again', demo: 'Demo · press a key to play', paused: 'Paused', stopped: 'Stopped', busy: 'Playing it again' };
+const MODES = { live: 'Live', replay: 'Played again', demo: 'Demo · press a key to play', paused: 'Paused', stopped: 'Stopped',
+    busy: 'Playing it again' };
 const SHORT = 30; // frames below which no progress is told
 
 export class Deck {
@@ -15,8 +16,10 @@ export class Deck {
         this.studio = studio;
         for (const name of ['back-frame', 'back-step', 'on-step', 'on-frame', 'again', 'sound', 'turn', 'full']) icon(at(name), name);
         const clicks = {
-            play: () => this.toggle(), 'back-frame': () => this.byFrames(-1), 'on-frame': () => this.byFrames(1), 'back-step': () => this.byStep(stepBack),
-            'on-step': () => this.byStep(stepOn), again: () => this.anew(), sound: () => this.mute(), turn: () => this.turn(), full: () => this.full(),
+            play: () => this.toggle(), 'back-frame': () => this.byFrames(-1), 'on-frame': () => this.byFrames(1),
+                'back-step': () => this.byStep(stepBack),
+            'on-step': () => this.byStep(stepOn), again: () => this.anew(), sound: () => this.mute(), turn: () => this.turn(),
+                full: () => this.full(),
         };
         for (const [name, does] of Object.entries(clicks)) at(name).addEventListener('click', does);
         at('moment').addEventListener('input', ({ target }) => this.slides(Number(target.value)));
@@ -210,9 +213,11 @@ export class Deck {
     // The keys of the studio itself; those of the board are the controls'.
     key(event) {
         const isInText = event.target.closest?.('textarea, input:not([type=range]), select') !== null, { key } = event;
-        const any = { F10: () => this.byStep(event.shiftKey ? stepBack : stepOn), F9: () => this.studio.runsTo(this.studio.editor.line, event.shiftKey) };
+        const any = { F10: () => this.byStep(event.shiftKey ? stepBack : stepOn),
+            F9: () => this.studio.runsTo(this.studio.editor.line, event.shiftKey) };
         const free = { p: () => this.toggle(), ',': () => this.byFrames(-1), '.': () => this.byFrames(1) };
-        const does = any[key] ?? (event.ctrlKey && event.code === 'Space' ? () => this.toggle() : isInText || event.ctrlKey || event.metaKey ? undefined : free[key]);
+        const does = any[key] ?? (event.ctrlKey && event.code === 'Space' ? () => this.toggle() : isInText || event.ctrlKey
+            || event.metaKey ? undefined : free[key]);
         if (!does) return;
         event.preventDefault();
         does();

@@ -119,7 +119,8 @@ export class Editor {
     // The line in which the caret is.
     get line() {
         let line = 1;
-        for (let left = this.area.selectionStart; line < this.lines.length && left > this.lines[line - 1].length; line++) left -= this.lines[line - 1].length + 1;
+        for (let left = this.area.selectionStart; line < this.lines.length
+            && left > this.lines[line - 1].length; line++) left -= this.lines[line - 1].length + 1;
         return line;
     }
 

@@ -41,10 +41,12 @@ export async function taken(files) {
             if (found.source) throw new Fault('two sources', `${found.source.name} and ${file.name} are both sources`);
             found.source = { name: isOne(file.name), text: sourceOf(file) };
         } else if (SCRIPT.test(file.name)) found.script = { name: isOne(file.name), masks: masksOf(textOf(file.bytes)) };
-        else if (STATE_NAME.test(file.name) || textOf(file.bytes.subarray(0, 8)) === STATE) found.state = { name: isOne(file.name), bytes: file.bytes };
+        else if (STATE_NAME.test(file.name) || textOf(file.bytes.subarray(0, 8)) === STATE) found.state = { name: isOne(file.name),
+            bytes: file.bytes };
         else if (/\.rom$/i.test(file.name) && file.bytes.length === PROGRAM) found.program = { name: isOne(file.name), bytes: file.bytes };
     }
-    if (hasSet(all)) found.set = await setOf(all, found.source !== undefined || found.program !== undefined || !all.some(({ name }) => /\.6[efhj]$/i.test(name)) && !programIn(all));
+    if (hasSet(all)) found.set = await setOf(all, found.source !== undefined || found.program !== undefined
+        || !all.some(({ name }) => /\.6[efhj]$/i.test(name)) && !programIn(all));
     if (Object.keys(found).length === 0) {
         const names = all.slice(0, 3).map(({ name }) => name).join(', ');
         throw new Fault('unknown', `${names || 'the zip'}: no source (.asm), script (.script), state (.state), manifest (.toml) or dump named after its chip (.6e to .3m)`);

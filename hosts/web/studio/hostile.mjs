@@ -46,13 +46,18 @@ const stored = (name, bytes) => ({ name, packed: Buffer.from(bytes), method: 0, 
 // What is handed over: a name for it, files, and what the page has to say in front of the cause, and in it.
 function rows() {
     const zeros = gigabyteOfZeros(), manifest = '[tiles]\nfile = "tiles.rom"\n';
-    const dumps = [['a.6e', 4096], ['a.6f', 4096], ['a.6h', 4096], ['a.6j', 4096], ['a.5e', 4096], ['a.5f', 4096], ['a.7f', 32], ['a.4a', 256], ['a.1m', 256]];
+    const dumps = [['a.6e', 4096], ['a.6f', 4096], ['a.6h', 4096], ['a.6j', 4096], ['a.5e', 4096], ['a.5f', 4096], ['a.7f', 32], ['a.4a', 256],
+        ['a.1m', 256]];
     return [
-        ['a zip of 1 GB of zeros', { 'zeros.zip': zipOf([{ name: 'zeros.asm', packed: zeros, size: GIGABYTE }]) }, 'too large', 'zeros.asm in zeros.zip'],
-        ['one that says it has 4,096 bytes', { 'zeros.zip': zipOf([{ name: 'zeros.5e', packed: zeros, size: 4096 }]) }, 'too large', 'zeros.5e in zeros.zip'],
+        ['a zip of 1 GB of zeros', { 'zeros.zip': zipOf([{ name: 'zeros.asm', packed: zeros, size: GIGABYTE }]) }, 'too large',
+            'zeros.asm in zeros.zip'],
+        ['one that says it has 4,096 bytes', { 'zeros.zip': zipOf([{ name: 'zeros.5e', packed: zeros, size: 4096 }]) }, 'too large',
+            'zeros.5e in zeros.zip'],
         ['a zip that is cut', { 'cut.zip': zipOf([stored('a.asm', 'NOP\n')]).subarray(0, 60) }, 'no zip', 'cut.zip'],
-        ['a zip whose list is another', { 'list.zip': Buffer.concat([zipOf([stored('a.asm', 'NOP\n')]).subarray(0, -6), Buffer.from([255, 255, 255, 255, 0, 0])]) }, '', 'list.zip'],
-        ['a zip with many files', { 'many.zip': zipOf(Array.from({ length: 300 }, (_, at) => stored(`${at}.asm`, 'NOP\n'))) }, 'too many', 'many.zip'],
+        ['a zip whose list is another', { 'list.zip': Buffer.concat([zipOf([stored('a.asm', 'NOP\n')]).subarray(0, -6),
+            Buffer.from([255, 255, 255, 255, 0, 0])]) }, '', 'list.zip'],
+        ['a zip with many files', { 'many.zip': zipOf(Array.from({ length: 300 }, (_, at) => stored(`${at}.asm`, 'NOP\n'))) }, 'too many',
+            'many.zip'],
         ['a zip with markup for a name', { 'mine.zip': zipOf([stored(MARKUP, 'x')]) }, 'unknown', MARKUP],
         ['a name of markup', { [`${MARKUP}.txt`]: 'x' }, 'unknown', MARKUP],
         ['a script with a fault', { 'mine.script': '10 -\n5 P1_UPP\n' }, 'I1', 'line 2'],
@@ -67,7 +72,8 @@ function rows() {
         ['a manifest with a file that is missing', { 'set.toml': `${manifest}[sprites]\nfile = "s"\n[colours]\nfile = "c"\n[lookup]\nfile = "l"\n[wave]\nfile = "w"\n` }, 'M5', 'tiles.rom'],
         ['a manifest without a part', { 'set.toml': manifest }, 'M2', 'sprites'],
         ['dumps without the last', Object.fromEntries(dumps.slice(0, 8).map(([name, size]) => [name, Buffer.alloc(size)])), 'M2', 'wave'],
-        ['a dump of another size', Object.fromEntries(dumps.map(([name, size], at) => [name, Buffer.alloc(size + (at === 6 ? 1 : 0))])), 'M3', 'colours'],
+        ['a dump of another size', Object.fromEntries(dumps.map(([name, size], at) => [name, Buffer.alloc(size + (at === 6 ? 1 : 0))])), 'M3',
+            'colours'],
         ['half of a program', Object.fromEntries(dumps.slice(1).map(([name, size]) => [name, Buffer.alloc(size)])), 'M2', 'program1'],
     ];
 }
@@ -80,7 +86,8 @@ export async function hostile(page, row) {
         row(`${what} is refused by name`, told.startsWith(name) && told.includes(cause), told);
     }
     row('nothing of it runs, and nothing is an element', await page.value("window.hacked === undefined && document.querySelectorAll('img').length === 0"));
-    row('what was there stays', (await page.value('studio.editor.text')) === before && (await page.value('Array.from(studio.session.roms).join().length')) === roms);
+    row('what was there stays', (await page.value('studio.editor.text')) === before
+        && (await page.value('Array.from(studio.session.roms).join().length')) === roms);
     await page.value(`studio.begin(${JSON.stringify(MARKUP)}, ${JSON.stringify(`; ${MARKUP}\nX: JR X\n${MARKUP}\n`)})`);
     await page.until("!document.getElementById('problem').hidden");
     row('a source of markup is text, and refused', await page.value("window.hacked === undefined && document.querySelectorAll('img').length === 0"));

@@ -6,15 +6,18 @@ import { placeOf } from './who.js';
 
 const ROWS = 24; // of 16 bytes
 const PARTS_OF_MEMORY = [
-    ['Work RAM', 0x4c00], ['Tiles shown', 0x4000], ['Palettes shown', 0x4400], ['Sprites', 0x4ff0], ['Voices', 0x5040], ['Places of sprites', 0x5060], ['Program', 0],
+    ['Work RAM', 0x4c00], ['Tiles shown', 0x4000], ['Palettes shown', 0x4400], ['Sprites', 0x4ff0], ['Voices', 0x5040],
+        ['Places of sprites', 0x5060], ['Program', 0],
 ];
 
 export class MemoryPane {
     constructor(root, studio) {
         Object.assign(this, { root, studio, from: 0x4c00, chosen: null, before: null });
-        this.field = made('input', { className: 'field', size: 17, placeholder: 'address or name', 'aria-label': 'Address in hexadecimal, or a name', 'data-keys': '' });
+        this.field = made('input', { className: 'field', size: 17, placeholder: 'address or name',
+            'aria-label': 'Address in hexadecimal, or a name', 'data-keys': '' });
         this.field.addEventListener('change', () => this.find(this.field.value.trim()));
-        const parts = made('select', { 'aria-label': 'Part of the memory' }, ...PARTS_OF_MEMORY.map(([name, from]) => made('option', { value: from }, `${hex(from)}  ${name}`)));
+        const parts = made('select', { 'aria-label': 'Part of the memory' }, ...PARTS_OF_MEMORY.map(([name, from]) => made('option',
+            { value: from }, `${hex(from)}  ${name}`)));
         parts.addEventListener('change', () => this.at(Number(parts.value)));
         const names = made('datalist', { id: 'names' });
         this.field.setAttribute('list', 'names');
@@ -65,7 +68,8 @@ export class MemoryPane {
         const { listing } = this.studio;
         if (listing && listing !== this.listed) {
             this.listed = listing;
-            this.names.replaceChildren(...[...listing.symbols].filter(([, value]) => value >= 0x4000 && value <= 0xffff).map(([name]) => made('option', { value: name })));
+            this.names.replaceChildren(...[...listing.symbols].filter(([, value]) => value >= 0x4000
+                && value <= 0xffff).map(([name]) => made('option', { value: name })));
         }
         this.bytes = this.studio.bytesAt(block, this.from, 16 * ROWS);
         const rows = [];
@@ -83,6 +87,7 @@ export class MemoryPane {
     byte(at, value) {
         const isFresh = this.before?.from === this.from && this.before.bytes[at - this.from] !== value;
         const className = [at === this.chosen ? 'chosen' : '', value === 0 ? 'zero' : '', isFresh ? 'fresh' : ''].join(' ');
-        return made('button', { type: 'button', className, tabIndex: at === (this.chosen ?? this.from) ? 0 : -1, disabled: placeOf(at) === null && at >= 0x4000, data: { at } }, hex(value, 2));
+        return made('button', { type: 'button', className, tabIndex: at === (this.chosen ?? this.from) ? 0 : -1, disabled: placeOf(at) === null
+            && at >= 0x4000, data: { at } }, hex(value, 2));
     }
 }

@@ -38,19 +38,24 @@ const place = (run) => {
 };
 
 export async function moments(files, assembler, { example, pacboard, at, row, ROOT }) {
-    const module = await WebAssembly.compile(files['pac_host.wasm']), roms = new Uint8Array(25120), { rom } = assembler.assemble(new Uint8Array(example('starfall', 'asm')));
+    const module = await WebAssembly.compile(files['pac_host.wasm']), roms = new Uint8Array(25120),
+        { rom } = assembler.assemble(new Uint8Array(example('starfall', 'asm')));
     roms.set(rom);
     roms.set(files.set, rom.length);
     const board = () => new Board(new WebAssembly.Instance(module, {}).exports, roms);
     const masks = masksOf(example('starfall', 'script').toString()), run = new Run(board(), roms, new Tape(masks));
 
     writeFileSync(at('look.commands'), COMMANDS);
-    const words = ['debug', '--set', 'examples/set.toml', '--source', 'examples/starfall.asm', '--script', 'examples/starfall.script'].map((word) => (word.includes('/') ? path.join(ROOT, word) : word));
-    const told = pacboard(...words, '--commands', at('look.commands'), '--frames', '/dev/null', '--wave', '/dev/null', '--listing', '/dev/null').stdout.toString();
+    const words = ['debug', '--set', 'examples/set.toml', '--source', 'examples/starfall.asm', '--script',
+        'examples/starfall.script'].map((word) => (word.includes('/') ? path.join(ROOT, word) : word));
+    const told = pacboard(...words, '--commands', at('look.commands'), '--frames', '/dev/null', '--wave', '/dev/null', '--listing',
+        '/dev/null').stdout.toString();
     const wanted = told.split('\n').filter((line) => /^(frame|step|break|back) /.test(line)).map((line) => line.split(' ').slice(1, 4).join(' '));
-    const does = [() => run.go(18), () => run.go(19), () => stepOn(run), () => end(onTo(run, 0x117, 2)), () => (stepOn(run), stepOn(run)), () => stepBack(run)];
+    const does = [() => run.go(18), () => run.go(19), () => stepOn(run), () => end(onTo(run, 0x117, 2)), () => (stepOn(run), stepOn(run)),
+        () => stepBack(run)];
     const places = does.map((one) => (one(), place(run)));
-    row('steps, and the way to an address, are those of pacboard debug', wanted.length === 6 && places.join() === wanted.join(), `${places} / ${wanted}`);
+    row('steps, and the way to an address, are those of pacboard debug', wanted.length === 6 && places.join() === wanted.join(),
+        `${places} / ${wanted}`);
 
     run.go(300);
     const kept = run.board.block;
@@ -79,10 +84,12 @@ export async function moments(files, assembler, { example, pacboard, at, row, RO
             if (touch && touch.frame < 20) break;
             if (touch?.isWrite && touch.old !== touch.value) found.push(touch.steps);
         }
-        row(`who wrote ${address.toString(16)}: each step that changed it, and no other`, found.reverse().join() === written.get(address).join(), `${found} / ${written.get(address)}`);
+        row(`who wrote ${address.toString(16)}: each step that changed it, and no other`, found.reverse().join() === written.get(address).join(),
+            `${found} / ${written.get(address)}`);
     }
     const [copy] = first(beside(run.go(20), board()), 0x5061, 1);
-    row('the write of docs/DEBUGGING.md', copy.frame === 19 && copy.steps === 196647 && copy.tick === 467 && copy.pc === 0x117 && copy.old === 0xc0 && copy.value === 0xbe);
+    row('the write of docs/DEBUGGING.md', copy.frame === 19 && copy.steps === 196647 && copy.tick === 467 && copy.pc === 0x117 && copy.old === 0xc0
+        && copy.value === 0xbe);
     const writes = first(beside(run, board()), 0x5061, 3).map(({ frame, pc }) => `${frame} ${pc}`);
     row('writes that change nothing are told too', writes.join() === '19 279,18 279,17 279', writes.join());
     const reads = first(beside(run, board()), 0x4c31, 8, ({ isWrite }) => !isWrite);
@@ -92,7 +99,8 @@ export async function moments(files, assembler, { example, pacboard, at, row, RO
         run.go(20);
         const all = passed.filter(([pc]) => pc === address).map(([, steps]) => steps), found = [];
         while (end(onTo(run, address, 3)) && run.frame < 22) found.push(clocksOf(run.board.bytes('board')).steps);
-        row(`each time that the processor comes to ${address.toString(16)}`, found.join() === all.filter((steps) => steps > clocksOf(run.go(20).board.bytes('board')).steps).join(), `${found.length} ${all.length}`);
+        row(`each time that the processor comes to ${address.toString(16)}`, found.join() === all.filter((steps) =>
+            steps > clocksOf(run.go(20).board.bytes('board')).steps).join(), `${found.length} ${all.length}`);
         const back = [];
         run.go(22);
         while (end(backTo(run, address)) && run.frame >= 20) back.push(clocksOf(run.board.bytes('board')).steps);
@@ -120,7 +128,8 @@ export async function moments(files, assembler, { example, pacboard, at, row, RO
         return [33 * bit(0) + 71 * bit(1) + 151 * bit(2), 33 * bit(3) + 71 * bit(4) + 151 * bit(5), 81 * bit(6) + 174 * bit(7), 255].join();
     };
     const entry = (palette, value) => byte(files.set[8224 + 4 * palette + value] & 15);
-    const squares = Array.from({ length: 128 }, (_, square) => colour(palettes, 8 * (square % 32) + 3, 8 * Math.floor(square / 32) + 3) === entry(square >> 2, square & 3));
+    const squares = Array.from({ length: 128 }, (_, square) => colour(palettes, 8 * (square % 32) + 3,
+        8 * Math.floor(square / 32) + 3) === entry(square >> 2, square & 3));
     row('the palettes are those of the PROMs', squares.every(Boolean), squares.indexOf(false).toString());
     const pixel = (at, x, y) => { // of a tile, as docs/FORMATS.md has it
         const value = files.set[16 * at + (x < 4 ? 8 : 0) + y], bit = x & 3;
@@ -128,12 +137,14 @@ export async function moments(files, assembler, { example, pacboard, at, row, RO
     };
     let others = 0;
     for (let tile = 0; tile < 256; tile++)
-        for (let y = 0; y < 8; y++) for (let x = 0; x < 8; x++) others += colour(tiles, 8 * (tile % 32) + x, 8 * Math.floor(tile / 32) + y) === entry(1, pixel(tile, x, y)) ? 0 : 1;
+        for (let y = 0; y < 8; y++) for (let x = 0; x < 8; x++) others += colour(tiles, 8 * (tile % 32) + x,
+            8 * Math.floor(tile / 32) + y) === entry(1, pixel(tile, x, y)) ? 0 : 1;
     row('the tiles are those of the ROM', others === 0, String(others));
     row('there are sprites', new Set(Array.from({ length: 4096 }, (_, at) => colour(sprites, at % 256, Math.floor(at / 256)))).size > 3);
     run.go(300);
     const voices = voicesOf(run.board.block);
-    row('three voices, each within hearing', voices.length === 3 && voices.every(({ hertz, waveform, volume }) => hertz > 20 && hertz < 10000 && waveform < 8 && volume < 16));
+    row('three voices, each within hearing', voices.length === 3 && voices.every(({ hertz, waveform, volume }) => hertz > 20 && hertz < 10000
+        && waveform < 8 && volume < 16));
     const sounds = [0, 1, 2].map((voice) => soundOf(easel, roms, run.board.block, voice).join());
     row('each sounds alone', new Set(sounds).size === 3 && sounds.every((sound) => new Set(sound.split(',')).size > 2));
     const quiet = run.board.block;

@@ -8,16 +8,20 @@ import { VoicesPane } from './sounds.js';
 import { TouchesPane } from './touches.js';
 
 const KEYS = [
-    ['Arrows', 'joystick of player 1; R D F G that of player 2'], ['1 2', 'start buttons'], ['5 6 7', 'coins, and a credit'], ['P', 'play or pause; Ctrl Space everywhere'],
-    [', .', 'a frame back, a frame on'], ['F10', 'a step on; with Shift a step back'], ['F9', 'run to the line with the caret; with Shift back to it'],
-    ['Click', 'on a line\'s number: run to it, with Shift back to it; on the paused picture: what shows there; on a byte: who wrote it'], ['Esc Tab', 'out of the editor'],
+    ['Arrows', 'joystick of player 1; R D F G that of player 2'], ['1 2', 'start buttons'], ['5 6 7', 'coins, and a credit'],
+        ['P', 'play or pause; Ctrl Space everywhere'],
+    [', .', 'a frame back, a frame on'], ['F10', 'a step on; with Shift a step back'],
+        ['F9', 'run to the line with the caret; with Shift back to it'],
+    ['Click', 'on a line\'s number: run to it, with Shift back to it; on the paused picture: what shows there; on a byte: who wrote it'],
+        ['Esc Tab', 'out of the editor'],
 ];
 const WORDS = 'A page can look in but promise nothing: the board and the assembler inside are proved, and what is around them is tested.';
 
 // The pane that tells the keys.
 class HelpPane {
     constructor(root) {
-        root.append(made('div', { className: 'keys-list' }, ...KEYS.flatMap(([key, text]) => [made('span', {}, ...key.split(' ').flatMap((one) => [made('kbd', {}, one), ' '])), made('span', {}, text)])),
+        root.append(made('div', { className: 'keys-list' }, ...KEYS.flatMap(([key, text]) =>
+            [made('span', {}, ...key.split(' ').flatMap((one) => [made('kbd', {}, one), ' '])), made('span', {}, text)])),
             made('p', {}, ''), made('p', {}, WORDS));
     }
 
@@ -28,7 +32,8 @@ export class Panes {
     constructor(studio) {
         const root = (name) => at(`pane-${name}`);
         this.all = {
-            processor: new ProcessorPane(root('processor'), studio), memory: new MemoryPane(root('memory'), studio), pictures: new PicturesPane(root('pictures'), studio),
+            processor: new ProcessorPane(root('processor'), studio), memory: new MemoryPane(root('memory'), studio),
+                pictures: new PicturesPane(root('pictures'), studio),
             voices: new VoicesPane(root('voices'), studio), who: new TouchesPane(root('who'), studio), help: new HelpPane(root('help')),
         };
         this.studio = studio;

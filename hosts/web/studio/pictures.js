@@ -10,7 +10,8 @@ export class PicturesPane {
     constructor(root, studio) {
         Object.assign(this, { root, studio, palette: 0, isDue: true });
         this.told = made('p', { className: 'told-here' }, 'Click on the picture above to see what shows there.');
-        this.choice = made('select', { 'aria-label': 'Palette' }, ...[...Array(32).keys()].map((palette) => made('option', { value: palette }, String(palette))));
+        this.choice = made('select', { 'aria-label': 'Palette' }, ...[...Array(32).keys()].map((palette) => made('option', { value: palette },
+            String(palette))));
         this.choice.addEventListener('change', () => this.paint(Number(this.choice.value)));
         this.over = made('span', { className: 'dim mono' });
         this.canvases = {};
@@ -64,11 +65,14 @@ export class PicturesPane {
         const pixel = `Pixel ${x}, ${y}: `;
         if (!found) this.told.replaceChildren(`${pixel}no picture has come yet.`);
         else if (found.kind === 'cell') {
-            this.told.replaceChildren(`${pixel}the cell at `, who(found.address, `${hex(found.address)}H`), ` shows tile ${found.code} (${hex(found.code, 2)}H) in palette `,
+            this.told.replaceChildren(`${pixel}the cell at `, who(found.address, `${hex(found.address)}H`),
+                ` shows tile ${found.code} (${hex(found.code, 2)}H) in palette `,
                 who(found.colour, `${found.palette}`), '.');
         } else {
-            const turned = [found.isMirrored ? 'left and right exchanged' : '', found.isFlipped ? 'top and bottom exchanged' : ''].filter(Boolean).join(', ');
-            this.told.replaceChildren(`${pixel}sprite ${found.sprite}, `, who(found.address, `${hex(found.address)}H`), ` shows shape ${found.code}${turned ? `, ${turned},` : ''} in palette `,
+            const turned = [found.isMirrored ? 'left and right exchanged' : '', found.isFlipped ? 'top and bottom exchanged'
+                : ''].filter(Boolean).join(', ');
+            this.told.replaceChildren(`${pixel}sprite ${found.sprite}, `, who(found.address, `${hex(found.address)}H`),
+                ` shows shape ${found.code}${turned ? `, ${turned},` : ''} in palette `,
                 who(found.address + 1, `${found.palette}`), `, its corner at ${found.x}, ${found.y} by `, who(found.place, `${hex(found.place)}H`),
                 `. Under it is tile ${found.under.code} of the cell at `, who(found.under.address, `${hex(found.under.address)}H`), '.');
         }

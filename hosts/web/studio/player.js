@@ -33,7 +33,8 @@ export class Screen {
 // The sound.
 export class Speaker {
     constructor(workletText) {
-        Object.assign(this, { workletText, sent: 0, taken: 0, dry: 0, isMuted: false, isStalled: false, context: null, woken: 0, seen: 0, seenAt: 0 });
+        Object.assign(this, { workletText, sent: 0, taken: 0, dry: 0, isMuted: false, isStalled: false, context: null, woken: 0, seen: 0,
+            seenAt: 0 });
     }
 
     // Begins to sound; a browser lets no page do so before somebody has touched it.

@@ -28,7 +28,8 @@ export function registersOf(block) {
 // A list of registers, those marked that have changed.
 function registerList(values, before) {
     return made('dl', { className: 'registers' }, ...values.map(([name, text]) =>
-        made('div', { className: before && before[name] !== undefined && before[name] !== text ? 'changed' : '' }, made('dt', {}, name), made('dd', {}, text))));
+        made('div', { className: before && before[name] !== undefined && before[name] !== text ? 'changed' : '' }, made('dt', {}, name),
+            made('dd', {}, text))));
 }
 
 export class ProcessorPane {
@@ -39,7 +40,8 @@ export class ProcessorPane {
     show(block) {
         const registers = registersOf(block), { PC: pc, iff, IM } = registers;
         const values = [
-            ...PAIRS.map(([name]) => [name, hex(registers[name])]), ['I', hex(registers.I, 2)], ['R', hex(registers.R, 2)], ['IM', String(IM)], ['IFF', String(iff)],
+            ...PAIRS.map(([name]) => [name, hex(registers[name])]), ['I', hex(registers.I, 2)], ['R', hex(registers.R, 2)], ['IM', String(IM)],
+                ['IFF', String(iff)],
             ['vector', hex(registers.vector, 2)], ['blanks', String(registers.watchdog)],
         ];
         const texts = Object.fromEntries(values), place = this.studio.moment;
@@ -48,8 +50,10 @@ export class ProcessorPane {
         const f = block[PLACES.AT_F];
         this.root.replaceChildren(
             registerList(values, this.before),
-            made('div', { className: 'flags' }, ...FLAGS.map(([bit, name, title]) => made('span', { className: f >> bit & 1 ? 'set' : '', title }, name)),
-                ...['interrupts', 'sound', '', 'flip'].map((name, bit) => (name ? made('span', { className: registers.latch >> bit & 1 ? 'set' : '', title: `what 500${bit}H keeps` }, name) : null)),
+            made('div', { className: 'flags' }, ...FLAGS.map(([bit, name, title]) => made('span', { className: f >> bit & 1 ? 'set' : '', title },
+                name)),
+                ...['interrupts', 'sound', '', 'flip'].map((name, bit) => (name ? made('span',
+                    { className: registers.latch >> bit & 1 ? 'set' : '', title: `what 500${bit}H keeps` }, name) : null)),
                 made('span', { className: registers.request ? 'set' : '', title: "the blank's request" }, 'request'),
                 made('span', { className: registers.isHalted ? 'set' : '' }, 'halted')),
             made('h2', {}, 'What comes next'),
@@ -68,10 +72,12 @@ export class ProcessorPane {
             if (name) rows.push(made('div', { className: 'named' }, `${name}:`));
             const line = listing?.lineAt.get(address), isData = line && !listing.lines[line]?.ticks && listing.lines[line]?.address <= address;
             rows.push(made('div', { className: address === pc ? 'next' : isData ? 'dim' : '' },
-                made('span', { className: 'dim' }, hex(address)), made('span', { className: 'dim' }, bytes.slice(0, size).map((byte) => hex(byte, 2)).join('')),
+                made('span', { className: 'dim' }, hex(address)), made('span', { className: 'dim' },
+                    bytes.slice(0, size).map((byte) => hex(byte, 2)).join('')),
                 made('span', {}, address === pc && isHalted ? `${this.named(text)}   ; waits for the interrupt` : this.named(text)),
                 made('span', { className: 'dim' }, ticksOf(bytes.slice(0, 4)), '  ',
-                    ...(line ? [made('button', { type: 'button', title: 'To this line of the source', onclick: () => this.studio.editor.visit(line) }, `line ${line}`)] : []))));
+                    ...(line ? [made('button', { type: 'button', title: 'To this line of the source',
+                        onclick: () => this.studio.editor.visit(line) }, `line ${line}`)] : []))));
             address += size;
         }
         return rows;

@@ -60,7 +60,8 @@ export async function sessions(files, assembler, { example, row }) {
     await begin(300);
     const none = Buffer.concat([Buffer.alloc(16384), files.set]);
     none.set([0xed, 0], 0);
-    row('new code that stops is shown where it stops', await session.replace(none) && session.run.stop?.pc === 0 && !session.run.canGo && session.advance() === null);
+    row('new code that stops is shown where it stops', await session.replace(none) && session.run.stop?.pc === 0 && !session.run.canGo
+        && session.advance() === null);
     row('and the next edit goes on from there', await session.replace(variant(4)) && session.run.canGo);
     const { start } = new Run(board, variant(4), new Tape(masks), direct(board, variant(4), masks, 50));
     session.begin(variant(4), masks, { start });

@@ -18,7 +18,8 @@ const OTHER = /^(?:true|false|[+-]?[\w.:+-]+|\[[^\]]*\]|\{[^}]*\})[ \t]*(?:#.*)?
 
 // A text of TOML without its quotes.
 function unquoted(text) {
-    return text.replace(/\\(?:u([0-9A-Fa-f]{4})|(.))/g, (_, code, letter) => (code ? String.fromCharCode(parseInt(code, 16)) : ESCAPES[letter] ?? '\ufffd'));
+    return text.replace(/\\(?:u([0-9A-Fa-f]{4})|(.))/g, (_, code, letter) => (code ? String.fromCharCode(parseInt(code, 16))
+        : ESCAPES[letter] ?? '\ufffd'));
 }
 
 // The tables of a manifest: each name with its pairs; of the program with an array of them.
@@ -56,7 +57,8 @@ function partsOf(tables, hasSource) {
             throw new Fault('M1', `${name} isn't a table with file and sha1 as texts, 40 digits for the latter`, name);
     }
     for (const [name] of PARTS) {
-        const isNeeded = name.startsWith('program') ? program !== undefined || name === 'program1' && !hasSource : name !== 'timing' || found.has(name);
+        const isNeeded = name.startsWith('program') ? program !== undefined || name === 'program1' && !hasSource : name !== 'timing'
+            || found.has(name);
         if (isNeeded && !found.get(name)?.has('file')) throw new Fault('M2', `there is no table ${name} with a file`, name);
     }
     if (program !== undefined && hasSource) throw new Fault('M6', 'there is a source, and the set has a program too');
@@ -84,9 +86,11 @@ function fileOf(files, name) {
 async function checked(name, table, files) {
     const file = fileOf(files, table.get('file'));
     if (!file) throw new Fault('M5', `${name}: the file ${table.get('file')} isn't there`, name);
-    if (file.bytes.length !== SIZES[name]) throw new Fault('M3', `${name}: ${file.name} has ${file.bytes.length} bytes; ${SIZES[name]} are wanted`, name);
+    if (file.bytes.length !== SIZES[name]) throw new Fault('M3', `${name}: ${file.name} has ${file.bytes.length} bytes; ${SIZES[name]} are wanted`,
+        name);
     const digest = table.has('sha1') ? await digestOf(file.bytes) : null;
-    if (digest !== null && digest !== table.get('sha1').toLowerCase()) throw new Fault('M4', `${name}: the SHA-1 of ${file.name} is another one`, name);
+    if (digest !== null && digest !== table.get('sha1').toLowerCase()) throw new Fault('M4', `${name}: the SHA-1 of ${file.name} is another one`,
+        name);
     return file.bytes;
 }
 
@@ -120,7 +124,8 @@ export async function setOf(files, hasSource) {
     const manifest = files.find(({ name }) => name.toLowerCase().endsWith('.toml'));
     const tables = partsOf(manifest ? tablesOf(textOf(manifest.bytes)) : tablesOfDumps(files), hasSource);
     const parts = [];
-    for (const [name, table] of [...tables].sort(([one], [other]) => orderOf(one) - orderOf(other))) parts.push([name, await checked(name, table, files)]);
+    for (const [name, table] of [...tables].sort(([one], [other]) => orderOf(one) - orderOf(other))) parts.push([name,
+        await checked(name, table, files)]);
     const bytes = parts.filter(([name]) => name !== 'timing').flatMap(([, part]) => Array.from(part));
     return { bytes: Uint8Array.from(bytes), hasProgram: tables.has('program1') };
 }

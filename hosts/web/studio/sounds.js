@@ -20,7 +20,8 @@ export class VoicesPane {
     constructor(root, studio) {
         Object.assign(this, { root, studio });
         this.rows = [0, 1, 2].map((voice) => {
-            const told = made('div', { className: 'mono' }), canvas = made('canvas', { width: 480, height: 112, role: 'img', 'aria-label': `How voice ${voice + 1} sounds alone` });
+            const told = made('div', { className: 'mono' }), canvas = made('canvas',
+                { width: 480, height: 112, role: 'img', 'aria-label': `How voice ${voice + 1} sounds alone` });
             root.append(made('div', { className: 'voice' }, made('b', {}, `Voice ${voice + 1}`), canvas, told));
             return { told, canvas };
         });
@@ -47,7 +48,8 @@ export class VoicesPane {
         context.strokeStyle = '#f3c969';
         context.lineWidth = 2;
         context.beginPath();
-        samples.forEach((sample, at) => context.lineTo(at * width / samples.length, height / 2 - Math.max(-1, Math.min(1, sample / loudest)) * (height / 2 - 6)));
+        samples.forEach((sample, at) => context.lineTo(at * width / samples.length,
+            height / 2 - Math.max(-1, Math.min(1, sample / loudest)) * (height / 2 - 6)));
         context.stroke();
     }
 }

@@ -218,7 +218,8 @@ async function open() {
     const studio = new Studio(files, module, assembler);
     window.studio = studio;
     at('examples').append(...Object.entries(EXAMPLES).map(([name, text]) => made('option', { value: name }, text)));
-    const example = (name, isDemo) => studio.begin(name, textOf(files[`${name}.asm`]), masksOf(textOf(files[`${name}.script`])), { isDemo, rom: files[`${name}.rom`] });
+    const example = (name, isDemo) => studio.begin(name, textOf(files[`${name}.asm`]), masksOf(textOf(files[`${name}.script`])),
+        { isDemo, rom: files[`${name}.rom`] });
     at('examples').addEventListener('change', ({ target }) => {
         studio.set = files.set;
         example(target.value, true);

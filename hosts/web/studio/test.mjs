@@ -67,7 +67,8 @@ function isSame(assembler, source) {
 // Sources of the table, of the examples, and such as come of the examples by chance.
 function sources(assembler, rows) {
     const wrong = rows.filter(({ source }) => !isSame(assembler, Buffer.from(source, 'latin1')));
-    row(`${rows.length} sources of tools/sources: ROM, listing and fault are the program's`, rows.length > 300 && wrong.length === 0, JSON.stringify(wrong[0])?.slice(0, 300));
+    row(`${rows.length} sources of tools/sources: ROM, listing and fault are the program's`, rows.length > 300 && wrong.length === 0,
+        JSON.stringify(wrong[0])?.slice(0, 300));
     for (const name of EXAMPLES) row(`${name}: ROM and listing are the program's`, isSame(assembler, example(name, 'asm')));
     const chance = numbers(7), lines = EXAMPLES.flatMap((name) => example(name, 'asm').toString().split('\n'));
     let faults = 0, others = 0;
@@ -81,7 +82,8 @@ function sources(assembler, rows) {
         faults += assembler.assemble(new Uint8Array(source)).fault ? 1 : 0;
         others += isSame(assembler, source) ? 0 : 1;
     }
-    row(`${RANDOM} sources by chance, of which ${faults} are refused: the program says the same of each`, others === 0 && faults > 100 && faults < RANDOM - 100, String(others));
+    row(`${RANDOM} sources by chance, of which ${faults} are refused: the program says the same of each`, others === 0 && faults > 100
+        && faults < RANDOM - 100, String(others));
     row('no memory is out after them', assembler.isClean, String(assembler.isClean));
     const long = Array.from({ length: 65535 }, (_, line) => (line < 16000 ? '        NOP' : `; line ${line}`)).join('\n'), since = performance.now();
     const { fault, listing } = assembler.assemble(bytesOf(long));
@@ -109,7 +111,8 @@ function disassembly(assembler) {
 
 // The films, sounds, listings and reports of the examples, by their sums.
 async function films(files, assembler) {
-    const sums = Object.fromEntries(readFileSync(path.join(ROOT, 'examples/outputs.sha1'), 'utf8').trim().split('\n').map((line) => line.split('  ').reverse()));
+    const sums = Object.fromEntries(readFileSync(path.join(ROOT, 'examples/outputs.sha1'),
+        'utf8').trim().split('\n').map((line) => line.split('  ').reverse()));
     for (const name of EXAMPLES) {
         const { rom, listing } = assembler.assemble(new Uint8Array(example(name, 'asm'))), masks = masksOf(example(name, 'script').toString());
         const board = await Board.powerOn(files['pac_host.wasm'], Buffer.concat([rom, files.set]));
@@ -128,7 +131,8 @@ async function looks(files) {
     for (let frame = 0; frame < 10; frame++) board.run(16500);
     const before = board.block, memory = board.peek(0, 0x8000);
     row('a look at the memory: program, RAM, inputs, switches', Buffer.from(memory.subarray(0, 0x4000)).equals(roms.subarray(0, 0x4000))
-        && equal(memory.subarray(0x4c00, 0x5000), before.subarray(2130, 3154)) && memory[0x5000] === 0xfe && memory[0x5080] === 0xc9 && memory[0x4800] === 0xbf);
+        && equal(memory.subarray(0x4c00, 0x5000), before.subarray(2130, 3154)) && memory[0x5000] === 0xfe && memory[0x5080] === 0xc9
+            && memory[0x4800] === 0xbf);
     row('which changes nothing, and goes round', equal(board.block, before) && equal(board.peek(0xffff, 2).subarray(1), memory.subarray(0, 1)));
 }
 
@@ -163,19 +167,22 @@ function causes(rows, assembler) {
         if (said.some((one) => !wanted.includes(one))) others.push({ code, line: lines[line - 1]?.slice(0, 60), said, wanted });
         if (!meaningOf(code)) others.push(code);
     }
-    row(`causes of ${all} faults: none is said that tools/explain doesn't say`, all > 100 && others.length === 0, `${others.length}: ${JSON.stringify(others.slice(0, 6))}`);
+    row(`causes of ${all} faults: none is said that tools/explain doesn't say`, all > 100 && others.length === 0,
+        `${others.length}: ${JSON.stringify(others.slice(0, 6))}`);
     row(`for most of them the first is the same (${same})`, same > 0.6 * all);
 }
 
 // Scripts, sets and what is packed.
 async function inputs(files) {
-    const chance = numbers(3), words = ['10 -', '5 P1_LEFT', '# no', '', ' 7\tP1_UP,START1 ', '36000 -', '0 -', '5 P1_UPP', '5', '5 - -', '1 COIN1\r', '007 CREDIT', '99999 -'];
+    const chance = numbers(3), words = ['10 -', '5 P1_LEFT', '# no', '', ' 7\tP1_UP,START1 ', '36000 -', '0 -', '5 P1_UPP', '5', '5 - -',
+        '1 COIN1\r', '007 CREDIT', '99999 -'];
     let others = 0;
     writeFileSync(at('hello.asm'), example('hello', 'asm'));
     for (let turn = 0; turn < SCRIPTS; turn++) {
         const text = Array.from({ length: chance(8) }, () => words[chance(turn % 2 ? 5 : words.length)]).join('\n');
         writeFileSync(at('some.script'), text);
-        const { status, stdout, stderr } = pacboard('run', '--set', path.join(ROOT, 'examples/set.toml'), '--source', at('hello.asm'), '--script', at('some.script'),
+        const { status, stdout, stderr } = pacboard('run', '--set', path.join(ROOT, 'examples/set.toml'), '--source', at('hello.asm'), '--script',
+            at('some.script'),
             '--frames', '/dev/null', '--wave', '/dev/null', '--listing', '/dev/null');
         let told;
         try {
@@ -204,7 +211,8 @@ async function inputs(files) {
     const linked = await fromFragment(await fragmentOf('; ÄÖ\n NOP\n', Uint16Array.from([1, 1, 2])));
     row('a link', linked.source === '; ÄÖ\n NOP\n' && masksOf(linked.script).join() === '1,1,2');
     for (const fragment of ['#source=%%%', '#source=AAAA', '#source=']) {
-        const told = await fromFragment(fragment).then((found) => (found === null ? 'nothing' : found.source === '' ? 'empty' : 'taken'), (error) => error.name);
+        const told = await fromFragment(fragment).then((found) => (found === null ? 'nothing' : found.source === '' ? 'empty' : 'taken'),
+            (error) => error.name);
         row(`the link ${fragment} is refused`, ['damaged', 'empty', 'no source'].includes(told), told);
     }
     const again = await filesOf(await payloadOf({ a: some, b: bytesOf('b') }));
@@ -232,15 +240,18 @@ function commands() {
             mkdirSync(folder, { recursive: true });
             const outputs = ['frames', 'wave', 'listing'].flatMap((name) => [`--${name}`, path.join(folder, name)]);
             const { status, stdout, stderr } = spawnSync(program, [...head, ...words, ...outputs]);
-            const made = ['frames', 'wave', 'listing'].map((name) => { try { return readFileSync(path.join(folder, name)).toString('latin1'); } catch { return null; } });
-            return JSON.stringify([status, stdout.toString(), stderr.toString(), made.map((one) => one && createHash('sha1').update(one).digest('hex'))]);
+            const made = ['frames', 'wave', 'listing'].map((name) => { try { return readFileSync(path.join(folder,
+                name)).toString('latin1'); } catch { return null; } });
+            return JSON.stringify([status, stdout.toString(), stderr.toString(), made.map((one) => one
+                && createHash('sha1').update(one).digest('hex'))]);
         });
         row(`command.mjs ${words.slice(0, 1)} of ${path.basename(words.at(-1))}, ${path.basename(words[4])}, ${path.basename(words[2])}: as pacboard`, ours === theirs, `${ours} ${theirs}`);
     }
 }
 
 async function main() {
-    const files = await inside(PAGE), assembler = await Assembler.of(files['pac_source.wasm']), rows = JSON.parse(readFileSync(at('rows.json'), 'utf8'));
+    const files = await inside(PAGE), assembler = await Assembler.of(files['pac_source.wasm']),
+        rows = JSON.parse(readFileSync(at('rows.json'), 'utf8'));
     await films(files, assembler);
     await looks(files);
     sources(assembler, rows);

@@ -9,7 +9,8 @@ const AT_ONCE = 12; // that are told, before one asks for more
 export class TouchesPane {
     constructor(root, studio) {
         Object.assign(this, { root, studio, address: null, wish: 0, reads: false });
-        this.field = made('input', { className: 'field', size: 17, placeholder: 'address or name', 'aria-label': 'Address in hexadecimal, or a name', 'data-keys': '' });
+        this.field = made('input', { className: 'field', size: 17, placeholder: 'address or name',
+            'aria-label': 'Address in hexadecimal, or a name', 'data-keys': '' });
         this.field.setAttribute('list', 'names');
         this.field.addEventListener('change', () => this.find(this.field.value.trim()));
         this.both = made('input', { type: 'checkbox', id: 'reads' });
@@ -75,7 +76,8 @@ export class TouchesPane {
         this.count += found;
         this.told.textContent = `${this.about}, from this moment back:`;
         this.more.hidden = end !== 'more';
-        if (end === 'all') this.rows.append(made('div', { className: 'dim' }, made('span', {}, ''), made('span', {}, this.count ? 'and none before' : 'none so far')));
+        if (end === 'all') this.rows.append(made('div', { className: 'dim' }, made('span', {}, ''),
+            made('span', {}, this.count ? 'and none before' : 'none so far')));
         if (end === undefined) this.rows.append(made('div', { className: 'dim' }, made('span', {}, ''), made('span', {}, 'pause to see them')));
     }
 
@@ -87,7 +89,8 @@ export class TouchesPane {
         return made('div', {},
             link(`${frame}`, 'To this moment', () => this.studio.visits(frame, inside)),
             made('span', { className: 'dim', title: `T-state ${tick} of frame ${frame}` }, where),
-            made('span', {}, isWrite ? `${hex(old, 2)} → ${hex(value, 2)}` : `reads ${hex(old, 2)}`, made('span', { className: 'dim' }, `   ${hex(pc)} `), text),
+            made('span', {}, isWrite ? `${hex(old, 2)} → ${hex(value, 2)}` : `reads ${hex(old, 2)}`,
+                made('span', { className: 'dim' }, `   ${hex(pc)} `), text),
             code ? link(`line ${code}`, 'To this line of the source', () => this.studio.editor.visit(code)) : made('span', {}));
     }
 }

@@ -198,23 +198,27 @@ async function looking(page) {
     row('who wrote 5061H: the LDIR in frame 19, at T-state 467', touch.startsWith('19T 467C0 → BE') && touch.includes('0117'), touch);
     await page.value("document.querySelector('.touches button').click()");
     await page.until("studio.moment !== '20:0'");
-    row('and the way there', (await page.value('studio.session.run.board.block.slice(66, 70).join()')) === [196647 & 255, 196647 >> 8 & 255, 196647 >> 16, 0].join());
+    row('and the way there', (await page.value('studio.session.run.board.block.slice(66, 70).join()')) === [196647 & 255, 196647 >> 8 & 255,
+        196647 >> 16, 0].join());
     await page.value(goes(281));
     const [top, left] = await page.value('Array.from(studio.session.run.board.block.slice(3154, 3156))'), x = 272 - left + 8, y = top - 31 + 10;
     const boat = await page.value(`studio.deck.tellPixel(${x}, ${y})`), sky = await page.value('studio.deck.tellPixel(100, 100)');
     row('a click on the boat tells its sprite', boat.kind === 'sprite' && boat.palette === 8 && [1, 2].includes(boat.code), JSON.stringify(boat));
-    row('a click on the sky tells its cell', sky.kind === 'cell' && sky.address === 0x41ca && sky.colour === 0x45ca && sky.palette === 1, JSON.stringify(sky));
+    row('a click on the sky tells its cell', sky.kind === 'cell' && sky.address === 0x41ca && sky.colour === 0x45ca && sky.palette === 1,
+        JSON.stringify(sky));
     await page.click('#frame', (x + 0.5) / 288, (y + 0.5) / 224);
     row('by the mouse too', (await page.value("document.querySelector('.told-here').textContent")).includes('sprite'));
     await page.value(goes(18));
     const line = await page.value('studio.listing.lineAt.get(0x0117)');
     await page.value(`studio.runsTo(${line})`);
     const place = await page.value('[...studio.session.run.board.block.slice(52, 54), ...studio.session.run.board.block.slice(66, 69)].join()');
-    row('a click on the number of the LDIR runs to it', place === [0x17, 0x01, ...[0, 8, 16].map((bit) => 185803 - 1 >> bit & 255)].join() || place.startsWith('23,1,'), place);
+    row('a click on the number of the LDIR runs to it', place === [0x17, 0x01, ...[0, 8, 16].map((bit) => 185803 - 1 >> bit & 255)].join()
+        || place.startsWith('23,1,'), place);
     const moment = await page.value('studio.moment');
     await page.value(`studio.runsTo(${line}, true)`);
     const before = await page.value('studio.moment');
-    row('and back to the time before', before !== moment && (await page.value('studio.session.run.board.block.slice(52, 54).join()')) === '23,1', `${moment} ${before}`);
+    row('and back to the time before', before !== moment && (await page.value('studio.session.run.board.block.slice(52, 54).join()')) === '23,1',
+        `${moment} ${before}`);
     for (const pane of ['processor', 'memory', 'pictures', 'voices', 'who', 'help']) await page.value(`studio.panes.open('${pane}')`);
     row('each pane opens', page.faults.length === 0, page.faults.join('\n'));
 }
@@ -232,7 +236,8 @@ async function editing(page) {
     console.log(`${Date.now() - since} ms from the key: ${await page.value("document.getElementById('assembled').textContent")}`);
     const wanted = played(other, scriptTo(script.bytes.toString(), 600)), now = await page.canvas();
     row('an edit shows the same moment under new code', wanted.rgba.equals(now) && !now.equals(before));
-    row('and its state is that of pacboard run', isSameBoard(wanted.state, Buffer.from(await page.value('Array.from(studio.session.run.board.save())'))));
+    row('and its state is that of pacboard run', isSameBoard(wanted.state,
+        Buffer.from(await page.value('Array.from(studio.session.run.board.save())'))));
     await page.value("document.execCommand('insertText', false, '+WHERE')");
     await page.until("!document.getElementById('problem').hidden");
     const told = await page.value("document.getElementById('problem').textContent");
@@ -258,7 +263,8 @@ async function outside(page, script) {
     await page.value("studio.begin('starfall', studio.text = new TextDecoder().decode(studio.files['starfall.asm']).replace('STARS   EQU 4 ', 'STARS   EQU 2 '))");
     row('a state goes on where it was', (await page.hand({ 'mine.state': state.bytes })).startsWith('Opened'));
     const beside = await page.hand({ 'other.asm': example('hello', 'asm'), 'mine.state': state.bytes });
-    row('a state beside another source is refused, and nothing of them is taken', beside.startsWith('V6mine.state') && (await page.value('studio.name')) === 'starfall', beside);
+    row('a state beside another source is refused, and nothing of them is taken', beside.startsWith('V6mine.state')
+        && (await page.value('studio.name')) === 'starfall', beside);
     await page.hand({ 'mine.script': script });
     row('a script is read as it was written', (await page.saved("document.querySelector('[data-save=script]').click()")).bytes.equals(script));
     const picture = await page.saved("document.querySelector('[data-save=picture]').click()");
@@ -275,7 +281,8 @@ async function outside(page, script) {
     await page.value('studio.exits.link()');
     const address = await page.value('location.href');
     const linked = await opened(programOf(['chromium', 'chromium-browser', 'google-chrome']), address);
-    row('a link has the source and what was played in it', (await linked.value('studio.editor.text')) === source && (await linked.value('studio.session.tape.length')) > 0);
+    row('a link has the source and what was played in it', (await linked.value('studio.editor.text')) === source
+        && (await linked.value('studio.session.tape.length')) > 0);
     await linked.close();
     const game = await page.saved("document.getElementById('publish').click()"), file = path.join(FOLDER, 'mine.html');
     writeFileSync(file, game.bytes);
@@ -283,7 +290,8 @@ async function outside(page, script) {
     await alone.value('game.loop.pause()');
     const first = await alone.value('(() => { const { game: it } = game; it.board.begin(it.roms); for (let frame = 0; frame < 60; frame++) { it.board.hold(it.masks[frame]); it.board.run(16500); } it.show(); return it.masks.length; })()');
     const wanted = played(source, scriptTo(script.toString(), 60));
-    row('a published game plays from file://, alone', first > 0 && wanted.rgba.equals(await alone.canvas()) && alone.faults.length === 0, alone.faults.join('\n'));
+    row('a published game plays from file://, alone', first > 0 && wanted.rgba.equals(await alone.canvas()) && alone.faults.length === 0,
+        alone.faults.join('\n'));
     console.log(`published: ${game.bytes.length} bytes`);
     await alone.close();
 }

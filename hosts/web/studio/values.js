@@ -49,7 +49,8 @@ function assembledAlone(assembler, line) {
 
 // How many bytes a line has, whatever its values are.
 function sizeOf(assembler, parts) {
-    const line = RELATIVE.has(parts.operation) ? `        ${parts.operation} ${[...parts.operands.slice(0, -1), '$'].join(',')}` : lineWith(parts, -1, 0);
+    const line = RELATIVE.has(parts.operation) ? `        ${parts.operation} ${[...parts.operands.slice(0, -1), '$'].join(',')}` : lineWith(parts,
+        -1, 0);
     const { listing } = assembledAlone(assembler, line);
     const row = listing && new TextDecoder().decode(listing).split('\n')[1];
     return row ? row.slice(11, 19).trim().length / 2 : 0;

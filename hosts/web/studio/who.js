@@ -67,7 +67,8 @@ function* touches(board, head, at, mask, inside, microseconds) {
         yield* touches(board, head, at, mask, inside, half);
         return;
     }
-    const isInterrupt = head[PLACES.AT_REQUEST] === 1 && end[PLACES.AT_REQUEST] === 0 && (head[PLACES.AT_FLAGS] & ~end[PLACES.AT_FLAGS] & PLACES.IFF1) !== 0;
+    const isInterrupt = head[PLACES.AT_REQUEST] === 1 && end[PLACES.AT_REQUEST] === 0
+        && (head[PLACES.AT_FLAGS] & ~end[PLACES.AT_FLAGS] & PLACES.IFF1) !== 0;
     const { ticks, steps } = clocksOf(head);
     yield { inside, isWrite: !isKept, old: head[at], value: end[at], pc: numberIn(head, PLACES.AT_PC), isInterrupt, steps, ...placeInFrame(ticks) };
 }

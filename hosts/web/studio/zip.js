@@ -42,7 +42,8 @@ export async function filesIn(bytes, name) {
     const count = view.getUint16(end + 10, true);
     if (count > FILES) throw new Fault('too many', `${name} has ${counted(count)} files; ${FILES} are the most`);
     for (let file = 0, at = view.getUint32(end + 16, true); file < count; file++) {
-        if (at + ENTRY_SIZE > bytes.length || view.getUint32(at, true) !== ENTRY) throw new Fault('damaged', `${name}: its list of files ends too early`);
+        if (at + ENTRY_SIZE > bytes.length || view.getUint32(at, true) !== ENTRY) throw new Fault('damaged',
+            `${name}: its list of files ends too early`);
         const [length, extra, comment] = [28, 30, 32].map((field) => view.getUint16(at + field, true));
         const entry = {
             flags: view.getUint16(at + 8, true), method: view.getUint16(at + 10, true), packed: view.getUint32(at + 20, true),
