@@ -24,6 +24,7 @@ export class Editor {
         this.gutter = root.querySelector('.gutter');
         this.lines = [''];
         this.listing = null;
+        Object.assign(this, { listed: [], before: 0, after: 0 }); // the lines of the listing
         this.fault = null; // the line that is refused
         this.current = null; // the line that comes next
         Object.assign(this, { changed, picked, stands, isDue: false, isStale: false });
@@ -64,6 +65,7 @@ export class Editor {
     read() {
         this.lines = this.area.value.split('\n');
         this.isStale = true;
+        this.compare();
         this.draw();
     }
 
@@ -84,10 +86,26 @@ export class Editor {
 
     // What the assembler says of it: a listing, or the line of a fault.
     say(listing, fault = null) {
-        if (listing) this.listing = listing;
+        if (listing) Object.assign(this, { listing, listed: this.lines, before: this.lines.length, after: 0 });
         this.isStale = listing === null;
         this.fault = fault;
         this.draw();
+    }
+
+    // How many lines, from the first one on and from the last one back, are those of the last listing.
+    compare() {
+        const { lines, listed } = this, most = Math.min(lines.length, listed.length);
+        let before = 0, after = 0;
+        while (before < most && lines[before] === listed[before]) before++;
+        while (after < most - before && lines.at(-1 - after) === listed.at(-1 - after)) after++;
+        Object.assign(this, { before, after });
+    }
+
+    // What the last listing says of a line that stands here now; nothing of a line that is new.
+    rowOf(line) {
+        const { lines, listed, before, after } = this;
+        const place = line <= before ? line : line > lines.length - after ? line - lines.length + listed.length : 0;
+        return this.listing?.lines[place];
     }
 
     // Marks the line that the processor comes to next.
@@ -162,7 +180,7 @@ export class Editor {
 
     // What stands beside a line: its number, and of the last listing its address and T-states.
     margin(line) {
-        const row = element('div', 'row'), found = this.listing?.lines[line];
+        const row = element('div', 'row'), found = this.rowOf(line);
         row.dataset.line = line;
         row.classList.toggle('fault', line === this.fault);
         row.classList.toggle('current', line === this.current);

@@ -88,7 +88,7 @@ export class ProcessorPane {
         const { listing } = this.studio, line = listing?.lineAt.get(pc);
         if (!line) return pc;
         let start = pc;
-        for (let at = line - 1, seen = 0; at > 0 && seen < 4; at--) {
+        for (let at = line - 1, seen = 0; at > 0 && seen < 3; at--) {
             const row = listing.lines[at];
             if (!row || !row.ticks) continue;
             if (row.address + row.bytes.length !== start) break;

@@ -244,6 +244,11 @@ async function editing(page) {
     row('a fault is told with its line, its code and a cause', /A4 {2}line 7/.test(told) && told.includes('WHERE is defined nowhere'), told);
     row('its line is marked', (await page.value('studio.editor.fault')) === 7);
     row('and the old program stays', now.equals(await page.canvas()));
+    const margins = (line) => `document.querySelector('.gutter [data-line="${line}"]').textContent`;
+    const [above, below] = [await page.value(margins(6)), await page.value('studio.editor.rowOf(161).address')];
+    await page.value("document.execCommand('insertText', false, '\\n')");
+    row('addresses stay beside their lines', (await page.value(margins(6))) === above && (await page.value('studio.editor.rowOf(162).address')) === below && below === 0x117);
+    await page.value("document.execCommand('undo')");
     await page.value('studio.deck.play()');
     await page.pause(0.4);
     row('and goes on', await page.value('studio.session.run.frame > 600'));
