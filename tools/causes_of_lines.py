@@ -142,6 +142,9 @@ def form_cause(line):
             yield f"{first} is the name of a register, a pair or a condition, so it can't be a label: take a longer name"
             return
         rest = [token for token in found[1:] if token != ("sign", ":")]
+        if not rest:
+            yield "one colon follows a label"
+            return
         if rest and (rest[0][0] != "name" or rest[0][1].upper() not in OPERATIONS):
             said = list(foreign(names[:2]))
             second = rest[0][1] if rest[0][0] == "name" else ""
