@@ -1,42 +1,53 @@
 -- A listing that is counted, and one that is written to the head of a buffer.
-use Rattle.std.proofs.Common.{◌≡◌, ◌≤◌, ℕ, List, [], ◌++◌, length, take, drop, Option, Some, None, Result, Ok, Err}
+use Rattle.std.proofs.Common.{◌≡◌, ◌≤◌, ◌<◌, ℕ, ◌-◌, ◌^◌, List, [], ◌++◌, length, take, drop, Result, Ok, Err}
 use Rattle.std.proofs.Common.{sym, ap, subst, ◌∙◌, arith, MutBor}
+use Rattle.std.proofs.Math.Nat.{min-eq_left, min-eq_right}
 use Rattle.std.proofs.lemmas.List.{take-append-drop, length-take-le}
 use Rattle.pac_out.specs.declared.WriteFault.{WriteFault}
 use Rattle.pac_out.specs.declared.counted.Counted.{Counted}
 use Rattle.pac_out.specs.declared.buffer.HostBuffer.{HostBuffer}
 use Rattle.pac_out.specs.Buffers.{buffer_took, buffer_refused}
 use Rattle.pac_out.specs.Counted.{file_count}
-use Rattle.pac_out.specs.CountedLaws.{HasTaken}
+use Rattle.pac_out.specs.CountedLaws.{HasTaken, HasPut, Refuses}
 use Rattle.pac_out.specs.CountedProofs.{Puts}
-use Rattle.pac_out.specs.Writes.{took_if_there, refused_if_there}
 use Rattle.pac_out.specs.WritesProofs.{lent_took, lent_refused}
+use Rattle.pac_source.specs.declared.size.Size.{Size}
+use Rattle.pac_source.specs.Sizes.{size_took, size_refused}
 use Rattle.pac_source.specs.Writing.{LeavesText}
 
--- what isn't there refuses nothing
-never-refused : {W : Type 0} (took : W → List ℕ → W → Type 0) (refused : W → W → Type 0) (bytes : List ℕ) (asked new : Option W)
-    → took_if_there took None bytes asked → refused_if_there refused asked new → ⊥
-never-refused took refused bytes None new before refusal = refusal
-never-refused took refused bytes (Some asked) new before refusal = before
+-- a count is that of a text where it is its length
+counted-all : (size count : ℕ) → count ≡ size → count < 2 ^ 64 → count ≡ file_count size
+counted-all size count same below = same ∙ sym (min-eq_left (omega (arith, same, below)))
 
--- a file that keeps nothing counts all of a text
-pub counted : {W A : Type 0} (took : W → List ℕ → W → Type 0) (refused : W → W → Type 0) (text : List ℕ) (result : Result A WriteFault)
-    (old new : Counted (Option W)) → HasTaken (took_if_there took) None [] old
-    → Puts (took_if_there took) (refused_if_there refused) old text result new → new.count ≡ file_count (length text)
-counted took refused text (Ok done) old new start put = (put.takes.after None [] start).count_is
-counted took refused text (Err fault) old new start put =
-    let stop = (put.after None [] start).stopped in
-    absurd (never-refused took refused (take (put.after None [] start).taken text) stop.asked new.writer stop.before stop.refusal)
+-- a file that only counts has counted all of a text
+pub counted : (text : List ℕ) (start : Size) (old new : Counted Size) → start.bytes ≡ 0 → HasTaken size_took start [] old
+    → HasPut size_took old text new → new.writer.bytes < 2 ^ 64 → new.writer.bytes ≡ file_count (length text)
+counted text start old new zero before put below =
+    let written = (put.takes.after start [] before).written in
+    counted-all (length text) new.writer.bytes (omega (arith, zero, written)) below
+
+-- or it has the greatest count, where the text has more bytes than can be counted
+pub full : (text : List ℕ) (start : Size) (old new : Counted Size) (fault : WriteFault) → start.bytes ≡ 0 → HasTaken size_took start [] old
+    → Refuses size_took size_refused old text fault new → 2 ^ 64 - 1 ≡ file_count (length text)
+full text start old new fault zero before refusal =
+    let stop = (refusal.after start [] before).stopped in
+    let some = stop.some_left in
+    let took = stop.before in
+    let full = stop.refusal in
+    let taken = length-take-le (refusal.after start [] before).taken text (omega (arith, some)) in
+    sym (min-eq_right (omega (arith, zero, some, took, full, taken)))
 
 -- a writer that is lent for a text
 pub what-is-left : {W A : Type 0} (took : W → List ℕ → W → Type 0) (refused : W → W → Type 0) (text : List ℕ) (result : Result A WriteFault)
     (start : MutBor W) (old new : Counted (MutBor W)) (owned : W) → HasTaken (lent_took took) start [] old
-    → Puts (lent_took took) (lent_refused refused) old text result new → (start.ghost_name ≡ new.writer.ghost_name → owned ≡ new.writer.now)
-    → LeavesText took refused start.now text result owned
-what-is-left took refused text (Ok done) start old new owned taken put ends =
+    → Puts (lent_took took) (lent_refused refused) old text result new → (writer : MutBor W) → writer ≡ new.writer
+    → (start.ghost_name ≡ writer.ghost_name → owned ≡ writer.now) → LeavesText took refused start.now text result owned
+what-is-left took refused text (Ok done) start old new owned taken put writer same handed =
+    let ends = subst (λ (it : MutBor _). start.ghost_name ≡ it.ghost_name → owned ≡ it.now) same handed in
     let took_it = (put.takes.after start [] taken).written in
     subst (took start.now text) (sym (ends (sym took_it.0))) took_it.1
-what-is-left took refused text (Err fault) start old new owned taken put ends =
+what-is-left took refused text (Err fault) start old new owned taken put writer same handed =
+    let ends = subst (λ (it : MutBor _). start.ghost_name ≡ it.ghost_name → owned ≡ it.now) same handed in
     let stop = put.after start [] taken in
     let stopped = stop.stopped in (
       stop.taken,

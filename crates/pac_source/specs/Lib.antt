@@ -1,3 +1,4 @@
 pub mod Codes
+pub mod Sizes
 pub mod Source
 pub mod Writing

@@ -7,6 +7,7 @@ ghost use Rattle.pac_source.specs.Source as calls;
 ghost use Rattle.pac_source.specs.Writing.{LeavesText};
 
 use crate::codes::SourceFault;
+use crate::size::Size;
 use pac_asm::{AsmError, Program, assemble};
 use pac_heap::Global;
 use pac_listing::write_listing;
@@ -21,11 +22,12 @@ const ROM_SIZE: usize = 16_384;
 fn listing_size(program: &Program, source: &[u8]) -> u64
     ensures { result ≡ file_count (length (texts.listing program.now source.now)) }
 {
-    let nothing: Option<HostBuffer<'_>> = None;
-    let mut file = Counted::new(nothing);
-    // nothing is kept, so nothing is refused
-    let _ = write_listing(&mut file, program, source);
-    file.count
+    let mut file = Counted::new(Size { bytes: 0 });
+    match write_listing(&mut file, program, source) {
+        Ok(()) => file.into_writer().bytes,
+        // what has more bytes has the greatest count
+        Err(_) => u64::MAX,
+    }
 }
 
 /// Writes the listing of a program.
@@ -33,7 +35,9 @@ fn write_to<W: Out>(writer: &mut W, program: &Program, source: &[u8]) -> Result<
     ensures { LeavesText W.took W.refused writer.old (texts.listing program.now source.now) result writer.new }
 {
     let mut file = Counted::new(writer);
-    write_listing(&mut file, program, source)
+    let written = write_listing(&mut file, program, source);
+    let _ = file.into_writer();
+    written
 }
 
 /// Writes the listing of a program to the head of a buffer that has room for it.

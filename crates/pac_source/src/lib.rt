@@ -7,6 +7,7 @@ ghost use Rattle.pac_source.specs.Source as calls;
 mod assembly;
 mod codes;
 mod instruction;
+mod size;
 
 pub use codes::{PacTold, SourceFault, ToldBytes};
 use codes::{bytes_of, code, told_of};

@@ -110,6 +110,7 @@ function formCause(line) {
     let rest = tokens;
     if (!OPERATIONS.has(first.toUpperCase())) {
         if (REGISTERS.includes(first.toUpperCase())) return [`${first} is the name of a register, a pair or a condition, so it can't be a label: take a longer name`];
+        if (tokens.slice(1).every(({ text }) => text === ':')) return ['one colon follows a label'];
         rest = tokens.slice(1).filter(({ text }, at) => at > 0 || text !== ':');
         if (!rest.length || !OPERATIONS.has(rest[0].text.toUpperCase())) {
             const said = foreign(names.slice(0, 2)), like = near(first, OPERATIONS);

@@ -1,10 +1,20 @@
--- Nothing is kept, so all is counted.
+-- All of it is counted, or it is more than can be.
+use Rattle.std.proofs.Common.{ap, refl, subst, ◌<◌, ◌^◌, ◌∙◌, arith}
 use Rattle.pac_listing.specs.Listing.{listing}
-use Rattle.pac_out.specs.Buffers.{buffer_took, buffer_refused}
-use Rattle.pac_source.proofs.Writing.{counted}
+use Rattle.pac_source.specs.declared.size.Size.{Size}
+use Rattle.pac_source.proofs.Writing.{counted, full}
 use Rattle.pac_source.proofs.assembly.listing_size.Goals as goal
 
-pub returns : goal.returns
-returns c =
-    counted buffer_took buffer_refused (listing c.args.program.now c.args.source.now) c.write_listing.result c.new-file.result
-    c.write_listing.new.file c.new-file.ensures c.write_listing.ensures
+pub returns-in-Ok : goal.returns-in-Ok
+returns-in-Ok c =
+    let same = ap (λ (size : Size). size.bytes) c.into_writer.ensures in
+    let range = c.into_writer.type_inv in
+    let below : c.into_writer.result.bytes < 2 ^ 64 = omega (arith, range) in
+    same
+    ∙ counted (listing c.args.program.now c.args.source.now) _ c.new-file.result c.write_listing.new.file refl c.new-file.ensures c.in-Ok.ensures
+    (subst (λ n. n < 2 ^ 64) same below)
+
+pub returns-in-Err : goal.returns-in-Err
+returns-in-Err c =
+    full (listing c.args.program.now c.args.source.now) _ c.new-file.result c.write_listing.new.file c.in-Err.field-0 refl c.new-file.ensures
+    c.in-Err.ensures

@@ -1,3 +1,0 @@
- .area X (ABS)
- .org 0
- .dw ~5&7
