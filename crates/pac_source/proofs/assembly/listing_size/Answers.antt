@@ -2,7 +2,7 @@
 use Rattle.std.proofs.Common.{ap, refl, subst, ◌<◌, ◌^◌, ◌∙◌, arith}
 use Rattle.pac_listing.specs.Listing.{listing}
 use Rattle.pac_source.specs.declared.size.Size.{Size}
-use Rattle.pac_source.proofs.Writing.{counted, full}
+use Rattle.pac_source.proofs.Writing.{counted, greatest-counted}
 use Rattle.pac_source.proofs.assembly.listing_size.Goals as goal
 
 pub returns-in-Ok : goal.returns-in-Ok
@@ -16,5 +16,5 @@ returns-in-Ok c =
 
 pub returns-in-Err : goal.returns-in-Err
 returns-in-Err c =
-    full (listing c.args.program.now c.args.source.now) _ c.new-file.result c.write_listing.new.file c.in-Err.field-0 refl c.new-file.ensures
+    greatest-counted (listing c.args.program.now c.args.source.now) _ c.new-file.result c.write_listing.new.file c.in-Err.field-0 refl c.new-file.ensures
     c.in-Err.ensures
