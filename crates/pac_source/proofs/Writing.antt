@@ -27,8 +27,8 @@ counted text start old new zero before put below =
     counted-all (length text) new.writer.bytes (omega (arith, zero, written)) below
 
 -- or it has the greatest count, where the text has more bytes than can be counted
-pub greatest-counted : (text : List ℕ) (start : Size) (old new : Counted Size) (fault : WriteFault) → start.bytes ≡ 0 → HasTaken size_took start [] old
-    → Refuses size_took size_refused old text fault new → 2 ^ 64 - 1 ≡ file_count (length text)
+pub greatest-counted : (text : List ℕ) (start : Size) (old new : Counted Size) (fault : WriteFault) → start.bytes ≡ 0
+    → HasTaken size_took start [] old → Refuses size_took size_refused old text fault new → 2 ^ 64 - 1 ≡ file_count (length text)
 greatest-counted text start old new fault zero before refusal =
     let stop = (refusal.after start [] before).stopped in
     let some = stop.some_left in

@@ -16,5 +16,5 @@ returns-in-Ok c =
 
 pub returns-in-Err : goal.returns-in-Err
 returns-in-Err c =
-    greatest-counted (listing c.args.program.now c.args.source.now) _ c.new-file.result c.write_listing.new.file c.in-Err.field-0 refl c.new-file.ensures
-    c.in-Err.ensures
+    greatest-counted (listing c.args.program.now c.args.source.now) _ c.new-file.result c.write_listing.new.file c.in-Err.field-0 refl
+    c.new-file.ensures c.in-Err.ensures
