@@ -1,13 +1,15 @@
 // `pacboard asm` and `pacboard run` by the modules inside docs/studio.html, in node: what ./run-example and ./publish take where nothing is built.
 //
 //     node hosts/web/studio/command.mjs asm SOURCE --rom FILE --listing FILE
-//     node hosts/web/studio/command.mjs run --set FILE --script FILE --source FILE --frames FILE --wave FILE --listing FILE
+//     node hosts/web/studio/command.mjs run --set FILE --script FILE [--source FILE] [--whole] --frames FILE --wave FILE --listing FILE
 //     node hosts/web/studio/command.mjs roms --set FILE --source FILE -o FILE
 //
 // Outputs, the lines of refusals and the exit statuses are those of the program, but that a write fault tells no count; --load, --save and --dip
 // aren't there. The third writes the ROM block of hosts/roms.py.
 
-import { closeSync, openSync, readFileSync, statSync, writeSync } from 'node:fs';
+import {
+    closeSync, fchmodSync, fsyncSync, lstatSync, openSync, readFileSync, realpathSync, renameSync, statSync, unlinkSync, writeSync,
+} from 'node:fs';
 import path from 'node:path';
 import { fileURLToPath } from 'node:url';
 import { Board, FRAME_MICROSECONDS, FRAME_SAMPLES, HEIGHT, SAMPLE_RATE, WIDTH } from '../board.js';
@@ -19,7 +21,9 @@ import { namedFiles, setOf } from './set.js';
 import { masksOf } from './tape.js';
 
 const PAGE = path.resolve(path.dirname(fileURLToPath(import.meta.url)), '../../../docs/studio.html');
+const WHOLE = '--whole', DRAFTS = 9; // an option without a value; so many new files may be beside an output
 const READ = 3, REFUSED = 1, USED = 2, STOPPED = 5; // exit statuses
+const NO_SOURCE = { rom: new Uint8Array(0), listing: new TextEncoder().encode('SYMBOLS\n') }; // the set has the program
 const NAME = /^[^/](?:.*[^/])?$/s;
 
 // Ends with a line on standard error.
@@ -47,27 +51,57 @@ function bytesOf(file, name = file) {
     }
 }
 
-// The options of a command line, each with its value; the word without a dash as ''.
-function optionsOf(words, names) {
+// The options of a command line, each with its value; the word without a dash as ''. Those of `more` may be left out.
+function optionsOf(words, names, more = []) {
     const found = {};
     for (let at = 0; at < words.length; at++) {
-        const [name, value] = words[at].startsWith('-') ? words[at].split(/=(.*)/s) : ['', words[at]];
-        if (!names.includes(name) || name in found) throw new Ending(USED, `error: ${words[at]} isn't known here`);
+        const [name, value] = words[at] === WHOLE ? [WHOLE, ''] : words[at].startsWith('-') ? words[at].split(/=(.*)/s) : ['', words[at]];
+        if (![...names, ...more].includes(name) || name in found) throw new Ending(USED, `error: ${words[at]} isn't known here`);
         found[name] = value ?? words[++at];
     }
     for (const name of names) if (found[name] === undefined) throw new Ending(USED, `error: ${name || 'SOURCE'} is missing`);
     return found;
 }
 
-// Creates outputs, empty: each by what it is called.
-function created(files) {
+// Opens a new file beside an output, which is there or isn't: its name and its handle.
+function drafted(file, found) {
+    for (let number = 1; ; number++) {
+        try {
+            const draft = `${file}.unfinished-${number}`, handle = openSync(draft, 'wx');
+            if (found) fchmodSync(handle, found.mode & 0o7777);
+            return [draft, handle];
+        } catch (error) {
+            if (error.code !== 'EEXIST' || number === DRAFTS) throw error;
+        }
+    }
+}
+
+// Creates outputs, empty: each by what it is called. Where there are `drafts`, plain files are written beside their places, and told there.
+function created(files, drafts = null) {
     return Object.fromEntries(Object.entries(files).map(([name, file]) => {
         try {
-            return [name, openSync(file, 'w')];
+            const found = lstatSync(file, { throwIfNoEntry: false });
+            if (drafts === null || found && !found.isFile()) return [name, openSync(file, 'w')];
+            const [draft, handle] = drafted(file, found);
+            drafts.push({ name, file, draft, handle });
+            return [name, handle];
         } catch {
             throw new Ending(READ, `write fault ${name} after 0 bytes`);
         }
     }));
+}
+
+// Lets drafts take their places, which the system has written out.
+function placed(drafts) {
+    while (drafts.length > 0) {
+        const { name, file, draft } = drafts[0];
+        try {
+            renameSync(draft, file);
+        } catch {
+            throw new Ending(READ, `write fault ${name}`);
+        }
+        drafts.shift();
+    }
 }
 
 // Writes all of some bytes.
@@ -160,15 +194,29 @@ async function asm(words, files) {
     return 0;
 }
 
+// Runs, and lets the outputs take their places; where it fails, none does.
 async function run(words, files) {
-    const options = optionsOf(words, ['--set', '--script', '--source', '--frames', '--wave', '--listing']);
-    const [source, manifest, script] = ['--source', '--set', '--script'].map((name) => bytesOf(options[name]));
+    const drafts = [];
+    try {
+        const status = await ran(words, files, drafts);
+        placed(drafts);
+        return status;
+    } finally {
+        drafts.forEach(({ draft }) => unlinkSync(draft));
+    }
+}
+
+async function ran(words, files, drafts) {
+    const options = optionsOf(words, ['--set', '--script', '--frames', '--wave', '--listing'], ['--source', WHOLE]);
+    const hasSource = '--source' in options;
+    const [source, manifest, script] = ['--source', '--set', '--script'].map((name) => (name in options ? bytesOf(options[name]) : null));
     const parts = filesBeside(options['--set'], textOf(manifest));
-    const outputs = created({ frames: options['--frames'], wave: options['--wave'], listing: options['--listing'] });
-    const { rom, listing } = assembled(await Assembler.of(files['pac_source.wasm']), source);
+    const places = { frames: options['--frames'], wave: options['--wave'], listing: options['--listing'] };
+    const outputs = created(places, WHOLE in options ? drafts : null);
+    const { rom, listing } = hasSource ? assembled(await Assembler.of(files['pac_source.wasm']), source) : NO_SOURCE;
     let set, masks;
     try {
-        set = await setOf([{ name: 'set.toml', bytes: manifest }, ...parts], true);
+        set = await setOf([{ name: 'set.toml', bytes: manifest }, ...parts], hasSource);
         masks = masksOf(Buffer.from(script).toString('latin1'));
     } catch (error) {
         throw told(error);
@@ -178,6 +226,7 @@ async function run(words, files) {
     written('wave', outputs.wave, waveHead(FRAME_SAMPLES * masks.length));
     const end = film(board, masks, (samples) => written('wave', outputs.wave, samples), (image) => written('frames', outputs.frames, image));
     process.stdout.write(reportOf(board, masks.length, end));
+    drafts.forEach(({ handle }) => fsyncSync(handle));
     Object.values(outputs).forEach(closeSync);
     return end.stop === null ? 0 : STOPPED;
 }
@@ -196,7 +245,7 @@ async function main([name, ...words]) {
     return does(words, await inside());
 }
 
-if (process.argv[1] === fileURLToPath(import.meta.url)) {
+if (process.argv[1] && realpathSync(process.argv[1]) === fileURLToPath(import.meta.url)) {
     process.exitCode = await main(process.argv.slice(2)).catch((error) => {
         if (!(error instanceof Ending)) throw error;
         console.error(error.message);

@@ -219,6 +219,18 @@ async function inputs(files) {
     row('a payload', equal(again.a, some) && textOf(again.b) === 'b');
 }
 
+// A manifest with a program of its own, that of an example, and the rest of the examples' set.
+function setWithProgram() {
+    const { rom } = assembledByProgram(example('hello', 'asm')), text = example('set', 'toml').toString();
+    for (const [, name] of text.matchAll(/file = "(.*)"/g)) writeFileSync(at(name), readFileSync(path.join(ROOT, 'examples', name)));
+    const tables = [1, 2, 3, 4].map((quarter) => {
+        writeFileSync(at(`${quarter}.rom`), rom.subarray(4096 * (quarter - 1), 4096 * quarter));
+        return `[[program]]\nfile = "${quarter}.rom"\n`;
+    });
+    writeFileSync(at('own.toml'), tables.join('') + text);
+    return at('own.toml');
+}
+
 // `run` of hosts/web/studio/command.mjs, as a program.
 function commands() {
     const command = path.join(ROOT, 'hosts/web/studio/command.mjs'), set = path.join(ROOT, 'examples/set.toml');
@@ -230,8 +242,10 @@ function commands() {
     writeFileSync(at('none.toml'), 'tiles =\n');
     writeFileSync(at('missing.toml'), '[tiles]\nfile = "none.rom"\n');
     const run = (source, some = script, manifest = set) => ['run', '--set', manifest, '--script', some, '--source', source];
+    const own = ['run', '--set', setWithProgram(), '--script', script];
     const rows = [
         run(path.join(ROOT, 'examples/welcome.asm'), path.join(ROOT, 'examples/welcome.script')), run(stops), run(bad), run(at('nowhere.asm')),
+        own, [...own, '--whole'], [...run(bad), '--whole'], run(stops, script, own[2]), ['run', '--script', script, '--set', set],
         run(stops, at('bad.script')), run(stops, script, at('none.toml')), run(stops, script, at('missing.toml')), run(stops, at('nowhere.script')),
     ];
     for (const [number, words] of rows.entries()) {
