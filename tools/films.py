@@ -40,6 +40,12 @@ class Picture:
             rows += [b"".join(row[at : at + 3] * count for at in range(0, len(row), 3))] * count
         return Picture(self.width * count, self.height * count, b"".join(rows))
 
+    def turned(self):
+        """The picture turned by a quarter, clockwise, as an upright set's screen is."""
+        rows = [self.row(y) for y in reversed(range(self.height))]
+        columns = (b"".join(row[at : at + 3] for row in rows) for at in range(0, 3 * self.width, 3))
+        return Picture(self.height, self.width, b"".join(columns))
+
     def save(self, path):
         """Writes it as PPM where the name ends so, and as PNG elsewhere."""
         if str(path).endswith(".ppm"):

@@ -109,7 +109,8 @@ export class Exits {
         const { studio } = this, { files, session } = studio, script = new TextEncoder().encode(scriptOf(this.masks));
         const parts = { 'pac_host.wasm': files['pac_host.wasm'], roms: session.roms, 'sound.js': files['sound.js'],
             ...(session.tape.length ? { script } : {}) };
-        download(`${studio.name}.html`, await published(textOf(files['game.html']), studio.name, parts), 'text/html');
+        const poster = at('picture').toDataURL('image/png'), isTurned = at('stage').classList.contains('turned');
+        download(`${studio.name}.html`, await published(textOf(files['game.html']), studio.name, parts, poster, isTurned), 'text/html');
         tell('Published', `${studio.name}.html has the game alone, and runs anywhere.`);
     }
 }

@@ -41,6 +41,7 @@ class Game {
 
     show() {
         this.screen.show(this.board.draw());
+        at('poster')?.remove(); // what was to be seen until now
     }
 }
 
@@ -57,6 +58,7 @@ async function play() {
     game.controls.button(at('start'), 'START1');
     at('again').addEventListener('click', () => game.anew());
     at('full').addEventListener('click', () => at('stage').requestFullscreen?.());
+    at('turn').setAttribute('aria-pressed', at('stage').classList.contains('turned'));
     at('turn').addEventListener('click', ({ target }) => target.setAttribute('aria-pressed', at('stage').classList.toggle('turned')));
     at('sound').addEventListener('click', ({ target }) => {
         speaker.mute(!speaker.isMuted);

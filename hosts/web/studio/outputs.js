@@ -35,10 +35,11 @@ function escaped(text) {
     return text.replace(/[&<>"']/g, (letter) => `&#${letter.charCodeAt(0)};`);
 }
 
-// The game alone as a page: the board, the ROM block and what was played.
-export async function published(template, name, files) {
-    const payload = await payloadOf(files);
-    return template.replace('@TITLE@', () => escaped(name)).replace(`@${'PAYLOAD'}@`, () => payload);
+// The game alone as a page: the board, the ROM block and what was played. `poster` is the address of the picture that it shows before it begins.
+export async function published(template, name, files, poster, isTurned) {
+    const parts = { TITLE: escaped(name), PAYLOAD: await payloadOf(files), STAGE: isTurned ? 'stage turned' : 'stage',
+        POSTER: `<img id="poster" class="poster" alt="" src="${poster}">` };
+    return template.replace(/@(TITLE|PAYLOAD|STAGE|POSTER)@/g, (_, part) => parts[part]);
 }
 
 // A film of a canvas and a sound, by the browser's recorder.

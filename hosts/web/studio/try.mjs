@@ -289,7 +289,7 @@ async function outside(page, script) {
     row('a link has the source and what was played in it', (await linked.value('studio.editor.text')) === source
         && (await linked.value('studio.session.tape.length')) > 0);
     await linked.close();
-    const game = await page.saved("document.getElementById('publish').click()"), file = path.join(FOLDER, 'mine.html');
+    const shown = await page.canvas(), game = await page.saved("document.getElementById('publish').click()"), file = path.join(FOLDER, 'mine.html');
     writeFileSync(file, game.bytes);
     const alone = await opened(programOf(['chromium', 'chromium-browser', 'google-chrome']), pathToFileURL(file).href);
     await alone.value('game.loop.pause()');
@@ -297,6 +297,15 @@ async function outside(page, script) {
     const wanted = played(source, scriptTo(script.toString(), 60));
     row('a published game plays from file://, alone', first > 0 && wanted.rgba.equals(await alone.canvas()) && alone.faults.length === 0,
         alone.faults.join('\n'));
+    const poster = /<img id="poster" class="poster" alt="" src="(data:image\/png;base64,[\w+/=]*)">/.exec(game.bytes.toString())?.[1];
+    await alone.value(`(async () => {
+        const picture = document.createElement('img'), context = document.getElementById('picture').getContext('2d');
+        picture.src = '${poster}';
+        await picture.decode();
+        context.drawImage(picture, 0, 0);
+    })()`);
+    row('its poster is what the studio showed', shown.equals(await alone.canvas()) && !shown.equals(wanted.rgba));
+    row('which is gone once the game has begun', await alone.value("document.getElementById('poster') === null"));
     console.log(`published: ${game.bytes.length} bytes`);
     await alone.close();
 }
