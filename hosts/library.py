@@ -7,6 +7,7 @@ import shlex
 import shutil
 import subprocess
 import sys
+import tarfile
 import tempfile
 import time
 
@@ -108,6 +109,23 @@ def text_of(file):
     return os.pread(file.fileno(), os.fstat(file.fileno()).st_size, 0).decode(errors="replace")
 
 
+def keep(place, crate, built):
+    """Keeps what a check of a crate has left, as one file: `rt ci` refuses a tree in which a .rt file lies where no check reads it."""
+    (KEPT / place).mkdir(parents=True, exist_ok=True)
+    with tarfile.open(KEPT / place / f"{crate}.tar", "w") as tar:
+        for part in ("incremental", "rlib"):
+            if (built / part).is_dir():
+                tar.add(built / part, part)
+
+
+def take_kept(place, crate, built):
+    """Lays what was kept of a crate into a folder, if anything was."""
+    file = KEPT / place / f"{crate}.tar"
+    if file.is_file():
+        with tarfile.open(file) as tar:
+            tar.extractall(built)
+
+
 @contextlib.contextmanager
 def laid(table, name, kind, is_after_ci, swapped="", lay=None):
     """Lays a crate, as one of this kind, and all below it into another folder, which is there as long as it's needed: its crates.txt says which
@@ -141,21 +159,16 @@ def build(name, kind, file, to, is_after_ci, flags=(), swapped="", lay=None):
         sys.exit(f"crates.txt has no static library {name}")
     above = {crate for crate in crates_below(table, name) if swapped in crates_below(table, crate)}
     with laid(table, name, kind, is_after_ci, swapped, lay) as folder:
-        kept = {crate: KEPT / (f"{name}-{swapped}" if swapped else name) / crate for crate in [*above, *([swapped] if swapped else []), name]}
-        for crate, place in kept.items():
+        crates_kept, place = [*above, *([swapped] if swapped else []), name], f"{name}-{swapped}" if swapped else name
+        for crate in crates_kept:
             built = folder / "crates" / crate / "out"
             shutil.rmtree(built, ignore_errors=True)  # (what was proved over the crate that was swapped isn't so here)
-            if place.is_dir():
-                shutil.copytree(place, built)
+            take_kept(place, crate, built)
         OUT.mkdir(exist_ok=True)
         run(lay_kit(flags, folder / "kit", (OUT / to).with_suffix(".bc")), folder / "crates" / name, "lib", declaring=swapped)
         shutil.copy(folder / "crates" / name / "out" / file.format(name), OUT / to)
-        for crate, place in kept.items():
-            shutil.rmtree(place, ignore_errors=True)
-            place.mkdir(parents=True)
-            for part in ("incremental", "rlib"):
-                if (folder / "crates" / crate / "out" / part).is_dir():
-                    shutil.move(folder / "crates" / crate / "out" / part, place / part)
+        for crate in crates_kept:
+            keep(place, crate, folder / "crates" / crate / "out")
     print(f"{OUT / to}: {(OUT / to).stat().st_size:,} bytes", flush=True)
 
 
