@@ -34,7 +34,7 @@ SOONER = "MAME's blank comes a hair sooner, and an interrupt an instruction"
 MAMES = frozenset(beside.RULES)
 LEFT_OUT = make.NO_KICK
 PORT_PROGRAM, PORT_GROUP = "ports", "IN"
-OTHERS_OF_F, ZERO = 0xAC, 0x40
+ZERO = 0x40
 
 
 def shown_by_mame(program: make.Program, room: pathlib.Path) -> list[str]:
@@ -78,13 +78,10 @@ class AsMame(judge_board.Machine):
         return 0
 
 
-def is_of_flags(one: bytes, other: bytes) -> bool:
-    """Whether RAM differs in the stack's part alone, and there in bits of F that silicon has otherwise: 5 and 3, and S and P/V after BIT; and in one byte at
-    most in another one but Z, since an interrupt may come after block input or output."""
-    first, end = sums.STACK
+def is_of_flags(one: bytes, other: bytes, pushed: set[int]) -> bool:
+    """Whether RAM differs only where F was pushed, and in other bits of it than Z."""
     places = [at for at, byte in enumerate(one) if byte != other[at]]
-    wide = [at for at in places if (one[at] ^ other[at]) & ~OTHERS_OF_F]
-    return all(first <= at < end for at in places) and len(wide) <= 1 and all((one[at] ^ other[at]) & ZERO == 0 for at in wide)
+    return all(beside.address_of(at) in pushed and (one[at] ^ other[at]) & ZERO == 0 for at in places)
 
 
 def rows_of_program(program: make.Program, room: pathlib.Path) -> Iterator[Row]:
@@ -100,7 +97,7 @@ def rows_of_program(program: make.Program, room: pathlib.Path) -> Iterator[Row]:
             rule = ""
             if found[at] != wanted[program.name, number][at]:
                 is_port = program.name == PORT_PROGRAM and found[at] == with_ports[at]
-                is_flags = name == "stack" and is_of_flags(frame.ram, other.ram)
+                is_flags = name == "stack" and is_of_flags(frame.ram, other.ram, played.flags)
                 rule = PORTS if is_port else BITS if is_flags else SOONER if is_late else "none"
             yield f"{program.name}, frame {number}: {name}", rule != "none", rule
         own = played.own_picture(number - 1)

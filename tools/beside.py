@@ -11,7 +11,7 @@ attoseconds shorter than 50,688 of its T-states, and its processor does only who
 before a blank, MAME mostly accepts the interrupt there and leaves out a halted step that the board still does. What is written from there to the next
 acceptance is taken 4 T-states later; `Played.late` is how many times that was. Where another instruction ends there, the board does one more before
 its acceptance, and nothing can be put right; `Played.early` has the addresses that such acceptances pushed to, and `first_early` the
-first frame, from 1 on, that ends so. An instruction that is read as data while it runs is taken for one that began then.
+first frame, from 1 on, that ends so; `flags` has the addresses to which PUSH AF has written F. An instruction that is read as data while it runs is taken for one that began then.
 """
 import array
 import functools
@@ -49,7 +49,8 @@ RULES = {
 
 # What MAME's Lua does. A tap on the reads keeps the time at which each address was last read; the running instruction is at CURPC, so the time of
 # that address is when it began. A halted step reads the same byte as the one before it, 4 T-states later; a write right after it is an acceptance's.
-# One that begins on the T-state before a blank is late by 4 on the board of docs/. It is noted too, as a write to address 0.
+# One that begins on the T-state before a blank is late by 4 on the board of docs/. It is noted too, as a write to address 0; before the write of an
+# acceptance that comes too soon one to address 1 is noted, and before that of F by PUSH AF one to address 2.
 EVENT = struct.Struct("<QHB")
 LUA = """
 local cpu = manager.machine.devices[":maincpu"]
@@ -90,7 +91,10 @@ local function written(address)
     pushes = pushes + 1
     local now = math.floor(emu.time() * %(second)d + 0.5)
     -- (a call that isn't made pushes nothing; one that is made has done so within 14 T-states)
-    if pushes <= own_pushes(pc.value) and now - time <= 14 then return time end
+    if pushes <= own_pushes(pc.value) and now - time <= 14 then
+        if pushes == 2 and byte_at[pc.value] == 0xf5 then log:write(string.pack("<I8I2B", time, 2, 0)) end -- F of PUSH AF
+        return time
+    end
     -- (an acceptance writes 7 and 10 T-states after it has begun)
     local start = now - (pushes %% 2 == 1 and 7 or 10)
     if (start + 1) %% %(frame)d == 0 then log:write(string.pack("<I8I2B", start, 1, 0)) end
@@ -188,6 +192,7 @@ class Played:
         noted = [(int(at), int(address), int(byte)) for at, address, byte in EVENT.iter_unpack(log.read_bytes())]
         self.writes = [write for write in noted if write[1] >= 0x4000]
         self.late = sum(write[1] == 0 and write[0] < self.frames * FRAME for write in noted)
+        self.flags = {after[1] & 0x1FFF | 0x4000 for write, after in zip(noted, noted[1:]) if write[1] == 2}
         early = [(write[0], after[1]) for write, after in zip(noted, noted[1:]) if write[1] == 1]
         self.early = {address for _, address in early}
         self.first_early = min((at // FRAME + 1 for at, _ in early), default=None)
@@ -369,6 +374,11 @@ class Board:
     def kept(self) -> bytes:
         """All RAM in the order of its addresses: tiles, colours and work."""
         return bytes(self.ram[:0x800] + self.ram[0xC00:])
+
+
+def address_of(place: int) -> int:
+    """The address of a byte of RAM as Board.kept has it."""
+    return 0x4000 + place if place < 0x800 else 0x4400 + place
 
 
 class Frame:

@@ -1,5 +1,5 @@
 /* The reference core of conformance/, which does one thing wrong: by the number in the
- * environment's FAULT. tools/conformance has the runner tell each. */
+ * environment's FAULT; or which has no samples or states. tools/conformance has the runner tell each. */
 #define core_make right_make
 #define core_hold right_hold
 #define core_frame right_frame
@@ -20,7 +20,7 @@
 
 #define FAULT atoi(getenv("FAULT"))
 
-enum { INPUTS = 1, SWITCHES, PIXEL, SAMPLE, SHORT, BYTE, STOPS, STATE, SAVED, RESET };
+enum { INPUTS = 1, SWITCHES, PIXEL, SAMPLE, SHORT, BYTE, STOPS, STATE, SAVED, RESET, WITHOUT_SAMPLES, WITHOUT_STATES };
 
 void *core_make(const uint8_t *roms, uint8_t switches)
 {
@@ -54,7 +54,7 @@ size_t core_samples(void *core, int16_t *samples)
 
     if (FAULT == SAMPLE)
         samples[CORE_SAMPLES - 1] ^= 1;
-    return FAULT == SHORT ? count - 1 : count;
+    return FAULT == WITHOUT_SAMPLES ? 0 : FAULT == SHORT ? count - 1 : count;
 }
 
 void core_ram(void *core, uint8_t *ram)
@@ -71,7 +71,7 @@ int core_load(void *core, const uint8_t *state)
 
     if (FAULT == STATE)
         it->board.bytes[PAC_AT_ACCUMULATORS] ^= 1;
-    return answer;
+    return FAULT == WITHOUT_STATES ? 1 : answer;
 }
 
 int core_save(void *core, uint8_t *state)
