@@ -11,8 +11,8 @@ returns-in-Ok c =
     let range = c.into_writer.type_inv in
     let below : c.into_writer.result.bytes < 2 ^ 64 = omega (arith, range) in
     same
-    ∙ counted (listing c.args.program.now c.args.source.now) _ c.new-file.result c.write_listing.new.file refl c.new-file.ensures c.in-Ok.ensures
-    (subst (λ n. n < 2 ^ 64) same below)
+    ∙ counted (listing c.args.program.now c.args.source.now) _ c.new-file.result c.write_listing.new.file refl c.new-file.ensures
+    c.in-Ok.ensures (subst (λ n. n < 2 ^ 64) same below)
 
 pub returns-in-Err : goal.returns-in-Err
 returns-in-Err c =
