@@ -7,7 +7,8 @@ PROGRAM, a word with a slash in it, is crates/pacboard/out/pacboard where none i
 starfall, sunset, welcome or hello, and all four where none is given. It needs MAME, on the PATH or in /usr/games: Debian's package
 `mame`, of which 0.251 was tried. No window and no sound device is wanted.
 
-tools/beside.py tells how MAME plays, and draws and sounds what it wrote by the pages in docs/ alone. MAME's own picture and sound aren't looked at.
+tools/lib/beside.py tells how MAME plays, and draws and sounds what it wrote by the pages in docs/ alone. MAME's own picture and sound
+aren't looked at.
 
 With --pictures MAME's own pictures are looked at, and nothing else. A frame passes where MAME's picture is what its writes show by the pages
 with MAME's four rules in place of ours; how many differ from those of `pacboard run` is printed. A fifth program is
@@ -26,7 +27,7 @@ import time
 
 sys.dont_write_bytecode = True
 ROOT = pathlib.Path(__file__).resolve().parent.parent
-sys.path.insert(0, f"{ROOT}/tools")
+sys.path.insert(0, f"{ROOT}/tools/lib")
 import beside
 import traces
 

@@ -5,7 +5,7 @@
 
 writes into FOLDER, of each program, NAME.asm, its ROM block NAME.roms (the 25,120 bytes of hosts/roms.py, with the set of examples/), and NAME.held, what
 is held in each frame, two bytes each; and the states NAME-1.state to NAME-3.state, with which a board goes on for a frame. Nothing but Python is needed:
-tools/judge_source.py assembles. The same files come of it each time. conformance/README.md says what they are for.
+tools/lib/judge_source.py assembles. The same files come of it each time. conformance/README.md says what they are for.
 """
 import pathlib
 import sys
@@ -14,7 +14,7 @@ from collections.abc import Callable, Iterator
 sys.dont_write_bytecode = True
 HERE = pathlib.Path(__file__).resolve().parent
 ROOT = HERE.parent
-sys.path[:0] = [str(ROOT / "tools"), str(ROOT / "hosts")]
+sys.path[:0] = [str(ROOT / "tools/lib"), str(ROOT / "hosts")]
 
 import blocks
 import judge_source

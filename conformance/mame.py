@@ -4,11 +4,11 @@
     conformance/mame.py
 
 It needs MAME, on the PATH or in /usr/games (Debian's package `mame`; 0.251 was tried). opcodes.asm is played by conformance/mame.lua, and its lines are
-compared. Of the other programs but `dog`, whose watchdog resets MAME's machine, what MAME wrote is drawn and sounded by our pages (tools/beside.py), and
-the sums of its frames are compared; MAME's own pictures are compared with what its four rules of drawing make of these writes. What differs is right where
-README.md's table has it: such rows pass, and are told with their rule. That they differ by it, and by nothing else, a second board shows that has the rule
-of ports (tools/judge_board.py), and the bits of F that differ. The last line is `N passed, M failed`, and the exit status is 0 where M is 0, 3
-where MAME isn't there.
+compared. Of the other programs but `dog`, whose watchdog resets MAME's machine, what MAME wrote is drawn and sounded by our pages
+(tools/lib/beside.py), and the sums of its frames are compared; MAME's own pictures are compared with what its four rules of drawing make of these
+writes. What differs is right where README.md's table has it: such rows pass, and are told with their rule. That they differ by it, and by nothing
+else, a second board shows that has the rule of ports (tools/lib/judge_board.py), and the bits of F that differ. The last line is
+`N passed, M failed`, and the exit status is 0 where M is 0, 3 where MAME isn't there.
 """
 import os
 import pathlib
@@ -20,7 +20,7 @@ from collections.abc import Iterator
 
 sys.dont_write_bytecode = True
 HERE = pathlib.Path(__file__).resolve().parent
-sys.path[:0] = [str(HERE), str(HERE.parent / "tools")]
+sys.path[:0] = [str(HERE), str(HERE.parent / "tools/lib")]
 
 import beside
 import judge_board

@@ -1,5 +1,5 @@
 /* The proved assembler and disassembler as a C library.
- * Made by tools/make-header from the declarations of crates/pac_source and from the definitions that their contracts cite.
+ * Made by tools/make/make-header from the declarations of crates/pac_source and from the definitions that their contracts cite.
  *
  * The library keeps nothing between calls. The memory that a call takes is the host's: it calls malloc, realloc and free, and gives back all
  * that it took before it ends. Calls in different threads don't touch. docs/HOSTS.md goes through a host of one's own.

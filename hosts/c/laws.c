@@ -1,5 +1,5 @@
 /* Reads bytes as a program and a list of calls, makes them on a board, and ends with a trap where a law of the library doesn't hold: what
- * tools/fuzz has libFuzzer look for.
+ * tools/check/fuzz has libFuzzer look for.
  *
  * The first byte is the length of the program that follows, and stands at 0 of its ROM; the next is the byte of the DIP switches. Then each three
  * bytes are a call, and a number for it, the low byte first. The laws:

@@ -2,7 +2,7 @@
 and compares.
 
 Where a block has what is that of hosts/pacboard.h; T-states are those of the instructions' table; words are those of the checker in Python;
-what a refusal means, and the likely causes that hang on words alone, are those of tools/explain.
+what a refusal means, and the likely causes that hang on words alone, are those of bin/explain.
 """
 import importlib.machinery
 import importlib.util
@@ -14,9 +14,9 @@ from typing import Any
 
 ROOT = pathlib.Path(__file__).resolve().parent.parent.parent
 PAGES = ["Plain", "Cb", "Ed", "Dd", "Fd", "DdCb", "FdCb"]  # of the table of instructions
-HEAD = "// Made by hosts/web/studio-build --tables from hosts/pacboard.h, the table of instructions, tools/judge_source.py and tools/explain.\n"
+HEAD = "// Made by hosts/web/studio-build --tables from hosts/pacboard.h, the table of instructions, tools/lib/judge_source.py and bin/explain.\n"
 
-sys.path.insert(0, str(ROOT / "tools"))
+sys.path.insert(0, str(ROOT / "tools/lib"))
 
 import causes_of_files
 import causes_of_lines
@@ -26,8 +26,8 @@ import judge_source
 
 
 def explain() -> Any:
-    """The tool tools/explain as a module."""
-    loader = importlib.machinery.SourceFileLoader("explain", str(ROOT / "tools/explain"))
+    """The tool bin/explain as a module."""
+    loader = importlib.machinery.SourceFileLoader("explain", str(ROOT / "bin/explain"))
     spec = importlib.util.spec_from_loader("explain", loader)
     assert spec is not None
     module = importlib.util.module_from_spec(spec)
@@ -82,4 +82,4 @@ def text() -> str:
     return HEAD + "\n" + "".join(lines)
 
 
-assert causes_of_files  # (tools/explain imports it by its name)
+assert causes_of_files  # (bin/explain imports it by its name)

@@ -1,4 +1,5 @@
--- Law: A reset (UM0080, "Pin Functions"; this profile where it names no register). Made by tools/make-vectors from tools/vectors.txt.
+-- Law: A reset (UM0080, "Pin Functions"; this profile where it names no register). Made by tools/make/make-vectors from
+-- tools/check/vectors.txt.
 use Rattle.std.specs.Prelude.{true, false, List, [], ◌∷◌}
 use Rattle.pac_table.specs.declared.effects.InterruptMode.TheVariants.{Zero, One, Two}
 use Rattle.pac_exec.specs.declared.regs.Regs.{Regs}

@@ -1,5 +1,5 @@
 -- Law: Acceptances and halted steps (UM0080, "Interrupt Response" and "HALT"; this profile where a vector byte isn't even). Made by
--- tools/make-vectors from tools/vectors.txt.
+-- tools/make/make-vectors from tools/check/vectors.txt.
 use Rattle.std.specs.Prelude.{true, false, List, [], ◌∷◌, Some, None}
 use Rattle.pac_table.specs.declared.effects.InterruptMode.TheVariants.{One, Two}
 use Rattle.pac_bus.specs.Action.{Write}

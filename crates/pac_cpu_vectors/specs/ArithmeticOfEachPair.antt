@@ -1,4 +1,4 @@
--- Law: Arithmetic of each pair (UM0080, "16-Bit Arithmetic Group"). Made by tools/make-vectors from tools/vectors.txt.
+-- Law: Arithmetic of each pair (UM0080, "16-Bit Arithmetic Group"). Made by tools/make/make-vectors from tools/check/vectors.txt.
 use Rattle.std.specs.Prelude.{List, [], ◌∷◌, None}
 use Rattle.pac_exec.specs.declared.regs.Regs.{Regs}
 use Rattle.pac_cpu.specs.Power.{power_on_regs}

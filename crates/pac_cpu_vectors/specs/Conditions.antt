@@ -1,4 +1,4 @@
--- Law: Conditions (UM0080, "Jump Group"). Made by tools/make-vectors from tools/vectors.txt.
+-- Law: Conditions (UM0080, "Jump Group"). Made by tools/make/make-vectors from tools/check/vectors.txt.
 use Rattle.std.specs.Prelude.{List, [], ◌∷◌, None}
 use Rattle.pac_cpu.specs.Power.{power_on_regs}
 use Rattle.pac_cpu_vectors.specs.Vectors.{VectorLine, vector_line, Took}

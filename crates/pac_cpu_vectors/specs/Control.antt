@@ -1,5 +1,5 @@
--- Law: Control (UM0080, "General-Purpose Arithmetic and CPU Control Groups") and the loads of I and R. Made by tools/make-vectors from
--- tools/vectors.txt.
+-- Law: Control (UM0080, "General-Purpose Arithmetic and CPU Control Groups") and the loads of I and R. Made by tools/make/make-vectors from
+-- tools/check/vectors.txt.
 use Rattle.std.specs.Prelude.{true, false, List, [], ◌∷◌, None}
 use Rattle.pac_table.specs.declared.effects.InterruptMode.TheVariants.{Zero, One, Two}
 use Rattle.pac_exec.specs.declared.regs.Regs.{Regs}

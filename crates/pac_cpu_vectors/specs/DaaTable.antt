@@ -1,4 +1,4 @@
--- Law: the table of DAA (UM0080, DAA). Made by tools/make-vectors from tools/vectors.txt.
+-- Law: the table of DAA (UM0080, DAA). Made by tools/make/make-vectors from tools/check/vectors.txt.
 use Rattle.std.specs.Prelude.{List, [], ◌∷◌}
 use Rattle.pac_cpu_vectors.specs.Decimals.{DaaLine, daa_line}
 

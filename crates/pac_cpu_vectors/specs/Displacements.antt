@@ -1,4 +1,5 @@
--- Law: Displacements, over the ends of memory too (UM0080, "Indexed Addressing"). Made by tools/make-vectors from tools/vectors.txt.
+-- Law: Displacements, over the ends of memory too (UM0080, "Indexed Addressing"). Made by tools/make/make-vectors from
+-- tools/check/vectors.txt.
 use Rattle.std.specs.Prelude.{List, [], ◌∷◌, None}
 use Rattle.pac_bus.specs.Action.{Write}
 use Rattle.pac_exec.specs.declared.regs.Regs.{Regs}

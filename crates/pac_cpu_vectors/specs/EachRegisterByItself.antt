@@ -1,4 +1,4 @@
--- Law: Each register by itself (UM0080, "8-Bit Load Group"). Made by tools/make-vectors from tools/vectors.txt.
+-- Law: Each register by itself (UM0080, "8-Bit Load Group"). Made by tools/make/make-vectors from tools/check/vectors.txt.
 use Rattle.std.specs.Prelude.{List, [], ◌∷◌, None}
 use Rattle.pac_table.specs.declared.effects.InterruptMode.TheVariants.{One}
 use Rattle.pac_bus.specs.Action.{Write}

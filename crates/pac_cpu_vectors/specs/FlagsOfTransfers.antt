@@ -1,5 +1,5 @@
 -- Law: Flags of transfers (UM0080, "8-Bit Load Group", "Exchange, Block Transfer, and Search Group", "Input and Output Group"). Made by
--- tools/make-vectors from tools/vectors.txt.
+-- tools/make/make-vectors from tools/check/vectors.txt.
 use Rattle.std.specs.Prelude.{true, List, [], ◌∷◌, None}
 use Rattle.pac_bus.specs.Action.{Write}
 use Rattle.pac_cpu.specs.Power.{power_on_regs}

@@ -1,4 +1,4 @@
--- Law: Loads of each register (UM0080, "8-Bit Load Group"). Made by tools/make-vectors from tools/vectors.txt.
+-- Law: Loads of each register (UM0080, "8-Bit Load Group"). Made by tools/make/make-vectors from tools/check/vectors.txt.
 use Rattle.std.specs.Prelude.{List, [], ◌∷◌, None}
 use Rattle.pac_bus.specs.Action.{Action, Write}
 use Rattle.pac_exec.specs.declared.regs.Regs.{Regs}

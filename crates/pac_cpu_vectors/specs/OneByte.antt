@@ -1,5 +1,5 @@
--- Law: One byte (UM0080, "8-Bit Arithmetic Group" and "General-Purpose Arithmetic and CPU Control Groups"). Made by tools/make-vectors from
--- tools/vectors.txt.
+-- Law: One byte (UM0080, "8-Bit Arithmetic Group" and "General-Purpose Arithmetic and CPU Control Groups"). Made by tools/make/make-vectors
+-- from tools/check/vectors.txt.
 use Rattle.std.specs.Prelude.{List, [], ◌∷◌, None}
 use Rattle.pac_cpu.specs.Power.{power_on_regs}
 use Rattle.pac_cpu_vectors.specs.Vectors.{VectorLine, vector_line, Took}

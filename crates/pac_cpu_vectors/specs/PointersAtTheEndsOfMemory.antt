@@ -1,4 +1,4 @@
--- Law: Pointers at the ends of memory. Made by tools/make-vectors from tools/vectors.txt.
+-- Law: Pointers at the ends of memory. Made by tools/make/make-vectors from tools/check/vectors.txt.
 use Rattle.std.specs.Prelude.{List, [], ◌∷◌, None}
 use Rattle.pac_bus.specs.Action.{Action, Write, Output}
 use Rattle.pac_exec.specs.declared.regs.Regs.{Regs}

@@ -1,4 +1,4 @@
--- Law: Ports (UM0080, "Input and Output Group"). Made by tools/make-vectors from tools/vectors.txt.
+-- Law: Ports (UM0080, "Input and Output Group"). Made by tools/make/make-vectors from tools/check/vectors.txt.
 use Rattle.std.specs.Prelude.{List, [], ◌∷◌, None}
 use Rattle.pac_bus.specs.Action.{Output}
 use Rattle.pac_exec.specs.declared.regs.Regs.{Regs}

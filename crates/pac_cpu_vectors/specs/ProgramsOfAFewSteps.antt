@@ -1,5 +1,5 @@
--- Law: Programs of a few steps (UM0080; this profile's EI, repeats and acceptances between them). Made by tools/make-vectors from
--- tools/vectors.txt.
+-- Law: Programs of a few steps (UM0080; this profile's EI, repeats and acceptances between them). Made by tools/make/make-vectors from
+-- tools/check/vectors.txt.
 use Rattle.std.specs.Prelude.{true, false, List, [], ◌∷◌, Some, None}
 use Rattle.pac_table.specs.declared.effects.InterruptMode.TheVariants.{One, Two}
 use Rattle.pac_bus.specs.Action.{Write}

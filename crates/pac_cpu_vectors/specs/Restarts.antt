@@ -1,4 +1,4 @@
--- Law: Restarts (UM0080, "Call and Return Group"). Made by tools/make-vectors from tools/vectors.txt.
+-- Law: Restarts (UM0080, "Call and Return Group"). Made by tools/make/make-vectors from tools/check/vectors.txt.
 use Rattle.std.specs.Prelude.{List, [], ◌∷◌, None}
 use Rattle.pac_bus.specs.Action.{Write}
 use Rattle.pac_exec.specs.declared.regs.Regs.{Regs}

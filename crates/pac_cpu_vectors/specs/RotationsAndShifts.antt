@@ -1,4 +1,4 @@
--- Law: Rotations and shifts (UM0080, "Rotate and Shift Group"). Made by tools/make-vectors from tools/vectors.txt.
+-- Law: Rotations and shifts (UM0080, "Rotate and Shift Group"). Made by tools/make/make-vectors from tools/check/vectors.txt.
 use Rattle.std.specs.Prelude.{List, [], ◌∷◌, None}
 use Rattle.pac_bus.specs.Action.{Write}
 use Rattle.pac_exec.specs.declared.regs.Regs.{Regs}

@@ -1,4 +1,5 @@
--- Law: Rotations and shifts of each register (UM0080, "Rotate and Shift Group"). Made by tools/make-vectors from tools/vectors.txt.
+-- Law: Rotations and shifts of each register (UM0080, "Rotate and Shift Group"). Made by tools/make/make-vectors from
+-- tools/check/vectors.txt.
 use Rattle.std.specs.Prelude.{List, [], ◌∷◌, None}
 use Rattle.pac_exec.specs.declared.regs.Regs.{Regs}
 use Rattle.pac_cpu.specs.Power.{power_on_regs}

@@ -1,4 +1,5 @@
--- Law: Shifts and rotations of a byte, and of digits (UM0080, "Rotate and Shift Group"). Made by tools/make-vectors from tools/vectors.txt.
+-- Law: Shifts and rotations of a byte, and of digits (UM0080, "Rotate and Shift Group"). Made by tools/make/make-vectors from
+-- tools/check/vectors.txt.
 use Rattle.std.specs.Prelude.{List, [], ◌∷◌, None}
 use Rattle.pac_bus.specs.Action.{Write}
 use Rattle.pac_cpu.specs.Power.{power_on_regs}

@@ -1,4 +1,4 @@
--- Law: Single bits (UM0080, "Bit Set, Reset, and Test Group"). Made by tools/make-vectors from tools/vectors.txt.
+-- Law: Single bits (UM0080, "Bit Set, Reset, and Test Group"). Made by tools/make/make-vectors from tools/check/vectors.txt.
 use Rattle.std.specs.Prelude.{List, [], ◌∷◌, None}
 use Rattle.pac_bus.specs.Action.{Write}
 use Rattle.pac_exec.specs.declared.regs.Regs.{Regs}

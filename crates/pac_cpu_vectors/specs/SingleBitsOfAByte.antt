@@ -1,4 +1,4 @@
--- Law: Single bits of a byte (UM0080, "Bit Set, Reset, and Test Group"). Made by tools/make-vectors from tools/vectors.txt.
+-- Law: Single bits of a byte (UM0080, "Bit Set, Reset, and Test Group"). Made by tools/make/make-vectors from tools/check/vectors.txt.
 use Rattle.std.specs.Prelude.{List, [], ◌∷◌, None}
 use Rattle.pac_cpu.specs.Power.{power_on_regs}
 use Rattle.pac_cpu_vectors.specs.Vectors.{VectorLine, vector_line, Took}

@@ -1,5 +1,5 @@
 -- Law: Single bits of each register (UM0080, "Bit Set, Reset, and Test Group"; S and P/V, which it leaves open, stay: this profile). Made
--- by tools/make-vectors from tools/vectors.txt.
+-- by tools/make/make-vectors from tools/check/vectors.txt.
 use Rattle.std.specs.Prelude.{List, [], ◌∷◌, None}
 use Rattle.pac_bus.specs.Action.{Action, Write}
 use Rattle.pac_exec.specs.declared.regs.Regs.{Regs}

@@ -1,5 +1,5 @@
 -- Law: Stops (this profile): bytes that are no documented instruction, and in mode 0 a vector byte that is no RST. Made by
--- tools/make-vectors from tools/vectors.txt.
+-- tools/make/make-vectors from tools/check/vectors.txt.
 use Rattle.std.specs.Prelude.{true, List, [], ◌∷◌, Some, None}
 use Rattle.pac_bus.specs.Action.{Write}
 use Rattle.pac_exec.specs.declared.regs.Regs.{Regs}

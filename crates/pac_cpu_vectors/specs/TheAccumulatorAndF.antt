@@ -1,5 +1,5 @@
--- Law: The accumulator and F (UM0080, "General-Purpose Arithmetic and CPU Control Groups"). Made by tools/make-vectors from
--- tools/vectors.txt.
+-- Law: The accumulator and F (UM0080, "General-Purpose Arithmetic and CPU Control Groups"). Made by tools/make/make-vectors from
+-- tools/check/vectors.txt.
 use Rattle.std.specs.Prelude.{List, [], ◌∷◌, None}
 use Rattle.pac_bus.specs.Action.{Write}
 use Rattle.pac_cpu.specs.Power.{power_on_regs}

@@ -1,5 +1,5 @@
--- Law: what a line of tools/vectors.txt says, of the definition of a step of the processor. The lines are in files of
--- their own, which tools/make-vectors makes of that table.
+-- Law: what a line of tools/check/vectors.txt says, of the definition of a step of the processor. The lines are in files of
+-- their own, which tools/make/make-vectors makes of that table.
 use Rattle.std.specs.Prelude.{◌≡◌, ℕ, zero, suc, ◌+◌, ◌==◌, List, [], ◌∷◌, ◌++◌, length, Option, None, if◌then◌else◌}
 use Rattle.pac_num.specs.Numbers.{wrapped_address}
 use Rattle.pac_bus.specs.Action.{Action, Write, Output}

@@ -1,4 +1,4 @@
-//! The lines of tools/vectors.txt, a function a heading: the definition of a step comes to what each says. Made by tools/make-vectors.
+//! The lines of tools/check/vectors.txt, a function a heading: the definition of a step comes to what each says. Made by tools/make/make-vectors.
 
 ghost use Rattle.pac_cpu_vectors.specs.Vectors.{EachLineHolds, EachLineResets};
 ghost use Rattle.pac_cpu_vectors.specs.LoadsOfBytes.{loads_of_bytes_lines};

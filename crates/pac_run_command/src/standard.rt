@@ -49,7 +49,7 @@ fn are_open<R: Files>(rt: &R) -> bool {
 
 /// Keeps the places of the standard streams from the files that are created; none are to be kept where all are open. An error
 /// where this isn't known and no folder can be opened, neither the root nor the present one. The kit states nothing of the
-/// descriptors that files and pipes get, so no clause can; tools/closed-descriptors tries it on the built program.
+/// descriptors that files and pipes get, so no clause can; tools/check/closed-descriptors tries it on the built program.
 fn keep_standard<R: Files>(rt: &R) -> io::Result<Option<Places<R::File>>> {
     match open_thrice(rt, "/") {
         Ok(places) => Ok(Some(places)),

@@ -1,4 +1,4 @@
-// The likely cause of a refusal, by the tables of tools/explain: what other assemblers write, and where a name is defined.
+// The likely cause of a refusal, by the tables of bin/explain: what other assemblers write, and where a name is defined.
 
 import { valueCauses } from './values.js';
 import { DIRECTIVES, FOREIGN, FORMS, MEANINGS, MNEMONICS, REGISTERS, SIGNS, SPELLINGS } from './tables.js';

@@ -1,9 +1,9 @@
-// Tries in node what the studio is made of, with the modules inside its page, against the built program: tools/studio calls it.
+// Tries in node what the studio is made of, with the modules inside its page, against the built program: tools/check/studio calls it.
 //
 //     node hosts/web/studio/test.mjs PAGE PACBOARD FOLDER
 //
-// FOLDER has rows.json, which tools/studio lays there: sources with the fault and the likely causes that the checker in Python has for them. The
-// last line is `N passed, M failed`.
+// FOLDER has rows.json, which tools/check/studio lays there: sources with the fault and the likely causes that the checker in Python has
+// for them. The last line is `N passed, M failed`.
 
 import { createHash } from 'node:crypto';
 import { mkdirSync, readFileSync, writeFileSync } from 'node:fs';
@@ -67,7 +67,7 @@ function isSame(assembler, source) {
 // Sources of the table, of the examples, and such as come of the examples by chance.
 function sources(assembler, rows) {
     const wrong = rows.filter(({ source }) => !isSame(assembler, Buffer.from(source, 'latin1')));
-    row(`${rows.length} sources of tools/sources: ROM, listing and fault are the program's`, rows.length > 300 && wrong.length === 0,
+    row(`${rows.length} sources of tools/check/sources: ROM, listing and fault are the program's`, rows.length > 300 && wrong.length === 0,
         JSON.stringify(wrong[0])?.slice(0, 300));
     for (const name of EXAMPLES) row(`${name}: ROM and listing are the program's`, isSame(assembler, example(name, 'asm')));
     const chance = numbers(7), lines = EXAMPLES.flatMap((name) => example(name, 'asm').toString().split('\n'));
@@ -142,20 +142,20 @@ function listings(assembler) {
         const source = example(name, 'asm'), { listing } = assembler.assemble(new Uint8Array(source));
         writeFileSync(at('listing'), listing);
         const read = new Listing(textOf(listing), source.toString().split('\n'));
-        const ticks = spawnSync('python3', [path.join(ROOT, 'tools/symbols'), '--ticks', at('listing')], { encoding: 'utf8' }).stdout.split('\n');
+        const ticks = spawnSync('python3', [path.join(ROOT, 'bin/symbols'), '--ticks', at('listing')], { encoding: 'utf8' }).stdout.split('\n');
         const others = ticks.filter((line) => /^\d{5} [0-9A-F]{4}/.test(line)).filter((line) => {
             const found = read.lines[Number(line.slice(0, 5))];
             return found.ticks !== line.slice(20, 25).trim() || found.address !== parseInt(line.slice(6, 10), 16);
         });
-        row(`${name}: addresses and T-states are those of tools/symbols`, others.length === 0, others[0]);
-        const symbols = spawnSync('python3', [path.join(ROOT, 'tools/symbols'), at('listing')], { encoding: 'utf8' }).stdout.trimEnd().split('\n');
+        row(`${name}: addresses and T-states are those of bin/symbols`, others.length === 0, others[0]);
+        const symbols = spawnSync('python3', [path.join(ROOT, 'bin/symbols'), at('listing')], { encoding: 'utf8' }).stdout.trimEnd().split('\n');
         row(`${name}: and so are the symbols`, symbols.every((line, place) => line.split(' ')[0] === [...read.symbols.keys()][place]));
     }
     const lines = EXAMPLES.flatMap((name) => example(name, 'asm').toString().split('\n'));
     row('marked words are the line', lines.every((line) => marked(line).map(([, text]) => text).join('') === line));
 }
 
-// What is said of faults: nothing that tools/explain doesn't say.
+// What is said of faults: nothing that bin/explain doesn't say.
 function causes(rows, assembler) {
     let same = 0, all = 0;
     const others = [];
@@ -167,7 +167,7 @@ function causes(rows, assembler) {
         if (said.some((one) => !wanted.includes(one))) others.push({ code, line: lines[line - 1]?.slice(0, 60), said, wanted });
         if (!meaningOf(code)) others.push(code);
     }
-    row(`causes of ${all} faults: none is said that tools/explain doesn't say`, all > 100 && others.length === 0,
+    row(`causes of ${all} faults: none is said that bin/explain doesn't say`, all > 100 && others.length === 0,
         `${others.length}: ${JSON.stringify(others.slice(0, 6))}`);
     row(`for most of them the first is the same (${same})`, same > 0.6 * all);
 }

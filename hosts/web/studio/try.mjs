@@ -1,4 +1,4 @@
-// Tries the studio in Chromium without a window: tools/studio calls it.
+// Tries the studio in Chromium without a window: tools/check/studio calls it.
 //
 //     node hosts/web/studio/try.mjs PAGE PACBOARD FOLDER [ADDRESS FILE]
 //

@@ -1,0 +1,64 @@
+"""The picture of a board's RAM, sprites and flip bit, by docs/FORMATS.md and "The board on one page" of docs/USING.md. tools/check/screens holds
+pictures against it, and bench/beside_mame.py draws by its rows what MAME's board has in its RAM. This was written from these pages, without
+a look at the program; but that the three high bits of a palette's byte aren't wired is from the schematics.
+"""
+WIDTH, HEIGHT = 288, 224  # pixels
+COLUMNS, ROWS = 36, 28  # cells
+ASIDE = {0: 0x3C2, 1: 0x3E2, 34: 0x002, 35: 0x022}  # the columns that stand beside the others, and the place of each one's first cell
+SPRITE_COLUMNS = [8, 16, 24, 0]  # where four columns of pixels of a sprite begin, from the left
+
+
+def place(column, row):
+    """The place of a cell in tile RAM, and in colour RAM."""
+    return ASIDE[column] + row if column in ASIDE else 0x40 + 32 * row + column - 2
+
+
+def value(byte, x):
+    """The value of a pixel, 0 to 3 from the left, of the four that a byte has."""
+    return (byte >> 7 - x & 1) * 2 + (byte >> 3 - x & 1)
+
+
+def tile_line(rom, code, y):
+    """The eight values of a line of a tile."""
+    return [value(rom[16 * code + y + (8 if x < 4 else 0)], x % 4) for x in range(8)]
+
+
+def sprite_line(rom, code, y):
+    """The sixteen values of a line of a sprite."""
+    first = 64 * code + 32 * (y // 8) + y % 8
+    return [value(rom[first + SPRITE_COLUMNS[x // 4]], x % 4) for x in range(16)]
+
+
+def numbers(lookup, palette, values):
+    """The colour numbers of values in a palette, by the low five bits of its byte."""
+    return [lookup[4 * (palette % 32) + one] % 16 for one in values]
+
+
+def put_cells(picture, roms, tile_ram, colour_ram):
+    """Puts the cells into a picture."""
+    for column in range(COLUMNS):
+        for row in range(ROWS):
+            at = place(column, row)
+            for y in range(8):
+                first = WIDTH * (8 * row + y) + 8 * column
+                picture[first : first + 8] = bytes(numbers(roms["lookup"], colour_ram[at], tile_line(roms["tiles"], tile_ram[at], y)))
+
+
+def put_sprite(picture, roms, attributes, coordinates):
+    """Puts a sprite over a picture: where its palette has colour 0 it is transparent, and it shows in the columns from 16 to 271 alone."""
+    left, top = 272 - coordinates[1], coordinates[0] - 31
+    for y in range(16):
+        line = sprite_line(roms["sprites"], attributes[0] // 4, 15 - y if attributes[0] & 2 else y)
+        shown = numbers(roms["lookup"], attributes[1], line[::-1] if attributes[0] & 1 else line)
+        for x, number in enumerate(shown, left):
+            if number and 16 <= x < 272 and 0 <= top + y < HEIGHT:
+                picture[WIDTH * (top + y) + x] = number
+
+
+def picture_of(roms, tile_ram, colour_ram, attributes, coordinates, is_flipped):
+    """The colour numbers of a picture, row by row from the top. `roms` has the tiles, the sprites and the lookup PROM."""
+    picture = bytearray(WIDTH * HEIGHT)
+    put_cells(picture, roms, tile_ram, colour_ram)
+    for at in range(14, -2, -2):  # lower numbers in front
+        put_sprite(picture, roms, attributes[at : at + 2], coordinates[at : at + 2])
+    return bytes(picture[::-1] if is_flipped else picture)
