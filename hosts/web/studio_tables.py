@@ -2,10 +2,8 @@
 and compares.
 
 Where a block has what is that of hosts/pacboard.h; T-states are those of the instructions' table; words are those of the checker in Python;
-what a refusal means, and the likely causes that hang on words alone, are those of bin/explain.
+what a refusal means, and its likely causes, are those of tools/lib/causes.json.
 """
-import importlib.machinery
-import importlib.util
 import json
 import pathlib
 import re
@@ -14,25 +12,15 @@ from typing import Any
 
 ROOT = pathlib.Path(__file__).resolve().parent.parent.parent
 PAGES = ["Plain", "Cb", "Ed", "Dd", "Fd", "DdCb", "FdCb"]  # of the table of instructions
-HEAD = "// Made by hosts/web/studio-build --tables from hosts/pacboard.h, the table of instructions, tools/lib/judge_source.py and bin/explain.\n"
+HEAD = "// Made by hosts/web/studio-build --tables from hosts/pacboard.h, the table of instructions, tools/lib/judge_source.py\n// and tools/lib/causes.json.\n"
 
 sys.path.insert(0, str(ROOT / "tools/lib"))
 
-import causes_of_files
-import causes_of_lines
+import causes
+import facts
 import instructions
 import judge_run
 import judge_source
-
-
-def explain() -> Any:
-    """The tool bin/explain as a module."""
-    loader = importlib.machinery.SourceFileLoader("explain", str(ROOT / "bin/explain"))
-    spec = importlib.util.spec_from_loader("explain", loader)
-    assert spec is not None
-    module = importlib.util.module_from_spec(spec)
-    loader.exec_module(module)
-    return module
 
 
 def places() -> dict[str, int]:
@@ -50,12 +38,17 @@ def ticks() -> dict[str, list[str]]:
 
 def forms() -> dict[str, list[str]]:
     """The forms of each operation, as docs/ASSEMBLER.md has them."""
-    section = causes_of_lines.PAGE.read_text().partition("## Instructions")[2].partition("\nOther spellings")[0]
+    section = facts.PAGE.read_text().partition("## Instructions")[2].partition("\nOther spellings")[0]
     found: dict[str, list[str]] = {}
     for form in re.findall(r"`([A-Z]+(?: [^`]*)?)`", section):
         if form.split()[0] in judge_source.MNEMONICS:
             found.setdefault(form.split()[0], []).append(form)
     return found
+
+
+def rows() -> list[list[str]]:
+    """The instructions as the checker has them: a form, and its code."""
+    return [[part.strip() for part in row.split("|")] for row in re.split(r"[;\n]", judge_source.ROWS.strip())]
 
 
 def tables() -> dict[str, Any]:
@@ -67,11 +60,12 @@ def tables() -> dict[str, Any]:
         "MNEMONICS": sorted(judge_source.MNEMONICS),
         "DIRECTIVES": sorted(judge_source.DIRECTIVES),
         "REGISTERS": sorted(judge_source.REGISTERS),
+        "CONDITIONS": sorted(judge_source.CONDITIONS),
         "FORMS": forms(),
-        "MEANINGS": explain().MEANINGS,
-        "SIGNS": [[sign, text] for sign, text in causes_of_lines.SIGNS],
-        "FOREIGN": causes_of_lines.FOREIGN,
-        "SPELLINGS": [[sign, text] for sign, text in causes_of_lines.SPELLINGS],
+        "ROWS": rows(),
+        "FIELDS": judge_source.FIELDS,
+        "NUMBERS": {letters: list(numbers) for letters, (_, numbers) in judge_source.NUMBERS.items()},
+        "CAUSES": causes.TABLE,
         "PARTS": parts,
     }
 
@@ -80,6 +74,3 @@ def text() -> str:
     """The file."""
     lines = [f"export const {name} = {json.dumps(table, ensure_ascii=True, separators=(',', ':'))};\n" for name, table in tables().items()]
     return HEAD + "\n" + "".join(lines)
-
-
-assert causes_of_files  # (bin/explain imports it by its name)

@@ -1,144 +1,123 @@
-"""The likely cause of a fault in a source, for bin/explain.
+"""The likely causes of a refusal, by the table tools/lib/causes.json, for bin/explain. hosts/web/studio/causes.js reads the same table.
 
-Lines are read by tools/lib/judge_source.py, which was written from docs/ASSEMBLER.md. `causes(code, source, number)` gives sentences, none
-where nothing is sure.
+A code has groups of rules; of each group the first rule whose conditions hold says its sentence, or a group is tried for each item of a fact.
+
+    {"if": {FACT: CONDITION, ..}, "say": SENTENCE}
+    {"if": .., "from": TABLE, "of": FACT, "say": SENTENCE}
+    {"each": FACT, "rules": [..]}
+
+A condition is true or false (the fact is there, or isn't), a pattern that the whole fact has to match, a list of patterns' texts, or {"above": N} or
+{"below": N}. With `from` the fact, or the first of its items, has to match the pattern of a row, whose sentence is {found}. In a sentence {FACT}
+is a fact, {0} what was matched, {1} the pattern's first group, {1|hex} the same as a hexadecimal number, and {1|upper} in capitals. Patterns take
+either case.
 """
+import functools
+import json
+import pathlib
 import re
+from collections.abc import Iterator
+from typing import Any
 
-import causes_of_lines
-import judge_source as judge
-from causes_of_lines import foreign, hexadecimal, near
+import facts
+import judge_source
 
-
-def first_phase(lines, number):
-    """What is known of the lines above one."""
-    assembly = judge.Assembly()
-    for line in lines[: number - 1]:
-        assembly.first_phase(line)
-    return assembly
+TABLE: Any = json.loads((pathlib.Path(__file__).resolve().parent / "causes.json").read_text())
+FLAGS = re.IGNORECASE | re.ASCII | re.DOTALL
+Groups = list[str]
 
 
-def definition(lines, name):
-    """The number of the first line that defines a name, or none."""
-    read = (judge.read_line(line) for line in lines)
-    return next((at for at, line in enumerate(read, 1) if not isinstance(line, str) and line.label == name), None)
+class Within:
+    """Facts of an item, and of what it is in."""
+
+    def __init__(self, item: dict[str, Any], known: Any):
+        self.item, self.known = item, known
+
+    def __getitem__(self, name: str) -> Any:
+        return self.item[name] if name in self.item else self.known[name]
 
 
-def name_cause(lines, number, tree_names, known):
-    """The cause of names that aren't defined."""
-    for name in sorted(tree_names - set(known)):
-        at = definition(lines, name)
-        like = next((other for other in known if other.upper() == name.upper()), None)
-        if at and at != number:
-            yield f"{name} is defined below, in line {at}: here it has to be defined in a line above"
-        elif at:
-            yield f"{name} is defined by itself"
-        elif re.fullmatch("[A-Fa-f][0-9A-Fa-f]*[Hh]", name):
-            yield f"{name} is a name, since it begins with a letter; the hexadecimal number is 0{name}"
-        elif like:
-            yield f"{like} in line {definition(lines, like)} is another name: capitals count"
-        elif text := list(foreign([name])):
-            yield from text
-        else:
-            like = near(name, known)
-            yield f"{name} is defined nowhere" + (f"; {like} is, in line {definition(lines, like)}" if like else "")
+@functools.cache
+def pattern(text: str) -> re.Pattern[str]:
+    """A pattern."""
+    return re.compile(text, FLAGS)
 
 
-def place_cause(code, lines, number):
-    """The cause of bytes at a place that they can't have, or of a name that has one already."""
-    assembly, line = first_phase(lines, number), judge.read_line(lines[number - 1])
-    if code == "A3":
-        at = definition(lines, line.label)
-        yield f"{line.label} is defined in line {at} already"
-        if line.operation is None and not re.search(rb"\w\s*:", lines[number - 1]):
-            yield f"{line.label} is no operation: a word that stands alone in a line is a label"
-    elif code == "A4":
-        yield from name_cause(lines, number, judge.names_of(line.at_once), assembly.symbols)
-    elif code == "A5":
-        value = assembly.at_once(line.at_once) if line.at_once else None
-        if line.operation == "ORG" and value and value > 0x4000:
-            yield f"the assembler makes the ROM alone, 0000H to 3FFFH; RAM gets names by EQU: `SCORE EQU {hexadecimal(f'{value:X}')}`"
-        elif line.operation == "DEFS" and value is not None and not 0 <= value <= 0x4000:
-            yield f"the size is {value}"
-        else:
-            yield f"the bytes begin at {hexadecimal(f'{assembly.at:04X}')}, and the ROM ends at 3FFFH; RAM gets names by EQU"
-    elif code == "A6":
-        size = assembly.at_once(line.at_once) if line.operation == "DEFS" else line.size
-        spots = [(at, spot) for at, spot in enumerate(assembly.spots, 1) if isinstance(spot, tuple)]
-        for at, (begin, length) in spots:
-            if begin < assembly.at + size and assembly.at < begin + length:
-                places = [hexadecimal(f"{place:04X}") for place in (begin, assembly.at)]
-                yield f"line {at} has bytes from {places[0]} on, and this line begins at {places[1]}"
-                return
+def is_there(value: Any) -> bool:
+    """Whether a fact is there; the number 0 is."""
+    return value not in (None, False, "", [])
 
 
-def value_cause(lines, number):
-    """The cause of a value that a place doesn't take."""
-    assembly = first_phase(lines, len(lines) + 1)
-    line, here = judge.read_line(lines[number - 1]), assembly.spots[number - 1][0]
-    takes = {"n": (-128, 255), "nn": (-32768, 65535), "d": (-128, 127), "e": (-128, 127)}
-    for kind, tree in line.places:
-        value = judge.value_of(tree, assembly.symbols, here)
-        if kind == "e" and not -128 <= value - here - 2 <= 127:
-            other = "DEC B and JP NZ go" if line.operation == "DJNZ" else "JP goes"
-            yield f"the target is {value - here - 2} away from the next instruction; -128 to 127 are taken, and {other} anywhere"
-        elif kind in takes and kind != "e" and not takes[kind][0] <= value <= takes[kind][1]:
-            yield f"the value is {value}; {takes[kind][0]} to {takes[kind][1]} are taken" + (
-                ": an address takes a pair, as HL" if kind == "n" and value > 255 and judge.names_of(tree) else "")
-        elif kind == "number" and value not in line.code:
-            yield f"the value is {value}; {line.operation} takes {', '.join(map(str, sorted(line.code)))}"
+def shown(value: Any) -> str:
+    """A fact as a sentence has it."""
+    return ", ".join(map(str, value)) if isinstance(value, list) else "" if value is None else str(value)
 
 
-def arithmetic_cause(lines, number):
-    """The cause of an expression without a result: the innermost part that has none."""
-    line = judge.read_line(lines[number - 1])
-    assembly = first_phase(lines, number if line.at_once else len(lines) + 1)
-    here = assembly.at if line.at_once else assembly.spots[number - 1][0]
-    parts = [line.at_once] if line.at_once else [tree for _, tree in line.places]
-    for tree in parts:
-        parts += [part for part in tree[1:] if isinstance(part, tuple)]
-    for tree in reversed(parts):
-        try:
-            judge.value_of(tree, assembly.symbols, here)
-        except judge.Fault:
-            is_divided = tree[0] == "/" and judge.value_of(tree[2], assembly.symbols, here) == 0
-            yield "the divisor is 0" if is_divided else "a result is past 32 bits"
-            return
+def hexadecimal(value: Any) -> str:
+    """A hexadecimal number as a source has it, of digits or of a number."""
+    digits = f"{value:04X}" if isinstance(value, int) else value.upper()
+    return ("" if digits[:1].isdigit() else "0") + digits + "H"
 
 
-def branch_cause(code, lines, number):
-    """The cause of an IF, ELSE or ENDIF that has no other."""
-    words = [(at, judge.first_word(line).decode()) for at, line in enumerate(lines, 1)]
-    if code == "A14":
-        after = next((at for at, line in enumerate(lines, 1) if re.match(rb"\s*\w+\s*:?\s+ENDIF\b", line, re.I)), None)
-        yield f"the ENDIF of line {after} stands after a label and ends nothing" if after else "an ENDIF for it stands nowhere"
-    else:
-        above = [at for at, word in words[: number - 1] if word in ("IF", "ELSE", "ENDIF")]
-        yield f"IF, ELSE and ENDIF stand above in the lines {', '.join(map(str, above))}" if above else "no IF stands above"
+def filled(text: str, known: Any, groups: Groups) -> str:
+    """A sentence with what is known, and with what a pattern has found."""
+
+    def fill(found: re.Match[str]) -> str:
+        """What is in the place of a name."""
+        name, _, form = found[1].partition("|")
+        value = groups[int(name)] if name.isdigit() else known[name]
+        return hexadecimal(value) if form == "hex" else shown(value).upper() if form == "upper" else shown(value)
+
+    return re.sub(r"\{([^{}]+)\}", fill, text)
 
 
-def causes(code, source, number):
-    """Sentences about the cause of a fault in a line; none where nothing is sure."""
-    lines = judge.lines_of(source)
-    if not 1 <= number <= len(lines):
+def holds(condition: Any, value: Any) -> Groups | None:
+    """What a condition finds in a fact; None where it doesn't hold."""
+    if isinstance(condition, bool):
+        return [] if is_there(value) == condition else None
+    if isinstance(condition, dict):
+        is_so = value is not None and value > condition.get("above", value - 1) and value < condition.get("below", value + 1)
+        return [] if is_so else None
+    if isinstance(condition, list):
+        return [] if shown(value) in condition else None
+    found = pattern(condition).fullmatch(shown(value))
+    return [found[0], *(group or "" for group in found.groups())] if found else None
+
+
+def row_of(table: list[list[str]], value: Any) -> tuple[str, Groups] | None:
+    """The sentence of a table's first row that matches a fact, or the first of its items that one matches."""
+    for item in value if isinstance(value, list) else [value]:
+        for text, sentence in table:
+            if item and (found := pattern(text).fullmatch(item)):
+                return sentence, [found[0], *(group or "" for group in found.groups())]
+    return None
+
+
+def said(rule: Any, known: Any) -> str | None:
+    """What a rule says; None where its conditions don't hold."""
+    groups = list[str]()
+    for name, condition in rule.get("if", {}).items():
+        found = holds(condition, known[name])
+        if found is None:
+            return None
+        groups = found or groups
+    if "from" not in rule:
+        return filled(rule["say"], known, groups)
+    row = row_of(TABLE["tables"][rule["from"]], known[rule["of"]])
+    return filled(rule["say"], Within({"found": filled(row[0], known, row[1])}, known), row[1]) if row else None
+
+
+def sentences(code: str, known: Any) -> Iterator[str]:
+    """The sentences of a code, by what is known."""
+    for group in TABLE["causes"].get(code, []):
+        for item in known[group["each"]] if "each" in group else [{}]:
+            rules = group["rules"] if "each" in group else group
+            sentence = next((one for rule in rules if (one := said(rule, Within(item, known))) is not None), None)
+            if sentence is not None:
+                yield sentence
+
+
+def causes(code: str, source: bytes, number: int) -> list[str]:
+    """Sentences about the cause of a fault in a line of a source; none where nothing is sure."""
+    if code == "A7" or not 1 <= number <= len(judge_source.lines_of(source)):
         return []
-    try:
-        if code.startswith("A1 "):
-            return list(causes_of_lines.token_cause(code, lines[number - 1]))
-        if code == "A2":
-            return list(causes_of_lines.form_cause(lines[number - 1]))
-        if code in ("A3", "A4", "A5", "A6"):
-            return list(place_cause(code, lines, number))
-        if code == "A8":
-            assembly, line = first_phase(lines, len(lines) + 1), judge.read_line(lines[number - 1])
-            names = set().union(*(judge.names_of(tree) for _, tree in line.places))
-            return list(name_cause(lines, number, names, assembly.symbols))
-        if code == "A9":
-            return list(value_cause(lines, number))
-        if code == "A10":
-            return list(arithmetic_cause(lines, number))
-        if code in ("A12", "A13", "A14"):
-            return list(branch_cause(code, lines, number))
-    except (judge.Fault, TypeError, AttributeError, ValueError):
-        pass  # the line isn't the one that was refused, or the source has changed since
-    return []
+    return list(sentences(code, facts.Refused(code, source, number)))

@@ -1,9 +1,9 @@
-"""Where a refused script, manifest or file of commands, or a listing at a stop, has the fault, and the likely cause, for bin/explain.
+"""Where a refused script, manifest or file of commands, or a listing at a stop, has the fault, and what is known of it, for bin/explain.
 
-Each function takes a code, what the program's line says of the place, and the file's bytes; it gives the lines, each its number and
-sentences.
+Each function takes a code, what the program's line says of the place, the file's bytes and its path; it gives the lines, each its number and
+the facts that tools/lib/causes.json asks for.
 """
-import difflib
+import pathlib
 import re
 import tomllib
 import zlib
@@ -11,33 +11,22 @@ from typing import Any
 
 import judge_run
 import judge_source
+from facts import near
 
+Places = list[tuple[int, dict[str, Any]]]
 NAMED = re.compile(rb"(?<![^ \t])@\w+")  # a symbol, for which bin/symbols puts its address
 
 
-def in_script(code, said, content):
+def in_script(_code: str, said: str, content: bytes, _path: pathlib.Path) -> Places:
     """The line of a script's fault."""
-    number = int(said)
-    lines = judge_source.lines_of(content)
+    number, lines, names = int(said), judge_source.lines_of(content), judge_run.NAMES.split()
     if number > len(lines):
         return []
-    words = [word.decode(errors="replace") for word in judge_run.words_of(lines[number - 1])]
-    if code == "I2":
-        causes = [f"{words[0]} is no number from 1 to 36000; a line is a count of frames, and then names or -"] if words else []
-    elif code == "I3":
-        counts = [judge_run.number_of(first, 36000) or 0 for line in lines[:number] for first in judge_run.words_of(line)[:1]]
-        causes = [f"the lines up to this one have {sum(counts)} frames"]
-    elif len(words) != 2:
-        causes = ["after the count comes one word: names with commas between them and no blanks, or - for none"]
-    else:
-        causes = [name_cause(name) for name in words[1].split(",") if name not in judge_run.NAMES.split()]
-    return [(number, causes)]
-
-
-def name_cause(name):
-    """What a name might have been."""
-    like = difflib.get_close_matches(name.upper(), judge_run.NAMES.split(), 1, 0.5)
-    return f"{name or 'an empty name'} is no input" + (f"; {like[0]} is one" if like else f"; the inputs are {judge_run.NAMES}")
+    words = [word.decode("latin-1") for word in judge_run.words_of(lines[number - 1])]
+    counts = [judge_run.number_of(first, 36000) or 0 for line in lines[:number] for first in judge_run.words_of(line)[:1]]
+    unknown = [name for name in words[1].split(",") if name not in names] if len(words) == 2 else []
+    known = {"words": len(words), "count": words[0] if words else "", "frames": sum(counts), "inputs": names}
+    return [(number, known | {"unknown inputs": [{"name": name, "near": near(name, names)} for name in unknown]})]
 
 
 def misformed(document):
@@ -52,35 +41,37 @@ def misformed(document):
     return None
 
 
-def in_manifest(code, said, content):
+def size_of(path: pathlib.Path) -> int | None:
+    """How many bytes a file has; None where it isn't there."""
+    return path.stat().st_size if path.is_file() else None
+
+
+def in_manifest(code: str, said: str, content: bytes, path: pathlib.Path) -> Places:
     """The line of a manifest's fault."""
     text = content.decode(errors="replace")
     lines = text.rstrip("\n").split("\n")
-    part, causes = said, []
+    part = said
     if code == "M1":
         try:
             part = misformed(tomllib.loads(text)) or ""
-            told = f"{part} isn't a table with `file` and `sha1` as texts, 40 digits for the latter (`program`: four tables)"
-            causes = [told] if part else []
         except tomllib.TOMLDecodeError as error:
             found = re.search(r"at line (\d+)", str(error))
-            return [(int(found[1]) if found else len(lines), [f"TOML: {error}"])]
+            return [(int(found[1]) if found else len(lines), {"toml": str(error)})]
     elif code == "M6":
-        part, causes = "program", ["leave `program` out of the manifest, or run it without a source"]
+        part = "program"
     name, nth = ("program", int(part[7:] or 1)) if part.startswith("program") else (part, 1)
     heads = [at for at, line in enumerate(lines, 1) if re.match(rf"\s*\[*\s*{name}\b", line)]
-    at = heads[nth - 1] if 0 < nth <= len(heads) else None
+    table = heads[nth - 1] if 0 < nth <= len(heads) else 0
     key = {"M3": "file", "M4": "sha1", "M5": "file"}.get(code)
-    at = next((row for row in range(at, len(lines) + 1) if re.search(rf"\b{key}\s*=", lines[row - 1])), at) if key and at else at
-    causes += {
-        "M2": [f"{part} has no `file`" if at else f"there is no table {part}"],
-        "M3": [f"{part} has {dict(judge_run.PARTS).get(part)} bytes"],
-        "M4": ["`sha1sum FILE` prints the digest; without `sha1` none is compared"],
-    }.get(code, [])
-    return [(at or len(lines), causes)]
+    at = next((row for row in range(table, len(lines) + 1) if re.search(rf"\b{key}\s*=", lines[row - 1])), table) if key and table else table
+    named = re.search(r"""\bfile\s*=\s*["'](.+?)["']""", "\n".join(lines[table - 1 :])) if table else None
+    file, size = named[1] if named else "", dict(judge_run.PARTS).get(part)
+    length = size_of(path.parent / file) if file else None
+    known = {"toml": "", "part": part, "table": table if table else None, "file": file, "size": size, "length": length if length != size else None}
+    return [(at or len(lines), known)]
 
 
-def in_commands(code, said, content):
+def in_commands(code: str, said: str, content: bytes, _path: pathlib.Path) -> Places:
     """The lines of commands that a session refuses with a code; of G2 those that may be meant, since it hangs on the run."""
     session: Any = judge_run.Session(judge_run.Run(bytes(0x4000), 0, 0))
     found = list[Any]()
@@ -93,7 +84,7 @@ def in_commands(code, said, content):
         is_back = bool(words) and words[0] == b"back" and len(words) == 2 and judge_run.number_of(words[1], 1_000_000)
         answer = "refused G2" if is_back else session.answer(line)
         if answer.startswith(f"refused {code}"):
-            found.append((number, command_cause(code, said, words, takes)))
+            found.append((number, command_facts(said, words, takes)))
     return found
 
 
@@ -120,33 +111,21 @@ def refused_commands(content, session):
         at += count
 
 
-def command_cause(code, said, words, takes):
-    """Why a command is refused."""
-    word = words[0].decode(errors="replace")
-    names = [name.decode() for name in judge_run.Session.COMMANDS]
-    if code == "G2":
-        return [f"step {said} is the oldest that can be reached: each 4,096 steps is a checkpoint, and the last sixteen are kept"]
-    if code == "G3":
-        return ["no `keep` with this number stands above"]
-    if code == "G4":
-        return ["`unbreak a` takes one away"]
-    if takes is None:
-        like = difflib.get_close_matches(word.lower(), names, 1, 0.6)
-        return [f"{word} is no command" + (f"; {like[0]} is one" if like else f"; commands are {', '.join(names)}")]
-    forms = " ".join("HHHH" if most == "a" else f"1..{most}" for most in takes)
-    return [f"its form is `{word} {forms}`".rstrip(" `") + "`: addresses have four hexadecimal digits, numbers are decimal"]
+def command_facts(said: str, words: list[bytes], takes: Any) -> dict[str, Any]:
+    """What is known of a command that is refused."""
+    word, names = words[0].decode(errors="replace"), [name.decode() for name in judge_run.Session.COMMANDS]
+    forms = [word, *("HHHH" if most == "a" else f"1..{most}" for most in takes or [])]
+    return {"oldest": said, "word": word, "form": "" if takes is None else " ".join(forms), "near": near(word, names), "commands": names}
 
 
-def in_listing(code, said, content):
+def in_listing(_code: str, said: str, content: bytes, _path: pathlib.Path) -> Places:
     """The row of a listing in which an address stands; 0 where none has it."""
     address = int(said, 16)
     for at, line in enumerate(content.decode("latin-1").split("\n"), 1):
         found = re.match(r"(?:\d{5}|     ) ([0-9A-F]{4}) ((?:[0-9A-F]{2}){1,4})", line)
         if found and 0 <= address - int(found[1], 16) < len(found[2]) // 2:
-            came = "the processor came to this address, to data or into the middle of an instruction"
-            return [(at, [came if code == "S1" else "the interrupt came before this instruction"])]
-    place = "is in RAM or at a port, where the program shouldn't have gone" if address >= 0x4000 else "is in no line"
-    return [(0, [f"{said}H {place}"])]
+            return [(at, {"row": at})]
+    return [(0, {"row": None, "address": address, "place": said})]
 
 
 def source_line(content, row):

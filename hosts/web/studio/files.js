@@ -3,7 +3,7 @@
 
 import { counted, Fault, MOST, textOf } from './bytes.js';
 import { hasSet, setOf } from './set.js';
-import { masksOf } from './tape.js';
+import { masksOfFile } from './scripts.js';
 import { filesIn, isZip } from './zip.js';
 
 const STATE = 'PACSTATE';
@@ -40,7 +40,7 @@ export async function taken(files) {
         if (SOURCE.test(file.name)) {
             if (found.source) throw new Fault('two sources', `${found.source.name} and ${file.name} are both sources`);
             found.source = { name: isOne(file.name), text: sourceOf(file) };
-        } else if (SCRIPT.test(file.name)) found.script = { name: isOne(file.name), masks: masksOf(textOf(file.bytes)) };
+        } else if (SCRIPT.test(file.name)) found.script = { name: isOne(file.name), masks: masksOfFile(file) };
         else if (STATE_NAME.test(file.name) || textOf(file.bytes.subarray(0, 8)) === STATE) found.state = { name: isOne(file.name),
             bytes: file.bytes };
         else if (/\.rom$/i.test(file.name) && file.bytes.length === PROGRAM) found.program = { name: isOne(file.name), bytes: file.bytes };

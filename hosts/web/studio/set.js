@@ -3,6 +3,7 @@
 // The reader of manifests takes the part of TOML that sets are written in: tables, arrays of tables, and keys with values in one line.
 
 import { digestOf, Fault, textOf } from './bytes.js';
+import { sentences } from './causes.js';
 import { PARTS } from './tables.js';
 
 const CHIPS = {
@@ -16,6 +17,12 @@ const PAIR = /^("[^"\\]*"|'[^']*'|[\w.-]+)[ \t]*=[ \t]*(.*)$/;
 const TEXT = /^(?:"((?:[^"\\]|\\.)*)"|'([^']*)')[ \t]*(?:#.*)?$/;
 const OTHER = /^(?:true|false|[+-]?[\w.:+-]+|\[[^\]]*\]|\{[^}]*\})[ \t]*(?:#.*)?$/;
 
+// A fault of a part, with what is known of it.
+function refusal(code, part, known = {}) {
+    const all = { toml: '', part, table: null, file: '', size: SIZES[part] ?? null, length: null, ...known };
+    return new Fault(code, sentences(code, (name) => all[name]).join('; '), part);
+}
+
 // A text of TOML without its quotes.
 function unquoted(text) {
     return text.replace(/\\(?:u([0-9A-Fa-f]{4})|(.))/g, (_, code, letter) => (code ? String.fromCharCode(parseInt(code, 16))
@@ -24,8 +31,8 @@ function unquoted(text) {
 
 // The tables of a manifest: each name with its pairs; of the program with an array of them.
 export function tablesOf(text) {
-    const tables = new Map();
-    let pairs = new Map();
+    const tables = new Map(), root = new Map();
+    let pairs = root;
     text.split('\n').forEach((row, at) => {
         const line = row.trim(), refused = (cause) => new Fault('M1', `line ${at + 1} of the manifest: ${cause}`, `line ${at + 1}`);
         if (line === '' || line.startsWith('#')) return;
@@ -39,29 +46,30 @@ export function tablesOf(text) {
         } else if (pair) {
             const key = pair[1].replace(/^["']|["']$/g, ''), value = TEXT.exec(pair[2]);
             if (pairs.has(key)) throw refused(`${key} is there twice`);
-            if (!value && !OTHER.test(pair[2])) throw refused("this page's reader of TOML doesn't know this value");
+            if (!value && !OTHER.test(pair[2]) || pairs === root && key in SIZES && pair[2].startsWith('{')) throw refused("this page's reader of TOML doesn't know this value");
             pairs.set(key, value ? (value[1] === undefined ? value[2] : unquoted(value[1])) : null);
         } else throw refused('this is no table and no key with a value');
     });
+    for (const key of root.keys()) if (key in SIZES || key === 'program') tables.set(key, null);
     return tables;
 }
 
 // The table of each part that a manifest names; whether it has the program is up to it.
 function partsOf(tables, hasSource) {
     const found = new Map(), program = tables.get('program');
-    if (program !== undefined && (!Array.isArray(program) || program.length !== 4)) throw new Fault('M1', 'program isn\'t four tables');
+    if (program !== undefined && (!Array.isArray(program) || program.length !== 4)) throw refusal('M1', 'program');
     program?.forEach((table, at) => found.set(`program${at + 1}`, table));
     for (const [name] of PARTS.slice(4)) if (tables.has(name)) found.set(name, tables.get(name));
     for (const [name, table] of found) {
         if (!(table instanceof Map) || table.get('file') === null || table.has('sha1') && !/^[0-9A-Fa-f]{40}$/.test(table.get('sha1') ?? ''))
-            throw new Fault('M1', `${name} isn't a table with file and sha1 as texts, 40 digits for the latter`, name);
+            throw refusal('M1', name);
     }
     for (const [name] of PARTS) {
         const isNeeded = name.startsWith('program') ? program !== undefined || name === 'program1' && !hasSource : name !== 'timing'
             || found.has(name);
-        if (isNeeded && !found.get(name)?.has('file')) throw new Fault('M2', `there is no table ${name} with a file`, name);
+        if (isNeeded && !found.get(name)?.has('file')) throw refusal('M2', name, { table: found.has(name) });
     }
-    if (program !== undefined && hasSource) throw new Fault('M6', 'there is a source, and the set has a program too');
+    if (program !== undefined && hasSource) throw refusal('M6', '');
     return found;
 }
 
@@ -85,12 +93,10 @@ function fileOf(files, name) {
 // The bytes of a part, whose size and digest are looked at.
 async function checked(name, table, files) {
     const file = fileOf(files, table.get('file'));
-    if (!file) throw new Fault('M5', `${name}: the file ${table.get('file')} isn't there`, name);
-    if (file.bytes.length !== SIZES[name]) throw new Fault('M3', `${name}: ${file.name} has ${file.bytes.length} bytes; ${SIZES[name]} are wanted`,
-        name);
+    if (!file) throw refusal('M5', name, { file: table.get('file') });
+    if (file.bytes.length !== SIZES[name]) throw refusal('M3', name, { file: file.name, length: file.bytes.length });
     const digest = table.has('sha1') ? await digestOf(file.bytes) : null;
-    if (digest !== null && digest !== table.get('sha1').toLowerCase()) throw new Fault('M4', `${name}: the SHA-1 of ${file.name} is another one`,
-        name);
+    if (digest !== null && digest !== table.get('sha1').toLowerCase()) throw refusal('M4', name, { file: file.name });
     return file.bytes;
 }
 

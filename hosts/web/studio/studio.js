@@ -151,7 +151,7 @@ class Studio {
         at('problem').hidden = false;
         at('problem-code').textContent = `${code}  line ${counted(line)}`;
         at('problem-meaning').textContent = meaningOf(code);
-        at('problem-causes').replaceChildren(...causesOf(code, this.editor.lines, line, this.assembler).map((cause) => made('li', {}, cause)));
+        at('problem-causes').replaceChildren(...causesOf(code, bytesOf(this.editor.text), line).map((cause) => made('li', {}, cause)));
         at('assembled').textContent = 'refused; the program before it goes on';
     }
 

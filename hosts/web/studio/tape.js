@@ -5,7 +5,7 @@ import { Fault } from './bytes.js';
 
 export const LONGEST = 36000; // frames of a script
 
-const NAMES = Object.keys(INPUTS);
+export const NAMES = Object.keys(INPUTS);
 
 // The inputs of a run, a mask for each frame.
 export class Tape {

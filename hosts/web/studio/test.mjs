@@ -6,7 +6,7 @@
 // for them. The last line is `N passed, M failed`.
 
 import { createHash } from 'node:crypto';
-import { mkdirSync, readFileSync, writeFileSync } from 'node:fs';
+import { existsSync, mkdirSync, readFileSync, writeFileSync } from 'node:fs';
 import path from 'node:path';
 import { spawnSync } from 'node:child_process';
 import { Board, FRAME_SAMPLES, Refused } from '../board.js';
@@ -155,21 +155,29 @@ function listings(assembler) {
     row('marked words are the line', lines.every((line) => marked(line).map(([, text]) => text).join('') === line));
 }
 
-// What is said of faults: nothing that bin/explain doesn't say.
-function causes(rows, assembler) {
-    let same = 0, all = 0;
-    const others = [];
-    for (const { source, fault, causes: wanted } of rows.filter((one) => one.fault && one.causes)) {
-        const [, code, line] = /^refused (A\d+(?: L\d)?) line (\d+)$/.exec(fault), lines = source.split('\n').map((text) => text.replace(/\r$/, ''));
-        const said = causesOf(code, lines, Number(line), assembler);
-        all++;
-        same += said.length > 0 && wanted.includes(said[0]) || said.length + wanted.length === 0 ? 1 : 0;
-        if (said.some((one) => !wanted.includes(one))) others.push({ code, line: lines[line - 1]?.slice(0, 60), said, wanted });
-        if (!meaningOf(code)) others.push(code);
+// What is said of faults: what bin/explain says.
+function causes(rows) {
+    const faults = rows.filter(({ fault }) => fault), others = [];
+    for (const { source, fault, causes: wanted } of faults) {
+        const [, code, line] = /^refused (A\d+(?: L\d)?) line (\d+)$/.exec(fault), said = causesOf(code, Buffer.from(source, 'latin1'), Number(line));
+        if (said.join('\n') !== wanted.join('\n') || !meaningOf(code)) others.push({ code, line: source.split('\n')[line - 1]?.slice(0, 60), said, wanted });
     }
-    row(`causes of ${all} faults: none is said that bin/explain doesn't say`, all > 100 && others.length === 0,
-        `${others.length}: ${JSON.stringify(others.slice(0, 6))}`);
-    row(`for most of them the first is the same (${same})`, same > 0.6 * all);
+    const silent = faults.filter(({ fault, causes: wanted }) => wanted.length === 0 && !fault.startsWith('refused A7 '));
+    row(`causes of ${faults.length} faults: those of bin/explain`, faults.length > 700 && others.length === 0, `${others.length}: ${JSON.stringify(others.slice(0, 6))}`);
+    row('each has one', silent.length === 0, JSON.stringify(silent.slice(0, 6)));
+}
+
+// What is said of scripts and manifests that are refused.
+async function causesOfFiles(files) {
+    for (const { kind, code, text, line, causes: wanted } of files) {
+        const parts = [...text.matchAll(/file = "(.*?)"/g)].map(([, name]) => name).filter((name) => existsSync(at(name)));
+        const set = [['set.toml', bytesOf(text)], ...parts.map((name) => [name, new Uint8Array(readFileSync(at(name)))])];
+        const refused = kind === 'script' ? taken([{ name: 'some.script', bytes: bytesOf(text) }])
+            : setOf(set.map(([name, bytes]) => ({ name, bytes })), true);
+        const told = await refused.then(() => null, (error) => error), head = `some.script, line ${line}: ${meaningOf(code)}; `;
+        const isSo = told?.name === code && told.message === (kind === 'script' ? head : '') + wanted.join('; ') && wanted.length > 0;
+        row(`a ${kind} that is ${code}, as bin/explain says it`, isSo, `${told?.name} ${told?.message}, not ${wanted.join('; ')}`);
+    }
 }
 
 // Scripts, sets and what is packed.
@@ -271,7 +279,8 @@ async function main() {
     sources(assembler, rows);
     disassembly(assembler);
     listings(assembler);
-    causes(rows, assembler);
+    causes(rows);
+    await causesOfFiles(JSON.parse(readFileSync(at('files.json'), 'utf8')));
     await inputs(files);
     await moments(files, assembler, { example, pacboard, at, row, ROOT });
     await sessions(files, assembler, { example, row });

@@ -1,0 +1,103 @@
+"""Inputs that are refused, by which tools/check/studio holds what bin/explain says of them against what the studio's page says."""
+import importlib.machinery
+import json
+import pathlib
+import random
+import re
+import shutil
+import tomllib
+import types
+from collections.abc import Iterator
+from typing import Any
+
+import causes
+import causes_of_files
+import judge_run
+import judge_source
+
+ROOT = pathlib.Path(__file__).resolve().parents[2]
+EXAMPLES = ("starfall", "hello", "welcome", "sunset")
+CHANGED = 500  # sources with a changed line
+LARGEST = 200_000  # bytes
+# What is put into a line: signs and words of this assembler and of others.
+PIECES = ["HL", "A", "IX", "P", "NZ", "LD", "255", "70000", "0FFH", "1A", "//", "/*", "AND ", "STARS", "\xe9", "IF ", "EQU", "X ", "NOWHERE", "\"x\""]
+PIECES += ["INCLUDE \"x\"", "$FF", "0x10", "ALIGN 8"] + list("$:,()+-*/';#%&<>=.@ \t")
+
+
+def loaded(name: str) -> Any:
+    """A script of tools/check, as a module."""
+    loader = importlib.machinery.SourceFileLoader(name, str(ROOT / "tools/check" / name))
+    module: Any = types.ModuleType(loader.name)
+    module.__file__ = loader.path
+    loader.exec_module(module)
+    return module
+
+
+def changed(chance: random.Random, line: str) -> str:
+    """A line with one piece left out, put in, replaced, or swapped with the next one."""
+    at, piece, way = chance.randrange(len(line) + 1), chance.choice(PIECES), chance.randrange(5)
+    if way < 4:
+        return line[:at] + ["", piece, piece, line[at + 1 : at + 2] + line[at : at + 1]][way] + line[at + [1, 0, 1, 2][way] :]
+    words = line.split() or [""]
+    words[chance.randrange(len(words))] = piece
+    return " " + " ".join(words)
+
+
+def sources() -> Iterator[bytes]:
+    """The sources of the tables of tools/check/sources and tools/check/explanations, and those of the examples with a changed line."""
+    reader, rows = loaded("sources"), loaded("explanations")
+    for section in tomllib.loads((ROOT / "tools/check/sources.toml").read_text())["section"]:
+        if section["is"] not in ("text", "instructions"):
+            yield from (reader.source_of(section, cells)[0] for cells in section["rows"])
+    yield from (text.encode("latin-1") for _, text, _, _ in rows.SOURCES)
+    chance, count = random.Random(5), 0
+    examples = [(ROOT / f"examples/{name}.asm").read_text().split("\n") for name in EXAMPLES]
+    while count < CHANGED:
+        lines = list(chance.choice(examples))
+        at = chance.randrange(len(lines))
+        lines[at] = changed(chance, lines[at])
+        source = "\n".join(lines).encode("latin-1")
+        if judge_source.assemble(source)[1]:
+            count += 1
+            yield source
+
+
+def explained(source: bytes) -> dict[str, Any]:
+    """A source, with its fault and what is said of it."""
+    fault = judge_source.assemble(source)[1]
+    found = re.fullmatch(r"refused (A\d+(?: L\d)?) line (\d+)", fault or "")
+    said = causes.causes(found[1], source, int(found[2])) if found else []
+    return {"source": source.decode("latin-1"), "fault": fault, "causes": said}
+
+
+def fault_of_manifest(room: pathlib.Path, text: str) -> tuple[str, str]:
+    """The code of a manifest's fault, and its part."""
+    tables = judge_run.tables_of(text.encode()) or {}
+    files = {part: judge_run.read(room, table.get("file", "")) for part, table in tables.items()}
+    missing = next((part for part, table in tables.items() if "file" in table and files[part] is None), "")
+    found = re.fullmatch(r"refused (M\d) ?(\w*)", judge_run.fault_of_set(tables or None, files, True) or "") if not missing else None
+    return (found[1], found[2]) if found else ("M5", missing)
+
+
+def other_files(room: pathlib.Path) -> Iterator[dict[str, Any]]:
+    """Scripts and manifests that are refused, with what is said of them; where TOML itself is wrong, the page has its own words."""
+    rows = loaded("explanations")
+    for path in (ROOT / "examples").glob("*.*rom"):
+        shutil.copy(path, room)
+    for quarter in range(4):
+        (room / f"p{quarter}.rom").write_bytes(bytes(4096))
+    (room / "cell.bad").write_text("short")
+    for code, text, number, _ in rows.SCRIPTS:
+        known = causes_of_files.in_script(code, str(number), text.encode(), room)[0][1]
+        yield {"kind": "script", "code": code, "text": text, "line": number, "causes": list(causes.sentences(code, known))}
+    for code, text, _, _ in rows.MANIFESTS:
+        found, part = fault_of_manifest(room, text)
+        known = causes_of_files.in_manifest(found, part, text.encode(), room / "set.toml")[0][1]
+        if not known.get("toml"):
+            yield {"kind": "manifest", "code": code, "text": text, "line": 0, "causes": list(causes.sentences(found, known))}
+
+
+def lay(room: pathlib.Path) -> None:
+    """Lays them in a folder, as rows.json and files.json."""
+    (room / "rows.json").write_text(json.dumps([explained(source) for source in sources() if len(source) < LARGEST]))
+    (room / "files.json").write_text(json.dumps(list(other_files(room))))
