@@ -3,3 +3,4 @@ pub mod WaveProofs
 pub mod WaveLaws
 pub mod Sums
 pub mod Settings
+pub mod Batch

@@ -1,16 +1,19 @@
 //! The wave generator: three voices that walk through the wave PROM, and the sound samples that they add up to.
 #![tactic(auto)]
 
-ghost use Rattle.std.specs.Prelude.{◌≡◌, ◌<◌, ◌∷◌, []};
+ghost use Rattle.std.specs.Prelude.{◌≡◌, ◌<◌, ◌∷◌, [], List, ℕ, false, length};
+ghost use Rattle.pac_wave.specs.Batch.{accumulators_after_many, sound_samples};
 ghost use Rattle.pac_wave.specs.Settings.{IsLevel};
-ghost use Rattle.pac_wave.specs.Wave.{Fit20Bits, power_on_accumulators};
+ghost use Rattle.pac_wave.specs.Wave.{Accumulators, Fit20Bits, power_on_accumulators};
 ghost use Rattle.pac_wave.specs.WaveLaws.{accumulators_of_list};
 ghost use Rattle.pac_wave.specs.Wave as spec;
 ghost use Rattle.pac_wave.specs.WaveProofs as wave_proofs;
 
 pub mod laws;
+mod positions;
 mod settings;
 
+use positions::Positions;
 use settings::Settings;
 use std::marker::Model;
 
@@ -29,9 +32,7 @@ pub enum Voice {
 /// last.
 #[derive(Drop)]
 pub struct Wave {
-    first: u32,
-    second: u32,
-    third: u32,
+    positions: Positions,
     settings: Settings,
 }
 
@@ -40,9 +41,9 @@ impl Model for Wave {
 
     ghost Value = { Accumulators };
 
-    ghost view = { λ wave. record { first = wave.first; second = wave.second; third = wave.third } };
+    ghost view = { λ wave. wave.positions };
 
-    ghost invariant = { λ wave. Fit20Bits (record { first = wave.first; second = wave.second; third = wave.third }) };
+    ghost invariant = { λ wave. Fit20Bits wave.positions };
 }
 
 /// A sample of a waveform, 0 to 15, about its middle 8 and at a volume.
@@ -56,16 +57,11 @@ pub(crate) fn amplified(sample: u8, volume: u8) -> i16
     (i16::from(sample) - 8) * i16::from(volume)
 }
 
-/// The sound sample that three voices add up to.
-#[inline]
-fn mixed(first: i16, second: i16, third: i16) -> i16
-    requires first { IsLevel first }
-    requires second { IsLevel second }
-    requires third { IsLevel third }
-    ensures mixed { result ≡ spec.mixed_voices first second third }
-    ensures within { wave_proofs.IsSample result }
+/// Samples while sound is off.
+fn silence(samples: &mut [i16])
+    ensures { (prom registers : List ℕ) → (all : Accumulators) → samples.new ≡ sound_samples prom registers false all (length samples.old) }
 {
-    64 * (first + second + third)
+    samples.fill(0);
 }
 
 impl Wave {
@@ -73,12 +69,7 @@ impl Wave {
     pub fn new() -> Wave
         ensures { result ≡ power_on_accumulators }
     {
-        Wave {
-            first: 0,
-            second: 0,
-            third: 0,
-            settings: Settings::of(&[0; 32]),
-        }
+        Wave::of([0; 3])
     }
 
     /// The accumulators of the first, the second and the third voice, each below 2^20.
@@ -86,11 +77,8 @@ impl Wave {
         requires { Fit20Bits (accumulators_of_list accumulators) }
         ensures { result ≡ accumulators_of_list accumulators }
     {
-        let [first, second, third] = accumulators;
         Wave {
-            first,
-            second,
-            third,
+            positions: Positions::of(accumulators),
             settings: Settings::of(&[0; 32]),
         }
     }
@@ -100,9 +88,7 @@ impl Wave {
     pub fn copy_from(&mut self, other: &Wave)
         ensures { self.new ≡ other.now }
     {
-        self.first = other.first;
-        self.second = other.second;
-        self.third = other.third;
+        self.positions.copy_from(&other.positions);
     }
 
     /// The next sound sample, -23,040 to 20,160, from the wave PROM's 256 bytes and the 32 registers, of which the
@@ -118,16 +104,23 @@ impl Wave {
             return 0;
         }
         self.settings.follow(registers);
-        let settings = &self.settings;
-        let sample = mixed(
-            settings.level(prom, Voice::First, self.first),
-            settings.level(prom, Voice::Second, self.second),
-            settings.level(prom, Voice::Third, self.third),
-        );
-        self.first = settings.grown(Voice::First, self.first);
-        self.second = settings.grown(Voice::Second, self.second);
-        self.third = settings.grown(Voice::Third, self.third);
-        sample
+        self.positions.next(&self.settings, prom)
+    }
+
+    /// The next sound samples, as many as there is room for, while the registers and whether sound is on stay as they are: what so many
+    /// calls of `tick` would give. The registers are looked at once.
+    #[inline]
+    #[tactic(auto, using(crate::proofs::Batch::stays))]
+    pub fn ticks(&mut self, prom: &[u8; 256], registers: &[u8; 32], on: bool, samples: &mut [i16])
+        ensures samples { samples.new ≡ sound_samples prom.now registers.now on self.old (length samples.old) }
+        ensures accumulators { self.new ≡ accumulators_after_many registers.now on self.old (length samples.old) }
+    {
+        if on {
+            self.settings.follow(registers);
+            self.positions.fill(&self.settings, prom, samples);
+            return;
+        }
+        silence(samples);
     }
 
     /// The accumulators of the first, the second and the third voice, each below 2^20.
@@ -136,6 +129,6 @@ impl Wave {
         ensures of { accumulators_of_list result ≡ self.now }
         ensures below { Fit20Bits self.now }
     {
-        [self.first, self.second, self.third]
+        self.positions.list()
     }
 }

@@ -1,0 +1,10 @@
+-- The samples so far are those of as many moments, and what follows is as it was.
+use Rattle.std.proofs.Common.{◌≡◌, ◌++◌, drop, true}
+use Rattle.pac_wave.specs.Batch.{accumulators_after_many, sound_samples}
+use Rattle.pac_wave.proofs.positions.Positions.fill.Given as goal
+
+abbrev pub invariant-loop-sample : goal.invariant-loop-sample
+invariant-loop-sample l = record {
+  samples : l.samples ≡ sound_samples l.prom l.settings true l.initial.self l.sample-index ++ drop l.sample-index l.initial.samples;
+  voices : l.self ≡ accumulators_after_many l.settings true l.initial.self l.sample-index;
+}

@@ -1,0 +1,6 @@
+use Rattle.std.proofs.Common.{◌∙◌}
+use Rattle.pac_wave.proofs.Batch.{silent}
+use Rattle.pac_wave.proofs.silence.Goals as goal
+
+pub returns : goal.returns
+returns c = λ prom registers all. c.fill.ensures.after (λ y is. is) ∙ silent prom registers all _

@@ -1,0 +1,107 @@
+//! Where the three voices stand in their waveforms.
+
+ghost use Rattle.std.specs.Prelude.{◌≡◌, true, length};
+ghost use Rattle.pac_wave.specs.Batch.{accumulators_after_many, sound_samples};
+ghost use Rattle.pac_wave.specs.Settings.{IsLevel};
+ghost use Rattle.pac_wave.specs.Wave.{Fit20Bits};
+ghost use Rattle.pac_wave.specs.WaveLaws.{accumulators_of_list};
+ghost use Rattle.pac_wave.specs.Wave as spec;
+ghost use Rattle.pac_wave.specs.WaveProofs as wave_proofs;
+
+use crate::Voice;
+use crate::settings::Settings;
+use std::marker::Model;
+
+/// The accumulators, 20 bits each.
+#[derive(Drop)]
+pub(crate) struct Positions {
+    first: u32,
+    second: u32,
+    third: u32,
+}
+
+impl Model for Positions {
+    ghost use Rattle.pac_wave.specs.Wave.{Accumulators, Fit20Bits};
+
+    ghost Value = { Accumulators };
+
+    ghost view = { λ all. record { first = all.first; second = all.second; third = all.third } };
+
+    ghost invariant = { λ all. Fit20Bits (record { first = all.first; second = all.second; third = all.third }) };
+}
+
+/// The sound sample that three voices add up to.
+#[inline]
+fn mixed(first: i16, second: i16, third: i16) -> i16
+    requires first { IsLevel first }
+    requires second { IsLevel second }
+    requires third { IsLevel third }
+    ensures mixed { result ≡ spec.mixed_voices first second third }
+    ensures within { wave_proofs.IsSample result }
+{
+    64 * (first + second + third)
+}
+
+impl Positions {
+    /// Those of a list of three, each below 2^20.
+    pub(crate) fn of(accumulators: [u32; 3]) -> Positions
+        requires { Fit20Bits (accumulators_of_list accumulators) }
+        ensures { result ≡ accumulators_of_list accumulators }
+    {
+        let [first, second, third] = accumulators;
+        Positions {
+            first,
+            second,
+            third,
+        }
+    }
+
+    /// Takes another's.
+    #[inline]
+    pub(crate) fn copy_from(&mut self, other: &Positions)
+        ensures { self.new ≡ other.now }
+    {
+        self.first = other.first;
+        self.second = other.second;
+        self.third = other.third;
+    }
+
+    /// The accumulators of the first, the second and the third voice.
+    pub(crate) fn list(&self) -> [u32; 3]
+        ensures of { accumulators_of_list result ≡ self.now }
+        ensures below { Fit20Bits self.now }
+    {
+        [self.first, self.second, self.third]
+    }
+
+    /// The next sound sample while sound is on, after which the voices move on.
+    #[inline(always)]
+    pub(crate) fn next(&mut self, settings: &Settings, prom: &[u8; 256]) -> i16
+        ensures sample { result ≡ spec.sound_sample prom.now settings.now (spec.accumulator self.old) true }
+        ensures accumulators { self.new ≡ spec.accumulators_after settings.now true self.old }
+        ensures within { wave_proofs.IsSample result }
+    {
+        let sample = mixed(
+            settings.level(prom, Voice::First, self.first),
+            settings.level(prom, Voice::Second, self.second),
+            settings.level(prom, Voice::Third, self.third),
+        );
+        self.first = settings.grown(Voice::First, self.first);
+        self.second = settings.grown(Voice::Second, self.second);
+        self.third = settings.grown(Voice::Third, self.third);
+        sample
+    }
+
+    /// The next sound samples while sound is on, as many as there is room for.
+    #[inline]
+    pub(crate) fn fill(&mut self, settings: &Settings, prom: &[u8; 256], samples: &mut [i16])
+        ensures samples { samples.new
+            ≡ sound_samples prom.now settings.now true self.old (length samples.old) }
+        ensures accumulators { self.new
+            ≡ accumulators_after_many settings.now true self.old (length samples.old) }
+    {
+        for sample in samples.iter_mut() {
+            *sample = self.next(settings, prom);
+        }
+    }
+}
