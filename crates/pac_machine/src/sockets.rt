@@ -22,6 +22,7 @@ impl Machine {
             map: Map {
                 set: RomSet::zeroed(),
                 memory: Memory::new(switches),
+                touched: false,
             },
             wave: Wave::new(),
             picture: Picture::zeroed(),

@@ -1,10 +1,11 @@
 -- For proofs: what proofs say of the definitions of Contents.antt.
 use Rattle.pac_map.specs.declared.board_bus.Map.{Map}
-use Rattle.std.specs.Prelude.{ℕ, fold}
+use Rattle.std.specs.Prelude.{ℕ, fold, ◌||◌}
 use Rattle.pac_map.specs.Contents.{read_of}
 use Rattle.pac_map.specs.Lookups.{port_byte}
 use Rattle.pac_bus.specs.Action.{Action}
 use Rattle.pac_map.specs.Entry.{view_after, entries_of}
+use Rattle.pac_map.specs.Heard.{touches_sound}
 
 -- the byte that a read from an address of the bus gives, and the one that an input from a port gives
 abbrev pub map_byte_at : Map → ℕ → ℕ
@@ -13,6 +14,9 @@ map_byte_at map address = read_of map.set.program map.memory address
 abbrev pub map_input_at : Map → ℕ → ℕ
 map_input_at map port = port_byte port
 
--- the bus after an action of the processor
+-- the bus after an action of the processor; whether sound was touched is noted beside the memory
 abbrev pub map_after_action : Map → Action → Map
-map_after_action map action = record map { memory = fold view_after map.memory (entries_of action) }
+map_after_action map action = record map {
+  memory = fold view_after map.memory (entries_of action);
+  touched = touches_sound action || map.touched;
+}

@@ -5,6 +5,7 @@ pub mod Cleared
 pub mod View
 pub mod Entry
 pub mod Contents
+pub mod Heard
 pub mod ContentsProofs
 pub mod Fields
 pub mod FieldsProofs

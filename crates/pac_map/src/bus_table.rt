@@ -1,6 +1,7 @@
 //! The address decoder: the place that an address selects, for a read and for a write.
 
-ghost use Rattle.std.specs.Prelude.{◌≡◌, ◌%◌, ◌<◌, IfSome, unwrap_or};
+ghost use Rattle.std.specs.Prelude.{◌≡◌, ◌%◌, ◌<◌, IfSome, unwrap_or, false};
+ghost use Rattle.pac_map.specs.Heard.{is_of_sound};
 ghost use Rattle.pac_map.specs.Place as spec;
 ghost use Rattle.pac_map.specs.PlaceProofs as place_proofs;
 
@@ -39,6 +40,7 @@ fn ram_place(offset: u16) -> BusPlace
     requires { offset < 0x1000 }
     ensures place { result ≡ spec.ram_place offset }
     ensures in_range { place_proofs.IsPlaceInRange result }
+    ensures silent { is_of_sound result ≡ false }
 {
     if offset < 0x400 {
         BusPlace::Tile(offset)
@@ -87,12 +89,21 @@ fn write_port(offset: u8) -> BusPlace
     }
 }
 
+/// Whether a place is a register of the wave generator, or a bit of the latch.
+#[inline]
+pub(crate) fn is_of_sound(place: BusPlace) -> bool
+    ensures { result ≡ is_of_sound place }
+{
+    matches!(place, BusPlace::Latch(_) | BusPlace::Wave(_))
+}
+
 /// The place of the ROM or of the RAM page that an address selects, none where it selects a port.
 #[inline(always)]
 pub(crate) fn memory_place(address: u16) -> Option<BusPlace>
     ensures read { unwrap_or result (spec.read_port (address % 0x100)) ≡ spec.read_place address }
     ensures written { unwrap_or result (spec.write_port (address % 0x100)) ≡ spec.write_place address }
     ensures in_range { IfSome result place_proofs.IsPlaceInRange }
+    ensures silent { IfSome result (λ place. is_of_sound place ≡ false) }
 {
     if address % 0x8000 < 0x4000 {
         Some(BusPlace::Program(address % 0x8000))
