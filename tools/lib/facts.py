@@ -202,17 +202,30 @@ class Refused:
         """What the line says."""
         return judge.read_line(self.line)
 
-    @functools.cached_property
-    def known(self) -> tuple[judge.Assembly, dict[str, int]]:
-        """What is known of the lines: of all where all could be placed, otherwise of those above; and the line of each symbol."""
-        is_late = self.code in ("A8", "A9") or self.code == "A10" and not self.read.at_once
+    def phased(self, lines: list[bytes]) -> tuple[judge.Assembly, dict[str, int]]:
+        """What is known of lines, and the line of each symbol."""
         assembly, defined = judge.Assembly(), dict[str, int]()
-        for number, line in enumerate(self.lines if is_late else self.lines[: self.number - 1], 1):
+        for number, line in enumerate(lines, 1):
             count = len(assembly.symbols)
             assembly.first_phase(line)
             if len(assembly.symbols) > count:
                 defined[next(reversed(assembly.symbols))] = number
         return assembly, defined
+
+    @functools.cached_property
+    def above(self) -> tuple[judge.Assembly, dict[str, int]]:
+        """What is known of the lines above."""
+        return self.phased(self.lines[: self.number - 1])
+
+    @functools.cached_property
+    def is_late(self) -> bool:
+        """Whether it is refused only once all lines have their places."""
+        return self.code in ("A8", "A9") or self.code == "A10" and (not self.read.at_once or self.at_once() is not None)
+
+    @functools.cached_property
+    def known(self) -> tuple[judge.Assembly, dict[str, int]]:
+        """What is known where it is refused: of all lines, or of those above."""
+        return self.phased(self.lines) if self.is_late else self.above
 
     @property
     def symbols(self) -> dict[str, int]:
@@ -222,18 +235,25 @@ class Refused:
     @property
     def here(self) -> int:
         """The address of the line."""
-        spots = self.known[0].spots
-        return spots[self.number - 1][0] if len(spots) >= self.number else self.known[0].at
+        return self.above[0].at
+
+    def value(self, tree: Any) -> int | None:
+        """The value of an expression; None where it has none."""
+        try:
+            return judge.value_of(tree, self.symbols, self.here)
+        except (judge.Fault, KeyError):
+            return None
 
     def at_once(self) -> int | None:
         """The value that the line needs at once."""
-        if isinstance(self.read, str) or not self.read.at_once or not judge.names_of(self.read.at_once) <= self.symbols.keys():
+        try:
+            return judge.value_of(self.read.at_once, self.above[0].symbols, self.here)
+        except (judge.Fault, KeyError, TypeError, AttributeError):
             return None
-        return judge.value_of(self.read.at_once, self.symbols, self.here)
 
     def trees(self) -> list[Any]:
         """The expressions of the line that count."""
-        return [self.read.at_once] if self.read.at_once and self.code != "A8" else [tree for _, tree in self.read.places]
+        return [tree for _, tree in self.read.places] if self.is_late else [self.read.at_once] if self.read.at_once else []
 
     def definition(self, name: str) -> int:
         """The first line that has a label, skipped ones too."""
@@ -245,7 +265,7 @@ class Refused:
         found = list[dict[str, Any]]()
         for name in sorted(set().union(*map(judge.names_of, self.trees())) - set(self.symbols)):
             at = self.definition(name)
-            is_below = at > self.number and self.code == "A4"
+            is_below = at > self.number and not self.is_late
             like = next((other for other in self.symbols if other.upper() == name.upper()), "")
             close = near(name, self.symbols) or ""
             found.append({"name": name, "below": at if is_below else 0, "itself": at == self.number, "skipped": 0 if is_below else at, "alike": like,
@@ -260,7 +280,7 @@ class Refused:
             least, most = RANGES.get(kind, (value, value))
             away = value - self.here - 2
             if not least <= (away if kind == "e" else value) <= most or kind == "number" and value not in self.read.code:
-                found.append({"kind": kind, "value": value, "away": away, "least": least, "most": most, "names": sorted(judge.names_of(tree)),
+                found.append({"kind": kind, "value": value, "away": away, "least": least, "most": most, "tree": tree, "names": sorted(judge.names_of(tree)),
                               "numbers": sorted(self.read.code) if kind == "number" else []})
         return found
 
@@ -271,17 +291,17 @@ class Refused:
         spots = [(at, spot) for at, spot in enumerate(self.known[0].spots, 1) if isinstance(spot, tuple)]
         return next(({"line": at, "begin": place} for at, (place, size) in spots if place < end and begin < place + size), {})
 
+    def valueless(self) -> list[Any]:
+        """Its expressions without a value."""
+        return [tree for tree in self.trees() if self.value(tree) is None]
+
     def divides_by_zero(self) -> bool:
         """Whether the innermost part that has no value divides by 0."""
         parts = self.trees()
         for tree in parts:
             parts += [part for part in tree[1:] if isinstance(part, tuple)]
-        for tree in reversed(parts):
-            try:
-                judge.value_of(tree, self.symbols, self.here)
-            except judge.Fault:
-                return tree[0] == "/" and judge.value_of(tree[2], self.symbols, self.here) == 0
-        return False
+        wrong = next((tree for tree in reversed(parts) if self.value(tree) is None), None)
+        return wrong is not None and wrong[0] == "/" and self.value(wrong[2]) == 0
 
     @functools.cached_property
     def conditions(self) -> tuple[list[int], list[tuple[int, int]]]:

@@ -14,10 +14,11 @@ import causes
 import causes_of_files
 import judge_run
 import judge_source
+import more_faults
 
 ROOT = pathlib.Path(__file__).resolve().parents[2]
 EXAMPLES = ("starfall", "hello", "welcome", "sunset")
-CHANGED = 500  # sources with a changed line
+CHANGED, MANY = 500, 100  # sources with a changed line, and with a few
 LARGEST = 200_000  # bytes
 # What is put into a line: signs and words of this assembler and of others.
 PIECES = ["HL", "A", "IX", "P", "NZ", "LD", "255", "70000", "0FFH", "1A", "//", "/*", "AND ", "STARS", "\xe9", "IF ", "EQU", "X ", "NOWHERE", "\"x\""]
@@ -62,6 +63,18 @@ def sources() -> Iterator[bytes]:
             yield source
 
 
+def often_changed(count: int) -> Iterator[bytes]:
+    """Sources of the examples with a few changed lines."""
+    chance = random.Random(6)
+    examples = [(ROOT / f"examples/{name}.asm").read_text().split("\n") for name in EXAMPLES]
+    for _ in range(count):
+        lines = list(chance.choice(examples))
+        for _ in range(chance.randrange(2, 6)):
+            at = chance.randrange(len(lines))
+            lines[at] = changed(chance, lines[at])
+        yield "\n".join(lines).encode("latin-1")
+
+
 def explained(source: bytes) -> dict[str, Any]:
     """A source, with its fault and what is said of it."""
     fault = judge_source.assemble(source)[1]
@@ -98,6 +111,9 @@ def other_files(room: pathlib.Path) -> Iterator[dict[str, Any]]:
 
 
 def lay(room: pathlib.Path) -> None:
-    """Lays them in a folder, as rows.json and files.json."""
+    """Lays them in a folder, as rows.json, more.json and files.json."""
     (room / "rows.json").write_text(json.dumps([explained(source) for source in sources() if len(source) < LARGEST]))
+    every = [*(text.encode("latin-1") for text, _ in loaded("explanations").MORE), *often_changed(MANY)]
+    told = [{"source": source.decode("latin-1"), "faults": [list(one) for one in more_faults.faults(source)]} for source in every]
+    (room / "more.json").write_text(json.dumps(told))
     (room / "files.json").write_text(json.dumps(list(other_files(room))))

@@ -26,6 +26,7 @@ export class Editor {
         this.listing = null;
         Object.assign(this, { listed: [], before: 0, after: 0 }); // the lines of the listing
         this.fault = null; // the line that is refused
+        this.others = new Set(); // lines that would be refused after it
         this.current = null; // the line that comes next
         Object.assign(this, { changed, picked, stands, isDue: false, isStale: false });
         this.area.addEventListener('input', () => this.edited());
@@ -89,6 +90,13 @@ export class Editor {
         if (listing) Object.assign(this, { listing, listed: this.lines, before: this.lines.length, after: 0 });
         this.isStale = listing === null;
         this.fault = fault;
+        this.others = new Set();
+        this.draw();
+    }
+
+    // Marks lines that would be refused, too.
+    marks(lines) {
+        this.others = new Set(lines);
         this.draw();
     }
 
@@ -171,7 +179,7 @@ export class Editor {
     // A line with its words marked.
     row(line) {
         const row = element('div', 'row'), text = this.lines[line - 1];
-        if (line === this.fault) row.classList.add('fault');
+        if (line === this.fault || this.others.has(line)) row.classList.add('fault');
         if (line === this.current) row.classList.add('current');
         for (const [kind, word] of marked(text.slice(0, LONG))) row.append(kind ? element('span', kind, word) : word);
         row.append(text.slice(LONG));
@@ -182,7 +190,7 @@ export class Editor {
     margin(line) {
         const row = element('div', 'row'), found = this.rowOf(line);
         row.dataset.line = line;
-        row.classList.toggle('fault', line === this.fault);
+        row.classList.toggle('fault', line === this.fault || this.others.has(line));
         row.classList.toggle('current', line === this.current);
         row.classList.toggle('stale', this.isStale);
         row.append(element('b', 'number', String(line)), element('span', 'address', found ? hex(found.address) : ''),

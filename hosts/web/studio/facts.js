@@ -78,10 +78,15 @@ export class Refused {
         this.names = this.rest.filter((token) => token.kind === 'name').map((token) => token.word);
     }
 
-    // A fact by its name; what has been asked once is kept.
-    fact(name) {
-        if (!this.kept.has(name)) this.kept.set(name, FACTS[name](this));
+    // What is asked for, which is kept.
+    once(name, answer) {
+        if (!this.kept.has(name)) this.kept.set(name, answer());
         return this.kept.get(name);
+    }
+
+    // A fact by its name.
+    fact(name) {
+        return this.once(`fact ${name}`, () => FACTS[name](this));
     }
 
     // ---- The line alone
@@ -151,29 +156,46 @@ export class Refused {
     // ---- The source
 
     get read() {
-        return this.kept.get('read') ?? this.kept.set('read', readLine(this.line)).get('read');
+        return this.once('read', () => readLine(this.line));
     }
 
-    // What is known of the lines: of all where all could be placed, otherwise of those above.
+    // What is known of so many lines.
+    phased(count) {
+        const known = new Known();
+        for (const line of this.lines.slice(0, count)) known.take(line);
+        return known;
+    }
+
+    get above() {
+        return this.once('above', () => this.phased(this.number - 1));
+    }
+
+    // Whether it is refused only once all lines have their places.
+    get isLate() {
+        return this.code === 'A8' || this.code === 'A9' || this.code === 'A10' && (!this.read.atOnce || this.atOnce() !== null);
+    }
+
+    // What is known where it is refused: of all lines, or of those above.
     get known() {
-        if (!this.kept.has('known')) {
-            const isLate = this.code === 'A8' || this.code === 'A9' || this.code === 'A10' && !this.read.atOnce, known = new Known();
-            for (const line of isLate ? this.lines : this.lines.slice(0, this.number - 1)) known.take(line);
-            this.kept.set('known', known);
-        }
-        return this.kept.get('known');
+        return this.once('known', () => (this.isLate ? this.phased(this.lines.length) : this.above));
     }
 
     get here() {
-        return this.known.spots[this.number - 1]?.at ?? this.known.at;
+        return this.above.at;
     }
 
+    value(tree) {
+        return valueOf(tree, this.known.symbols, this.here);
+    }
+
+    // The value that the line needs at once.
     atOnce() {
-        return this.read?.atOnce ? valueOf(this.read.atOnce, this.known.symbols, this.here) : null;
+        return this.read?.atOnce ? valueOf(this.read.atOnce, this.above.symbols, this.here) : null;
     }
 
+    // The expressions of the line that count.
     trees() {
-        return this.read.atOnce && this.code !== 'A8' ? [this.read.atOnce] : this.read.places.map(({ tree }) => tree);
+        return this.isLate ? this.read.places.map(({ tree }) => tree) : this.read.atOnce ? [this.read.atOnce] : [];
     }
 
     // The first line that has a label, skipped ones too.
@@ -186,7 +208,7 @@ export class Refused {
         const { symbols, definedIn } = this.known, names = [...new Set(this.trees().flatMap(namesOf))].filter((name) => !symbols.has(name)).sort();
         return names.map((name) => {
             const at = this.definition(name);
-            const isBelow = at > this.number && this.code === 'A4', close = near(name, symbols.keys()) ?? '';
+            const isBelow = at > this.number && !this.isLate, close = near(name, symbols.keys()) ?? '';
             const alike = [...symbols.keys()].find((other) => other.toUpperCase() === name.toUpperCase()) ?? '';
             return {
                 name, below: isBelow ? at : 0, itself: at === this.number, skipped: isBelow ? 0 : at,
@@ -198,10 +220,10 @@ export class Refused {
     // Its values that their places don't take.
     values() {
         return this.read.places.map(({ kind, tree }) => {
-            const value = valueOf(tree, this.known.symbols, this.here), [least, most] = RANGES[kind] ?? [value, value], away = value - this.here - 2;
+            const value = this.value(tree), [least, most] = RANGES[kind] ?? [value, value], away = value - this.here - 2;
             const compared = kind === 'e' ? away : value, numbers = kind === 'number' ? this.read.numbers : [];
             const isTaken = compared >= least && compared <= most && (kind !== 'number' || numbers.includes(value));
-            return isTaken ? null : { kind, value, away, least, most, names: [...new Set(namesOf(tree))].sort(), numbers };
+            return isTaken ? null : { kind, value, away, least, most, tree, names: [...new Set(namesOf(tree))].sort(), numbers };
         }).filter(Boolean);
     }
 
@@ -212,12 +234,17 @@ export class Refused {
         return line > 0 ? { line, begin: this.known.spots[line - 1].at } : { line: null, begin: null };
     }
 
+    // Its expressions without a value.
+    valueless() {
+        return this.trees().filter((tree) => this.value(tree) === null);
+    }
+
     // Whether the innermost part that has no value divides by 0.
     dividesByZero() {
         const parts = this.trees();
         for (let at = 0; at < parts.length; at++) parts.push(...parts[at].slice(1).filter(Array.isArray));
-        const value = (tree) => valueOf(tree, this.known.symbols, this.here), wrong = parts.reverse().find((tree) => value(tree) === null);
-        return wrong !== undefined && wrong[0] === '/' && value(wrong[2]) === 0;
+        const wrong = parts.reverse().find((tree) => this.value(tree) === null);
+        return wrong !== undefined && wrong[0] === '/' && this.value(wrong[2]) === 0;
     }
 
     // The lines above with IF, ELSE and ENDIF, and of each IF that is open its line and that of its ELSE.

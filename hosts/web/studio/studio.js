@@ -8,11 +8,12 @@ import { Deck } from './deck.js';
 import { Editor } from './editor.js';
 import { Entries } from './entries.js';
 import { Exits } from './exits.js';
+import { faultsOf } from './faults.js';
 import { Listing } from './listing.js';
 import { Live } from './live.js';
 import { fromFragment } from './outputs.js';
 import { Panes } from './panes.js';
-import { at, made, refuse, tell } from './parts.js';
+import { at, link, made, refuse, tell } from './parts.js';
 import { filesOfPage } from './payload.js';
 import { Controls, Loop, Screen, Speaker } from './player.js';
 import { clocksOf, placeInFrame } from './run.js';
@@ -24,6 +25,7 @@ import { placeOf } from './who.js';
 const EXAMPLES = { starfall: 'Starfall, a game', hello: 'Hello, ten lines', welcome: 'Welcome, a picture', sunset: 'Sunset, drawn by the beam' };
 const PROGRAM = 16384; // bytes of a ROM block that the source makes
 const TYPED = 160; // milliseconds without a key after which the source is assembled
+const SEARCHED = 400; // milliseconds after which other faults than the first are looked for
 
 // Whether what is written at an address can't be read there.
 function isPort(address) {
@@ -107,12 +109,14 @@ class Studio {
     typed() {
         this.isChanged = true;
         clearTimeout(this.typing);
+        clearTimeout(this.searching);
         this.typing = setTimeout(() => this.assemble(), TYPED);
     }
 
     // Assembles what stands in the editor: the same moment under it, where it is a program.
     async assemble() {
         clearTimeout(this.typing);
+        clearTimeout(this.searching);
         if (!this.assembler.isThere) return;
         const begun = performance.now(), source = bytesOf(this.editor.text), { rom, listing, fault } = this.assembler.assemble(source);
         const milliseconds = performance.now() - begun;
@@ -152,7 +156,17 @@ class Studio {
         at('problem-code').textContent = `${code}  line ${counted(line)}`;
         at('problem-meaning').textContent = meaningOf(code);
         at('problem-causes').replaceChildren(...causesOf(code, bytesOf(this.editor.text), line).map((cause) => made('li', {}, cause)));
+        at('problem-others').replaceChildren();
         at('assembled').textContent = 'refused; the program before it goes on';
+        this.searching = setTimeout(() => this.tellsOthers(), SEARCHED);
+    }
+
+    // Tells the faults that come after the first one, and marks their lines.
+    tellsOthers() {
+        const [, ...others] = faultsOf(this.assembler, bytesOf(this.editor.text));
+        this.editor.marks(others.map(({ line }) => line));
+        at('problem-others').replaceChildren(...others.map(({ code, line, causes }) => made('li', {}, link(`also: line ${counted(line)}`, 'Go to the line',
+            () => this.editor.visit(line)), `  ${code}  ${causes[0] ?? meaningOf(code)}`)));
     }
 
     // Begins from a source, with what is held, from power-on.

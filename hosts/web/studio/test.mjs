@@ -2,8 +2,8 @@
 //
 //     node hosts/web/studio/test.mjs PAGE PACBOARD FOLDER
 //
-// FOLDER has rows.json, which tools/check/studio lays there: sources with the fault and the likely causes that the checker in Python has
-// for them. The last line is `N passed, M failed`.
+// FOLDER has rows.json, more.json and files.json, which tools/lib/faulty.py lays there: sources, scripts and manifests with the faults and the
+// likely causes that bin/explain has for them. The last line is `N passed, M failed`.
 
 import { createHash } from 'node:crypto';
 import { existsSync, mkdirSync, readFileSync, writeFileSync } from 'node:fs';
@@ -14,6 +14,7 @@ import { Assembler } from './assembler.js';
 import { bytesOf, deflated, equal, inflated, linkable, textOf, unbase64 } from './bytes.js';
 import { causesOf, meaningOf } from './causes.js';
 import { film, inside, waveHead } from './command.mjs';
+import { faultsOf } from './faults.js';
 import { taken } from './files.js';
 import { Listing } from './listing.js';
 import { marked } from './marks.js';
@@ -167,6 +168,17 @@ function causes(rows) {
     row('each has one', silent.length === 0, JSON.stringify(silent.slice(0, 6)));
 }
 
+// All faults of sources with some of them: those of bin/explain, with their causes.
+function moreFaults(rows, assembler) {
+    const others = rows.filter(({ source, faults }) => {
+        const told = faultsOf(assembler, Buffer.from(source, 'latin1')).map(({ code, line, causes: said }) => [code, line, said]);
+        return JSON.stringify(told) !== JSON.stringify(faults);
+    });
+    const count = rows.reduce((sum, { faults }) => sum + faults.length, 0);
+    row(`${count} faults of ${rows.length} sources: those of bin/explain`, count > 2 * rows.length && rows.length > 100 && others.length === 0,
+        JSON.stringify(others.slice(0, 2))?.slice(0, 500));
+}
+
 // What is said of scripts and manifests that are refused.
 async function causesOfFiles(files) {
     for (const { kind, code, text, line, causes: wanted } of files) {
@@ -280,6 +292,7 @@ async function main() {
     disassembly(assembler);
     listings(assembler);
     causes(rows);
+    moreFaults(JSON.parse(readFileSync(at('more.json'), 'utf8')), assembler);
     await causesOfFiles(JSON.parse(readFileSync(at('files.json'), 'utf8')));
     await inputs(files);
     await moments(files, assembler, { example, pacboard, at, row, ROOT });

@@ -243,6 +243,14 @@ async function editing(page) {
     const told = await page.value("document.getElementById('problem').textContent");
     row('a fault is told with its line, its code and a cause', /A4 {2}line 7/.test(told) && told.includes('WHERE is defined nowhere'), told);
     row('its line is marked', (await page.value('studio.editor.fault')) === 7);
+    const stands = (text) => `(() => { const { area } = studio.editor, at = ${text}; area.setSelectionRange(at, at); })()`;
+    await page.value(stands('area.value.length'));
+    await page.value("document.execCommand('insertText', false, '        LD A,300')");
+    await page.until("document.getElementById('problem-others').textContent.includes('also')");
+    const also = await page.value("document.getElementById('problem-others').textContent"), last = other.split('\n').length;
+    row('another fault is told, too, and its line is marked', also.includes('A9  the value is 300') && (await page.value(`studio.editor.others.has(${last})`)), also);
+    await page.value("document.execCommand('undo')");
+    await page.value(stands("area.value.indexOf('+WHERE') + 6"));
     row('and the old program stays', now.equals(await page.canvas()));
     const margins = (line) => `document.querySelector('.gutter [data-line="${line}"]').textContent`;
     const [above, below] = [await page.value(margins(6)), await page.value('studio.editor.rowOf(161).address')];
