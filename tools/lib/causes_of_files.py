@@ -7,10 +7,12 @@ import pathlib
 import re
 import tomllib
 import zlib
+from collections.abc import Iterator
 from typing import Any
 
 import judge_run
 import judge_source
+import sessions
 from facts import near
 
 Places = list[tuple[int, dict[str, Any]]]
@@ -88,27 +90,11 @@ def in_commands(code: str, said: str, content: bytes, _path: pathlib.Path) -> Pl
     return found
 
 
-def refused_commands(content, session):
+def refused_commands(content: bytes, session: bytes) -> Iterator[tuple[int, str]]:
     """The numbers of the commands that a session has refused, each with its answer, by the text of the session."""
-    answers, at, index = session.decode().splitlines(), 0, 0
-    for number, line in enumerate(judge_source.lines_of(content), 1):
-        words = judge_run.words_of(line)
-        if not words or at >= len(answers):
-            continue
-        name, count = words[0], judge_run.number_of(words[-1], 256) or 1
-        is_history = name == b"history" and len(words) == 2
-        if is_history and not index:
-            continue
-        if answers[at].startswith("refused"):
-            yield number, answers[at]
-            count = 1
-        elif name in (b"step", b"continue", b"frames", b"back", b"return"):
-            index, count = int(answers[at].split()[1]), 1
-        elif is_history:
-            count = min(count, index)
-        elif name != b"dis":
-            count = {b"mem": (count + 15) // 16, b"regs": 2}.get(name, 1)
-        at += count
+    for number, _, answers in sessions.answered(content, session.decode()):
+        if answers and answers[0].startswith("refused"):
+            yield number, answers[0]
 
 
 def command_facts(said: str, words: list[bytes], takes: Any) -> dict[str, Any]:
