@@ -66,11 +66,18 @@ export class Entries {
     }
 
     // What ./play sends: the source, its script and its set as they are on the disk.
-    async follows(files, isFirst) {
+    async follows(files, { isFirst, places, refused }) {
         const { studio } = this;
+        if (refused !== null) {
+            studio.untranslated(refused);
+            this.isLate = isFirst || this.isLate;
+            return;
+        }
         try {
-            const found = await taken(files);
-            if (isFirst || !found.source || found.set) await this.takes(found, true);
+            const found = await taken(files), isNew = isFirst || this.isLate || !found.source || found.set !== undefined;
+            this.isLate = false;
+            studio.places = places;
+            if (isNew) await this.takes(found, true);
             else if (found.source.text !== studio.editor.text) {
                 studio.editor.replace(found.source.text);
                 studio.isChanged = false;

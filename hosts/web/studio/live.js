@@ -5,7 +5,8 @@ import { unbase64 } from './bytes.js';
 const PAUSE = 1000; // milliseconds, where the server doesn't answer
 
 export class Live {
-    // `changed` is called with the files as they are on the disk, at first and after each change.
+    // `changed` is called with the files as they are on the disk, at first and after each change: of a source in another dialect with its translation,
+    // and with file and line of each line's origin, or with why it isn't translated.
     constructor(changed) {
         Object.assign(this, { changed, version: '', isThere: location.protocol === 'http:' && location.search === '?live' });
     }
@@ -16,9 +17,9 @@ export class Live {
             try {
                 const answer = await fetch(`files?since=${this.version}`, { cache: 'no-store' });
                 if (answer.status === 200) {
-                    const { version, files, is_first: isFirst } = await answer.json();
+                    const { version, files, is_first: isFirst, places = [], refused = null } = await answer.json();
                     this.version = version;
-                    await this.changed(files.map(({ name, base64 }) => ({ name, bytes: unbase64(base64) })), isFirst);
+                    await this.changed(files.map(({ name, base64 }) => ({ name, bytes: unbase64(base64) })), { isFirst, places, refused });
                 } else if (answer.status !== 204) throw new Error(answer.statusText);
             } catch {
                 await new Promise((then) => setTimeout(then, PAUSE));

@@ -34,7 +34,7 @@ function isPort(address) {
 
 class Studio {
     constructor(files, module, assembler) {
-        Object.assign(this, { files, assembler, listing: null, name: 'starfall', latchAt: PLACES.AT_LATCH });
+        Object.assign(this, { files, assembler, listing: null, name: 'starfall', latchAt: PLACES.AT_LATCH, places: [] });
         this.set = files.set; // what is in the sockets beside the program
         this.screen = new Screen(at('picture'));
         this.controls = new Controls((before) => this.taken(before));
@@ -46,8 +46,9 @@ class Studio {
         this.entries = new Entries(this);
         this.exits = new Exits(this);
         this.panes = new Panes(this);
+        at('problem-code').addEventListener('click', () => { if (this.fault) this.editor.visit(this.fault.line); });
         addEventListener('beforeunload', (event) => { if (this.isChanged) event.preventDefault(); });
-        this.live = new Live((changed, isFirst) => this.entries.follows(changed, isFirst));
+        this.live = new Live((changed, more) => this.entries.follows(changed, more));
     }
 
     get roms() {
@@ -153,20 +154,45 @@ class Studio {
         this.editor.say(null, line);
         this.fault = { code, line };
         at('problem').hidden = false;
-        at('problem-code').textContent = `${code}  line ${counted(line)}`;
+        at('problem-code').textContent = `${code}  ${this.placeOf(line)}`;
         at('problem-meaning').textContent = meaningOf(code);
-        at('problem-causes').replaceChildren(...causesOf(code, bytesOf(this.editor.text), line).map((cause) => made('li', {}, cause)));
+        at('problem-causes').replaceChildren(...causesOf(code, bytesOf(this.editor.text), line).map((cause) => made('li', {}, this.placed(cause))));
         at('problem-others').replaceChildren();
         at('assembled').textContent = 'refused; the program before it goes on';
         this.searching = setTimeout(() => this.tellsOthers(), SEARCHED);
+    }
+
+    // A line in words: of a source that was translated, the first file's line.
+    placeOf(line) {
+        const [file, number] = this.isChanged ? [] : this.places[line - 1] ?? [];
+        return file ? `line ${number} of ${file.split('/').at(-1)}` : `line ${counted(line)}`;
+    }
+
+    // A sentence with its lines in words.
+    placed(sentence) {
+        return this.places.length > 0 ? sentence.replace(/\bline (\d+)\b/g, (_, line) => this.placeOf(Number(line))) : sentence;
+    }
+
+    // Tells why the source on the disk isn't translated; what played before goes on.
+    untranslated(told) {
+        const [, place, why] = /^(.*?:\d+): (.*)$/.exec(told) ?? [null, 'refused', told];
+        clearTimeout(this.searching);
+        this.editor.say(null);
+        this.fault = null;
+        at('problem').hidden = false;
+        at('problem-code').textContent = place.split('/').at(-1);
+        at('problem-meaning').textContent = why;
+        at('problem-causes').replaceChildren();
+        at('problem-others').replaceChildren();
+        at('assembled').textContent = 'refused; the program before it goes on';
     }
 
     // Tells the faults that come after the first one, and marks their lines.
     tellsOthers() {
         const [, ...others] = faultsOf(this.assembler, bytesOf(this.editor.text));
         this.editor.marks(others.map(({ line }) => line));
-        at('problem-others').replaceChildren(...others.map(({ code, line, causes }) => made('li', {}, link(`also: line ${counted(line)}`, 'Go to the line',
-            () => this.editor.visit(line)), `  ${code}  ${causes[0] ?? meaningOf(code)}`)));
+        at('problem-others').replaceChildren(...others.map(({ code, line, causes }) => made('li', {}, link(`also: ${this.placeOf(line)}`, 'Go to the line',
+            () => this.editor.visit(line)), `  ${code}  ${this.placed(causes[0] ?? meaningOf(code))}`)));
     }
 
     // Begins from a source, with what is held, from power-on.

@@ -266,6 +266,21 @@ async function editing(page) {
     row("the browser's way back takes it away", (await page.value('studio.editor.text')) === other);
 }
 
+// A source that ./play has translated: faults are told by the lines of the file on the disk.
+async function translated(page) {
+    const problem = "document.getElementById('problem').textContent", source = '        LD A,1\n        ORG 0\n        LD A,2\n';
+    await page.value("studio.entries.follows([], { isFirst: false, places: [], refused: '/a/b.asm:7: there is no X' })");
+    const refused = await page.value(problem);
+    row('why a source is not translated is told', refused.includes('b.asm:7') && refused.includes('there is no X'), refused);
+    await page.value(`studio.entries.follows([{ name: 'b.asm', bytes: new TextEncoder().encode(${JSON.stringify(source)}) }], { isFirst: false,
+        places: [['/a/b.asm', '11'], ['/a/c.inc', '12'], ['/a/b.asm', '13']], refused: null })`);
+    await page.until("document.getElementById('problem').textContent.includes('A6')");
+    const told = await page.value(problem);
+    row('and faults by their lines on the disk', /A6 {2}line 13 of b\.asm/.test(told) && told.includes('line 11 of b.asm has bytes'), told);
+    await page.value("studio.entries.follows([{ name: 'b.asm', bytes: new TextEncoder().encode('        NOP') }], { isFirst: false, places: [], refused: null })");
+    await page.until("document.getElementById('problem').hidden");
+}
+
 // What goes out and comes in again.
 async function outside(page, script) {
     const state = await page.saved("document.querySelector('[data-save=state]').click()");
@@ -347,6 +362,7 @@ async function main() {
         await looking(page);
         await editing(page);
         await outside(page, script);
+        await translated(page);
         await hostile(page, row);
         row('nothing went wrong on the way', page.faults.length === 0, page.faults.join('\n'));
     } finally {
