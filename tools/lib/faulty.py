@@ -75,6 +75,32 @@ def often_changed(count: int) -> Iterator[bytes]:
         yield "\n".join(lines).encode("latin-1")
 
 
+# What is planted in place of an instruction; {} is a number of its own. Of these each is told, whatever else is planted.
+SURE = [" LDQ A,(", " LD A,300", " JP NOWHERE{}", ' LD A,"x"', " LD A,5 5"]
+# What is planted in place of any line with a label {}, and what would hang on it isn't told.
+UNSURE = {
+    "EQU": ["{} EQU #5", "{} = 5", "{} EQU NOWHERE", "{} EQU 5 5", "{} EQU 1/0"],
+    "ORG": ["\tORG NOWHERE", "\tORG 5000H", "\tORG", "\t.org 5"],
+    "": ["{} DEFQ 5,6", "{}: .db 5", "{}: DEFS NOWHERE", '{} DEFB "x"', "{} LD A,(", "{} LD A,B C", "{}: INCLUDE 'x'", "{} MACRO"],
+}
+
+
+def planted(count: int) -> Iterator[tuple[bytes, set[int], bool]]:
+    """Sources of the examples with some faults of a kind: their lines, and whether all of them have to be told."""
+    chance, examples = random.Random(7), [(ROOT / f"examples/{name}.asm").read_text().split("\n") for name in EXAMPLES]
+    for turn in range(count):
+        lines, is_sure = list(chance.choice(examples)), turn % 2 == 0
+        read: list[Any] = [judge_source.read_line(line.encode("latin-1")) for line in lines]
+        wanted = judge_source.MNEMONICS if is_sure else (judge_source.MNEMONICS | judge_source.DIRECTIVES) - {"IF", "ELSE", "ENDIF"}
+        spots = [at for at, line in enumerate(read) if line.operation in wanted]
+        spots = chance.sample(spots, min(len(spots), chance.randrange(2, 7)))
+        for at in spots:
+            label, kinds = read[at].label or "", UNSURE.get(read[at].operation, UNSURE[""])
+            head = f"{label}:" if label else ""
+            lines[at] = head + chance.choice(SURE).format(at) if is_sure else chance.choice(kinds).format(label)
+        yield "\n".join(lines).encode("latin-1"), {at + 1 for at in spots}, is_sure
+
+
 def explained(source: bytes) -> dict[str, Any]:
     """A source, with its fault and what is said of it."""
     fault = judge_source.assemble(source)[1]
@@ -113,7 +139,7 @@ def other_files(room: pathlib.Path) -> Iterator[dict[str, Any]]:
 def lay(room: pathlib.Path) -> None:
     """Lays them in a folder, as rows.json, more.json and files.json."""
     (room / "rows.json").write_text(json.dumps([explained(source) for source in sources() if len(source) < LARGEST]))
-    every = [*(text.encode("latin-1") for text, _ in loaded("explanations").MORE), *often_changed(MANY)]
+    every = [*(text.encode("latin-1") for text, _ in loaded("explanations").MORE), *often_changed(MANY), *(source for source, _, _ in planted(MANY))]
     told = [{"source": source.decode("latin-1"), "faults": [list(one) for one in more_faults.faults(source)]} for source in every]
     (room / "more.json").write_text(json.dumps(told))
     (room / "files.json").write_text(json.dumps(list(other_files(room))))

@@ -1,8 +1,8 @@
 """All faults of a source that are certain: the one that is told first, and those that come once its line is out of the way.
 
 A faulty line is replaced by room of its size where that is known, otherwise by its label alone, and the source is assembled again. After a line
-whose size isn't known, what hangs on addresses isn't certain; after one that might define a name, that this name isn't defined isn't; and after
-one that opens something, as an IF or a macro, nothing is. hosts/web/studio/faults.js does the same with the module; tools/check/studio holds
+whose size isn't known, what hangs on addresses isn't certain; after one that might define a name, that this name isn't defined isn't; of a name
+that two lines define no value is; and after one that opens or ends something, as an IF or a macro, nothing is. hosts/web/studio/faults.js does the same with the module; tools/check/studio holds
 both against each other.
 """
 import re
@@ -47,25 +47,25 @@ class Search:
     """A source whose faulty lines are replaced, one after another."""
 
     def __init__(self, source: bytes):
-        self.lines, self.found, self.others = judge.lines_of(source), list[Found](), set[bytes]()
+        self.lines, self.found, self.others, self.doubted = judge.lines_of(source), list[Found](), set[bytes](), set[str]()
         self.is_moved = self.is_full = self.brings = self.is_over = False
 
     def source(self) -> bytes:
         """The source as it is now."""
         return b"".join(line + b"\n" for line in self.lines)
 
-    def moving(self) -> set[str]:
-        """The names whose values hang on where bytes are."""
-        names = set[str]()
+    def unsure(self) -> set[str]:
+        """The names whose values aren't known: those of two lines, and those that hang on where bytes are once that isn't known."""
+        names = set(self.doubted)
         for text in self.lines:
             line = judge.read_line(text)
-            if not isinstance(line, str) and line.label and (line.operation != "EQU" or self.moves(line.at_once, names)):
+            if not isinstance(line, str) and line.label and (self.is_unsure(line.at_once, names) if line.operation == "EQU" else self.is_moved):
                 names.add(line.label)
         return names
 
-    def moves(self, tree: Any, names: set[str]) -> bool:
-        """Whether an expression hangs on where bytes are."""
-        return has_here(tree) or bool(judge.names_of(tree) & names)
+    def is_unsure(self, tree: Any, names: set[str]) -> bool:
+        """Whether the value of an expression isn't known."""
+        return self.is_moved and has_here(tree) or bool(judge.names_of(tree) & names)
 
     def is_certain(self, code: str, refused: facts.Refused) -> bool:
         """Whether a fault would be there, whatever the lines before it should have been."""
@@ -75,10 +75,10 @@ class Search:
             return not self.brings and any(one["name"].encode() not in self.others for one in refused["undefined"])
         if code == "A2":
             return not self.brings or bool(refused.operation)
-        if code in ("A9", "A10") and self.is_moved:
-            wrong = [one["tree"] for one in refused["values"] if one["kind"] != "e"] if code == "A9" else refused.valueless()
-            names = self.moving()
-            return any(not self.moves(tree, names) for tree in wrong)
+        if code in ("A9", "A10"):
+            names, values = self.unsure(), refused["values"] if code == "A9" else []
+            wrong = [one["tree"] for one in values if one["kind"] != "e" or not self.is_moved] if code == "A9" else refused.valueless()
+            return any(not self.is_unsure(tree, names) for tree in wrong)
         return True
 
     def replace_unread(self, number: int) -> None:
@@ -98,9 +98,8 @@ class Search:
         head = label + b":" if label else b""
         self.lines[number - 1] = head
         if code == "A3":
+            self.doubted.add(refused.label)
             self.lines[number - 1] = b"" if refused.operation == "EQU" else re.sub(rb"^[ \t]*\w+[ \t]*:?", b" ", text)
-        elif code == "A13":
-            self.lines[number - 1] = b""
         elif refused.operation == "EQU":
             self.others.add(label)
             self.lines[number - 1] = b""
@@ -127,22 +126,21 @@ class Search:
         refused, text = facts.Refused(code, self.source(), number), self.lines[number - 1]
         if number not in (one.line for one in self.found) and (not self.found or self.is_certain(code, refused)):
             self.found.append(Found(code, number, list(causes.sentences(code, refused))))
-        is_unread, was_moved = code.startswith("A1 ") or code == "A2", self.is_moved
-        self.is_over = code in ("A12", "A14") or judge.first_word(text) == b"IF" or code == "A13" and bool(refused["open"])
-        self.is_over |= is_unread and bool(OPENS.match(text.partition(b";")[0]))
+        is_unread = code.startswith("A1 ") or code == "A2"
+        self.is_over = code in ("A12", "A13", "A14") or judge.first_word(text) == b"IF" or is_unread and bool(OPENS.match(text.partition(b";")[0]))
         if self.is_over:
             return
         if is_unread:
             self.replace_unread(number)
         else:
             self.replace(code, number, refused)
-        self.is_over = self.is_moved and not was_moved and self.has_moving_conditions()
+        self.is_over = self.has_unsure_conditions()
 
-    def has_moving_conditions(self) -> bool:
-        """Whether an IF hangs on where bytes are."""
-        names = self.moving()
-        read = (judge.read_line(text) for text in self.lines)
-        return any(not isinstance(line, str) and line.operation == "IF" and self.moves(line.at_once, names) for line in read)
+    def has_unsure_conditions(self) -> bool:
+        """Whether an IF hangs on what isn't known."""
+        names = self.unsure() if self.is_moved or self.doubted else set()
+        read = (judge.read_line(text) for text in self.lines if judge.first_word(text) == b"IF")
+        return any(not isinstance(line, str) and line.at_once and self.is_unsure(line.at_once, names) for line in read)
 
 
 def faults(source: bytes) -> list[Found]:

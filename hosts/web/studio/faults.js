@@ -23,7 +23,8 @@ function hasHere(tree) {
 // A source whose faulty lines are replaced, one after another.
 class Search {
     constructor(source) {
-        Object.assign(this, { lines: linesOf(source), found: [], others: new Set(), isMoved: false, isFull: false, brings: false, isOver: false });
+        Object.assign(this, { lines: linesOf(source), found: [], others: new Set(), doubted: new Set() });
+        Object.assign(this, { isMoved: false, isFull: false, brings: false, isOver: false });
     }
 
     // The source as it is now.
@@ -31,16 +32,16 @@ class Search {
         return Uint8Array.from(this.lines.map((line) => `${line}\n`).join(''), (letter) => letter.charCodeAt(0));
     }
 
-    // The names whose values hang on where bytes are.
-    moving() {
-        const names = new Set();
+    // The names whose values aren't known: those of two lines, and those that hang on where bytes are once that isn't known.
+    unsure() {
+        const names = new Set(this.doubted);
         for (const line of this.lines.map(readLine))
-            if (line?.label && (line.operation !== 'EQU' || this.moves(line.atOnce, names))) names.add(line.label);
+            if (line?.label && (line.operation === 'EQU' ? this.isUnsure(line.atOnce, names) : this.isMoved)) names.add(line.label);
         return names;
     }
 
-    moves(tree, names) {
-        return hasHere(tree) || namesOf(tree).some((name) => names.has(name));
+    isUnsure(tree, names) {
+        return this.isMoved && hasHere(tree) || namesOf(tree).some((name) => names.has(name));
     }
 
     // Whether a fault would be there, whatever the lines before it should have been.
@@ -48,12 +49,9 @@ class Search {
         if (code === 'A5' || code === 'A6') return !this.isMoved && !this.isFull;
         if (code === 'A4' || code === 'A8') return !this.brings && refused.undefined().some(({ name }) => !this.others.has(name));
         if (code === 'A2') return !this.brings || refused.operation !== '';
-        if ((code === 'A9' || code === 'A10') && this.isMoved) {
-            const names = this.moving();
-            const wrong = code === 'A9' ? refused.values().filter(({ kind }) => kind !== 'e').map(({ tree }) => tree) : refused.valueless();
-            return wrong.some((tree) => !this.moves(tree, names));
-        }
-        return true;
+        if (code !== 'A9' && code !== 'A10') return true;
+        const names = this.unsure(), values = code === 'A9' ? refused.values().filter(({ kind }) => kind !== 'e' || !this.isMoved) : [];
+        return (code === 'A9' ? values.map(({ tree }) => tree) : refused.valueless()).some((tree) => !this.isUnsure(tree, names));
     }
 
     // Takes a line out of the way that says nothing: its label is left, where a colon tells it.
@@ -71,9 +69,10 @@ class Search {
         const text = this.lines[number - 1], { label, operation } = refused, head = label ? `${label}:` : '';
         const size = operation === 'DEFS' || operation === 'DS' ? refused.atOnce() : refused.read.size;
         this.lines[number - 1] = head;
-        if (code === 'A3') this.lines[number - 1] = operation === 'EQU' ? '' : text.replace(/^[ \t]*\w+[ \t]*:?/, ' ');
-        else if (code === 'A13') this.lines[number - 1] = '';
-        else if (operation === 'EQU') {
+        if (code === 'A3') {
+            this.doubted.add(label);
+            this.lines[number - 1] = operation === 'EQU' ? '' : text.replace(/^[ \t]*\w+[ \t]*:?/, ' ');
+        } else if (operation === 'EQU') {
             this.others.add(label);
             this.lines[number - 1] = '';
         } else if (['A8', 'A9', 'A10'].includes(code) && size !== null) this.lines[number - 1] = `${head} DEFS ${size}`;
@@ -102,19 +101,18 @@ class Search {
         const refused = new Refused(code, this.source, number), text = this.lines[number - 1], isNew = this.found.every(({ line }) => line !== number);
         if (isNew && (this.found.length === 0 || this.isCertain(code, refused)))
             this.found.push({ code, line: number, causes: sentences(code, (name) => refused.fact(name)) });
-        const isUnread = code.startsWith('A1 ') || code === 'A2', wasMoved = this.isMoved;
-        this.isOver = code === 'A12' || code === 'A14' || firstWord(text) === 'IF' || code === 'A13' && refused.conditions().open.length > 0
-            || isUnread && OPENS.test(text.split(';')[0]);
+        const isUnread = code.startsWith('A1 ') || code === 'A2';
+        this.isOver = ['A12', 'A13', 'A14'].includes(code) || firstWord(text) === 'IF' || isUnread && OPENS.test(text.split(';')[0]);
         if (this.isOver) return;
         if (isUnread) this.replaceUnread(number);
         else this.replace(code, number, refused);
-        this.isOver = this.isMoved && !wasMoved && this.hasMovingConditions();
+        this.isOver = this.hasUnsureConditions();
     }
 
-    // Whether an IF hangs on where bytes are.
-    hasMovingConditions() {
-        const names = this.moving();
-        return this.lines.map(readLine).some((line) => line?.operation === 'IF' && this.moves(line.atOnce, names));
+    // Whether an IF hangs on what isn't known.
+    hasUnsureConditions() {
+        const names = this.isMoved || this.doubted.size > 0 ? this.unsure() : new Set(), conditions = this.lines.filter((line) => firstWord(line) === 'IF').map(readLine);
+        return conditions.some((line) => line?.atOnce && this.isUnsure(line.atOnce, names));
     }
 }
 
