@@ -332,6 +332,7 @@ FACTS: dict[str, Callable[[Refused], Any]] = {
     "heads": Refused.heads,
     "no name": lambda it: bool(it.tokens) and it.tokens[0][0] != "name",
     "label": lambda it: it.label,
+    "label near": lambda it: near(it.label, OPERATIONS),
     "label is reserved": lambda it: it.label.upper() in judge.REGISTERS,
     "colon": lambda it: ("sign", ":") in it.tokens[1:2],
     "nothing more": lambda it: not it.statement,

@@ -269,6 +269,7 @@ const FACTS = {
     'heads': (it) => it.heads(),
     'no name': (it) => it.tokens.length > 0 && it.tokens[0].kind !== 'name',
     'label': (it) => it.label,
+    'label near': (it) => near(it.label, OPERATIONS),
     'label is reserved': (it) => REGISTERS.includes(it.label.toUpperCase()),
     'colon': (it) => it.hasColon(),
     'nothing more': (it) => it.statement.length === 0,
