@@ -39,7 +39,7 @@ def near(word: str, names: Iterable[str]) -> str | None:
     most = (len(upper) + 1) // 3
     for name in names:
         other = name.upper()
-        if abs(len(other) - len(upper)) > most:
+        if abs(len(other) - len(upper)) > most or sum(letter not in upper for letter in other) > most:
             continue
         is_same = sorted(other) == sorted(upper)
         if other != upper and (len(upper) > 2 or is_same) and (count := distance(upper, other)) <= most:

@@ -25,6 +25,13 @@ function distance(one, other) {
     return rows.at(-1).at(-1);
 }
 
+// How many letters of a word aren't among some letters: so many have to be changed at least.
+function strangers(letters, word) {
+    let count = 0;
+    for (const letter of word) count += letters.has(letter) ? 0 : 1;
+    return count;
+}
+
 // Whether one list comes before another of the same length.
 function isBefore(one, other) {
     for (const [at, part] of one.entries()) if (part !== other[at]) return part < other[at];
@@ -33,11 +40,11 @@ function isBefore(one, other) {
 
 // The name that is most like a word, where one is: at most a letter in three is another; one of the same letters before others.
 export function near(word, names) {
-    const upper = word.toUpperCase(), most = Math.floor((upper.length + 1) / 3), sorted = [...upper].sort().join('');
+    const upper = word.toUpperCase(), letters = new Set(upper), most = Math.floor((upper.length + 1) / 3), sorted = [...upper].sort().join('');
     let best = null;
     for (const name of names) {
         const other = name.toUpperCase();
-        if (Math.abs(other.length - upper.length) > most || other === upper) continue;
+        if (Math.abs(other.length - upper.length) > most || other === upper || strangers(letters, other) > most) continue;
         const isSame = [...other].sort().join('') === sorted, count = upper.length > 2 || isSame ? distance(upper, other) : Infinity;
         const found = [count, isSame ? 0 : 1, other[0] === upper[0] ? 0 : 1, name];
         if (count <= most && (best === null || isBefore(found, best))) best = found;

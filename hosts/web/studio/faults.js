@@ -8,7 +8,7 @@ import { REGISTERS } from './tables.js';
 
 const MOST = 20; // faults
 const ROUNDS = 60; // assemblies
-const LONGEST = 4000; // lines of a source that is assembled more than once
+export const LONGEST = 4000; // lines of a source that is assembled more than once
 const HEAD = '^[^A-Za-z_]*(?:[A-Za-z_]\\w*[^A-Za-z_]+)?'; // up to a line's first word, or to its second
 const WORD = /[A-Za-z_]\w*/g;
 const OPENS = new RegExp(`${HEAD}(?:IF\\w*|ELSE\\w*|ELIF|END\\w*|MACRO|REPT|DUP|REPEAT|WHILE|STRUCT?|PROC|LOCAL|COMMENT)\\b|^.*/\\*`, 'is');

@@ -202,8 +202,18 @@ function directive(label, word, operands) {
 
 const EMPTY = { label: null, operation: null, atOnce: null, places: [], size: null, numbers: null };
 
+const KEPT = 8192, kept = new Map(); // lines that were read before
+
 // What a line says; nothing where it has a fault by itself.
 export function readLine(line) {
+    if (!kept.has(line)) {
+        if (kept.size === KEPT) kept.clear();
+        kept.set(line, readAnew(line));
+    }
+    return kept.get(line);
+}
+
+function readAnew(line) {
     const { tokens, rest } = scanned(line);
     if (rest || line.length > LINE) return null;
     if (tokens.length === 0) return EMPTY;

@@ -8,7 +8,7 @@ import { Deck } from './deck.js';
 import { Editor } from './editor.js';
 import { Entries } from './entries.js';
 import { Exits } from './exits.js';
-import { faultsOf } from './faults.js';
+import { faultsOf, LONGEST } from './faults.js';
 import { Listing } from './listing.js';
 import { Live } from './live.js';
 import { fromFragment } from './outputs.js';
@@ -189,6 +189,7 @@ class Studio {
 
     // Tells the faults that come after the first one, and marks their lines.
     tellsOthers() {
+        if (this.editor.lines.length > LONGEST) return;
         const [, ...others] = faultsOf(this.assembler, bytesOf(this.editor.text));
         this.editor.marks(others.map(({ line }) => line));
         at('problem-others').replaceChildren(...others.map(({ code, line, causes }) => made('li', {}, link(`also: ${this.placeOf(line)}`, 'Go to the line',
