@@ -6,6 +6,7 @@ pub mod Films
 pub mod FramesDone
 pub mod OneBoard
 pub mod OneStep
+pub mod RoomOfCalls
 pub mod Sounding
 pub mod Stops
 pub mod TimeParts

@@ -2,6 +2,7 @@
 
 ghost use Rattle.pac_host.specs.Films.{AllFramesAreDone, HostsPlayTheFilm};
 ghost use Rattle.pac_host.specs.HostLaws.{BlocksAreOneBoard, HostTimeCanBeCut, OneStepAtMost, RoomIsBounded, StopsAreMetAgain};
+ghost use Rattle.pac_host.specs.RoomLaws.{RoomIsEnough};
 
 use pac_board::laws::time_can_be_cut;
 
@@ -25,6 +26,11 @@ pub fn stops_are_met_again()
 /// The room that a call for some time needs is bounded by the microseconds that it is for: after power-on and each such call, stopped or not.
 pub fn room_is_bounded()
     ensures { RoomIsBounded }
+{}
+
+/// After power-on, and whatever calls came since but those that take a state file, a buffer with that room is always large enough.
+pub fn room_is_enough()
+    ensures { RoomIsEnough }
 {}
 
 /// A host that plays a script from power-on, frame by frame, hears the samples and sees the pictures of the script's trace.
