@@ -10,3 +10,4 @@ pub mod RoomOfCalls
 pub mod Sounding
 pub mod Stops
 pub mod TimeParts
+pub mod Woven

@@ -1,5 +1,5 @@
 -- For proofs: what is made of the ROMs and of the block that a host hands in.
-use Rattle.std.specs.Prelude.{◌≡◌, ◌≢◌, ◌≤◌, ◌<◌, ◌+◌, ◌-◌, ◌^◌, List, ℕ, length, min, slice_index_or, EachIndex, [], ⊤}
+use Rattle.std.specs.Prelude.{◌≡◌, ◌≢◌, ◌≤◌, ◌<◌, ◌+◌, ◌-◌, ◌^◌, List, ℕ, length, min, ⊤}
 use Rattle.std.specs.Prelude.{Option, None, Some, Result, Ok, Err}
 use Rattle.pac_board.specs.BoardFields.{Fields}
 use Rattle.pac_board.specs.Fields.{state_of, AreBoardFields}
@@ -44,7 +44,3 @@ MayRun state microseconds room (Err fault) = ⊥
 abbrev pub StopsEarly : Option Stop → BoardState → Type 0
 StopsEarly None state = ⊤
 StopsEarly (Some stop) state = state.now.time < time_of state.asked
-
--- each colour of a palette has red, green and blue
-abbrev pub AreWholeColours : List (List ℕ) → Type 0
-AreWholeColours palette = EachIndex palette (λ number. length (slice_index_or palette number []) ≡ 3)

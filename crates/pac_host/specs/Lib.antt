@@ -5,3 +5,4 @@ pub mod HostLaws
 pub mod RoomLaws
 pub mod Films
 pub mod Sounding
+pub mod Woven

@@ -15,6 +15,7 @@ mod draw;
 mod files;
 pub mod laws;
 mod peek;
+mod pixels;
 mod ran;
 mod roms;
 mod sounds;

@@ -18,6 +18,6 @@ returns c =
       drawn =
           c.put_lines.ensures
           ∙ (ap (λ palette. rgba_of palette c.in_ok-fields.fields.lines.now)
-          (c.palette.ensures.palette ∙ ap palette_of c.colours_of.ensures)
+          (c.of.ensures ∙ ap palette_of c.colours_of.ensures)
           ∙ ap (λ (state : BoardState). rgba_of (palette_of (set_of_roms c.args.roms.now).colours) state.now.board.lines) opened.state);
     }
