@@ -5,7 +5,7 @@ ghost use Rattle.std.specs.Prelude.{◌≡◌, ◌%◌, ◌==◌, ℕ, length};
 ghost use Rattle.pac_inputs.specs.Inputs.{mask};
 ghost use Rattle.pac_latch.specs.Latched.{is_watchdog_due, latched_after_bit};
 ghost use Rattle.pac_map.specs.Cleared.{zero_ram};
-ghost use Rattle.pac_map.specs.Contents.{lookups_of};
+ghost use Rattle.pac_map.specs.Contents.{lookups_of, read_of};
 ghost use Rattle.pac_map.specs.Entry.{Vector, Blank, Accept, Reset, Hold, view_after_write, view_after};
 ghost use Rattle.pac_map.specs.Lookups.{answer};
 ghost use Rattle.pac_map.specs.PlaceProofs.{IsPlaceInRange};
@@ -14,7 +14,7 @@ ghost use Rattle.pac_map.specs.View as spec;
 mod fields;
 mod reading;
 
-use crate::BusPlace;
+use crate::{BusPlace, read_place};
 pub use fields::MemoryFields;
 use pac_inputs::{Flags, Inputs};
 use pac_latch::Latch;
@@ -129,6 +129,14 @@ impl Memory {
             BusPlace::Switches => self.switches,
             _ => 0xFF,
         }
+    }
+
+    /// The byte that the processor reads at an address, with the program ROM's 16,384 bytes.
+    #[inline]
+    pub fn read(&self, program: &[u8; 16384], address: u16) -> u8
+        ensures { result ≡ read_of program.now self.now address }
+    {
+        self.byte_of(program, read_place(address))
     }
 
     /// Writes a byte to a place.

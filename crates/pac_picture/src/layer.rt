@@ -183,6 +183,24 @@ fn make_stale(shadows: &mut [Shadow])
     }
 }
 
+/// Fills a line with line y of the picture's cells, which are drawn for it alone.
+pub(crate) fn lay_line(graphics: &Graphics, screen: &Screen<'_>, y: u8, out: &mut [u8; WIDTH])
+    requires { y < tile.height }
+    ensures { out.new ≡ tabulate tile.width (λ x. kept_dot graphics.now (drawn_from screen.now (y / 8)) x y) }
+{
+    let row = y / 8;
+    let mut cells = [[[0; 8]; 8]; COLUMNS];
+    let mut shadow = Shadow::new();
+    refresh_cells(
+        &mut cells,
+        &mut shadow,
+        graphics,
+        &screen.tiles(row),
+        &screen.colours(row),
+    );
+    lay_cells(&cells, y % 8, out);
+}
+
 /// A row of the layer. The type of its cells is a parameter, since no rule of the borrow checker covers a literal of a struct with an array
 /// of arrays.
 #[derive(Clone, Copy)]

@@ -15,7 +15,7 @@ mod shadow;
 mod size;
 
 pub use graphics::Graphics;
-pub use lines::Lines;
+pub use lines::{Lines, compose_alone};
 pub use picture::Picture;
 pub use raw::{RawLines, is_picture, raw_row};
 pub use screen::Screen;

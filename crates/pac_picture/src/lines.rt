@@ -14,7 +14,8 @@ ghost use Rattle.pac_picture.specs.StateLaws.{source_of};
 ghost use Rattle.pac_picture.specs.BareLines.{AreBare};
 
 use crate::bare::Bare;
-use crate::layer::Layer;
+use crate::graphics::Graphics;
+use crate::layer::{Layer, lay_line};
 use crate::painting::paint_unless_none;
 use crate::raw::RawLines;
 use crate::screen::Screen;
@@ -42,6 +43,18 @@ fn compose_line(layer: &Layer, screen: &Screen<'_>, y: u8, out: &mut [u8; WIDTH]
     let has_sprite = screen.has_sprite_on(source);
     layer.line(source, out);
     paint_unless_none(has_sprite, layer.graphics(), screen, source, out);
+    turn(out, screen.flip());
+}
+
+/// Composes line y of the shown picture, 0 to 223, with no layer beside it: the cells of its row are drawn for this line alone.
+pub fn compose_alone(graphics: &Graphics, screen: &Screen<'_>, y: u8, out: &mut [u8; WIDTH])
+    requires { y < tile.height }
+    ensures { out.new ≡ picture_line graphics.now screen.now y }
+{
+    let source = screen.source(y);
+    let has_sprite = screen.has_sprite_on(source);
+    lay_line(graphics, screen, source, out);
+    paint_unless_none(has_sprite, graphics, screen, source, out);
     turn(out, screen.flip());
 }
 
