@@ -11,7 +11,7 @@ use Rattle.pac_tiles.specs.Tiles.{offset_of}
 use Rattle.pac_picture.specs.Layer.{cells_of}
 
 -- the cells in the middle of a row follow one another
-offset-middle : (k row : ℕ) → k < 32 → offset_of (suc (suc k)) row ≡ 32 * (row + 2) + k
+pub offset-middle : (k row : ℕ) → k < 32 → offset_of (suc (suc k)) row ≡ 32 * (row + 2) + k
 offset-middle k row below = grind (arith, nat_tests)
 
 -- the 32 in the middle, and two on the right

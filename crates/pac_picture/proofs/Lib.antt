@@ -3,12 +3,13 @@ pub mod Decoded
 pub mod Pixels
 pub mod Painted
 pub mod Boxes
+pub mod Alike
 pub mod Dots
 pub mod Cells
 pub mod Masks
 pub mod Counts
 pub mod Layers
 pub mod Composed
-pub mod BareLines
+pub mod CleanLines
 pub mod Stale
 pub use Rattle.pac_num.proofs.Tabulated

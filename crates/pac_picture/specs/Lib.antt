@@ -7,7 +7,7 @@ pub mod Decoded
 pub mod State
 pub mod StateLaws
 pub mod Painting
-pub mod BareLines
+pub mod CleanLines
 pub mod Laws
 pub use Rattle.pac_num.specs.Tabulate
 pub use Rattle.pac_tiles.specs.Tiles

@@ -1,8 +1,8 @@
 -- For proofs: a line of the picture as it is painted: colour number 0 of a sprite is transparent.
-use Rattle.std.specs.Prelude.{ℕ, ◌/◌, ◌%◌, if◌then◌else◌, List, [], slice_index, slice_index_or}
+use Rattle.std.specs.Prelude.{◌≡◌, ℕ, ◌*◌, ◌/◌, ◌%◌, ◌^◌, ◌<◌, if◌then◌else◌, List, [], slice_index, slice_index_or}
 use Rattle.pac_sprites.specs.declared.Sprite.{Sprite}
-use Rattle.pac_sprites.specs.Sprites.{is_column_of, box_place, flipped_place}
-use Rattle.pac_picture.specs.Picture.{is_opaque}
+use Rattle.pac_sprites.specs.Sprites.{is_column_of, is_in_box, box_place, flipped_place}
+use Rattle.pac_picture.specs.Picture.{VideoMemory, sprite_at, is_opaque}
 
 -- a number painted over another
 abbrev pub painted_number : ℕ → ℕ → ℕ
@@ -18,3 +18,7 @@ over_line line sprite x below =
 -- the number in column x on line y of a row of cells
 unfoldable pub cell_dot : List (List (List ℕ)) → ℕ → ℕ → ℕ
 cell_dot cells x y = slice_index (slice_index_or (slice_index_or cells (x / 8) []) y []) (x % 8)
+
+-- bits say which of the eight sprites' boxes have line y of the picture, two for each sprite, of which the first tells
+abbrev pub AreBoxes : ℕ → VideoMemory → ℕ → Type 0
+AreBoxes boxes memory y = (k : ℕ) → k < 8 → boxes / 2 ^ (2 * k) % 2 ≡ (if is_in_box (sprite_at memory k).top y then 1 else 0)

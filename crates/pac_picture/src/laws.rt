@@ -4,31 +4,19 @@ ghost use Rattle.std.specs.Prelude.{◌≡◌, ◌≤◌, ◌<◌, ◌+◌, ◌*
 ghost use Rattle.std.specs.Prelude.{◌==◌, if◌then◌else◌, Bool, true, false, not, length, slice_index, slice_index_or, EachIndex};
 ghost use Rattle.pac_picture.specs.Laws.{StaleCellsAreDrawn};
 
-use crate::size::RowBytes;
 use std::simd::prelude::*;
 
-/// Sixteen bits that say at which of sixteen places, from a place on, two lists differ.
+/// Sixteen bits that say at which of sixteen places two lists differ, from a place on in each.
 #[inline]
-fn sixteen(now: &[u8], shadow: &[u8], start: usize) -> u64
-    requires now { start + 16 ≤ length now.now }
+pub(crate) fn sixteen(now: &[u8], from: usize, shadow: &[u8], start: usize) -> u64
+    requires now { from + 16 ≤ length now.now }
     requires shadow { start + 16 ≤ length shadow.now }
     ensures { (k : ℕ) → k < 16 → result / 2 ^ k % 2
-        ≡ (if slice_index now.now (start + k) == slice_index shadow.now (start + k) then 0 else 1) }
+        ≡ (if slice_index now.now (from + k) == slice_index shadow.now (start + k) then 0 else 1) }
 {
-    u8x16::from_slice(&now[start..])
+    u8x16::from_slice(&now[from..])
         .simd_ne(u8x16::from_slice(&shadow[start..]))
         .to_bitmask()
-}
-
-/// Whether the bytes of two rows are the same, by three vectors, the last over the last sixteen.
-#[inline]
-pub(crate) fn is_same(now: &RowBytes, shadow: &RowBytes) -> bool
-    ensures { result ≡ true → now.now ≡ shadow.now }
-{
-    let first = sixteen(now, shadow, 0);
-    let second = sixteen(now, shadow, 16);
-    let last = sixteen(now, shadow, 20);
-    (first == 0) & (second == 0) & (last == 0)
 }
 
 /// Writes sixteen bits to a mask, from a place on.
@@ -68,7 +56,8 @@ fn changed_lanes(now: &[u8], shadow: &[u8], mask: &mut [bool], vectors: usize)
         ≡ not (slice_index now.now place == slice_index shadow.now place) }
 {
     for vector in 0..vectors {
-        spread(sixteen(now, shadow, 16 * vector), mask, 16 * vector);
+        let bits = sixteen(now, 16 * vector, shadow, 16 * vector);
+        spread(bits, mask, 16 * vector);
     }
 }
 

@@ -12,7 +12,7 @@ ghost use Rattle.pac_picture.specs.LayerProofs.{IsDrawn, kept_dot, made_stale, s
 ghost use Rattle.pac_picture.specs.Layer.{all_differing};
 
 use crate::graphics::Graphics;
-use crate::laws::{changed, is_same};
+use crate::laws::changed;
 use crate::painting::{Cells, lay_cells};
 use crate::screen::Screen;
 use crate::shadow::Shadow;
@@ -144,35 +144,6 @@ fn refresh_cells(
     drawn
 }
 
-/// Whether a row was drawn from these bytes, as most rows are when a line is composed: told without looking at single cells.
-#[inline]
-fn is_current(shadow: &Shadow, tiles: &RowBytes, colours: &RowBytes) -> bool
-    ensures { result ≡ true → shadow.now ≡ shadow_from tiles.now colours.now }
-{
-    !shadow.stale && is_same(tiles, &shadow.tiles) && is_same(colours, &shadow.colours)
-}
-
-/// Draws those cells of a row again that differ from these bytes, and says how many they are.
-#[inline]
-fn refresh(
-    cells: &mut Cells,
-    shadow: &mut Shadow,
-    graphics: &Graphics,
-    tiles: &RowBytes,
-    colours: &RowBytes,
-) -> u32
-    requires drawn { IsDrawn graphics.now shadow.old cells.old }
-    ensures drawn { IsDrawn graphics.now shadow.new cells.new }
-    ensures shadow { shadow.new ≡ shadow_from tiles.now colours.now }
-    ensures count { result ≡ differing_cells shadow.old tiles.now colours.now }
-    ensures bound { result ≤ tiles_laws.columns }
-{
-    if is_current(shadow, tiles, colours) {
-        return 0;
-    }
-    refresh_cells(cells, shadow, graphics, tiles, colours)
-}
-
 /// Makes every cell of some rows count as differing.
 #[inline]
 fn make_stale(shadows: &mut [Shadow])
@@ -289,9 +260,25 @@ impl Layer {
         make_stale(&mut self.shadows);
     }
 
-    /// Draws those cells of a row again that differ from what the screen has, and says how many they are.
+    /// Draws those cells of a row again that differ from what the screen has, and says how many they are: none, as for most rows, where
+    /// the row was drawn from what is there now.
     #[inline]
     pub(crate) fn refresh(&mut self, row: u8, screen: &Screen<'_>) -> u32
+        requires { row < tiles_laws.rows }
+        ensures layer { self.new ≡ record self.old { shadows = slice_set self.old.shadows row (drawn_from screen.now row) } }
+        ensures count { result ≡ differing_in self.old.shadows screen.now row }
+        ensures bound { result ≤ tiles_laws.columns }
+        ensures high { length self.old.shadows ≡ tiles_laws.rows }
+    {
+        if screen.is_drawn_in(&self.shadows[row as usize], row) {
+            return 0;
+        }
+        self.redraw_row(row, screen)
+    }
+
+    /// The same, looking at each of the cells.
+    #[inline(never)]
+    fn redraw_row(&mut self, row: u8, screen: &Screen<'_>) -> u32
         requires { row < tiles_laws.rows }
         ensures layer { self.new ≡ record self.old { shadows = slice_set self.old.shadows row (drawn_from screen.now row) } }
         ensures count { result ≡ differing_in self.old.shadows screen.now row }
@@ -301,7 +288,7 @@ impl Layer {
         let tiles = screen.tiles(row);
         let colours = screen.colours(row);
         let place = row as usize;
-        refresh(
+        refresh_cells(
             &mut self.rows[place].cells,
             &mut self.shadows[place],
             &self.graphics,

@@ -2,7 +2,7 @@
 //! through a layer of tiles in which only cells that differ are drawn again.
 #![tactic(auto)]
 
-mod bare;
+mod clean;
 mod graphics;
 pub mod laws;
 mod layer;

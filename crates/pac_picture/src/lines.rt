@@ -11,9 +11,9 @@ ghost use Rattle.pac_picture.specs.PictureLaws.{picture_of};
 ghost use Rattle.pac_picture.specs.Layer.{shadow_at, drawn_from};
 ghost use Rattle.pac_picture.specs.State.{IsPicture, black};
 ghost use Rattle.pac_picture.specs.StateLaws.{source_of};
-ghost use Rattle.pac_picture.specs.BareLines.{AreBare};
+ghost use Rattle.pac_picture.specs.CleanLines.{AreClean};
 
-use crate::bare::Bare;
+use crate::clean::Clean;
 use crate::graphics::Graphics;
 use crate::layer::{Layer, lay_line};
 use crate::painting::paint_unless_none;
@@ -40,9 +40,9 @@ fn compose_line(layer: &Layer, screen: &Screen<'_>, y: u8, out: &mut [u8; WIDTH]
     ensures { out.new ≡ picture_line layer.now.roms screen.now y }
 {
     let source = screen.source(y);
-    let has_sprite = screen.has_sprite_on(source);
+    let boxes = screen.boxes_on(source);
     layer.line(source, out);
-    paint_unless_none(has_sprite, layer.graphics(), screen, source, out);
+    paint_unless_none(layer.graphics(), screen, boxes, source, out);
     turn(out, screen.flip());
 }
 
@@ -52,29 +52,10 @@ pub fn compose_alone(graphics: &Graphics, screen: &Screen<'_>, y: u8, out: &mut 
     ensures { out.new ≡ picture_line graphics.now screen.now y }
 {
     let source = screen.source(y);
-    let has_sprite = screen.has_sprite_on(source);
+    let boxes = screen.boxes_on(source);
     lay_line(graphics, screen, source, out);
-    paint_unless_none(has_sprite, graphics, screen, source, out);
+    paint_unless_none(graphics, screen, boxes, source, out);
     turn(out, screen.flip());
-}
-
-/// Composes line y of the shown picture where it isn't composed already.
-#[inline]
-fn compose_unless(
-    is_composed: bool,
-    layer: &Layer,
-    screen: &Screen<'_>,
-    y: u8,
-    out: &mut [u8; WIDTH],
-)
-    requires y { y < tile.height }
-    requires drawn { shadow_at layer.now.shadows (source_of screen.now y / 8) ≡ drawn_from screen.now (source_of screen.now y / 8) }
-    requires composed { is_composed ≡ true → out.old ≡ picture_line layer.now.roms screen.now y }
-    ensures { out.new ≡ picture_line layer.now.roms screen.now y }
-{
-    if !is_composed {
-        compose_line(layer, screen, y, out);
-    }
 }
 
 /// The 224 lines of a picture, of 288 colour numbers each, from 0 to 15.
@@ -132,27 +113,28 @@ impl Lines {
         self.lines.copy_from_slice(lines);
     }
 
-    /// Composes line y of the shown picture, through a layer whose row of that line is drawn from the screen: a line
-    /// on which no sprite stands or stood is there already.
+    /// Composes line y of the shown picture, through a layer whose row of that line is drawn from the screen: a line on
+    /// which nothing has changed is there already.
     pub(crate) fn compose_line(
         &mut self,
         y: u8,
         layer: &Layer,
         screen: &Screen<'_>,
-        bare: &mut Bare,
+        clean: &mut Clean,
     )
         requires y { y < tile.height }
         requires drawn { shadow_at layer.now.shadows (source_of screen.now y / 8) ≡ drawn_from screen.now (source_of screen.now y / 8) }
-        requires bare { AreBare bare.old.lines bare.old.flip layer.now.roms layer.now.shadows self.old }
-        requires flip { bare.old.flip ≡ screen.now.flip }
+        requires clean { AreClean clean.old.lines clean.old.flip clean.old.sprites layer.now.roms layer.now.shadows self.old }
+        requires flip { clean.old.flip ≡ screen.now.flip }
         ensures lines { self.new ≡ slice_set self.old y (picture_line layer.now.roms screen.now y) }
-        ensures bare { AreBare bare.new.lines bare.new.flip layer.now.roms layer.now.shadows self.new }
+        ensures clean { AreClean clean.new.lines clean.new.flip clean.new.sprites layer.now.roms layer.now.shadows self.new }
     {
         let source = screen.source(y);
-        let has_sprite = screen.has_sprite_on(source);
-        let is_composed = bare.stays(source, has_sprite);
-        compose_unless(is_composed, layer, screen, y, &mut self.lines[y as usize]);
-        bare.take(source, has_sprite);
+        if clean.stays(source, screen) {
+            return;
+        }
+        compose_line(layer, screen, y, &mut self.lines[y as usize]);
+        clean.take(source, screen.sprite_bytes());
     }
 
     /// Composes all lines, through a layer that is drawn from the screen.

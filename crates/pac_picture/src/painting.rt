@@ -1,12 +1,13 @@
 //! A line of the picture: the cells of its row, and the sprites painted over them.
 
-ghost use Rattle.std.specs.Prelude.{◌≡◌, ◌<◌, ℕ, ◌/◌, ◌%◌, [], if◌then◌else◌, find, unwrap_or, length, slice_index, slice_index_or, false};
+ghost use Rattle.std.specs.Prelude.{◌≡◌, ◌<◌, ◌*◌, ◌/◌, ◌%◌, ◌^◌, ◌==◌, ℕ, [], if◌then◌else◌};
+ghost use Rattle.std.specs.Prelude.{find, unwrap_or, length, slice_index, slice_index_or};
 ghost use Rattle.pac_num.specs.Tabulate.{tabulate};
 ghost use Rattle.pac_tiles.specs.Tiles as tile;
 ghost use Rattle.pac_sprites.specs.Sprites as sprites;
 ghost use Rattle.pac_sprites.specs.SpritesProofs as sprites_proofs;
 ghost use Rattle.pac_picture.specs.Picture.{is_opaque, sprite_at, sprite_dot};
-ghost use Rattle.pac_picture.specs.Painting.{painted_number, over_line, cell_dot};
+ghost use Rattle.pac_picture.specs.Painting.{painted_number, over_line, cell_dot, AreBoxes};
 
 use crate::graphics::Graphics;
 use crate::screen::Screen;
@@ -71,31 +72,67 @@ fn paint(graphics: &Graphics, sprite: &Sprite, y: u8, out: &mut [u8; WIDTH])
     paint_line(&numbers, sprite, out);
 }
 
-/// Paints the eight sprites over line y of the picture: the first is in front of all, so it comes last.
-pub(crate) fn paint_sprites(graphics: &Graphics, screen: &Screen<'_>, y: u8, out: &mut [u8; WIDTH])
+/// Paints a sprite, 0 to 7, over line y of the picture, where its box has the line.
+#[inline]
+fn paint_boxed(
+    is_boxed: bool,
+    graphics: &Graphics,
+    screen: &Screen<'_>,
+    k: u8,
+    y: u8,
+    out: &mut [u8; WIDTH],
+)
+    requires k { k < 8 }
+    requires boxed { is_boxed ≡ sprites.is_in_box (sprite_at screen.now k).top y }
+    ensures dots { (x : ℕ) → x < tile.width → slice_index out.new x
+        ≡ painted_number (sprite_dot graphics.now (sprite_at screen.now k) x y) (slice_index out.old x) }
+{
+    if is_boxed {
+        paint(graphics, &screen.sprite(k), y, out);
+    }
+}
+
+/// Whether a sprite's box is among those that bits tell.
+#[inline]
+fn has_box(boxes: u64, k: u8) -> bool
+    requires { k < 8 }
+    ensures { result ≡ (boxes / 2 ^ (2 * k) % 2 == 1) }
+{
+    (boxes >> (2 * k)) % 2 == 1
+}
+
+/// Paints the eight sprites over line y of the picture, whose boxes are told by bits: the first is in front of all, so it comes last.
+pub(crate) fn paint_sprites(
+    graphics: &Graphics,
+    screen: &Screen<'_>,
+    boxes: u64,
+    y: u8,
+    out: &mut [u8; WIDTH],
+)
+    requires { AreBoxes boxes screen.now y }
     ensures dots { (x : ℕ) → x < tile.width → slice_index out.new x
         ≡ unwrap_or (find is_opaque (tabulate 8 (λ k. sprite_dot graphics.now (sprite_at screen.now k) x y))) (slice_index out.old x) }
 {
     for painted in 0..8u8 {
-        let sprite = screen.sprite(7 - painted);
-        paint(graphics, &sprite, y, out);
+        let k = 7 - painted;
+        paint_boxed(has_box(boxes, k), graphics, screen, k, y, out);
     }
 }
 
-/// Paints the eight sprites over line y of the picture, where one of them may stand on it.
+/// Paints the eight sprites over line y of the picture, where the box of one of them has it.
 #[inline]
 pub(crate) fn paint_unless_none(
-    has_sprite: bool,
     graphics: &Graphics,
     screen: &Screen<'_>,
+    boxes: u64,
     y: u8,
     out: &mut [u8; WIDTH],
 )
-    requires none { has_sprite ≡ false → (k : ℕ) → k < 8 → sprites.is_in_box (sprite_at screen.now k).top y ≡ false }
+    requires { AreBoxes boxes screen.now y }
     ensures dots { (x : ℕ) → x < tile.width → slice_index out.new x
         ≡ unwrap_or (find is_opaque (tabulate 8 (λ k. sprite_dot graphics.now (sprite_at screen.now k) x y))) (slice_index out.old x) }
 {
-    if has_sprite {
-        paint_sprites(graphics, screen, y, out);
+    if boxes != 0 {
+        paint_sprites(graphics, screen, boxes, y, out);
     }
 }

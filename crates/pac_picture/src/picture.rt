@@ -8,7 +8,7 @@ ghost use Rattle.pac_picture.specs.LayerProofs.{made_stale, stale_rows, zero_rom
 ghost use Rattle.pac_picture.specs.State.{IsPicture, black, palette_of};
 ghost use Rattle.pac_picture.specs.StateLaws.{composed_picture, picture_with_line};
 
-use crate::bare::Bare;
+use crate::clean::Clean;
 use crate::graphics::Graphics;
 use crate::layer::Layer;
 use crate::lines::Lines;
@@ -24,7 +24,7 @@ pub struct Picture {
     layer: Layer,
     palette: [[u8; 3]; 16],
     lines: Lines,
-    bare: Bare,
+    clean: Clean,
     drawn: u32,
 }
 
@@ -32,7 +32,7 @@ impl Model for Picture {
     ghost use Rattle.std.specs.Prelude.{◌≡◌, length};
     ghost use Rattle.pac_colour.specs.Colours.{numbers};
     ghost use Rattle.pac_picture.specs.StateLaws.{PictureState};
-    ghost use Rattle.pac_picture.specs.BareLines.{AreBare};
+    ghost use Rattle.pac_picture.specs.CleanLines.{AreClean};
 
     ghost Value = { PictureState };
 
@@ -46,7 +46,8 @@ impl Model for Picture {
 
     ghost invariant = { λ picture. record {
       colours : length picture.palette ≡ numbers;
-      bare : AreBare picture.bare.lines picture.bare.flip picture.layer.roms picture.layer.shadows picture.lines;
+      clean : AreClean picture.clean.lines picture.clean.flip picture.clean.sprites
+          picture.layer.roms picture.layer.shadows picture.lines;
     } };
 }
 
@@ -78,7 +79,7 @@ impl Picture {
             layer: Layer::new(graphics),
             palette: palette(colours),
             lines: Lines::new(),
-            bare: Bare::none(false),
+            clean: Clean::none(),
             drawn: 0,
         }
     }
@@ -98,7 +99,7 @@ impl Picture {
             layer: Layer::zeroed(),
             palette: palette(&[0; 32]),
             lines: Lines::new(),
-            bare: Bare::none(false),
+            clean: Clean::none(),
             drawn: 0,
         }
     }
@@ -118,7 +119,7 @@ impl Picture {
         } }
         ensures stale { AreStale self.new.shadows }
     {
-        self.bare = Bare::none(false);
+        self.clean.clear();
         self.layer.put_roms(tiles, sprites, lookup);
         self.palette = palette(colours);
     }
@@ -183,7 +184,7 @@ impl Picture {
         ensures picture { self.new ≡ record self.old { lines = lines.now; shadows = map made_stale self.old.shadows } }
         ensures stale { AreStale self.new.shadows }
     {
-        self.bare = Bare::none(false);
+        self.clean.clear();
         self.lines.copy_from(lines);
         self.layer.set_stale();
     }
@@ -193,13 +194,14 @@ impl Picture {
     pub fn compose(&mut self, screen: &Screen<'_>)
         ensures { self.new ≡ composed_picture screen.now self.old }
     {
-        self.bare = Bare::none(screen.flip());
+        self.clean.clear();
         self.drawn = self.layer.refresh_all(screen);
         self.lines.compose(&self.layer, screen);
     }
 
     /// Composes line y of the picture that the screen shows, 0 to 223, and leaves the others. Of the 36 cells of the
-    /// row that it shows only those are drawn again that differ, and `drawn` says then how many these were.
+    /// row that it shows only those are drawn again that differ, and `drawn` says then how many these were. The line
+    /// itself stays where neither a cell of this row nor a sprite on it has changed since it was composed.
     pub fn compose_line(&mut self, y: u8, screen: &Screen<'_>)
         requires { y < tile.height }
         ensures { self.new ≡ picture_with_line y screen.now self.old }
@@ -207,9 +209,9 @@ impl Picture {
         let row = screen.source(y) / 8;
         let cells = self.layer.refresh(row, screen);
         self.drawn = cells;
-        self.bare.redrawn(row, cells);
-        self.bare.turn(screen.flip());
+        self.clean.redrawn(row, cells);
+        self.clean.turn(screen.flip());
         self.lines
-            .compose_line(y, &self.layer, screen, &mut self.bare);
+            .compose_line(y, &self.layer, screen, &mut self.clean);
     }
 }

@@ -1,6 +1,6 @@
 //! What a program writes to choose the picture.
 
-ghost use Rattle.std.specs.Prelude.{◌≡◌, ◌<◌, ◌*◌, ◌-ℤ◌, ℕ, pos, false, length, slice_index, if◌then◌else◌};
+ghost use Rattle.std.specs.Prelude.{◌≡◌, ◌<◌, ◌+◌, ◌*◌, ◌/◌, ◌%◌, ◌^◌, ◌-ℤ◌, ℕ, pos, true, false, length, slice_index, if◌then◌else◌};
 ghost use Rattle.pac_tiles.specs.Tiles as tile;
 ghost use Rattle.pac_tiles.specs.TilesLaws as tiles_laws;
 ghost use Rattle.pac_tiles.specs.TilesProofs as tiles_proofs;
@@ -8,9 +8,14 @@ ghost use Rattle.pac_sprites.specs.Sprites as sprite;
 ghost use Rattle.pac_sprites.specs.SpritesProofs as sprites_proofs;
 ghost use Rattle.pac_picture.specs.Picture.{sprite_at};
 ghost use Rattle.pac_picture.specs.PictureProofs.{sprite_bytes};
-ghost use Rattle.pac_picture.specs.Layer.{cells_of};
+ghost use Rattle.pac_picture.specs.Layer.{cells_of, drawn_from};
+ghost use Rattle.pac_picture.specs.Painting.{AreBoxes};
 ghost use Rattle.pac_picture.specs.StateLaws.{source_of};
+ghost use Rattle.pac_picture.specs.CleanLines.{AreSameOn, seen_sprite};
 
+use crate::clean::SpriteBytes;
+use crate::laws::sixteen;
+use crate::shadow::Shadow;
 use crate::size::{COLUMNS, HEIGHT, RowBytes};
 use pac_sprites::Sprite;
 use pac_tiles::offset;
@@ -118,13 +123,49 @@ impl<'a> Screen<'a> {
         )
     }
 
-    /// Whether a sprite stands on line y of the picture that isn't flipped, told by its box alone.
+    /// Bits that say which of the eight sprites' boxes have line y of the picture that isn't flipped.
     #[inline]
-    pub(crate) fn has_sprite_on(&self, y: u8) -> bool
+    pub(crate) fn boxes_on(&self, y: u8) -> u64
         requires { y < tile.height }
-        ensures { result ≡ false → (k : ℕ) → k < 8 → sprite.is_in_box (sprite_at self.now k).top y ≡ false }
+        ensures { AreBoxes result self.now y }
     {
-        boxes_at(self.coordinates, y) != 0
+        boxes_at(self.coordinates, y)
+    }
+
+    /// The bytes of the sprites.
+    #[inline]
+    pub(crate) fn sprite_bytes(&self) -> SpriteBytes
+        ensures { result ≡ record { attributes = self.now.attributes; coordinates = self.now.coordinates } }
+    {
+        SpriteBytes {
+            attributes: u8x16::from_slice(self.attributes).to_array(),
+            coordinates: u8x16::from_slice(self.coordinates).to_array(),
+        }
+    }
+
+    /// Whether line y of the picture that isn't flipped has the sprites that these bytes say, each with the same bytes: those whose boxes
+    /// don't have the line, now and as these bytes say, may have others.
+    #[inline]
+    pub(crate) fn has_sprites_on(&self, y: u8, sprites: &SpriteBytes) -> bool
+        requires { y < tile.height }
+        ensures { result ≡ true → (k : ℕ) → k < 8 → AreSameOn y (seen_sprite sprites.now k) (sprite_at self.now k) }
+    {
+        let attributes = sixteen(self.attributes, 0, &sprites.attributes, 0);
+        let coordinates = sixteen(self.coordinates, 0, &sprites.coordinates, 0);
+        let changed = attributes | coordinates;
+        let boxes = boxes_at(self.coordinates, y) | boxes_at(&sprites.coordinates, y);
+        is_off(changed, boxes)
+    }
+
+    /// Whether a row of cells was drawn from what is there now, as most rows were when a line is composed.
+    #[inline]
+    pub(crate) fn is_drawn_in(&self, shadow: &Shadow, row: u8) -> bool
+        requires { row < tiles_laws.rows }
+        ensures { result ≡ true → shadow.now ≡ drawn_from self.now row }
+    {
+        !shadow.stale
+            && are_cells(self.tile_ram, row, &shadow.tiles)
+            && are_cells(self.colour_ram, row, &shadow.colours)
     }
 
     /// The tiles of a row of cells.
@@ -146,17 +187,26 @@ impl<'a> Screen<'a> {
     }
 }
 
-/// Bits that say which of the eight sprites' boxes have line y of the picture; none of them has where it is 0.
+/// Bits that say which of the eight sprites' boxes have line y of the picture, two for each sprite, of which the second is 0.
 #[inline]
 fn boxes_at(coordinates: &[u8], y: u8) -> u64
     requires coordinates { length coordinates.now ≡ sprite_bytes }
     requires y { y < tile.height }
-    ensures { result ≡ 0 → (k : ℕ) → k < 8 →
-        sprite.is_in_box (pos (slice_index coordinates.now (2 * k)) -ℤ pos 31) y ≡ false }
+    ensures { (k : ℕ) → k < 8 → result / 2 ^ (2 * k) % 2
+        ≡ (if sprite.is_in_box (pos (slice_index coordinates.now (2 * k)) -ℤ pos 31) y then 1 else 0) }
 {
     (u8x16::splat(y + 31) - u8x16::from_slice(coordinates))
         .simd_lt(u8x16::from_array(BOX_LINES))
         .to_bitmask()
+}
+
+/// Whether no sprite that has a changed byte has its box on the line.
+#[inline]
+fn is_off(changed: u64, boxes: u64) -> bool
+    ensures { result ≡ true → (k : ℕ) → k < 8 → boxes / 2 ^ (2 * k) % 2 ≡ 1 →
+        (changed / 2 ^ (2 * k) % 2 ≡ 0) × (changed / 2 ^ (2 * k + 1) % 2 ≡ 0) }
+{
+    (changed | (changed >> 1)) & boxes == 0
 }
 
 /// The bytes of 1,024 that a row of cells has: the 32 in the middle follow one another.
@@ -174,4 +224,22 @@ fn cells(ram: &[u8], row: u8) -> RowBytes
     cells[34] = ram[offset(34, row) as usize];
     cells[35] = ram[offset(35, row) as usize];
     cells
+}
+
+/// Whether these are the bytes of 1,024 that a row of cells has.
+#[inline]
+fn are_cells(ram: &[u8], row: u8, bytes: &RowBytes) -> bool
+    requires ram { length ram.now ≡ tiles_proofs.tile_ram_size }
+    requires row { row < tiles_laws.rows }
+    ensures { result ≡ true → bytes.now ≡ cells_of ram.now row }
+{
+    let middle = 32 * (row as usize + 2);
+    let first = sixteen(ram, middle, bytes, 2);
+    let second = sixteen(ram, middle + 16, bytes, 18);
+    (first == 0)
+        & (second == 0)
+        & (ram[offset(0, row) as usize] == bytes[0])
+        & (ram[offset(1, row) as usize] == bytes[1])
+        & (ram[offset(34, row) as usize] == bytes[34])
+        & (ram[offset(35, row) as usize] == bytes[35])
 }

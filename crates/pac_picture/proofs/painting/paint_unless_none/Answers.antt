@@ -1,15 +1,17 @@
-use Rattle.std.proofs.Common.{slice_index}
+use Rattle.std.proofs.Common.{◌*◌, slice_index, rules}
 use Rattle.pac_picture.specs.Picture.{sprite_at, sprite_dot}
 use Rattle.pac_picture.proofs.Painted.{none-painted}
+use Rattle.pac_picture.proofs.Boxes.{none-there}
 use Rattle.pac_picture.proofs.Dots.{dot-off}
 use Rattle.pac_picture.proofs.painting.paint_unless_none.Goals as goal
 
-pub returns-else-has_sprite : goal.returns-else-has_sprite
-returns-else-has_sprite c =
+pub returns-else-boxes-ne0 : goal.returns-else-boxes-ne0
+returns-else-boxes-ne0 c =
     let roms = c.args.graphics.now in
     let sprite = sprite_at c.args.screen.now in
     let y = c.args.y in
     record {
       dots = λ x inside. none-painted (λ k. sprite_dot roms (sprite k) x y) (slice_index c.args.out.now x)
-          (λ k under below. dot-off roms (sprite k) x y under (c.requires.none c.if-has_sprite.false k below));
+          (λ k under below.
+          dot-off roms (sprite k) x y under (none-there c.args.boxes _ (2 * k) (search rules) (c.requires k below)));
     }

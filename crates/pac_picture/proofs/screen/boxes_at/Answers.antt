@@ -1,7 +1,7 @@
 use Rattle.std.proofs.Common.{arith}
-use Rattle.pac_picture.proofs.Boxes.{none-at}
+use Rattle.pac_picture.proofs.Boxes.{box-bit}
 use Rattle.pac_picture.proofs.screen.boxes_at.Goals as goal
 
 pub returns : goal.returns
-returns c = none-at c.args.coordinates.now c.args.y c.requires.coordinates c.requires.y
+returns c = box-bit c.args.coordinates.now c.args.y c.requires.coordinates c.requires.y
     (λ k. omega (arith, c.type_inv.coordinates k))

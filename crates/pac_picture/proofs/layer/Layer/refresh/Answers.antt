@@ -1,4 +1,6 @@
+use Rattle.pac_picture.proofs.Counts.{none-differ}
 use Rattle.pac_picture.proofs.layer.Layer.refresh.Goals as goal
 
-pub refresh-requires : goal.refresh-requires
-refresh-requires c = record { drawn = c.self.invariant.drawn c.args.row c.requires }
+pub returns-then-is_drawn_in-clause-count : goal.returns-then-is_drawn_in-clause-count
+returns-then-is_drawn_in-clause-count c =
+    rw (← c.self.view_is) (none-differ _ _ _ (c.is_drawn_in.ensures c.if-is_drawn_in.true))

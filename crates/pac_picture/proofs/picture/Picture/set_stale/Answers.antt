@@ -1,7 +1,7 @@
 use Rattle.std.proofs.Common.{ap}
 use Rattle.pac_picture.specs.LayerProofs.{LayerState}
 use Rattle.pac_picture.proofs.Stale.{made-are-stale}
-use Rattle.pac_picture.proofs.BareLines.{stale-bare}
+use Rattle.pac_picture.proofs.CleanLines.{stale-clean}
 use Rattle.pac_picture.proofs.picture.Picture.set_stale.Goals as goal
 
 pub returns-clause-stale : goal.returns-clause-stale
@@ -12,6 +12,6 @@ returns-clause-stale c =
 pub invariant_of-self : goal.invariant_of-self
 invariant_of-self c = record {
   colours = c.self.invariant.colours;
-  bare = rw c.set_stale.ensures.layer (stale-bare c.self.inside.bare.lines c.self.inside.bare.flip c.self.inside.layer.roms
-      c.self.inside.layer.shadows c.self.inside.lines c.self.invariant.bare c.set_stale.ensures.high);
+  clean = rw c.set_stale.ensures.layer (stale-clean c.self.inside.clean.lines c.self.inside.clean.flip c.self.inside.clean.sprites
+      c.self.inside.layer.roms c.self.inside.layer.shadows c.self.inside.lines c.self.invariant.clean c.set_stale.ensures.high);
 }

@@ -1,0 +1,4 @@
+use Rattle.pac_picture.proofs.screen.Screen.boxes_on.Goals as goal
+
+pub returns : goal.returns
+returns c = rw (← c.self.view_is) c.boxes_at.ensures
