@@ -34,31 +34,34 @@ def numbers(lookup, palette, values):
     return [lookup[4 * (palette % 32) + one] % 16 for one in values]
 
 
-def put_cells(picture, roms, tile_ram, colour_ram):
-    """Puts the cells into a picture."""
+def put_cells(line, y, roms, tile_ram, colour_ram):
+    """Puts the cells of a row of pixels into it."""
     for column in range(COLUMNS):
-        for row in range(ROWS):
-            at = place(column, row)
-            for y in range(8):
-                first = WIDTH * (8 * row + y) + 8 * column
-                picture[first : first + 8] = bytes(numbers(roms["lookup"], colour_ram[at], tile_line(roms["tiles"], tile_ram[at], y)))
+        at = place(column, y // 8)
+        line[8 * column : 8 * column + 8] = bytes(numbers(roms["lookup"], colour_ram[at], tile_line(roms["tiles"], tile_ram[at], y % 8)))
 
 
-def put_sprite(picture, roms, attributes, coordinates):
-    """Puts a sprite over a picture: where its palette has colour 0 it is transparent, and it shows in the columns from 16 to 271 alone."""
-    left, top = 272 - coordinates[1], coordinates[0] - 31
-    for y in range(16):
-        line = sprite_line(roms["sprites"], attributes[0] // 4, 15 - y if attributes[0] & 2 else y)
-        shown = numbers(roms["lookup"], attributes[1], line[::-1] if attributes[0] & 1 else line)
-        for x, number in enumerate(shown, left):
-            if number and 16 <= x < 272 and 0 <= top + y < HEIGHT:
-                picture[WIDTH * (top + y) + x] = number
+def put_sprite(line, y, roms, attributes, coordinates):
+    """Puts a sprite over a row of pixels: where its palette has colour 0 it's transparent, and it shows in columns 16 to 271 alone."""
+    left, down = 272 - coordinates[1], y - (coordinates[0] - 31)
+    if not 0 <= down < 16:
+        return
+    shape = sprite_line(roms["sprites"], attributes[0] // 4, 15 - down if attributes[0] & 2 else down)
+    shown = numbers(roms["lookup"], attributes[1], shape[::-1] if attributes[0] & 1 else shape)
+    for x, number in enumerate(shown, left):
+        if number and 16 <= x < 272:
+            line[x] = number
+
+
+def line_of(roms, tile_ram, colour_ram, attributes, coordinates, is_flipped, shown):
+    """The colour numbers of row `shown` of a picture. `roms` has the tiles, the sprites and the lookup PROM."""
+    line, y = bytearray(WIDTH), HEIGHT - 1 - shown if is_flipped else shown
+    put_cells(line, y, roms, tile_ram, colour_ram)
+    for at in range(14, -2, -2):  # lower numbers in front
+        put_sprite(line, y, roms, attributes[at : at + 2], coordinates[at : at + 2])
+    return bytes(line[::-1] if is_flipped else line)
 
 
 def picture_of(roms, tile_ram, colour_ram, attributes, coordinates, is_flipped):
-    """The colour numbers of a picture, row by row from the top. `roms` has the tiles, the sprites and the lookup PROM."""
-    picture = bytearray(WIDTH * HEIGHT)
-    put_cells(picture, roms, tile_ram, colour_ram)
-    for at in range(14, -2, -2):  # lower numbers in front
-        put_sprite(picture, roms, attributes[at : at + 2], coordinates[at : at + 2])
-    return bytes(picture[::-1] if is_flipped else picture)
+    """The colour numbers of a picture, row by row from the top."""
+    return b"".join(line_of(roms, tile_ram, colour_ram, attributes, coordinates, is_flipped, y) for y in range(HEIGHT))
