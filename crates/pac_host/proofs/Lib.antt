@@ -11,3 +11,6 @@ pub mod Sounding
 pub mod Stops
 pub mod TimeParts
 pub mod Woven
+pub mod Becoming
+pub mod Loaded
+pub mod Recomposing

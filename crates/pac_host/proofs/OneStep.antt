@@ -1,9 +1,9 @@
 -- A microsecond has at most four T-states, as many as each step takes at least.
-use Rattle.std.proofs.Common.{◌≡◌, ◌≤◌, ℕ, ◌+◌, ◌*◌, Bool, true, false, nat_le, None, ap, sym, subst, ◌∙◌, arith}
+use Rattle.std.proofs.Common.{◌≤◌, ℕ, ◌+◌, Bool, true, false, nat_le, None, ap, sym, subst, ◌∙◌, arith}
 use Rattle.pac_board_model.specs.Laws.{IsTimely}
 use Rattle.pac_board_model.specs.Step.{Moment, Next, Goes, Ends, step}
 use Rattle.pac_board_model.specs.Trace.{by_view}
-use Rattle.pac_board_model.specs.Walk.{Walk, walk, onward_if, walk_at_start, walk_after_step}
+use Rattle.pac_board_model.specs.Walk.{onward_if, walk_at_start, walk_after_step}
 use Rattle.pac_board_model.proofs.Walks.{ended-whole, step-timely, walk-ends}
 use Rattle.pac_board.specs.State.{BoardState, time_of}
 use Rattle.pac_state.specs.Reading.{state_in}

@@ -4,13 +4,13 @@ use Rattle.std.specs.Prelude.{Option, None, Some, Result, Ok, Err}
 use Rattle.pac_board.specs.BoardFields.{Fields}
 use Rattle.pac_board.specs.Fields.{state_of, AreBoardFields}
 use Rattle.pac_board.specs.State.{BoardState, BoardValue, most_asked, time_of}
-use Rattle.pac_board.specs.StateLaws.{restored_board}
 use Rattle.pac_board.specs.Stop.{Stop}
 use Rattle.pac_state.specs.Block.{IsBlock}
+use Rattle.pac_state.specs.Fronts.{IsFrontOf}
 use Rattle.pac_state.specs.Reading.{state_in}
 use Rattle.pac_host.specs.declared.codes.HostFault.{HostFault}
 use Rattle.pac_host.specs.declared.codes.HostFault.TheVariants.{WrongLength, NoBoard, TooLong, NoRoom}
-use Rattle.pac_host.specs.Host.{roms_size, most_samples}
+use Rattle.pac_host.specs.Host.{board_in, roms_size, most_samples}
 
 -- whether ROMs have their length
 abbrev pub HaveLength : List ℕ → Result (Unit {0}) HostFault → Type 0
@@ -26,10 +26,15 @@ OpensBlock block (Ok fields) = record {
 }
 OpensBlock block (Err fault) = (IsBlock block → ⊥) × (fault ≡ NoBoard)
 
--- a board that takes the state in this block, if it is the block of a state
-abbrev pub FillsBoard : List ℕ → BoardValue → Result (Unit {0}) HostFault → BoardValue → Type 0
-FillsBoard block old (Ok done) new = IsBlock block × (new ≡ restored_board old (state_in block))
-FillsBoard block old (Err fault) new = (IsBlock block → ⊥) × (fault ≡ NoBoard)
+-- what a block begins with where its board becomes another one that has the same picture, if it is the block of a state
+pub record HasFront (becomes : BoardValue → BoardValue) (block front : List ℕ) : Type 0 where
+  pub is_block : IsBlock block
+  pub front_is : (roms : List ℕ) → IsFrontOf (becomes (board_in roms block)).state front
+  pub lines : (roms : List ℕ) → (becomes (board_in roms block)).state.now.board.lines ≡ (state_in block).now.board.lines
+
+abbrev pub TellsFront : (BoardValue → BoardValue) → List ℕ → Result (List ℕ) HostFault → Type 0
+TellsFront becomes block (Ok front) = HasFront becomes block front
+TellsFront becomes block (Err fault) = (IsBlock block → ⊥) × (fault ≡ NoBoard)
 
 -- whether a call for so many microseconds may begin, with a buffer for so many samples
 abbrev pub MayRun : (state : BoardState) (microseconds room : ℕ) → Result (Unit {0}) HostFault → Type 0

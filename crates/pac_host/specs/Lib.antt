@@ -6,3 +6,4 @@ pub mod RoomLaws
 pub mod Films
 pub mod Sounding
 pub mod Woven
+pub mod Passed

@@ -1,8 +1,9 @@
 //! The block in which a host keeps its board: read, and written.
 
-ghost use Rattle.std.specs.Prelude.{◌≡◌, Ok, Err};
+ghost use Rattle.std.specs.Prelude.{◌≡◌, Ok, Err, replicate};
 ghost use Rattle.pac_host.specs.Handed.{StopsEarly, OpensBlock};
 ghost use Rattle.pac_host.specs.Host.{IsBlockOf, state_left};
+ghost use Rattle.pac_state.specs.Saved.{file_size};
 
 use crate::codes::HostFault;
 use crate::time::asked_left;
@@ -29,14 +30,11 @@ pub(crate) fn open(block: &PacBoard) -> Result<Fields<'_>, HostFault>
     }
 }
 
-/// Writes a board's state over a block.
-pub(crate) fn keep(machine: &Board, block: &mut PacBoard)
-    ensures { IsBlockOf machine.now.state block.new.bytes }
+/// Makes all bytes of a block 0.
+pub(crate) fn clear(block: &mut PacBoard)
+    ensures { block.new.bytes ≡ replicate file_size 0 }
 {
-    boards_have_states(machine);
-    write_block(&machine.fields(), &mut block.bytes);
-    blocks_are_read_back();
-    states_have_blocks();
+    block.bytes.fill(0);
 }
 
 /// Writes a board's state over a block, after a call for some time. Of a board that stopped no more is asked than meets the stop again.

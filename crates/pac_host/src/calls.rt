@@ -4,21 +4,23 @@ ghost use Rattle.pac_host.specs.Host as host;
 ghost use Rattle.pac_board.specs.State.{board_after_reset};
 ghost use Rattle.pac_board.specs.Inputs.{mask};
 
-use crate::block::{PacBoard, keep, keep_run, open};
+use crate::block::{PacBoard, clear, keep_run, open};
 use crate::codes::HostFault;
+use crate::fronts::{holding_front, power_on_front, reset_front};
 use crate::ran::{RanBytes, bytes_of};
 use crate::roms::{check_roms, put_roms};
 use crate::time::{check, run};
 use pac_board::{Board, Inputs};
+use pac_state::{block_lines, put_front};
 
 /// The board at power-on, with these ROMs and a byte of the DIP switches.
 pub(crate) fn init(block: &mut PacBoard, roms: &[u8], switches: u8) -> Result<(), HostFault>
     ensures { host.Inits roms.now switches block.old.bytes result block.new.bytes }
 {
     check_roms(roms)?;
-    let mut machine = Board::without_roms(switches);
-    put_roms(&mut machine, roms);
-    keep(&machine, block);
+    clear(block);
+    let front = power_on_front(block_lines(&block.bytes), switches);
+    put_front(&front, &mut block.bytes);
     Ok(())
 }
 
@@ -26,11 +28,8 @@ pub(crate) fn init(block: &mut PacBoard, roms: &[u8], switches: u8) -> Result<()
 pub(crate) fn reset(block: &mut PacBoard) -> Result<(), HostFault>
     ensures { host.Becomes board_after_reset block.old.bytes result block.new.bytes }
 {
-    let fields = open(block)?;
-    let mut machine = Board::without_roms(0);
-    machine.put_fields(&fields);
-    machine.reset();
-    keep(&machine, block);
+    let front = reset_front(block)?;
+    put_front(&front, &mut block.bytes);
     Ok(())
 }
 
@@ -38,12 +37,8 @@ pub(crate) fn reset(block: &mut PacBoard) -> Result<(), HostFault>
 pub(crate) fn hold(block: &mut PacBoard, set: Inputs, clear: Inputs) -> Result<(), HostFault>
     ensures { host.Becomes (host.board_holding (mask set) (mask clear)) block.old.bytes result block.new.bytes }
 {
-    let fields = open(block)?;
-    let mut machine = Board::without_roms(0);
-    machine.put_fields(&fields);
-    machine.input_clear(clear);
-    machine.input_set(set);
-    keep(&machine, block);
+    let front = holding_front(block, set, clear)?;
+    put_front(&front, &mut block.bytes);
     Ok(())
 }
 
@@ -61,7 +56,8 @@ pub(crate) fn exec(
     check_roms(roms)?;
     let fields = open(block)?;
     check(&fields, microseconds, samples.len())?;
-    let mut machine = Board::without_roms(0);
+    // (with a constant byte here the compiler has parts of the board twice on the stack)
+    let mut machine = Board::without_roms(fields.memory.switches);
     put_roms(&mut machine, roms);
     machine.put_fields(&fields);
     let (told, stop) = run(&mut machine, microseconds, samples);

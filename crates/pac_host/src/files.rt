@@ -2,44 +2,35 @@
 
 ghost use Rattle.std.specs.Prelude.{◌≡◌, length};
 ghost use Rattle.pac_state.specs.Saved.{file_size};
-ghost use Rattle.pac_state.specs.Text.{save_text, written_version};
-ghost use Rattle.pac_host.specs.Handed.{FillsBoard};
+ghost use Rattle.pac_board.specs.Fields.{state_of, AreBoardFields};
+ghost use Rattle.pac_state.specs.Text.{body, sealed_file, written_version};
 ghost use Rattle.pac_host.specs.Host as host;
 
-use crate::block::{PacBoard, keep, open};
+use crate::block::{PacBoard, open};
 use crate::codes::HostFault;
-use crate::roms::{check_roms, put_roms};
-use pac_board::Board;
+use crate::passed::bring_up;
+use crate::roms::{check_roms, digest};
+use pac_board::Fields;
 use pac_out::buffer::HostBuffer;
-use pac_state::laws::boards_have_states;
-use pac_state::read_file_into;
+use pac_state::laws::fields_have_states;
+use pac_state::{file_version, read_file, save_fields, write_block};
 
 /// A state file in bytes.
 const FILE_SIZE: usize = 67_756;
 
-/// Writes a board's state file into a buffer of its size.
-#[inline(never)]
-fn put_file(machine: &Board, text: &mut [u8])
-    requires { length text.old ≡ file_size }
-    ensures { text.new ≡ save_text written_version machine.now.set machine.now.state }
+/// Writes the state file of the board that has these fields and a ROM set of this digest into a buffer of its size.
+fn put_file(digest: &[u8; 20], fields: &Fields, text: &mut [u8])
+    requires size { length text.old ≡ file_size }
+    requires in_range { AreBoardFields fields.now }
+    ensures { text.new ≡ sealed_file (body written_version digest.now (state_of fields.now)) }
 {
-    boards_have_states(machine);
+    fields_have_states(fields);
     let mut buffer = HostBuffer {
         bytes: text,
         taken: 0,
     };
     // there is room for all of it, so nothing is refused
-    let _ = pac_state::save(machine, &mut buffer);
-}
-
-/// Puts the state in a block into a board.
-#[inline(never)]
-pub(crate) fn fill(machine: &mut Board, block: &PacBoard) -> Result<(), HostFault>
-    ensures { FillsBoard block.now.bytes machine.old result machine.new }
-{
-    let fields = open(block)?;
-    machine.put_fields(&fields);
-    Ok(())
+    let _ = save_fields(digest, fields, &mut buffer);
 }
 
 /// Writes the state file of a block's board.
@@ -50,10 +41,8 @@ pub(crate) fn save(block: &PacBoard, roms: &[u8], text: &mut [u8]) -> Result<(),
     if text.len() != FILE_SIZE {
         return Err(HostFault::WrongLength);
     }
-    let mut machine = Board::without_roms(0);
-    put_roms(&mut machine, roms);
-    fill(&mut machine, block)?;
-    put_file(&machine, text);
+    let fields = open(block)?;
+    put_file(&digest(roms), &fields, text);
     Ok(())
 }
 
@@ -62,11 +51,11 @@ pub(crate) fn load(block: &mut PacBoard, roms: &[u8], text: &[u8]) -> Result<(),
     ensures { host.TakesFile roms.now text.now block.old.bytes result block.new.bytes }
 {
     check_roms(roms)?;
-    let mut machine = Board::without_roms(0);
-    put_roms(&mut machine, roms);
-    match read_file_into(text, &mut machine) {
-        Ok(()) => {
-            keep(&machine, block);
+    match read_file(&digest(roms), text) {
+        Ok(fields) => {
+            fields_have_states(&fields);
+            write_block(&fields, &mut block.bytes);
+            bring_up(file_version(text), &fields, roms, block);
             Ok(())
         }
         Err(fault) => Err(HostFault::NoFile(fault)),

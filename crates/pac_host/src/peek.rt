@@ -6,21 +6,20 @@ ghost use Rattle.pac_host.specs.Host as host;
 ghost use Rattle.pac_num.specs.Numbers.{wrapped_address};
 ghost use Rattle.pac_num.specs.Tabulate.{tabulate};
 
-use crate::block::PacBoard;
+use crate::block::{PacBoard, open};
 use crate::codes::HostFault;
-use crate::files::fill;
-use crate::roms::{check_roms, put_roms};
-use pac_board::Board;
+use crate::roms::{check_roms, program_of};
+use pac_map::Memory;
 use pac_num::offset;
 
 /// Writes what the processor would read at as many addresses as there is room for, from one on.
-fn put_read(machine: &Board, address: u16, bytes: &mut [u8])
+fn put_read(program: &[u8; 16384], memory: &Memory, address: u16, bytes: &mut [u8])
     ensures { bytes.new ≡ tabulate (length bytes.old)
-        (λ place. read_of machine.now.set.program machine.now.state.now.board.memory (wrapped_address (address + place))) }
+        (λ place. read_of program.now memory.now (wrapped_address (address + place))) }
 {
     let mut at = address;
     for place in 0..bytes.len() {
-        bytes[place] = machine.peek(at);
+        bytes[place] = memory.read(program, at);
         at = offset(at, 1);
     }
 }
@@ -35,9 +34,12 @@ pub(crate) fn peek(
     ensures { host.Peeks roms.now block.now.bytes address bytes.old result bytes.new }
 {
     check_roms(roms)?;
-    let mut machine = Board::without_roms(0);
-    put_roms(&mut machine, roms);
-    fill(&mut machine, block)?;
-    put_read(&machine, address, bytes);
+    let fields = open(block)?;
+    put_read(
+        program_of(roms),
+        &Memory::of(&fields.memory),
+        address,
+        bytes,
+    );
     Ok(())
 }

@@ -1,14 +1,18 @@
 //! The ROMs that a host hands in.
 
 ghost use Rattle.std.specs.Prelude.{◌≡◌, ◌≤◌, ◌+◌, length};
+ghost use Rattle.pac_board.specs.BoardView.{video_roms};
 ghost use Rattle.pac_board.specs.RomParts.{IsWhole};
 ghost use Rattle.pac_board.specs.PartsProofs.{parts_of};
 ghost use Rattle.pac_host.specs.Handed.{HaveLength};
 ghost use Rattle.pac_host.specs.Host as host;
+ghost use Rattle.pac_roms_manifest.specs.Sets.{digest_of};
 ghost use Rattle.pac_state.specs.Reading.{bytes_at_place};
 
 use crate::codes::HostFault;
 use pac_board::{Board, Raw};
+use pac_picture::Graphics;
+use sha1::Sha1;
 
 /// The ROMs in bytes: program, tiles, sprites, colour PROM, lookup PROM, wave PROM.
 const ROMS_SIZE: usize = 25_120;
@@ -65,6 +69,34 @@ pub(crate) fn colours_of(roms: &[u8]) -> &[u8; 32]
     ensures { result.now ≡ (host.set_of_roms roms.now).colours }
 {
     chunk(roms, 24_576)
+}
+
+/// The program ROM.
+pub(crate) fn program_of(roms: &[u8]) -> &[u8; 16384]
+    requires { length roms.now ≡ host.roms_size }
+    ensures { result.now ≡ (host.set_of_roms roms.now).program }
+{
+    chunk(roms, 0)
+}
+
+/// The digest of the ROM set, whose parts are one after another here.
+pub(crate) fn digest(roms: &[u8]) -> [u8; 20]
+    requires { length roms.now ≡ host.roms_size }
+    ensures { result ≡ digest_of (host.set_of_roms roms.now) }
+{
+    Sha1::digest(roms)
+}
+
+/// The ROMs that pictures are drawn from.
+pub(crate) fn graphics_of(roms: &[u8]) -> Graphics
+    requires { length roms.now ≡ host.roms_size }
+    ensures { result ≡ video_roms (host.set_of_roms roms.now) }
+{
+    Graphics::new(
+        chunk(roms, 16_384),
+        chunk(roms, 20_480),
+        chunk(roms, 24_608),
+    )
 }
 
 /// Puts a host's ROMs into a board.

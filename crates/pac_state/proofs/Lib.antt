@@ -2,6 +2,7 @@ pub mod Again
 pub mod Chunks
 pub mod Files
 pub mod Framing
+pub mod Fronts
 pub mod Read
 pub mod Sealing
 pub mod Taken

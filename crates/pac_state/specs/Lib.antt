@@ -6,6 +6,7 @@ pub mod Files
 pub mod FilesProofs
 pub mod FilesLaws
 pub mod Framed
+pub mod Fronts
 pub mod Reading
 pub mod Saved
 pub mod SavedProofs

@@ -1,9 +1,11 @@
 -- For proofs: what proofs say of the definitions of Saved.antt.
 use Rattle.pac_board.specs.RomParts.{Parts}
 use Rattle.std.specs.Prelude.{List, ℕ, Result, Ok, None, Err, ◌≡◌, ◌≢◌}
+use Rattle.pac_board.specs.BoardFields.{Fields}
+use Rattle.pac_board.specs.Fields.{state_of, AreBoardFields}
 use Rattle.pac_board.specs.State.{BoardValue}
 use Rattle.pac_state.specs.declared.fault.LoadRefused.{LoadRefused}
-use Rattle.pac_state.specs.Saved.{load_fault, IsText, RefusesFile, Misses}
+use Rattle.pac_state.specs.Saved.{load_fault, IsText, RefusesFile}
 use Rattle.pac_roms_manifest.specs.Sets.{digest_of}
 use Rattle.pac_state.specs.SavedLaws.{loaded_board}
 use Rattle.pac_state.specs.declared.fault.LoadFault.{LoadFault}
@@ -27,18 +29,15 @@ abbrev pub refused_with : Parts → Result BoardValue LoadFault → Result Board
 refused_with set (Ok board) = Ok board
 refused_with set (Err fault) = Err (record { fault = fault; set = set })
 
--- the board that is left where a file was taken
-abbrev pub board_left : Result (Unit {0}) LoadFault → BoardValue → Result BoardValue LoadFault
-board_left (Ok done) board = Ok board
-board_left (Err fault) board = Err fault
-
--- a board read from the fields of a file, before lines are brought up, where nothing was found wrong before those fields
-abbrev pub ReadsState : Parts → List ℕ → Result BoardValue LoadFault → Type 0
-ReadsState set bytes (Ok board) = record {
+-- the fields that stand in a file, or what is wrong with it
+abbrev pub FindsFields : Parts → List ℕ → Result Fields LoadFault → Type 0
+FindsFields set bytes (Ok fields) = record {
+  sound : load_fault (digest_of set) bytes ≡ None;
   text : IsText bytes;
-  board : board ≡ record { set = set; state = state_in bytes; made = 0 };
+  state : state_of fields ≡ state_in bytes;
+  in_range : AreBoardFields fields;
 }
-ReadsState set bytes (Err fault) = record {
-  misses : Misses bytes fault;
+FindsFields set bytes (Err fault) = record {
+  refuses : RefusesFile set bytes fault;
   of_file : fault ≢ NoMemory;
 }

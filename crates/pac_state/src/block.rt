@@ -1,6 +1,6 @@
 //! The block in which a host keeps a board's state: a state file's text without its digests.
 
-ghost use Rattle.std.specs.Prelude.{◌≡◌, ◌↔◌, ◌+◌, ◌++◌, ◌≤◌, true, length, take};
+ghost use Rattle.std.specs.Prelude.{◌≡◌, ◌↔◌, ◌+◌, ◌++◌, ◌≤◌, true, length, take, drop};
 ghost use Rattle.pac_board.specs.Fields.{state_of, AreBoardFields};
 ghost use Rattle.pac_board.specs.MemoryView.{IsWellFormed};
 ghost use Rattle.pac_board.specs.PictureState.{IsPicture};
@@ -8,13 +8,15 @@ ghost use Rattle.pac_out.specs.Pieces.{joined_pieces};
 ghost use Rattle.pac_state.specs.Block as blocks;
 ghost use Rattle.pac_state.specs.BlockProofs as block_proofs;
 ghost use Rattle.pac_state.specs.Framed as framed;
+ghost use Rattle.pac_state.specs.Fronts.{IsFrontOf, front_size};
+ghost use Rattle.pac_state.specs.Reading.{state_in};
 ghost use Rattle.pac_state.specs.Saved as saved;
 
 use crate::front::{front, put_at};
 use crate::header::{MAGIC, VERSION, part, word};
 use crate::ranges::in_range;
-use crate::reading::fields_in;
-use crate::sizes::{BODY_SIZE, FILE_SIZE};
+use crate::reading::{fields_in, lines_of};
+use crate::sizes::{BODY_SIZE, FILE_SIZE, FRONT_SIZE};
 use pac_board::{Fields, RawLines};
 
 /// What stands where a file has a digest.
@@ -66,4 +68,27 @@ pub fn write_block(fields: &Fields, block: &mut [u8; FILE_SIZE])
     let picture = put_at(block, 0, &front(&NO_DIGEST, fields));
     let end = put_lines(block, picture, fields.lines);
     put_at(block, end, &NO_DIGEST);
+}
+
+/// The picture's lines in a block.
+pub fn block_lines(block: &[u8; FILE_SIZE]) -> &RawLines
+    ensures { result.now ≡ (state_in block.now).now.board.lines }
+{
+    lines_of(part(block, FRONT_SIZE))
+}
+
+/// What the block of the state that has these fields begins with, up to its picture.
+pub fn block_front(fields: &Fields) -> [u8; FRONT_SIZE]
+    requires { AreBoardFields fields.now }
+    ensures { IsFrontOf (state_of fields.now) result }
+{
+    in_range(fields);
+    front(&NO_DIGEST, fields)
+}
+
+/// Writes over what a block begins with; its picture and what follows stay.
+pub fn put_front(front: &[u8; FRONT_SIZE], block: &mut [u8; FILE_SIZE])
+    ensures { block.new ≡ front.now ++ drop front_size block.old }
+{
+    block[..FRONT_SIZE].copy_from_slice(front);
 }

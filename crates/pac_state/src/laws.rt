@@ -2,6 +2,7 @@
 
 ghost use Rattle.std.specs.Prelude.{◌≡◌, IfOk};
 ghost use Rattle.pac_board.specs.Boxed.{unboxed};
+ghost use Rattle.pac_board.specs.Fields.{state_of, AreBoardFields};
 ghost use Rattle.pac_roms_manifest.specs.Sets.{digest_of};
 ghost use Rattle.pac_state.specs.BlockLaws.{BlocksAreReadBack, StatesHaveBlocks};
 ghost use Rattle.pac_state.specs.Files.{IsState};
@@ -15,7 +16,7 @@ use crate::fault::LoadRefused;
 use crate::loading::load;
 use crate::ranges::in_range;
 use crate::saving::save;
-use pac_board::{Board, RomSet};
+use pac_board::{Board, Fields, RomSet};
 use pac_out::{Out, WriteFault};
 use std::alloc::Global;
 
@@ -58,6 +59,14 @@ pub fn boards_have_states(board: &Board)
     ensures { IsState board.now.state }
 {
     in_range(&board.fields());
+}
+
+/// The state of a board's fields is in its ranges.
+pub fn fields_have_states(fields: &Fields)
+    requires { AreBoardFields fields.now }
+    ensures { IsState (state_of fields.now) }
+{
+    in_range(fields);
 }
 
 /// What was saved of a board, loaded with a set that has the digest of its own, is a board with the same state, or there

@@ -124,7 +124,7 @@ fn memory(bytes: &[u8]) -> pac_board::MemoryFields<'_>
 }
 
 /// The lines of a picture in its bytes.
-fn lines_of(bytes: &PictureBlock) -> &RawLines
+pub(crate) fn lines_of(bytes: &PictureBlock) -> &RawLines
     ensures { result.now ≡ read.lines_of bytes.now }
 {
     all_lines(bytes.as_chunks().0)

@@ -55,14 +55,28 @@ fn put_state<W: Out>(
     file.put(&hasher.finalize())
 }
 
+/// Writes the state that has these fields, of a board whose ROM set has this digest, as `save` does.
+pub fn save_fields<W: Out>(
+    digest: &[u8; 20],
+    fields: &Fields,
+    out: &mut W,
+) -> Result<(), WriteFault>
+    requires { AreBoardFields fields.now }
+    ensures { Saves W.took W.refused out.old
+        (text.sealed_file (text.body text.written_version digest.now (state_of fields.now))) result
+        out.new }
+{
+    let mut file = Counted::new(out);
+    let written = put_state(&mut file, digest, fields);
+    let _ = file.into_writer();
+    written
+}
+
 /// Writes a board's state to a writer: 67,756 bytes, a file of version 2. Takes no memory. The fault has the count of the
 /// bytes that the writer took before it refused.
 pub fn save<W: Out>(board: &Board, out: &mut W) -> Result<(), WriteFault>
     ensures { Saves W.took W.refused out.old
         (text.save_text text.written_version board.now.set board.now.state) result out.new }
 {
-    let mut file = Counted::new(out);
-    let written = put_state(&mut file, &digest(board.set()), &board.fields());
-    let _ = file.into_writer();
-    written
+    save_fields(&digest(board.set()), &board.fields(), out)
 }

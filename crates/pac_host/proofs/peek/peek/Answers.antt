@@ -1,25 +1,31 @@
 -- The memory is that of the board that these ROMs and the block make.
-use Rattle.std.proofs.Common.{◌+◌, length, ap, ◌∙◌}
+use Rattle.std.proofs.Common.{◌+◌, List, ℕ, length, ap, ◌∙◌, arith}
 use Rattle.pac_board.specs.MemoryContents.{read_of}
-use Rattle.pac_board.specs.State.{BoardValue}
-use Rattle.pac_board.specs.StateLaws.{restored_board}
+use Rattle.pac_board.specs.MemoryView.{View}
+use Rattle.pac_board.specs.State.{BoardState}
 use Rattle.pac_num.specs.Numbers.{wrapped_address}
 use Rattle.pac_num.specs.Tabulate.{tabulate}
-use Rattle.pac_state.specs.Reading.{state_in}
-use Rattle.pac_host.specs.Host.{bytes_read}
+use Rattle.pac_host.specs.Host.{bytes_read, set_of_roms}
 use Rattle.pac_host.proofs.peek.peek.Goals as goal
+
+pub of-requires : goal.of-requires
+of-requires c =
+    let range = c.in_ok-fields.ensures.in_range in
+    let below = range.count in
+    record { registers = range.registers; count = omega (arith, below) }
 
 pub returns : goal.returns
 unfolding bytes_read
 returns c =
-    let state = state_in c.args.block.now.bytes in
-    let filled = c.in_ok-fill.ensures in
-    let made = filled.1 ∙ ap (λ board. restored_board board state) c.put_roms.ensures in
+    let read = λ (program : List ℕ) (memory : View). tabulate (length c.args.bytes.now)
+    (λ place. read_of program memory (wrapped_address (c.args.address + place))) in
+    let opened = c.in_ok-fields.ensures in
     record {
       roms_are = c.in_ok-check_roms.ensures;
-      block_is = filled.0;
+      block_is = opened.is_block;
       read =
           c.put_read.ensures
-          ∙ ap (λ (board : BoardValue). tabulate (length c.args.bytes.now)
-          (λ place. read_of board.set.program board.state.now.board.memory (wrapped_address (c.args.address + place)))) made;
+          ∙ ap (λ program. read program c.of.result) c.program_of.ensures
+          ∙ ap (read (set_of_roms c.args.roms.now).program)
+          (c.of.ensures ∙ ap (λ (state : BoardState). state.now.board.memory) opened.state);
     }

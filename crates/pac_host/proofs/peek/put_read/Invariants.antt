@@ -8,5 +8,5 @@ invariant-loop-place l = record {
   at_is : l.at ≡ wrapped_address (l.address + l.place);
   long : length l.bytes ≡ length l.initial.bytes;
   read : (n : ℕ) → n < l.place
-      → get_or l.bytes n 0 ≡ read_of l.machine.set.program l.machine.state.now.board.memory (wrapped_address (l.address + n));
+      → get_or l.bytes n 0 ≡ read_of l.program l.memory (wrapped_address (l.address + n));
 }

@@ -1,0 +1,104 @@
+-- A block with another front: of a block, and of zeros, the picture of which is black.
+use Rattle.std.proofs.Common.{◌≡◌, ℕ, zero, suc, ◌+◌, ◌-◌, ◌*◌, ◌≤◌, List, [], ◌∷◌, ◌++◌, length, take, drop, replicate}
+use Rattle.std.proofs.Common.{refl, sym, ap, subst, ◌∙◌, arith, append_assoc, append-nil}
+use Rattle.std.proofs.Math.Seq.{drop-append_seam}
+use Rattle.std.proofs.lemmas.Grind.{flat_map-append}
+use Rattle.std.proofs.lemmas.List.{length-append, drop-replicate, take-replicate, replicate-append-replicate}
+use Rattle.pac_num.proofs.Tabulated.{tabulate-same}
+use Rattle.pac_num.specs.Tabulate.{tabulate}
+use Rattle.pac_board.specs.MemoryView.{IsWellFormed}
+use Rattle.pac_board.specs.PictureState.{black}
+use Rattle.pac_board.specs.State.{BoardState}
+use Rattle.pac_out.specs.Pieces.{joined_pieces}
+use Rattle.pac_state.specs.Block.{no_digest, block_text, IsBlock}
+use Rattle.sha1.specs.Sha1.{sha1}
+use Rattle.pac_state.specs.Files.{IsState}
+use Rattle.pac_state.specs.Fronts.{IsFrontOf}
+use Rattle.pac_state.specs.Reading.{bytes_at_place, lines_of, picture_in, state_in}
+use Rattle.pac_state.specs.Saved.{file_size}
+use Rattle.pac_state.specs.Text.{file_front, body, sealed_file, written_version}
+use Rattle.pac_state.proofs.Files.{sizes}
+use Rattle.pac_state.proofs.Written.{length-front, length-body, length-sha1}
+
+-- ---- another front of a block
+
+-- a front, and what follows it in the block of a state with these lines
+with-front : (front rest : List ℕ) (state : BoardState) → IsFrontOf state front
+    → rest ≡ joined_pieces state.now.board.lines ++ no_digest → front ++ rest ≡ block_text state
+unfolding block_text
+with-front front rest state is after =
+    ap (λ (front : List ℕ). front ++ rest) is.text
+    ∙ ap (λ (rest : List ℕ). file_front written_version no_digest state ++ rest) after
+    ∙ sym (append_assoc (file_front written_version no_digest state) (joined_pieces state.now.board.lines) no_digest)
+
+-- what follows the front in the block of a state
+after-front : (state : BoardState) → IsWellFormed state.now.board.memory
+    → drop 3224 (block_text state) ≡ joined_pieces state.now.board.lines ++ no_digest
+unfolding block_text
+after-front state formed =
+    let front = file_front written_version no_digest state in
+    let rest = joined_pieces state.now.board.lines ++ no_digest in
+    ap (drop 3224) (append_assoc front (joined_pieces state.now.board.lines) no_digest)
+    ∙ subst (λ size. drop size (front ++ rest) ≡ rest) (length-front written_version no_digest state refl formed)
+    (drop-append_seam front rest)
+
+pub front-changed : (old front : List ℕ) (state : BoardState) → length old ≡ file_size → IsBlock old → IsFrontOf state front
+    → state.now.board.lines ≡ (state_in old).now.board.lines → front ++ drop 3224 old ≡ block_text state
+front-changed old front state size block is same =
+    with-front front (drop 3224 old) state is (ap (drop 3224) block.text
+    ∙ after-front (state_in old) (sizes old size block.in_range)
+    ∙ ap (λ (lines : List (List ℕ)). joined_pieces lines ++ no_digest) (sym same))
+
+-- ---- zeros
+
+joined-zeros : (count width : ℕ) → joined_pieces (tabulate count (λ _. replicate width 0)) ≡ replicate (count * width) 0
+unfolding tabulate
+joined-zeros zero width =
+    let none : 0 ≡ 0 * width = omega arith in
+    ap (λ (n : ℕ). replicate n 0) none
+joined-zeros (suc count) width =
+    let more : count * width + width ≡ suc count * width = omega arith in
+    flat_map-append (λ (piece : List ℕ). piece) (tabulate count (λ _. replicate width 0)) (replicate width 0 ∷ [])
+    ∙ ap (λ (rest : List ℕ). joined_pieces (tabulate count (λ _. replicate width 0)) ++ rest) (append-nil (replicate width 0))
+    ∙ ap (λ (before : List ℕ). before ++ replicate width 0) (joined-zeros count width)
+    ∙ replicate-append-replicate (count * width) width 0
+    ∙ ap (λ (n : ℕ). replicate n 0) more
+
+rest-of-zeros : (front count width all : ℕ) → all ≡ front + (count * width + 20)
+    → drop front (replicate all 0) ≡ joined_pieces (tabulate count (λ _. replicate width 0)) ++ no_digest
+rest-of-zeros front count width all parts =
+    let left : all - front ≡ count * width + 20 = omega (arith, parts) in
+    drop-replicate front all 0
+    ∙ ap (λ (n : ℕ). replicate n 0) left
+    ∙ sym (replicate-append-replicate (count * width) 20 0)
+    ∙ ap (λ (lines : List ℕ). lines ++ no_digest) (sym (joined-zeros count width))
+
+-- zeros are a block once they have the front of a state whose picture is black
+pub front-of-zeros : (front : List ℕ) (state : BoardState) → IsFrontOf state front → state.now.board.lines ≡ black
+    → front ++ drop 3224 (replicate file_size 0) ≡ block_text state
+unfolding black
+front-of-zeros front state is same =
+    with-front front (drop 3224 (replicate file_size 0)) state is (rest-of-zeros 3224 224 288 file_size (omega arith)
+    ∙ ap (λ (lines : List (List ℕ)). joined_pieces lines ++ no_digest) (sym same))
+
+-- the part of zeros that a line has
+line-of-zeros : (at size all : ℕ) → at + size ≤ all → bytes_at_place at size (replicate all 0) ≡ replicate size 0
+line-of-zeros at size all within =
+    ap (take size) (drop-replicate at all 0) ∙ take-replicate size (all - at) 0 (omega (arith, within))
+
+-- and their picture is black
+pub lines-of-zeros : lines_of (picture_in (replicate file_size 0)) ≡ black
+unfolding black
+lines-of-zeros =
+    ap lines_of (line-of-zeros 3224 64512 file_size (omega arith))
+    ∙ tabulate-same 224 (λ y. bytes_at_place (288 * y) 288 (replicate 64512 0)) (λ _. replicate 288 0)
+    (λ y below. line-of-zeros (288 * y) 288 64512 (omega (arith, below)))
+
+-- ---- files
+
+pub file-size : (digest : List ℕ) (state : BoardState) → length digest ≡ 20 → IsState state
+    → length (sealed_file (body written_version digest state)) ≡ file_size
+file-size digest state size is =
+    let long = length-body written_version digest state size is.memory is.range.picture in
+    let seal = length-sha1 (body written_version digest state) in
+    length-append (body written_version digest state) (sha1 (body written_version digest state)) ∙ omega (arith, long, seal)
