@@ -1,5 +1,6 @@
 -- What colour numbers pick of a vector, vectors that are woven, and the pixels that come of both.
-use Rattle.std.proofs.Common.{◌≡◌, ◌<◌, ◌+◌, ◌*◌, ◌/◌, ◌++◌, ℕ, suc, List, [], ◌∷◌, length, get_or, map, take, drop, slice_index, refl, sym, ap, ◌∙◌}
+use Rattle.std.proofs.Common.{◌≡◌, ◌<◌, ◌+◌, ◌*◌, ◌/◌, ◌++◌, ℕ, suc, List, [], ◌∷◌}
+use Rattle.std.proofs.Common.{length, get_or, map, take, drop, slice_index, refl, sym, ap, ◌∙◌}
 use Rattle.std.proofs.Common.{append_assoc, replicate, w8, arith}
 use Rattle.std.specs.List.{flat_map, range_with_len}
 use Rattle.std.proofs.lemmas.List.{get_or-map, length-map, ext_get_or}
@@ -66,7 +67,8 @@ pub woven-pixels : (reds greens blues numbers : List ℕ) → ((k : ℕ) → k <
 unfolding coloured
 woven-pixels reds greens blues [] below = refl
 woven-pixels reds greens blues (number ∷ numbers) below =
-    let colour = get_or-tabulate 16 (λ n. slice_index reds n ∷ slice_index greens n ∷ slice_index blues n ∷ []) number [] (below 0 (omega arith)) in
+    let of_number : ℕ → List ℕ = λ n. slice_index reds n ∷ slice_index greens n ∷ slice_index blues n ∷ [] in
+    let colour = get_or-tabulate 16 of_number number [] (below 0 (omega arith)) in
     let more = woven-pixels reds greens blues numbers (λ k inside. below (suc k) (omega (arith, inside))) in
     rw (colour, more) refl
 
