@@ -9,12 +9,14 @@ is told as `pacboard run` tells it, as `refused M4 tiles`, with the exit status 
 """
 import argparse
 import hashlib
+import os
 import pathlib
 import sys
 import tomllib
 
 PARTS = {"tiles": 4096, "sprites": 4096, "colours": 32, "lookup": 256, "wave": 256}  # in the order of the block, after the program
 QUARTER = 4096  # bytes of a part of the program
+MOST_LINKS = 40  # that a name leads through
 SIZE = 4 * QUARTER + sum(PARTS.values())
 
 
@@ -58,12 +60,33 @@ def beginning(path, size):
         return file.read(size)
 
 
+def path_of(folder, file):
+    """The path of a plain file that a manifest names, in its folder or below, past links that stay there (docs/FORMATS.md), or None."""
+    if not file or "\0" in file or file.startswith("/") or ".." in file.split("/"):
+        return None
+    parts, path, depth, links = file.split("/"), str(folder), 0, MOST_LINKS
+    while parts:
+        there, depth_there = f"{path}/{parts[0]}", depth + {"..": -1, ".": 0, "": 0}.get(parts[0], 1)
+        if os.path.islink(there):
+            text = os.readlink(there)
+            if text.startswith("/") or not links:
+                return None
+            parts[:1], links = text.split("/"), links - 1
+        elif depth_there < 0:
+            return None
+        else:
+            path, depth = there, depth_there
+            del parts[0]
+    return path if os.path.isfile(path) else None
+
+
 def part_of(folder, name, table, size):
     """The bytes of a part, which are looked at."""
     file = table["file"]
-    if not file or "\0" in file or file.startswith("/") or ".." in file.split("/") or not (folder / file).is_file():
+    path = path_of(folder, file)
+    if path is None:
         raise OSError(f"there is no file {file!r} in the manifest's folder")
-    part = beginning(folder / file, size + 1)
+    part = beginning(path, size + 1)
     if len(part) != size:
         raise Refused(f"refused M3 {name}")
     if hashlib.sha1(part).hexdigest() != table.get("sha1", hashlib.sha1(part).hexdigest()).lower():

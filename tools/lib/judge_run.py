@@ -8,9 +8,11 @@ tools/check/hostile makes, and those of no frame, which tools/check/sets makes. 
 docs/USING.md, without a look at the program.
 """
 import collections
+import ctypes
 import hashlib
 import os
 import re
+import struct
 import tomllib
 from typing import Any
 
@@ -19,6 +21,8 @@ import judge_source
 FRAME = 50_688
 NOPS = FRAME // 4
 LARGEST = 16 << 20
+OPENAT2, RESOLVE_BENEATH = 437, 8  # of linux/openat2.h
+LIBC = ctypes.CDLL(None, use_errno=True)
 DEEPEST = 20  # brackets, braces and dots in a line of a manifest that both readers of TOML take
 
 # The outputs of a run: bytes, or None where they aren't known; `outputs` is None where no file is created.
@@ -81,16 +85,29 @@ def tables_of(manifest):
     return tables if all(is_table(table) for table in tables.values()) else None
 
 
+def open_beneath(folder, name):
+    """Opens a file of a folder for reading, where no link leads out of it: here the kernel judges, by RESOLVE_BENEATH of its openat2."""
+    at = os.open(folder, os.O_PATH | os.O_CLOEXEC)
+    try:
+        how = struct.pack("<QQQ", os.O_RDONLY | os.O_CLOEXEC | os.O_NONBLOCK, 0, RESOLVE_BENEATH)
+        opened = LIBC.syscall(ctypes.c_long(OPENAT2), ctypes.c_int(at), os.fsencode(name), how, ctypes.c_size_t(len(how)))
+        if opened < 0:
+            raise OSError(ctypes.get_errno(), name)
+        return os.fdopen(opened, "rb")
+    finally:
+        os.close(at)
+
+
 def read(folder, name):
     """The bytes of a file of the manifest's folder, or None where it can't be read."""
-    if not name or name.startswith("/") or ".." in name.split("/"):
+    if not name or name.startswith("/") or ".." in name.split("/") or "\0" in name:
         return None
     try:
-        with open(os.path.join(folder, name), "rb") as file:
-            found = file.read(LARGEST + 1)
+        with open_beneath(folder, name) as file:
+            found = file.read(LARGEST + 1) if os.path.isfile(file.fileno()) else None
     except (OSError, ValueError):
         return None
-    return found if len(found) <= LARGEST else None
+    return found if found is not None and len(found) <= LARGEST else None
 
 
 def told(name):

@@ -23,7 +23,7 @@ asm_output_files outputs = outputs.rom ∷ outputs.listing ∷ []
 pub record IsMade {Disk File : Type 0} (finds : FindsFile) (handling : Handling Disk File) (assembles : Assembling File) (asked : AskedAsm)
     (old : Disk) (answer : Result Unit Failure) (new : Disk) : Type 0 where
   pub source : List ℕ
-  pub source_is : finds Any asked.source (Some source)
+  pub source_is : finds.bytes Any asked.source (Some source)
   pub created : AsmOutputs File
   pub during : Disk
   pub all_begun : AllBegun handling old (asm_outputs asked) (asm_output_files created) during
@@ -35,7 +35,7 @@ pub record IsMade {Disk File : Type 0} (finds : FindsFile) (handling : Handling 
 pub record IsAsmUncreated {Disk File : Type 0} (finds : FindsFile) (handling : Handling Disk File) (asked : AskedAsm) (old : Disk)
     (answer : Result Unit Failure) (new : Disk) : Type 0 where
   pub source : List ℕ
-  pub source_is : finds Any asked.source (Some source)
+  pub source_is : finds.bytes Any asked.source (Some source)
   pub output : Target
   pub answer_is : answer ≡ Err (Write output 0)
   pub first : FirstUnbegun handling old (asm_outputs asked) output new
@@ -56,7 +56,7 @@ Makes finds handling assembles asked old answer new =
 -- what `dis` does with the bytes of its file
 pub record IsDisassembled (finds : FindsFile) (name : List ℕ) (disassembles : (bytes : List ℕ) → Type 0) : Type 0 where
   pub bytes : List ℕ
-  pub bytes_are : finds Any name (Some bytes)
+  pub bytes_are : finds.bytes Any name (Some bytes)
   pub told : disassembles bytes
 
 abbrev pub TellsDisassembly : FindsFile → (disassembles : (bytes : List ℕ) → Result Unit Failure → Type 0) → (silent : Type 0) → List ℕ

@@ -192,5 +192,5 @@ PlaysRun finds handling performs silent ending asked =
 abbrev pub WatchesRun : {Disk File C : Type 0} → FindsFile → Handling Disk File → (performs : (commands : List ℕ) → Performing File)
     → (silent : Type 0) → Ending C → AskedDebug → Disk → Disk → Type 0
 WatchesRun finds handling performs silent ending asked =
-    ReadsAndRuns finds handling (watched_files asked) (λ commands. finds Any asked.commands (Some commands)) performs silent ending
+    ReadsAndRuns finds handling (watched_files asked) (λ commands. finds.bytes Any asked.commands (Some commands)) performs silent ending
     (from_power_on asked.run)

@@ -1,4 +1,5 @@
 pub mod Folders
+pub mod Following
 pub mod NameParts
 pub mod Reading
 pub mod Whole

@@ -1,7 +1,10 @@
 -- Files that are read one after another.
-use Rattle.std.proofs.Common.{ℕ, List, [], ◌∷◌, ◌++◌}
-use Rattle.std.proofs.Common.{Err, inl, inr}
-use Rattle.pac_run_files.specs.Files.{FindsFile, IsUnread, FirstUnread, standing_by}
+use Rattle.std.proofs.Common.{◌≡◌, ℕ, Bool, true, List, [], ◌∷◌, ◌++◌, Option, None, Some, Vec, Global, Result}
+use Rattle.std.proofs.Common.{Ok, Err, inl, inr, sym, subst}
+use Rattle.pac_run_files.specs.Names.{is_within_folder}
+use Rattle.pac_run_files.specs.Links.{Leads}
+use Rattle.pac_run_files.specs.Files.{FindsFile, MayFind, LeadsIf, IsUnread, FirstUnread, folder_of, standing_by}
+use Rattle.pac_run_files.specs.declared.files.FileKind.TheVariants.{Plain}
 use Rattle.pac_run_files.specs.ReadProofs.{ReadsFiles}
 use Rattle.pac_run_files.specs.Read.{IsPart, HasParts, part_files}
 use Rattle.pac_run_files.specs.declared.given.ReadFault.{ReadFault}
@@ -32,3 +35,20 @@ pub as-first : {A B : Type 0} (one : A → Type 0) (all : B → Type 0) (unread 
     → ((told : List ℕ) → unread told → first told) → ReadsFiles one unread (Err fault) → ReadsFiles all first (Err fault)
 as-first one all unread first (Unreadable name) onward reads = onward name.now reads
 as-first one all unread first Memory onward reads = tt
+
+module _ (finds : FindsFile) (set name path : List ℕ) (within : is_within_folder name ≡ true)
+    (leads : Leads finds.link (folder_of set) name (Some path)) where
+  -- what is found at the path to which a name leads is what the name's file may have
+  found-there : (found : Option (List ℕ)) → finds.bytes Plain path found → MayFind finds (standing_by set name) found
+  found-there found there = record {
+    path = Some path;
+    placed = subst (λ (is_within : Bool). LeadsIf is_within finds.link (folder_of set) name (Some path)) (sym within) leads;
+    found_there = there;
+  }
+
+  pub placed-reads : (result : Result (Vec ℕ Global) ReadFault)
+      → ReadsFiles (λ bytes. finds.bytes Plain path (Some bytes.items)) (λ told. (told ≡ name) × finds.bytes Plain path None) result
+      → ReadsFiles (λ bytes. MayFind finds (standing_by set name) (Some bytes.items)) (IsUnread finds (standing_by set name)) result
+  placed-reads (Ok bytes) read = found-there (Some bytes.items) read
+  placed-reads (Err (Unreadable told)) read = record { name_is = read.0; found = found-there None read.1 }
+  placed-reads (Err Memory) read = tt

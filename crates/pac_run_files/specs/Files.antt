@@ -1,11 +1,12 @@
 -- Believed: what reading the files of a command line comes to, and beginning its outputs. A file system says by relations what a read of
 -- a path may find, and what each call that changes it leaves.
-use Rattle.std.specs.Prelude.{◌≡◌, ◌≤◌, ◌⊎◌, ⊤, ℕ, Bool, true, false, List, [], ◌∷◌, ◌++◌, length, codes, unwrap_or}
+use Rattle.std.specs.Prelude.{◌≡◌, ◌≤◌, ◌⊎◌, ⊤, ℕ, Bool, true, false, List, [], ◌∷◌, length, codes, unwrap_or}
 use Rattle.std.specs.Prelude.{if◌then◌else◌, ◌==◌}
 use Rattle.std.specs.Prelude.{Vec, Option, Some, None, IfSome, Result, Ok, Err}
 use Rattle.std.specs.declared.alloc.Global.{Global}
 use Rattle.pac_out.specs.declared.WriteFault.{WriteFault}
 use Rattle.pac_run_files.specs.Names.{slash, is_within_folder}
+use Rattle.pac_run_files.specs.Links.{FindsLink, Leads}
 use Rattle.pac_run_files.specs.declared.files.FileKind.{FileKind}
 use Rattle.pac_run_files.specs.declared.files.FileKind.TheVariants.{Any, Plain}
 use Rattle.pac_run_files.specs.declared.files.ReadError.{ReadError}
@@ -15,9 +16,11 @@ use Rattle.pac_run_files.specs.declared.files.ReadError.TheVariants as reading
 abbrev pub most_read : ℕ
 most_read = 16777216
 
--- what a read of a path may find in one state of the files, where any kind of file will do or a plain one is wanted
-abbrev pub FindsFile : Type 1
-FindsFile = FileKind → (path : List ℕ) → Option (List ℕ) → Type 0
+-- What may be found in one state of the files: by a read of a path, where any kind of file will do or a plain one is wanted; and of the
+-- links among the names of a folder.
+pub record FindsFile : Type 1 where
+  pub bytes : FileKind → (path : List ℕ) → Option (List ℕ) → Type 0
+  pub link : FindsLink
 
 -- one read, by its answer; for want of memory anything may be there
 abbrev pub IsFound : (found : Option (List ℕ) → Type 0) → Result (Vec ℕ Global) ReadError → Type 0
@@ -30,6 +33,13 @@ IsFound found (Err other) = found None
 abbrev pub IsOfMachine : {File : Type 0} → (left : File → Option (List ℕ)) → Option (List ℕ) → Type 0
 IsOfMachine {File} left (Some bytes) = (file : File) × IfSome (left file) (λ known. bytes ≡ known)
 IsOfMachine left None = ⊤
+
+-- no contract says which links there are
+abbrev pub found_on_machine : {File : Type 0} → (left : File → Option (List ℕ)) → FindsFile
+found_on_machine left = record {
+  bytes = λ kind path found. IsOfMachine left found;
+  link = λ folder name found. ⊤;
+}
 
 -- ---- paths
 
@@ -46,45 +56,53 @@ before_slash (byte ∷ path) = put_before byte (before_slash path)
 abbrev pub folder_of : List ℕ → List ℕ
 folder_of path = unwrap_or (before_slash path) (codes ".")
 
--- the path of a file that stands in the folder of another
-abbrev pub sibling_path : (other name : List ℕ) → List ℕ
-sibling_path other name = folder_of other ++ codes "/" ++ name
-
--- the path of a file that a manifest names, where its name is that of a file of the manifest's folder
-abbrev pub path_in : (manifest name : List ℕ) → Option (List ℕ)
-path_in manifest name = if is_within_folder name then Some (sibling_path manifest name) else None
-
 -- ---- reading
 
--- a file that is to be read: its kind, its path, if its name gives one, and the name by which a fault tells it
+-- A file that is to be read: its kind, the folder that it has to be in, if there is one, and its path, or its name from that folder on. A
+-- fault tells it by this name.
 pub record WantedFile : Type 0 where
   pub kind : FileKind
-  pub path : Option (List ℕ)
+  pub within : Option (List ℕ)
   pub name : List ℕ
 
 -- a file of any kind, whose path is the name that was given
 abbrev pub as_given : List ℕ → WantedFile
-as_given name = record { kind = Any; path = Some name; name = name }
+as_given name = record { kind = Any; within = None; name = name }
 
--- a plain file that a manifest names
+-- a plain file that a manifest names, in the folder of the manifest or below
 abbrev pub standing_by : (manifest name : List ℕ) → WantedFile
-standing_by manifest name = record { kind = Plain; path = path_in manifest name; name = name }
+standing_by manifest name = record { kind = Plain; within = Some (folder_of manifest); name = name }
 
--- what reading a file may find; without a path there is nothing
-abbrev pub MayFind : FindsFile → FileKind → Option (List ℕ) → Option (List ℕ) → Type 0
-MayFind finds kind (Some path) found = finds kind path found
-MayFind finds kind None None = ⊤
-MayFind finds kind None (Some bytes) = ⊥
+-- The path of a file, if it has one. In a folder that is where its name leads, if it is the name of a file of the folder.
+abbrev pub LeadsIf : (is_within : Bool) → FindsLink → (folder name : List ℕ) → Option (List ℕ) → Type 0
+LeadsIf true finds folder name place = Leads finds folder name place
+LeadsIf false finds folder name place = place ≡ None
+
+abbrev pub IsPlaced : FindsLink → (within : Option (List ℕ)) → (name : List ℕ) → Option (List ℕ) → Type 0
+IsPlaced finds None name place = place ≡ Some name
+IsPlaced finds (Some folder) name place = LeadsIf (is_within_folder name) finds folder name place
+
+-- what reading a path may find; without a path there is nothing
+abbrev pub FindsAt : FindsFile → FileKind → (path : Option (List ℕ)) → Option (List ℕ) → Type 0
+FindsAt finds kind (Some path) found = finds.bytes kind path found
+FindsAt finds kind None None = ⊤
+FindsAt finds kind None (Some bytes) = ⊥
+
+-- what reading a file may find
+pub record MayFind (finds : FindsFile) (file : WantedFile) (found : Option (List ℕ)) : Type 0 where
+  pub path : Option (List ℕ)
+  pub placed : IsPlaced finds.link file.within file.name path
+  pub found_there : FindsAt finds file.kind path found
 
 -- a file that can be read
 pub record IsReadable (finds : FindsFile) (file : WantedFile) : Type 0 where
   pub bytes : List ℕ
-  pub found : MayFind finds file.kind file.path (Some bytes)
+  pub found : MayFind finds file (Some bytes)
 
 -- a file of this name that can't be read
 pub record IsUnread (finds : FindsFile) (file : WantedFile) (name : List ℕ) : Type 0 where
   pub name_is : name ≡ file.name
-  pub found : MayFind finds file.kind file.path None
+  pub found : MayFind finds file None
 
 -- this is the name of the first of these files that can't be read
 abbrev pub FirstUnread : FindsFile → List WantedFile → List ℕ → Type 0

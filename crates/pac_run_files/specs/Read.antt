@@ -10,8 +10,8 @@ use Rattle.pac_roms_manifest.specs.declared.part.Part.{Part}
 use Rattle.pac_run_options.specs.CommandLine.{AskedRun, AskedPlay, AskedDebug}
 use Rattle.pac_run_files.specs.declared.given.Given.{Given}
 use Rattle.pac_run_files.specs.declared.parts.NamedFile.{NamedFile}
-use Rattle.pac_run_files.specs.declared.files.FileKind.TheVariants.{Any, Plain}
-use Rattle.pac_run_files.specs.Files.{FindsFile, WantedFile, as_given, standing_by, path_in, MayFind, FirstUnread}
+use Rattle.pac_run_files.specs.declared.files.FileKind.TheVariants.{Any}
+use Rattle.pac_run_files.specs.Files.{FindsFile, WantedFile, as_given, standing_by, MayFind, FirstUnread}
 
 -- a file that the command line may name
 abbrev pub files_if_named : Option (List ℕ) → List WantedFile
@@ -33,14 +33,14 @@ watched_files asked = given_files asked.run ++ as_given asked.commands ∷ []
 -- what was read of a file that the command line may name
 abbrev pub HasIfNamed : FindsFile → Option (List ℕ) → Option (Vec ℕ Global) → Type 0
 HasIfNamed finds None None = ⊤
-HasIfNamed finds (Some name) (Some bytes) = finds Any name (Some bytes.items)
+HasIfNamed finds (Some name) (Some bytes) = finds.bytes Any name (Some bytes.items)
 HasIfNamed finds name bytes = ⊥
 
 -- what was read of the files of a run that the command line names
 pub record HasGivenFiles (finds : FindsFile) (asked : AskedRun) (given : Given) : Type 0 where
   pub source : HasIfNamed finds asked.source given.source
-  pub manifest : finds Any asked.set (Some given.manifest.items)
-  pub script : finds Any asked.script (Some given.script.items)
+  pub manifest : finds.bytes Any asked.set (Some given.manifest.items)
+  pub script : finds.bytes Any asked.script (Some given.script.items)
 
 -- the names that a manifest gives, in the order of its parts; none where there is no manifest
 abbrev pub manifest_part_names : Option Manifest → List (List ℕ)
@@ -57,7 +57,7 @@ part_files set names = map (standing_by set) names
 -- what was read of a part: it has the name, and the bytes of the file that this names
 pub record IsPart (finds : FindsFile) (set name : List ℕ) (part : NamedFile) : Type 0 where
   pub name_is : string_bytes part.name ≡ name
-  pub found : MayFind finds Plain (path_in set name) (Some part.bytes.items)
+  pub found : MayFind finds (standing_by set name) (Some part.bytes.items)
 
 abbrev pub HasParts : FindsFile → (set : List ℕ) → List (List ℕ) → List NamedFile → Type 0
 HasParts finds set [] [] = ⊤

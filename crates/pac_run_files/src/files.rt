@@ -1,12 +1,11 @@
 //! Files, as the program sees them: they are read whole, up to a size, and created empty.
 
-ghost use Rattle.std.specs.Prelude.{ℕ, ◌-◌, ◌<◌, ◌^◌, List, Option};
-ghost use Rattle.pac_run_files.specs.declared.files.FileKind.{FileKind};
-ghost use Rattle.pac_run_files.specs.Files.{Handling, IsFound, most_read};
+ghost use Rattle.std.specs.Prelude.{◌-◌, ◌<◌, ◌^◌, IfOk, option_map, string_bytes};
+ghost use Rattle.pac_run_files.specs.Files.{FindsFile, Handling, IsFound, most_read};
 ghost use Rattle.pac_run_files.specs.FilesProofs.{IsReadWhole};
 
 use pac_out::{Out, WriteFault};
-use std::alloc::Global;
+use std::alloc::{AllocError, Global};
 use std::io::{ErrorKind, Read};
 
 /// The most bytes of a file that is read: 16 MiB.
@@ -60,15 +59,19 @@ pub trait FileSystem {
     /// A file that is written: one that was created, or a draft.
     type File: Out + Drop;
 
-    /// A read of this path may find these bytes, or none that can be had, where a file of this kind is wanted.
-    ghost finds: { Self → FileKind → List ℕ → Option (List ℕ) → Type 0 };
+    /// What a read of a path may find, and which links there may be.
+    ghost finds: { Self → FindsFile };
 
     /// What the calls below leave.
     ghost handling: { Handling Self Self.File };
 
     /// The bytes of a file of at most 16 MiB.
     fn read(&self, alloc: Global, kind: FileKind, path: &str) -> Result<Vec<u8>, ReadError>
-        ensures { IsFound (finds self.now kind path.now) result };
+        ensures { IsFound ((finds self.now).bytes kind path.now) result };
+
+    /// The text of the link of this name in a folder; none where no link is there. What can't be looked at has an empty text.
+    fn link(&self, alloc: Global, folder: &str, name: &str) -> Result<Option<String>, AllocError>
+        ensures { IfOk result (λ link. (finds self.now).link folder.now name.now (option_map string_bytes link)) };
 
     /// Creates a file, or empties it.
     fn create(&mut self, path: &str) -> Option<Self::File>

@@ -1,6 +1,6 @@
 //! The files that the command line of a run names, as they are read.
 
-ghost use Rattle.std.specs.Prelude.{◌≤◌, IfOk, Some, length, option_copied};
+ghost use Rattle.std.specs.Prelude.{◌≡◌, ◌≤◌, IfOk, Some, None, length, option_copied};
 ghost use Rattle.pac_run_options.specs.CommandLineProofs.{told_debug, told_play, told_run};
 ghost use Rattle.pac_run_files.specs.declared.files.FileKind.TheVariants.{Any};
 ghost use Rattle.pac_run_files.specs.Files.{FirstUnread, IsUnread, as_given, most_read};
@@ -50,8 +50,8 @@ pub(crate) fn read_path<'a, D: FileSystem>(
     path: &str,
     name: &'a str,
 ) -> Result<Vec<u8>, ReadFault<'a>>
-    ensures read { ReadsFiles (λ bytes. D.finds disk.now kind path.now (Some bytes.items))
-        (IsUnread (D.finds disk.now) (record { kind = kind; path = Some path.now; name = name.now })) result }
+    ensures read { ReadsFiles (λ bytes. (D.finds disk.now).bytes kind path.now (Some bytes.items))
+        (λ told. (told ≡ name.now) × (D.finds disk.now).bytes kind path.now None) result }
     ensures size { IfOk result (λ bytes. length bytes.items ≤ most_read) }
 {
     match disk.read(alloc, kind, path) {
@@ -67,7 +67,7 @@ pub fn read_file<'a, D: FileSystem>(
     disk: &D,
     name: &'a str,
 ) -> Result<Vec<u8>, ReadFault<'a>>
-    ensures read { ReadsFiles (λ bytes. D.finds disk.now Any name.now (Some bytes.items))
+    ensures read { ReadsFiles (λ bytes. (D.finds disk.now).bytes Any name.now (Some bytes.items))
         (IsUnread (D.finds disk.now) (as_given name.now)) result }
     ensures size { IfOk result (λ bytes. length bytes.items ≤ most_read) }
 {
@@ -149,7 +149,7 @@ pub fn read_watched<'a, D: FileSystem>(
 ) -> Result<(Given, Vec<u8>), ReadFault<'a>>
     ensures { ReadsFiles
         (λ read. HasGivenFiles (D.finds disk.now) (told_run files.now.run) read.0
-        × D.finds disk.now Any files.now.commands.now (Some read.1.items))
+        × (D.finds disk.now).bytes Any files.now.commands.now (Some read.1.items))
         (FirstUnread (D.finds disk.now) (watched_files (told_debug files.now))) result }
 {
     let given = match read_given(alloc, disk, &files.run) {

@@ -1,14 +1,14 @@
 //! The files of the machine that the program runs on.
 
 ghost use Rattle.pac_out.specs.Laws.{appends-nothing, appends-joined};
-ghost use Rattle.pac_run_files.specs.Files.{IsOfMachine, nothing_known};
+ghost use Rattle.pac_run_files.specs.Files.{found_on_machine, nothing_known};
 
-use crate::drafts::{DRAFT_ENDINGS, draft_name};
+use crate::drafts::{DRAFT_ENDINGS, draft_name, joined_path};
 use crate::files::{FileKind, FileSystem, ReadError, read_whole};
 use crate::parts::folder_of;
 use pac_out::through::Through;
 use pac_out::{Failed, Out, WriteFault};
-use std::alloc::Global;
+use std::alloc::{AllocError, Global};
 use std::fs::{OpenFile, Permissions};
 use std::io::ErrorKind;
 use std::rt::Files;
@@ -53,7 +53,7 @@ pub struct HostFiles<'a, R> {
 impl<R: Files> FileSystem for HostFiles<'_, R> {
     type File = HostFile<R::File>;
 
-    ghost finds = { λ files kind path found. IsOfMachine R.File.remaining found };
+    ghost finds = { λ files. found_on_machine R.File.remaining };
 
     ghost handling = { nothing_known };
 
@@ -66,6 +66,18 @@ impl<R: Files> FileSystem for HostFiles<'_, R> {
         match fs::open(self.rt, path) {
             Ok(file) => read_whole(alloc, file),
             Err(_) => Err(ReadError::Unreadable),
+        }
+    }
+
+    /// Looks at the name itself, which isn't followed.
+    fn link(&self, alloc: Global, folder: &str, name: &str) -> Result<Option<String>, AllocError> {
+        let Some(path) = joined_path(folder, name) else {
+            return Ok(Some(String::new(alloc)));
+        };
+        match fs::symlink_metadata(self.rt, path.as_str()) {
+            Ok(found) if found.is_symlink() => link_text(alloc, self.rt, path.as_str()),
+            Ok(_) => Ok(None),
+            Err(_) => Ok(Some(String::new(alloc))),
         }
     }
 
@@ -130,6 +142,15 @@ impl<R: Files> FileSystem for HostFiles<'_, R> {
         if let Some(ending) = ending {
             remove_draft(self.rt, path, ending);
         }
+    }
+}
+
+/// The text of a link; none in it where it can't be had.
+fn link_text<R: Files>(alloc: Global, rt: &R, path: &str) -> Result<Option<String>, AllocError> {
+    match rt.read_link(alloc, path) {
+        Ok(text) => Ok(Some(text.into_string())),
+        Err(error) if error.kind() == ErrorKind::OutOfMemory => Err(AllocError),
+        Err(_) => Ok(Some(String::new(alloc))),
     }
 }
 

@@ -5,6 +5,7 @@ mod drafts;
 mod files;
 mod given;
 mod host;
+mod links;
 mod names;
 mod parts;
 

@@ -3,7 +3,7 @@
 ghost use Rattle.std.specs.Prelude.{◌≡◌, ◌<◌, [], ◌∷◌, ◌++◌, Some, codes};
 ghost use Rattle.std.specs.Fmt.{WritesOnOk};
 ghost use Rattle.pac_num.specs.Hexadecimal as hexadecimal;
-ghost use Rattle.pac_run_files.specs.Names.{climbs, is_within_folder, told_character, told_name};
+ghost use Rattle.pac_run_files.specs.Names.{begins_below, climbs, is_within_folder, told_character, told_name};
 
 use pac_num::hex_byte;
 use std::fmt;
@@ -22,11 +22,18 @@ fn climbs(name: &str) -> bool
     rest == ".."
 }
 
+/// Whether a name has a byte before its first slash: it isn't empty and begins with none.
+pub(crate) fn begins_below(name: &str) -> bool
+    ensures { result ≡ begins_below name.now }
+{
+    !name.is_empty() && !name.starts_with('/')
+}
+
 /// Whether a manifest's name is that of a file of its folder, or of a folder below.
 pub fn is_within(name: &str) -> bool
     ensures { result ≡ is_within_folder name.now }
 {
-    !name.is_empty() && !name.starts_with('/') && !climbs(name)
+    begins_below(name) && !climbs(name)
 }
 
 /// A file's name, as it is told: a control character as `\x` and two hexadecimal digits.

@@ -1,15 +1,15 @@
 //! The files that a manifest names, as they are read.
 
-ghost use Rattle.std.specs.Prelude.{◌≡◌, IfOk, Some, map, option_map, string_bytes};
+ghost use Rattle.std.specs.Prelude.{◌≡◌, IfOk, Some, map};
 ghost use Rattle.std.specs.Result.{result_ok};
 ghost use Rattle.pac_roms_manifest.specs.Manifests.{manifest_of};
-ghost use Rattle.pac_run_files.specs.declared.files.FileKind.TheVariants.{Plain};
-ghost use Rattle.pac_run_files.specs.Files.{FirstUnread, IsUnread, MayFind, sibling_path, folder_of, path_in, standing_by};
+ghost use Rattle.pac_run_files.specs.Files.{FirstUnread, IsUnread, MayFind, folder_of, standing_by};
 ghost use Rattle.pac_run_files.specs.Read.{HasParts, IsPart, manifest_part_names, part_files, told_file, told_part};
 ghost use Rattle.pac_run_files.specs.ReadProofs.{ReadsFiles};
 
 use crate::files::{FileKind, FileSystem};
 use crate::given::{ReadFault, read_path};
+use crate::links::lead;
 use crate::names::is_within;
 use pac_roms_manifest::{Manifest, Part, SetError, read_manifest};
 use std::alloc::{AllocError, Global};
@@ -50,29 +50,6 @@ pub(crate) fn folder_of(path: &str) -> &str
     }
 }
 
-/// The path of a file that stands in the folder of another.
-fn path_beside(alloc: Global, other: &str, name: &str) -> Result<String, AllocError>
-    ensures { IfOk result (λ path. string_bytes path ≡ sibling_path other.now name.now) }
-{
-    let mut path = String::from_str(alloc, folder_of(other))?;
-    path.push_str("/")?;
-    path.push_str(name)?;
-    Ok(path)
-}
-
-/// The path of a file that a manifest names; none where its name isn't that of a file of the manifest's folder.
-fn path_in(alloc: Global, set: &str, name: &str) -> Result<Option<String>, AllocError>
-    ensures { IfOk result (λ path. option_map string_bytes path ≡ path_in set.now name.now) }
-{
-    if !is_within(name) {
-        return Ok(None);
-    }
-    match path_beside(alloc, set, name) {
-        Ok(path) => Ok(Some(path)),
-        Err(error) => Err(error),
-    }
-}
-
 /// Reads the bytes of a plain file that a manifest names.
 fn read_bytes<'a, D: FileSystem>(
     alloc: Global,
@@ -80,10 +57,13 @@ fn read_bytes<'a, D: FileSystem>(
     set: &str,
     name: &'a str,
 ) -> Result<Vec<u8>, ReadFault<'a>>
-    ensures { ReadsFiles (λ bytes. MayFind (D.finds disk.now) Plain (path_in set.now name.now) (Some bytes.items))
+    ensures { ReadsFiles (λ bytes. MayFind (D.finds disk.now) (standing_by set.now name.now) (Some bytes.items))
         (IsUnread (D.finds disk.now) (standing_by set.now name.now)) result }
 {
-    match path_in(alloc, set, name) {
+    if !is_within(name) {
+        return Err(ReadFault::Unreadable(name));
+    }
+    match lead(alloc, disk, folder_of(set), name) {
         Ok(Some(path)) => read_path(alloc, disk, FileKind::Plain, path.as_str(), name),
         Ok(None) => Err(ReadFault::Unreadable(name)),
         Err(_) => Err(ReadFault::Memory),

@@ -8,7 +8,8 @@
 // aren't there. The third writes the ROM block of hosts/roms.py.
 
 import {
-    closeSync, fchmodSync, fsyncSync, lstatSync, openSync, readFileSync, realpathSync, renameSync, statSync, unlinkSync, writeSync,
+    closeSync, fchmodSync, fsyncSync, lstatSync, openSync, readFileSync, readlinkSync, realpathSync, renameSync, statSync, unlinkSync,
+    writeSync,
 } from 'node:fs';
 import path from 'node:path';
 import { fileURLToPath } from 'node:url';
@@ -21,6 +22,7 @@ import { namedFiles, setOf } from './set.js';
 import { masksOf } from './tape.js';
 
 const PAGE = path.resolve(path.dirname(fileURLToPath(import.meta.url)), '../../../docs/studio.html');
+const MOST_LINKS = 40; // that a name leads through
 const WHOLE = '--whole', DRAFTS = 9; // an option without a value; so many new files may be beside an output
 const READ = 3, REFUSED = 1, USED = 2, STOPPED = 5; // exit statuses
 const NO_SOURCE = { rom: new Uint8Array(0), listing: new TextEncoder().encode('SYMBOLS\n') }; // the set has the program
@@ -113,13 +115,29 @@ function written(name, file, bytes) {
     }
 }
 
+// The path of a file that a manifest names, past links that stay in its folder (docs/FORMATS.md); null where they leave it.
+function pathOf(folder, name) {
+    let left = name.split('/'), place = folder, depth = 0, links = MOST_LINKS;
+    while (left.length > 0) {
+        const [part, ...more] = left, there = `${place}/${part}`, isHere = part === '' || part === '.';
+        const after = isHere ? depth : part === '..' ? depth - 1 : depth + 1;
+        if (lstatSync(there, { throwIfNoEntry: false })?.isSymbolicLink()) {
+            const text = readlinkSync(there);
+            if (text.startsWith('/') || links === 0) return null;
+            [left, links] = [[...text.split('/'), ...more], links - 1];
+        } else if (after < 0) return null;
+        else [place, depth, left] = [there, after, more];
+    }
+    return place;
+}
+
 // The files of a manifest beside it. Where the manifest is none, no file is read.
 function filesBeside(manifest, text) {
     const folder = path.dirname(manifest);
     return namedFiles(text).map((name) => {
-        if (!NAME.test(name) || name.split('/').includes('..') || !statSync(path.join(folder, name), { throwIfNoEntry: false })?.isFile())
-            throw new Ending(READ, `read fault ${name}`);
-        return { name, bytes: bytesOf(path.join(folder, name), name) };
+        const place = NAME.test(name) && !name.split('/').includes('..') ? pathOf(folder, name) : null;
+        if (place === null || !statSync(place, { throwIfNoEntry: false })?.isFile()) throw new Ending(READ, `read fault ${name}`);
+        return { name, bytes: bytesOf(place, name) };
     });
 }
 

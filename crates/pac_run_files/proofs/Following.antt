@@ -1,0 +1,167 @@
+-- Names that are followed part by part.
+use Rattle.std.proofs.Common.{◌≡◌, ℕ, zero, suc, Bool, true, false, ◌==◌, if◌then◌else◌, List, [], ◌∷◌, ◌++◌, codes, Option, None, Some}
+use Rattle.std.proofs.Common.{option_map, string_bytes, String, Global, Bor}
+use Rattle.std.proofs.Common.{◌≢◌, ◌-◌, refl, sym, ap, ◌∙◌, subst, arith}
+use Rattle.std.proofs.lemmas.List.{append-nil}
+use Rattle.pac_run_files.specs.Names.{slash, lengthen, name_parts, begins_below}
+use Rattle.pac_run_files.specs.Links.{FindsLink, Way, LeadsOn, Leads, way_from, way_along}
+use Rattle.pac_run_files.specs.LinksProofs.{way_of_place, IsReached, MeetsPart, Follows, parts_left, is_joined}
+use Rattle.pac_run_files.specs.declared.links.PlaceReached.{PlaceReached}
+use Rattle.pac_run_files.specs.declared.links.Met.TheVariants as met
+use Rattle.pac_run_files.specs.declared.links.Rest.TheVariants as rest
+
+abbrev pub some-way : (path : List ℕ) (depth : ℕ) (parts : List (List ℕ)) (links : ℕ) → Option Way
+some-way path depth parts links = Some (record { path = path; depth = depth; parts = parts; links = links })
+
+module _ (finds : FindsLink) where
+  -- one step more
+  pub one-on : (from before to : Way) → IsReached finds from before → LeadsOn finds before (Some to) → IsReached finds from to
+  one-on from before to reached goes = (suc reached.0, (before, reached.1, goes))
+
+  -- the parts that are left, told otherwise
+  pub at-parts : (from : Way) (place : PlaceReached) (parts same : List (List ℕ)) (links : ℕ) → parts ≡ same
+      → IsReached finds from (way_of_place place parts links) → IsReached finds from (way_of_place place same links)
+  at-parts from place parts same links equal reached = subst (λ (left : List (List ℕ)). IsReached finds from (way_of_place place left
+      links)) equal reached
+
+  -- past a part
+  pub part-on : (from : Way) (old : PlaceReached) (part : List ℕ) (parts : List (List ℕ)) (links : ℕ) (new : PlaceReached)
+      → IsReached finds from (way_of_place old (part ∷ parts) links) → MeetsPart finds old part met.Past new
+      → IsReached finds from (way_of_place new parts links)
+  part-on from old part parts links new reached meets =
+      one-on from (way_of_place old (part ∷ parts) links) (way_of_place new parts links) reached (
+        None,
+        meets.0,
+        ap (λ (path : List ℕ). some-way path new.depth parts links) meets.2
+            ∙ sym (ap (option_map (λ (depth : ℕ). record {
+              path = string_bytes old.path ++ codes "/" ++ part;
+              depth = depth;
+              parts = parts;
+              links = links;
+            })) meets.1),
+      )
+
+  -- at a part that leads out
+  pub part-out : (old : PlaceReached) (part : List ℕ) (parts : List (List ℕ)) (links : ℕ) (new : PlaceReached)
+      → MeetsPart finds old part met.Out new
+      → LeadsOn finds (way_of_place old (part ∷ parts) links) None
+  part-out old part parts links new meets = (
+    None,
+    meets.0,
+    sym (ap (option_map (λ (depth : ℕ). record {
+      path = string_bytes old.path ++ codes "/" ++ part;
+      depth = depth;
+      parts = parts;
+      links = links;
+    })) meets.1),
+  )
+
+  -- at a link
+  pub at-link : (from : (links : ℕ) → Way) (old new : PlaceReached) (part : List ℕ) (parts : List (List ℕ)) (text : String Global)
+      → ((links : ℕ) → IsReached finds (from links) (way_of_place old (part ∷ parts) links)) → MeetsPart finds old part (met.Link text) new
+      → (one : List ℕ) × finds (string_bytes new.path) one (Some (string_bytes text))
+      × ((links : ℕ) → IsReached finds (from links) (way_of_place new (one ∷ parts) links))
+  at-link from old new part parts text reached meets = (
+    part,
+    subst (λ (place : PlaceReached). finds (string_bytes place.path) part (Some (string_bytes text))) (sym meets.1) meets.0,
+    λ links. subst (λ (place : PlaceReached). IsReached finds (from links) (way_of_place place (part ∷ parts) links)) (sym meets.1)
+        (reached links),
+  )
+
+  -- one stretch after another
+  pub both : (from mid to : Way) → IsReached finds from mid → IsReached finds mid to → IsReached finds from to
+  both from mid to first (zero, reached) = subst (λ (end : Way). IsReached finds from end) (sym reached) first
+  both from mid to first (suc steps, (before, reached, goes)) =
+      one-on from before to (both from mid before first (steps, reached)) goes
+
+-- a text has a first part
+first-by : (byte : ℕ) (parts : List (List ℕ)) (is_slash : Bool) → (part : List ℕ) × (more : List (List ℕ)) × (parts ≡ part ∷ more)
+    → (part : List ℕ) × (more : List (List ℕ)) × ((if is_slash then [] ∷ parts else lengthen byte parts) ≡ part ∷ more)
+first-by byte parts true first = ([], parts, refl)
+first-by byte parts false first = (byte ∷ first.0, first.1, ap (lengthen byte) first.2)
+
+first-part : (text : List ℕ) → (part : List ℕ) × (more : List (List ℕ)) × (name_parts text ≡ part ∷ more)
+first-part [] = ([], [], refl)
+first-part (byte ∷ text) = first-by byte (name_parts text) (byte == slash) (first-part text)
+
+lengthen-on : (byte : ℕ) (parts : List (List ℕ)) (more : List (List ℕ)) → (part : List ℕ) × (rest : List (List ℕ)) × (parts ≡ part ∷ rest)
+    → lengthen byte (parts ++ more) ≡ lengthen byte parts ++ more
+lengthen-on byte parts more first = rw first.2 (refl)
+
+joined-by : (byte : ℕ) (parts all more : List (List ℕ)) (is_slash : Bool) → (part : List ℕ) × (rest : List (List ℕ)) × (parts ≡ part ∷ rest)
+    → all ≡ parts ++ more
+    → (if is_slash then [] ∷ all else lengthen byte all) ≡ (if is_slash then [] ∷ parts else lengthen byte parts) ++ more
+joined-by byte parts all more true first joined = ap (λ rest. [] ∷ rest) joined
+joined-by byte parts all more false first joined = ap (lengthen byte) joined ∙ lengthen-on byte parts more first
+
+-- the parts of a text, a slash and another
+pub parts-joined : (text more : List ℕ) → name_parts (text ++ slash ∷ more) ≡ name_parts text ++ name_parts more
+parts-joined [] more = refl
+parts-joined (byte ∷ text) more =
+    joined-by byte (name_parts text) (name_parts (text ++ slash ∷ more)) (name_parts more) (byte == slash) (first-part text)
+    (parts-joined text more)
+
+-- the parts of a link's text and of what follows it
+pub parts-of-joined : (link : String Global) (more : Option (Bor (List ℕ))) (joined : List ℕ) → is_joined link more joined
+    → name_parts joined ≡ name_parts (string_bytes link) ++ parts_left more
+parts-of-joined link None joined is = ap name_parts is ∙ sym (append-nil (name_parts (string_bytes link)))
+parts-of-joined link (Some more) joined is = ap name_parts is ∙ parts-joined (string_bytes link) more.now
+
+-- a link that isn't followed, and one that is
+pub along-none : (links : ℕ) (way : Way) (text : List ℕ) (parts : List (List ℕ)) → begins_below text ≡ false
+    → way_along links way text parts ≡ None
+along-none zero way text parts out = refl
+along-none (suc links) way text parts out = rw out refl
+
+pub along-zero : (links : ℕ) (way : Way) (text : List ℕ) (parts : List (List ℕ)) → links ≡ 0 → way_along links way text parts ≡ None
+along-zero zero way text parts none = refl
+along-zero (suc links) way text parts none = absurd (omega (arith, none))
+
+pub along-some : (links : ℕ) (way : Way) (text : List ℕ) (parts : List (List ℕ)) → links ≢ 0 → begins_below text ≡ true
+    → way_along links way text parts ≡ some-way way.path way.depth (name_parts text ++ parts) (links - 1)
+along-some zero way text parts some below = absurd (some refl)
+along-some (suc links) way text parts some below =
+    let same : links ≡ suc links - 1 = omega arith in
+    rw below (ap (λ (left : ℕ). some-way way.path way.depth (name_parts text ++ parts) left) same)
+
+module _ (finds : FindsLink) (folder name : List ℕ) (place new : PlaceReached) (text : List ℕ) (links : ℕ)
+    (reached : IsReached finds (way_from folder name) (way_of_place place (name_parts text) links)) where
+  pub lead-end : Follows finds place (name_parts text) rest.End new → Leads finds folder name (Some (string_bytes new.path))
+  lead-end follows =
+      let all = both finds (way_from folder name) (way_of_place place (name_parts text) links) (way_of_place new [] links) reached
+      (follows links) in
+      record { steps = all.0; last = way_of_place new [] links; reached = all.1; ends = (refl, refl) }
+
+  pub lead-out : Follows finds place (name_parts text) rest.Out new → Leads finds folder name None
+  lead-out follows =
+      let one = follows links in
+      let all = both finds (way_from folder name) (way_of_place place (name_parts text) links) one.0 reached one.1 in
+      record { steps = all.0; last = one.0; reached = all.1; ends = one.2 }
+
+  module _ (link : String Global) (more : Option (Bor (List ℕ))) (follows : Follows finds place (name_parts text) (rest.Link link more)
+      new) where
+    pub to-link : IsReached finds (way_from folder name) (way_of_place new (follows.0 ∷ parts_left more) links)
+    to-link = both finds (way_from folder name) (way_of_place place (name_parts text) links) (way_of_place new (follows.0 ∷ parts_left
+        more) links)
+        reached (follows.2 links)
+
+    pub lead-none : way_along links (way_of_place new (follows.0 ∷ parts_left more) links) (string_bytes link) (parts_left more) ≡ None
+        → Leads finds folder name None
+    lead-none none = record {
+      steps = to-link.0;
+      last = way_of_place new (follows.0 ∷ parts_left more) links;
+      reached = to-link.1;
+      ends = (Some (string_bytes link), follows.1, sym none);
+    }
+
+    pub link-on : (joined : List ℕ) → is_joined link more joined → links ≢ 0 → begins_below (string_bytes link) ≡ true
+        → IsReached finds (way_from folder name) (way_of_place new (name_parts joined) (links - 1))
+    link-on joined is some below =
+        at-parts finds (way_from folder name) new (name_parts (string_bytes link) ++ parts_left more) (name_parts joined) (links - 1)
+        (sym (parts-of-joined link more joined is))
+        (one-on finds (way_from folder name) (way_of_place new (follows.0 ∷ parts_left more) links)
+        (way_of_place new (name_parts (string_bytes link) ++ parts_left more) (links - 1)) to-link (
+          Some (string_bytes link),
+          follows.1,
+          sym (along-some links (way_of_place new (follows.0 ∷ parts_left more) links) (string_bytes link) (parts_left more) some below),
+        ))

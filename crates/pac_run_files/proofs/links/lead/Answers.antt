@@ -1,0 +1,64 @@
+use Rattle.std.proofs.Common.{◌≡◌, ℕ, List, string_bytes, rules, subst}
+use Rattle.pac_run_files.specs.Names.{name_parts}
+use Rattle.pac_run_files.specs.Links.{FindsLink}
+use Rattle.pac_run_files.specs.LinksProofs.{Follows}
+use Rattle.pac_run_files.specs.declared.links.PlaceReached.{PlaceReached}
+use Rattle.pac_run_files.specs.declared.links.Rest.{Rest}
+use Rattle.pac_run_files.specs.declared.links.Rest.TheVariants as rest
+use Rattle.pac_run_files.proofs.Following.{lead-end, lead-out, lead-none, link-on, along-none, along-zero}
+use Rattle.pac_run_files.proofs.links.lead.Goals as goal
+use Rattle.pac_run_files.proofs.links.lead.Goals.{
+  then-links-eq0-via-then-links-eq0,
+  then-links-eq0-via-else-links-eq0+then-not-begins_below,
+}
+
+-- what following leaves, as it is
+as-rest : (finds : FindsLink) (old new : PlaceReached) (text told : List ℕ) (one other : Rest) → told ≡ text → one ≡ other
+    → Follows finds old (name_parts told) one new → Follows finds old (name_parts text) other new
+as-rest finds old new text told one other same is follows =
+    subst (λ (bytes : List ℕ). Follows finds old (name_parts bytes) other new) same
+    (subst (λ (rest : Rest). Follows finds old (name_parts told) rest new) is follows)
+
+pub returns-in-End : goal.returns-in-End
+returns-in-End g c =
+    let finds = (g.D.FileSystem.finds c.args.disk.now).link in
+    let text = string_bytes c.links.text in
+    lead-end finds c.args.folder.now c.args.name.now c.links.place c.follow.new.place (string_bytes c.links.text) c.links.links
+    c.links.invariant
+    (as-rest finds c.links.place c.follow.new.place text c.as_str.result.now c.in_ok-follow.field-0 rest.End c.as_str.ensures.value
+    c.in-End.is c.in_ok-follow.ensures)
+
+pub returns-in-Out : goal.returns-in-Out
+returns-in-Out g c =
+    let finds = (g.D.FileSystem.finds c.args.disk.now).link in
+    let text = string_bytes c.links.text in
+    lead-out finds c.args.folder.now c.args.name.now c.links.place c.follow.new.place (string_bytes c.links.text) c.links.links
+    c.links.invariant
+    (as-rest finds c.links.place c.follow.new.place text c.as_str.result.now c.in_ok-follow.field-0 rest.Out c.as_str.ensures.value
+    c.in-Out.is c.in_ok-follow.ensures)
+
+pub returns-then-links-eq0 : goal.returns-then-links-eq0
+returns-then-links-eq0 g c =
+    let finds = (g.D.FileSystem.finds c.args.disk.now).link in
+    let text = string_bytes c.links.text in
+    let follows = as-rest finds c.links.place c.follow.new.place text c.as_str.result.now c.in_ok-follow.field-0 (rest.Link
+    c.in-Link.link c.in-Link.more)
+    c.as_str.ensures.value c.in-Link.is c.in_ok-follow.ensures in
+    lead-none finds c.args.folder.now c.args.name.now c.links.place c.follow.new.place (string_bytes c.links.text) c.links.links
+    c.links.invariant c.in-Link.link c.in-Link.more follows
+    (elim c.then-links-eq0.branch [
+      | then-links-eq0-via-then-links-eq0 w ↦ along-zero _ _ _ _ w.if-links-eq0.true
+      | then-links-eq0-via-else-links-eq0+then-not-begins_below w ↦ along-none c.links.links _ (string_bytes c.in-Link.link) _ (search
+          rules)
+    ])
+
+pub links-preserved : goal.links-preserved
+links-preserved g c =
+    let finds = (g.D.FileSystem.finds c.args.disk.now).link in
+    let text = string_bytes c.links.text in
+    let follows = as-rest finds c.links.place c.follow.new.place text c.as_str.result.now c.in_ok-follow.field-0 (rest.Link
+    c.in-Link.link c.in-Link.more)
+    c.as_str.ensures.value c.in-Link.is c.in_ok-follow.ensures in
+    link-on finds c.args.folder.now c.args.name.now c.links.place c.follow.new.place (string_bytes c.links.text) c.links.links
+    c.links.invariant c.in-Link.link c.in-Link.more follows (string_bytes c.in_ok-text-in-Link.text) c.in_ok-text-in-Link.ensures
+    (search rules) (search rules)
