@@ -1,7 +1,9 @@
 -- What a sink took and refused, output by output.
-use Rattle.std.proofs.Common.{◌≡◌, List, [], ◌∷◌, ◌++◌, refl, sym, ap, subst, ◌∙◌, append_assoc}
+use Rattle.std.proofs.Common.{◌≡◌, ℕ, ℤ, ◌+◌, ◌<◌, ◌≤◌, List, [], ◌∷◌, ◌++◌}
+use Rattle.std.proofs.Common.{map, take, length, get_or, arith, refl, sym, ap, subst, ◌∙◌, append_assoc}
+use Rattle.std.proofs.lemmas.List.{map-append, take_more}
 use mathlib.Core.List.{IsPrefix}
-use Rattle.pac_board_model.specs.Output.{Output}
+use Rattle.pac_board_model.specs.Output.{Output, Sound}
 use Rattle.pac_board.specs.SinksLaws.{Giving, RefusesAt, Cut}
 use Rattle.pac_board.specs.Sinks.{Then, TookAll}
 
@@ -17,6 +19,22 @@ module _ {S : Type 0} (took : S → Output → S → Type 0) where
         before = before.before;
         after = took-both more second before.between between new before.after after;
       }
+
+  -- one more of a batch
+  pub took-more : (samples : List ℤ) (sample : ℤ) (n : ℕ) (old between new : S) → n < length samples → sample ≡ get_or samples n sample
+      → TookAll took old (map Sound (take n samples)) between → took between (Sound sample) new
+      → TookAll took old (map Sound (take (n + 1) samples)) new
+  took-more samples sample n old between new inside is before last =
+      subst (λ (outputs : List Output). TookAll took old outputs new)
+      (sym (ap (map Sound) (take_more samples n sample inside ∙ ap (λ s. take n samples ++ s ∷ []) (sym is))
+      ∙ map-append Sound (take n samples) (sample ∷ [])))
+      (took-both (map Sound (take n samples)) (Sound sample ∷ []) old between new before
+      (record { between = new; before = last; after = refl }))
+
+  -- no sample is a batch that leaves a sink as it was
+  pub took-none : (samples : List ℤ) (old : S) → length samples ≤ 0 → TookAll took old (map Sound samples) old
+  took-none [] old none = refl
+  took-none (sample ∷ more) old none = absurd (omega (arith, none))
 
   -- the other way round
   pub took-parts : (first second : List Output) (old new : S) → TookAll took old (first ++ second) new

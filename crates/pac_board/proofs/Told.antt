@@ -5,7 +5,7 @@ use Rattle.pac_board_model.specs.BoardView.{BoardView}
 use Rattle.pac_board_model.specs.Step.{Moment, step}
 use Rattle.pac_board_model.specs.Trace.{by_view}
 use Rattle.pac_machine.specs.declared.trail.PastStep.{PastStep}
-use Rattle.pac_machine.specs.Bursts.{stretch_end}
+use Rattle.pac_machine.specs.BurstsProofs.{line_end}
 use Rattle.pac_machine.specs.StandingProofs.{BoardStanding}
 use Rattle.pac_machine.specs.Trails.{IsNoted}
 use Rattle.pac_machine.proofs.Noted.{noted-sooner, noted-more}
@@ -14,11 +14,11 @@ use Rattle.pac_board.specs.Stretches.{IsTold}
 
 pub board-noted : (old : BoardValue) (machine : BoardStanding) (after : Moment BoardView) (limit : ℕ)
     (told more : Option (List PastStep)) → machine ≡ record { set = old.set; now = old.state.now }
-    → IsNoted (step (by_view machine.set)) (stretch_end limit machine.now.time) machine.now after told more
+    → IsNoted (step (by_view machine.set)) (line_end limit machine.now.time) machine.now after told more
     → IsNoted (step (by_view old.set)) limit old.state.now after told more
 board-noted old machine after limit told more is stretched =
     let here = subst
-    (λ (m : BoardStanding). IsNoted (step (by_view m.set)) (stretch_end limit m.now.time) m.now after told more) is stretched in
+    (λ (m : BoardStanding). IsNoted (step (by_view m.set)) (line_end limit m.now.time) m.now after told more) is stretched in
     noted-sooner (step (by_view old.set)) here (omega arith)
 
 -- a stretch after others

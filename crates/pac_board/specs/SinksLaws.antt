@@ -1,6 +1,5 @@
 -- Law: what is proved of the definitions of Sinks.antt.
 use Rattle.pac_picture.specs.StateLaws as state_laws
-use Rattle.pac_picture.specs.State as picture
 use Rattle.pac_board_model.specs.Output.{Image, Output}
 use Rattle.std.specs.Prelude.{Result, Ok, Err, List, ◌≡◌, ◌∷◌, ◌++◌}
 use Rattle.pac_board.specs.Sinks.{TookAll}

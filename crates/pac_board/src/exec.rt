@@ -1,13 +1,15 @@
 //! The calls that make steps, and offer what they give to a sink.
 
-ghost use Rattle.std.specs.Prelude.{◌≡◌, ◌<◌, ◌≤◌, ◌^◌, [], true, None, is_some};
+ghost use Rattle.std.specs.Prelude.{◌≡◌, ◌<◌, ◌≤◌, ◌^◌, [], true, None, is_some, take};
 ghost use Rattle.pac_machine.specs.Standing.{latest, nothing_due};
 ghost use Rattle.pac_board.specs.State.{due_outputs};
 ghost use Rattle.pac_board.specs.CallsLaws.{with_due, Offers, IsAdvanced, Advances, StepsOnce, Executes};
 ghost use Rattle.pac_board.specs.SinksLaws.{by};
 ghost use Rattle.pac_board.specs.TurnsProofs.{Turns};
 ghost use Rattle.pac_board.specs.Turns.{GoesTo};
-ghost use Rattle.pac_board.specs.Stretches.{IsStretched, Stretches, IsTold};
+ghost use Rattle.pac_board.specs.Stretches.{IsStretched, HasBatch, GoesWhole, Stretches, IsTold};
+ghost use Rattle.pac_machine.specs.Bursts.{next_sample, stretch_end};
+ghost use Rattle.pac_machine.specs.BurstsProofs.{line_end};
 ghost use Rattle.pac_board.specs.RestsProofs.{waits};
 ghost use Rattle.pac_board.specs.Rests.{HasRested};
 
@@ -16,7 +18,7 @@ use crate::fault::{Fault, Idle};
 use crate::offer::offer;
 use crate::sink::{Refused, Sink};
 use pac_cpu::{Once, Stop};
-use pac_machine::{Due, MOST_ASKED, Trail};
+use pac_machine::{Due, MOST_ASKED, SAMPLE_TICKS, Trail};
 use std::mem::forget;
 
 /// The time, in T-states, from which on no step is begun (this profile).
@@ -117,38 +119,66 @@ impl Board {
         }
     }
 
-    /// Does the steps of a board with nothing due up to the next sample, to a limit before it, or to a stop. Answers whether a stop came,
-    /// and what the last of them gives, which isn't due yet. Each step is told.
+    /// Does steps of a board with nothing due up to the end of the scan's line, to a limit before it, or to a stop, or some of these. Answers
+    /// whether a stop came, how many samples those before the last gave, and what the last gives, which isn't due yet. Each step is told.
     #[inline(always)]
-    fn make_stretch(&mut self, limit: u64, told: &mut Trail, met: &mut Option<Stop>) -> (bool, Due)
+    fn make_stretch(
+        &mut self,
+        limit: u64,
+        samples: &mut [i16; 5],
+        told: &mut Trail,
+        met: &mut Option<Stop>,
+    ) -> (bool, usize, Due)
         requires early { self.old.state.now.time < limit }
         requires limit { limit ≤ latest }
         requires nothing { due_outputs self.old ≡ [] }
         requires none { met.old ≡ None }
-        ensures made { IsStretched self.old limit met.new (with_due self.new result.1) }
+        ensures made { HasBatch self.old limit met.new (take result.1 samples.new) (with_due self.new result.2) }
         ensures told { IsTold self.old limit self.new told.old told.new }
         ensures nothing { self.new.state.due ≡ nothing_due }
         ensures stopped { result.0 ≡ is_some met.new }
+        ensures count { result.1 ≤ 5 }
+        ensures single { limit ≤ next_sample self.old.state.now.time → result.1 ≡ 0 }
+        ensures waited { waits self.old ≡ true → line_end limit self.old.state.now.time ≤ self.new.state.now.time }
     {
-        self.machine.stretch(limit, told, met)
+        self.machine.stretch(limit, samples, told, met)
     }
 
-    /// Does the same, and what the last of them gives is due then. No step is told.
+    /// A limit for a sink that has room for so many samples at once: where a line's don't fit, the next sample's moment at the latest.
+    #[inline(always)]
+    fn limit_for(&self, limit: u64, room: usize) -> u64
+        requires early { self.now.state.now.time < limit }
+        ensures later { self.now.state.now.time < result }
+        ensures within { result ≤ limit }
+        ensures single { room < 5 → result ≤ next_sample self.now.state.now.time }
+        ensures whole { room ≡ 0 → result ≡ stretch_end limit self.now.state.now.time }
+    {
+        if room >= 5 {
+            return limit;
+        }
+        limit.min(SAMPLE_TICKS * (self.time() / SAMPLE_TICKS + 1))
+    }
+
+    /// Does the steps of a board with nothing due up to the next sample, to a limit before it, or to a stop, and what the last of them
+    /// gives is due then. It's one step, or the processor waits. No step is told.
     #[inline(always)]
     fn go_on(&mut self, limit: u64, met: &mut Option<Stop>)
         requires early { self.old.state.now.time < limit }
         requires limit { limit ≤ latest }
         requires nothing { due_outputs self.old ≡ [] }
         requires none { met.old ≡ None }
+        requires whole { GoesWhole self.old limit }
         ensures { IsStretched self.old limit met.new self.new }
     {
+        let near = self.limit_for(limit, 0);
+        let mut samples = [0; 5];
         let mut nobody = Trail::silent();
-        let (_, due) = self.make_stretch(limit, &mut nobody, met);
+        let (_, _, due) = self.make_stretch(near, &mut samples, &mut nobody, met);
         forget(nobody);
         self.due = due;
     }
 
-    /// Does the steps, and offers what the last of them gives.
+    /// Does steps, and offers what they give: the samples of those before the last at once, where the sink has room for a line's.
     #[inline(always)]
     fn stretch<S: Sink>(
         &mut self,
@@ -163,7 +193,10 @@ impl Board {
         ensures told { IsTold self.old limit self.new told.old told.new }
     {
         let mut met = None;
-        let (stopped, given) = self.make_stretch(limit, told, &mut met);
+        let mut samples = [0; 5];
+        let near = self.limit_for(limit, sink.room());
+        let (stopped, count, given) = self.make_stretch(near, &mut samples, told, &mut met);
+        sink.samples(&samples[..count]);
         self.give(given, sink)?;
         if stopped {
             return Ok(met);

@@ -138,6 +138,16 @@ impl Sink for Kept {
 
     ghost refused = { Declines };
 
+    ghost room_for = { λ _. 0 };
+
+    /// None: it's offered one sample at a time, of which it may refuse each.
+    fn room(&self) -> usize {
+        0
+    }
+
+    /// Takes the batch of no sample.
+    fn samples(&mut self, _samples: &[i16]) {}
+
     /// Keeps a sample.
     fn sample(&mut self, sample: i16) -> Result<(), Refused> {
         if self.declines() || self.taken.push(Taken::Sample(sample)).is_err() {

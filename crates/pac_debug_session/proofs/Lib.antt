@@ -12,3 +12,4 @@ pub mod Ends
 pub mod PlayedOn
 pub mod Rings
 pub mod Leapt
+pub mod Swallowed

@@ -13,6 +13,18 @@ impl Sink for Silent {
 
     ghost refused = { NeverRefuses };
 
+    ghost room_for = { λ _. 5 };
+
+    /// For all of a line.
+    #[inline]
+    fn room(&self) -> usize {
+        5
+    }
+
+    /// Takes samples.
+    #[inline]
+    fn samples(&mut self, _samples: &[i16]) {}
+
     /// Takes a sample.
     #[inline]
     fn sample(&mut self, _sample: i16) -> Result<(), Refused> {

@@ -20,7 +20,8 @@ use Rattle.pac_host.specs.Passed.{recomposed_state, upgraded_state}
 use Rattle.pac_host.proofs.Becoming.{block-of}
 use Rattle.pac_host.proofs.Recomposing.{recomposed-is-state}
 
-upgraded-of : (is_old : Bool) (board view : BoardValue) → (if is_old then view.state else board.state) ≡ (if is_old then view else board).state
+upgraded-of : (is_old : Bool) (board view : BoardValue)
+    → (if is_old then view.state else board.state) ≡ (if is_old then view else board).state
 upgraded-of true board view = refl
 upgraded-of false board view = refl
 

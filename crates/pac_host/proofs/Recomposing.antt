@@ -127,7 +127,8 @@ line-put roms memory state y line old new is below composed text put =
     let here = get_or lines y [] in
     let left : drop y lines ≡ here ∷ after = drop-cons lines y [] (omega (arith, high, below)) in
     let was : old ≡ (front ++ joined_pieces before) ++ (here ++ (joined_pieces after ++ no_digest)) =
-    text ∙ text-is roms memory y state ∙ ap (λ (rest : List (List ℕ)). with_text state (before ++ rest)) left ∙ apart front before here after no_digest in
+    text ∙ text-is roms memory y state ∙ ap (λ (rest : List (List ℕ)). with_text state (before ++ rest)) left
+    ∙ apart front before here after no_digest in
     let wide : length line ≡ 288 = ap length composed ∙ length-line_of roms memory y in
     let width : length here ≡ length line = is.range.picture.wide y below ∙ sym wide in
     let first = length-front written_version no_digest state refl is.memory in

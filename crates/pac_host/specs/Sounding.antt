@@ -1,5 +1,5 @@
 -- For proofs: the sink that writes samples into a host's buffer and counts the pictures.
-use Rattle.std.specs.Prelude.{◌≡◌, ◌≤◌, ◌<◌, ◌+◌, ◌-◌, ◌^◌, min, length, slice_set}
+use Rattle.std.specs.Prelude.{ℕ, ◌≡◌, ◌≤◌, ◌<◌, ◌+◌, ◌-◌, ◌^◌, min, length, slice_set}
 use Rattle.pac_board.specs.Output.{Output, Sound, Show}
 use Rattle.pac_host.specs.declared.sounds.Sounds.{Sounds}
 
@@ -28,3 +28,7 @@ sounding_took old (Show image) new = CountsPicture old new
 abbrev pub sounding_refused : Sounds → Output → Sounds → Type 0
 sounding_refused old (Sound sample) new = length old.samples.now ≤ old.taken
 sounding_refused old (Show image) new = ⊥
+
+-- what is left of the buffer
+abbrev pub sounding_room : Sounds → ℕ
+sounding_room sink = length sink.samples.now - sink.taken

@@ -2,7 +2,8 @@
 
 ghost use Rattle.pac_board.specs.Output.{Sound};
 ghost use Rattle.pac_board.specs.SinksLaws.{IsOffer, by};
-ghost use Rattle.pac_host.specs.Sounding.{sounding_took, sounding_refused};
+ghost use Rattle.std.specs.Prelude.{◌≡◌, ◌<◌, ◌-◌};
+ghost use Rattle.pac_host.specs.Sounding.{sounding_took, sounding_refused, sounding_room};
 
 use pac_board::{Picture, Refused, Sink};
 
@@ -26,9 +27,19 @@ impl Sounds<'_> {
         if self.taken >= self.samples.len() {
             return Err(Refused);
         }
+        self.keep(sample);
+        Ok(())
+    }
+
+    /// Writes a sample that there is room for after the others.
+    #[inline]
+    fn keep(&mut self, sample: i16)
+        requires { 0 < sounding_room self.old }
+        ensures took { sounding_took self.old (Sound sample) self.new }
+        ensures room { sounding_room self.new ≡ sounding_room self.old - 1 }
+    {
         self.samples[self.taken] = sample;
         self.taken += 1;
-        Ok(())
     }
 }
 
@@ -36,6 +47,22 @@ impl Sink for Sounds<'_> {
     ghost took = { sounding_took };
 
     ghost refused = { sounding_refused };
+
+    ghost room_for = { sounding_room };
+
+    /// What is left of the buffer.
+    #[inline]
+    fn room(&self) -> usize {
+        self.samples.len().saturating_sub(self.taken)
+    }
+
+    /// Writes samples after the others.
+    #[inline]
+    fn samples(&mut self, samples: &[i16]) {
+        for sample in samples {
+            self.keep(*sample);
+        }
+    }
 
     /// Writes a sample after the others, where there is room.
     #[inline]

@@ -3,6 +3,7 @@ pub mod Events
 pub mod Processor
 pub mod Recomposed
 pub mod Bursts
+pub mod Batches
 pub mod NextKinds
 pub mod Waits
 pub mod Trails

@@ -1,5 +1,6 @@
 -- What a wave file was given in parts, and silence sample by sample.
-use Rattle.std.proofs.Common.{◌≡◌, ℕ, pos, ◌+◌, ◌-◌, ◌<◌, List, [], ◌++◌, replicate, length, Result, Ok, Err, sym, ap, subst, ◌∙◌}
+use Rattle.std.proofs.Common.{◌≡◌, ℕ, pos, ◌+◌, ◌-◌, ◌/◌, ◌<◌, ◌≤◌, Bool, false, if◌then◌else◌}
+use Rattle.std.proofs.Common.{List, [], ◌++◌, replicate, length, Result, Ok, Err, sym, ap, subst, ◌∙◌}
 use Rattle.std.proofs.Common.{append_assoc, append-nil, length-append, arith, true, true≢false}
 use Rattle.std.proofs.lemmas.List.{flat_map_more, replicate_more, replicate-append-replicate}
 use Rattle.std.proofs.lemmas.Grind.{flat_map-append}
@@ -11,6 +12,11 @@ use Rattle.pac_out.proofs.Files.{Joins, stops-after, stops-within}
 use Rattle.pac_out.specs.Writes.{StopsAfter}
 use Rattle.pac_media.specs.Samples.{sample_text, samples_text}
 use Rattle.pac_media.specs.Sound.{Sound, Gains, Delivers, SoundFails, FinishesSound}
+
+-- where there is room for a sample, its two bytes fit
+pub room-left : (failed : Bool) (waiting : ℕ) → 0 < (if failed then 0 else (8192 - waiting) / 2) → waiting + 2 ≤ 8192
+room-left true waiting some = absurd (omega (arith, some))
+room-left false waiting some = omega (arith, some)
 
 -- a text in other words: as much of it is taken
 abbrev pub in-other-words : {W : Type 0} {took : W → List ℕ → W → Type 0} {refused : W → W → Type 0} {start : W} {one other : List ℕ}

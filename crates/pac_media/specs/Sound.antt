@@ -1,5 +1,5 @@
 -- For proofs: a wave file while samples come, and what each call leaves of it.
-use Rattle.std.specs.Prelude.{◌≡◌, ℕ, ◌≤◌, List, [], ◌++◌, length, Result, Ok, Err}
+use Rattle.std.specs.Prelude.{◌≡◌, ℕ, ◌-◌, ◌/◌, ◌≤◌, List, [], ◌++◌, length, if◌then◌else◌, Result, Ok, Err}
 use Rattle.pac_out.specs.declared.counted.Counted.{Counted}
 use Rattle.pac_out.specs.declared.WriteFault.{WriteFault}
 use Rattle.pac_out.specs.CountedLaws.{HasTaken, HasStopped}
@@ -49,3 +49,7 @@ abbrev pub FinishesSound : {W A : Type 0} → (W → List ℕ → W → Type 0) 
     → Type 0
 FinishesSound took refused old bytes (Ok done) new = Delivers took old bytes new
 FinishesSound took refused old bytes (Err fault) new = SoundFails took refused old bytes fault new
+
+-- how many samples can be gathered before what waits has to be written; none after a fault
+abbrev pub sample_room : {W : Type 0} → Sound W → ℕ
+sample_room sound = if sound.file.failed then 0 else (8192 - length sound.waiting) / 2

@@ -3,7 +3,7 @@
 ghost use Rattle.std.specs.Prelude.{◌≡◌, ◌<◌, ◌≤◌, ◌+◌, ◌-◌, ◌^◌, [], ◌++◌, length, true, pos, replicate, IsErr, OnOk, MatchBool};
 ghost use Rattle.pac_out.specs.Pieces.{joined_pieces};
 ghost use Rattle.pac_media.specs.Samples.{riff_size, wav_header, sample_text, samples_text};
-ghost use Rattle.pac_media.specs.Sound.{HasText, GivesSound, FinishesSound};
+ghost use Rattle.pac_media.specs.Sound.{HasText, Gains, GivesSound, FinishesSound, sample_room};
 
 use arrayvec::ArrayVec;
 use pac_out::counted::Counted;
@@ -100,6 +100,29 @@ impl<W: Out> WaveFile<W> {
         self.gather(&bytes_of(sample))?;
         self.owed = self.owed.saturating_sub(1);
         Ok(())
+    }
+
+    /// How many samples can be gathered before what waits has to be written; none after a fault.
+    #[inline]
+    pub fn room(&self) -> usize
+        ensures { result ≡ sample_room self.now }
+    {
+        if self.file.check_open().is_err() {
+            return 0;
+        }
+        (8192 - self.waiting.len()) / 2
+    }
+
+    /// Gathers a sample that there is room for.
+    #[inline]
+    pub fn keep(&mut self, sample: i16)
+        requires { 0 < sample_room self.old }
+        ensures put { Gains W.took self.old (sample_text sample) self.new }
+        ensures owed { self.new.owed ≡ self.old.owed - 1 }
+        ensures room { sample_room self.new ≡ sample_room self.old - 1 }
+    {
+        keep(&mut self.waiting, &bytes_of(sample));
+        self.owed = self.owed.saturating_sub(1);
     }
 
     /// Gathers a sample's bytes, and writes what waits where there is no room for them.

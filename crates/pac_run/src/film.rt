@@ -1,6 +1,8 @@
 //! Where a run's pictures and samples go: the film and the wave file, side by side.
 
-ghost use Rattle.std.specs.Prelude.{◌≡◌, Some, IsSome, IfOk};
+ghost use Rattle.std.specs.Prelude.{◌≡◌, ◌<◌, ◌-◌, Some, IsSome, IfOk};
+ghost use Rattle.pac_board_course.specs.Output.{Sound};
+ghost use Rattle.pac_media.specs.Sound.{sample_room};
 ghost use Rattle.pac_board_course.specs.Stretches.{total_frames};
 ghost use Rattle.pac_run.specs.Films.{film_took, film_refused};
 ghost use Rattle.pac_board_course.specs.Course.{way_on};
@@ -27,6 +29,20 @@ impl<F: Out, W: Out> Sink for Film<F, W> {
     ghost took = { film_took F.took W.took };
 
     ghost refused = { film_refused F.took F.refused W.took W.refused };
+
+    ghost room_for = { λ film. sample_room film.wave };
+
+    /// As many as the wave file gathers before it writes.
+    fn room(&self) -> usize {
+        self.wave.room()
+    }
+
+    /// Puts the samples into the wave file.
+    fn samples(&mut self, samples: &[i16]) {
+        for sample in samples {
+            self.keep(*sample);
+        }
+    }
 
     /// Puts the sample into the wave file.
     fn sample(&mut self, sample: i16) -> Result<(), Refused> {
@@ -68,6 +84,16 @@ impl<F: Out, W: Out> Sink for Film<F, W> {
 pub(crate) const FRAME_SAMPLES: u32 = pac_board_course::FRAME_SAMPLES as u32;
 
 impl<F: Out, W: Out> Film<F, W> {
+    /// Puts a sample that there is room for into the wave file.
+    #[inline]
+    fn keep(&mut self, sample: i16)
+        requires { 0 < sample_room self.old.wave }
+        ensures took { film_took F.took W.took self.old (Sound sample) self.new }
+        ensures room { sample_room self.new.wave ≡ sample_room self.old.wave - 1 }
+    {
+        self.wave.keep(sample);
+    }
+
     /// The output that refused.
     pub(crate) fn refusal(&self) -> OutputFault
         requires { IsSome self.now.fault }

@@ -104,6 +104,16 @@ impl Sink for Counting {
 
     ghost refused = { λ _ _ _. Unit {0} };
 
+    ghost room_for = { λ _. 0 };
+
+    /// None: it's offered one sample at a time, of which it may refuse each.
+    fn room(&self) -> usize {
+        0
+    }
+
+    /// Takes the batch of no sample.
+    fn samples(&mut self, _samples: &[i16]) {}
+
     /// Takes a sample.
     fn sample(&mut self, sample: i16) -> Result<(), Refused> {
         self.take(u64::from(sample.cast_unsigned()))

@@ -1,5 +1,6 @@
 -- Samples that are written one after another.
-use Rattle.std.proofs.Common.{◌≡◌, ℕ, ℤ, zero, suc, ◌+◌, ◌<◌, Bool, false, pos, List, [], ◌∷◌, ◌++◌, length, drop, set, replicate, refl, sym, ap, ◌∙◌, arith}
+use Rattle.std.proofs.Common.{◌≡◌, ℕ, ℤ, zero, suc, ◌+◌, ◌<◌, Bool, false, pos}
+use Rattle.std.proofs.Common.{List, [], ◌∷◌, ◌++◌, length, drop, set, replicate, refl, sym, ap, ◌∙◌, arith}
 use Rattle.std.proofs.lemmas.List.{length-append, replicate_more}
 use Rattle.pac_wave.specs.Batch.{accumulators_after_many, sound_samples}
 use Rattle.pac_wave.specs.Wave.{Accumulators, accumulator, accumulators_after, sound_sample}

@@ -38,7 +38,8 @@ returns-clause-watches g c =
     let finds = g.D.FileSystem.finds c.args.disk.now in
     inr (record {
       last = c.deref-2.result.now;
-      is_had = subst (λ commands. finds.bytes Any c.args.files.now.commands.now (Some commands)) (sym c.deref-2.ensures.value) c.in-Ok.ensures.1;
+      is_had = subst (λ commands. finds.bytes Any c.args.files.now.commands.now (Some commands))
+          (sym c.deref-2.ensures.value) c.in-Ok.ensures.1;
       holds = record {
         given = c.in-Ok.read.0;
         parts = c.deref-3.result.now;
