@@ -25,6 +25,7 @@ sys.path[:0] = [str(HERE), str(HERE.parent / "tools/lib")]
 import beside
 import judge_board
 import make
+import rows
 import sums
 
 Row = tuple[str, bool, str]  # what, whether it is right, and the rule by which it differs, or nothing
@@ -112,24 +113,21 @@ def main() -> int:
     if not beside.MAME:
         print("mame.py: mame isn't there; on Debian `apt-get install mame` gives it", file=sys.stderr)
         return 3
-    passed, failed = 0, 0
+    count = rows.Count("mame.py")
     rules: dict[str, list[str]] = {}
     with tempfile.TemporaryDirectory(prefix="conformance-") as place:
         for program in make.programs():
             if program.name == LEFT_OUT:
                 continue
-            rows = rows_of_opcodes if program.name == make.OPCODES else rows_of_program
-            for what, good, rule in rows(program, pathlib.Path(place, program.name)):
-                passed, failed = passed + good, failed + (not good)
-                if not good:
-                    print(f"FAILED: {what}", flush=True)
-                elif rule:
+            played = rows_of_opcodes if program.name == make.OPCODES else rows_of_program
+            for what, good, rule in played(program, pathlib.Path(place, program.name)):
+                count.row(what, good)
+                if good and rule:
                     rules.setdefault(rule, []).append(what)
     for rule, names in rules.items():
         print(f"differs in {len(names)} rows: {rule}")
         print(f"    {', '.join(names[:4])}{', ..' if names[4:] else ''}")
-    print(f"{passed} passed, {failed} failed")
-    return 1 if failed else 0
+    return count.end()
 
 
 if __name__ == "__main__":

@@ -3,12 +3,15 @@ bin/frame, bin/film-sheet and bin/check-programs.
 
 A film is PPM images (binary, P6) one after another, all of one size; a sound a WAV file of one channel with 16 bits a sample.
 """
+from __future__ import annotations
+
 import array
 import os
 import struct
 import sys
 import time
 import zlib
+from collections.abc import Sequence
 
 SAMPLES = 1584  # of a frame
 SCALE = 2  # how often a pixel of the board stands in a picture side by side, in each direction
@@ -20,19 +23,19 @@ DIGITS = "75557 26227 71747 71717 55711 74717 74757 71111 75757 75717".split()
 class Picture:
     """Pixels in rows from the top, three bytes each."""
 
-    def __init__(self, width, height, pixels):
+    def __init__(self, width: int, height: int, pixels: bytes) -> None:
         self.width, self.height, self.pixels = width, height, pixels
 
-    def row(self, y):
+    def row(self, y: int) -> bytes:
         """The bytes of a row."""
         return self.pixels[3 * self.width * y : 3 * self.width * (y + 1)]
 
-    def colour(self, x, y):
+    def colour(self, x: int, y: int) -> str:
         """A pixel's colour, as #RRGGBB."""
         at = 3 * (self.width * y + x)
         return f"#{self.pixels[at : at + 3].hex().upper()}"
 
-    def scaled(self, count):
+    def scaled(self, count: int) -> Picture:
         """The picture with each pixel `count` times in both directions."""
         rows = []
         for y in range(self.height):
@@ -40,13 +43,13 @@ class Picture:
             rows += [b"".join(row[at : at + 3] * count for at in range(0, len(row), 3))] * count
         return Picture(self.width * count, self.height * count, b"".join(rows))
 
-    def turned(self):
+    def turned(self) -> Picture:
         """The picture turned by a quarter, clockwise, as an upright set's screen is."""
         rows = [self.row(y) for y in reversed(range(self.height))]
         columns = (b"".join(row[at : at + 3] for row in rows) for at in range(0, 3 * self.width, 3))
         return Picture(self.height, self.width, b"".join(columns))
 
-    def save(self, path):
+    def save(self, path: str | os.PathLike[str]) -> None:
         """Writes it as PPM where the name ends so, and as PNG elsewhere."""
         if str(path).endswith(".ppm"):
             content = b"P6\n%d %d\n255\n" % (self.width, self.height) + self.pixels
@@ -59,12 +62,12 @@ class Picture:
             file.write(content)
 
 
-def fault_text(fault):
+def fault_text(fault: BaseException) -> str:
     """A fault as it is told: of a file its name and why, of anything else its words."""
     return f"{fault.filename}: {fault.strerror}" if isinstance(fault, OSError) else str(fault)
 
 
-def chunk(kind, content):
+def chunk(kind: bytes, content: bytes) -> bytes:
     """A part of a PNG file."""
     return struct.pack(">I", len(content)) + kind + content + struct.pack(">I", zlib.crc32(kind + content))
 
@@ -72,7 +75,7 @@ def chunk(kind, content):
 class Film:
     """The pictures of a film, read one by one."""
 
-    def __init__(self, path):
+    def __init__(self, path: str | os.PathLike[str]) -> None:
         self.path = path
         with open(path, "rb") as file:
             start = file.read(64)
@@ -84,7 +87,7 @@ class Film:
         self.size = self.head + 3 * self.width * self.height
         self.count = os.path.getsize(path) // self.size
 
-    def __getitem__(self, number):
+    def __getitem__(self, number: int) -> Picture:
         """A picture, counted from 0."""
         if not 0 <= number < self.count:
             raise IndexError
@@ -93,7 +96,7 @@ class Film:
             return Picture(self.width, self.height, file.read(self.size - self.head))
 
 
-def samples(path):
+def samples(path: str | os.PathLike[str]) -> array.array[int]:
     """The samples of a sound."""
     with open(path, "rb") as file:
         content = file.read()
@@ -107,7 +110,7 @@ def samples(path):
     return found
 
 
-def beside(pictures, columns=None, gap=8):
+def beside(pictures: Sequence[Picture], columns: int | None = None, gap: int = 8) -> Picture:
     """Pictures of one size beside one another, so many a row, as one picture."""
     width, height, columns = pictures[0].width, pictures[0].height, columns or len(pictures)
     across = columns * (width + gap) - gap
@@ -121,14 +124,14 @@ def beside(pictures, columns=None, gap=8):
     return Picture(across, len(rows), b"".join(rows))
 
 
-def difference(one, other):
+def difference(one: Picture, other: Picture) -> Picture:
     """A picture that is white where two differ, and dark grey where they don't."""
     return Picture(one.width, one.height, b"".join(
         b"\xff\xff\xff" if one.pixels[at : at + 3] != other.pixels[at : at + 3] else b"\x20\x20\x20" for at in range(0, len(one.pixels), 3)
     ))
 
 
-def numbered(picture, number, scale=3):
+def numbered(picture: Picture, number: int, scale: int = 3) -> Picture:
     """The picture with a number in its upper left corner, black on white."""
     pixels, digits = bytearray(picture.pixels), [DIGITS[int(digit)] for digit in str(number)]
     for y in range(7 * scale):
@@ -141,19 +144,19 @@ def numbered(picture, number, scale=3):
     return Picture(picture.width, picture.height, bytes(pixels))
 
 
-def pixels_apart(one, other):
+def pixels_apart(one: Picture, other: Picture) -> tuple[int, tuple[int, int]]:
     """How many pixels of two pictures differ, and the first: its x and y."""
-    count, first = 0, None
+    count, first = 0, (0, 0)
     for y in range(one.height):
         row, beside = one.row(y), other.row(y)
         if row != beside:
             places = [x for x in range(one.width) if row[3 * x : 3 * x + 3] != beside[3 * x : 3 * x + 3]]
-            first = first or (places[0], y)
+            first = first if count else (places[0], y)
             count += len(places)
     return count, first
 
 
-def compare_films(one, other, picture):
+def compare_films(one: Film, other: Film, picture: str | os.PathLike[str] | None) -> list[str]:
     """The lines about two films; none where they are alike."""
     if (one.width, one.height) != (other.width, other.height):
         return [f"pictures of {one.width} by {one.height} and of {other.width} by {other.height} pixels"]
@@ -178,7 +181,7 @@ def compare_films(one, other, picture):
     return told
 
 
-def compare_sounds(one, other):
+def compare_sounds(one: array.array[int], other: array.array[int]) -> list[str]:
     """The lines about two sounds; none where they are alike."""
     apart = [at for at, (mine, theirs) in enumerate(zip(one, other)) if mine != theirs]
     told = []
@@ -191,7 +194,7 @@ def compare_sounds(one, other):
     return told
 
 
-def compare(one, other, picture=None):
+def compare(one: str | os.PathLike[str], other: str | os.PathLike[str], picture: str | os.PathLike[str] | None = None) -> list[str]:
     """The lines about two files; none where they are alike."""
     empty = [path for path in (one, other) if os.path.getsize(path) == 0]
     if empty:

@@ -8,6 +8,7 @@ import time
 from dataclasses import dataclass, field
 
 import bitcode
+import rows
 
 ROOT = pathlib.Path(__file__).resolve().parents[2]
 OUT, HOSTS, CHECKS, BIN = ROOT / "hosts/out", ROOT / "hosts", ROOT / "tools/check", ROOT / "bin"
@@ -59,26 +60,25 @@ def run(job: Job) -> tuple[int, str]:
 
 def try_all(teller: str, what: str, jobs: dict[str, Job]) -> dict[str, bool]:
     """Runs jobs, as many at a time as there are processors, and tells how far it is: each job's row, and whether it came to its status."""
-    rows = {}
+    tried = {}
     with concurrent.futures.ThreadPoolExecutor(os.cpu_count()) as pool:
         waiting = {pool.submit(run, job): name for name, job in jobs.items()}
         begun = time.monotonic()
         while waiting:
             for future in concurrent.futures.wait(waiting, TELLING, concurrent.futures.FIRST_COMPLETED).done:
                 name, (status, said) = waiting.pop(future), future.result()
-                rows[f"{what}: {name}"] = is_so = status == jobs[name].status
+                tried[f"{what}: {name}"] = is_so = status == jobs[name].status
                 if not is_so:
                     lines = said.splitlines()
                     failed = [line for line in lines[:-SHOWN] if line.startswith("FAILED")]
                     print("\n".join([f"{what}: {name}: status {status}", *failed[:SHOWN], *lines[-SHOWN:]]), flush=True)
             if waiting:
                 print(f"{teller}: {what}: {', '.join(waiting.values())}, {time.monotonic() - begun:.0f} s", file=sys.stderr, flush=True)
-    return rows
+    return tried
 
 
-def end(rows: dict[str, bool]) -> int:
+def end(teller: str, tried: dict[str, bool]) -> int:
     """Prints rows, and the last line: the exit status."""
-    for what, is_so in rows.items():
-        print(what if is_so else f"FAILED: {what}", flush=True)
-    print(f"{sum(rows.values())} passed, {len(rows) - sum(rows.values())} failed")
-    return 0 if all(rows.values()) else 1
+    count = rows.Count(teller, is_shown=True)
+    count.rows(tried.items())
+    return count.end()
