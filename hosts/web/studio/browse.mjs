@@ -1,6 +1,7 @@
-// What the tests of the studio do in Chromium, beside what hosts/web/browser.mjs does.
+// What the tests of the studio do in a browser, beside what hosts/web/browser.mjs does.
 
 import { Browser } from '../browser.mjs';
+import { Firefox } from './firefox.mjs';
 
 const KEYS = {
     ArrowLeft: 37, ArrowUp: 38, ArrowRight: 39, ArrowDown: 40, Digit1: 49, Digit5: 53, KeyP: 80, Comma: 188, Period: 190, F9: 120, F10: 121, Tab: 9,
@@ -9,8 +10,9 @@ const KEYS = {
 const LONGEST = 60; // seconds until the page has to be so far
 const NAMES = { Digit1: '1', Digit5: '5', KeyP: 'p', Comma: ',', Period: '.' };
 
-// A page in a Chromium of its own, and what went wrong in it.
+// A page in a browser of its own, and what went wrong in it.
 export async function opened(program, address, { width = 1440, height = 900 } = {}) {
+    if (program.startsWith('firefox')) return Firefox.open(program, address, { width, height });
     const browser = await Browser.open(program, 'about:blank');
     browser.faults = [];
     const read = browser.read.bind(browser);

@@ -1,6 +1,6 @@
-// Tries the studio in Chromium without a window: tools/check/studio calls it.
+// Tries the studio in Chromium without a window, or in Firefox: tools/check/studio calls it.
 //
-//     node hosts/web/studio/try.mjs PAGE PACBOARD FOLDER [ADDRESS FILE]
+//     node hosts/web/studio/try.mjs [--firefox] PAGE PACBOARD FOLDER [ADDRESS FILE]
 //
 // PAGE is docs/studio.html, PACBOARD the built program, FOLDER one for what is made on the way; ADDRESS is that of a page that ./play serves, and
 // FILE the source that it follows. The last line is `N passed, M failed`.
@@ -14,7 +14,9 @@ import { programOf } from '../browser.mjs';
 import { opened } from './browse.mjs';
 import { hostile } from './hostile.mjs';
 
-const [PAGE, PACBOARD, FOLDER, ADDRESS, FILE] = process.argv.slice(2);
+const WORDS = process.argv.slice(2), IS_FIREFOX = WORDS[0] === '--firefox';
+const [PAGE, PACBOARD, FOLDER, ADDRESS, FILE] = WORDS.slice(IS_FIREFOX ? 1 : 0);
+const BROWSER = programOf(IS_FIREFOX ? ['firefox-esr', 'firefox'] : ['chromium', 'chromium-browser', 'google-chrome']);
 const ROOT = path.resolve(path.dirname(PAGE), '..');
 const IMAGE = 193551, HEAD = 15; // bytes of an image, and of its head
 const FILMED = 200; // tenths of a second, at most
@@ -90,7 +92,9 @@ async function playing(page) {
     const rate = await page.value(`(async () => { const from = studio.loop.frames, since = performance.now(); await new Promise((then) => setTimeout(then, 3000));
         return [(studio.loop.frames - from) / (performance.now() - since) * 1000, studio.speaker.isOn, studio.speaker.dry / 96000]; })()`);
     row('60.6 frames a second, as far as the machine has time', rate[0] > SLOWEST && rate[0] < 62, String(rate));
-    row('with sound', rate[1]);
+    const isHeard = !IS_FIREFOX || await page.value("studio.speaker.context?.state === 'running'");
+    if (isHeard) row('with sound', rate[1]);
+    else console.log('left out: sound, and a film with it, since this Firefox finds no device for it');
     console.log(`${rate[0].toFixed(2)} frames a second with sound, of which ${rate[2].toFixed(2)} s came too late`);
     await page.value(rest);
     const { frame, state } = await page.value('({ frame: studio.session.run.frame, state: Array.from(studio.session.run.board.save()) })');
@@ -170,8 +174,8 @@ async function holding(page) {
 }
 
 // The player on a phone.
-async function touching(program) {
-    const page = await opened(program, pathToFileURL(PAGE).href, { width: 390, height: 844 });
+async function touching() {
+    const page = await opened(BROWSER, pathToFileURL(PAGE).href, { width: 390, height: 844 });
     await page.call('Emulation.setTouchEmulationEnabled', { enabled: true });
     await page.call('Emulation.setDeviceMetricsOverride', { width: 390, height: 844, deviceScaleFactor: 2, mobile: true });
     await page.pause(0.5);
@@ -281,6 +285,17 @@ async function translated(page) {
     await page.until("document.getElementById('problem').hidden");
 }
 
+// A film of what is played, as the browser records it.
+async function filming(page) {
+    await page.value("document.querySelector('[data-save=film]').click()");
+    const size = '(studio.exits.film?.pieces.reduce((sum, { size }) => sum + size, 0) ?? 0)';
+    for (let tenth = 0; tenth < FILMED && await page.value(size) < 10_000; tenth++) await page.pause(0.1);
+    const told = await page.value(`JSON.stringify([${size}, studio.exits.film?.recorder.state, studio.speaker.context?.state, studio.speaker.isOn, studio.loop.isPlaying, studio.loop.frames,
+        studio.exits.film?.recorder.stream.getTracks().map(({ kind, readyState, muted }) => [kind, readyState, muted]), document.visibilityState])`);
+    const film = await page.saved("document.querySelector('[data-save=film]').click()");
+    row('a film is recorded', film.bytes.length > 10_000 && film.bytes.readUInt32BE(0) === 0x1a45dfa3, `${film.name} ${film.bytes.length} ${told}`);
+}
+
 // What goes out and comes in again.
 async function outside(page, script) {
     const state = await page.saved("document.querySelector('[data-save=state]').click()");
@@ -297,24 +312,18 @@ async function outside(page, script) {
     row('a script is read as it was written', (await page.saved("document.querySelector('[data-save=script]').click()")).bytes.equals(script));
     const picture = await page.saved("document.querySelector('[data-save=picture]').click()");
     row('a picture is a PNG', picture.bytes.readUInt32BE(0) === 0x89504e47 && picture.bytes.readUInt32BE(16) === 288);
-    await page.value("document.querySelector('[data-save=film]').click()");
-    const size = '(studio.exits.film?.pieces.reduce((sum, { size }) => sum + size, 0) ?? 0)';
-    for (let tenth = 0; tenth < FILMED && await page.value(size) < 10_000; tenth++) await page.pause(0.1);
-    const told = await page.value(`JSON.stringify([${size}, studio.exits.film?.recorder.state, studio.speaker.context?.state, studio.speaker.isOn, studio.loop.isPlaying, studio.loop.frames,
-        studio.exits.film?.recorder.stream.getTracks().map(({ kind, readyState, muted }) => [kind, readyState, muted]), document.visibilityState])`);
-    const film = await page.saved("document.querySelector('[data-save=film]').click()");
-    row('a film is recorded', film.bytes.length > 10_000 && film.bytes.readUInt32BE(0) === 0x1a45dfa3, `${film.name} ${film.bytes.length} ${told}`);
+    if (await page.value("studio.speaker.context?.state === 'running'") || !IS_FIREFOX) await filming(page);
     await page.value(rest);
     const source = await page.value('studio.editor.text');
     await page.value('studio.exits.link()');
     const address = await page.value('location.href');
-    const linked = await opened(programOf(['chromium', 'chromium-browser', 'google-chrome']), address);
+    const linked = await opened(BROWSER, address);
     row('a link has the source and what was played in it', (await linked.value('studio.editor.text')) === source
         && (await linked.value('studio.session.tape.length')) > 0);
     await linked.close();
     const shown = await page.canvas(), game = await page.saved("document.getElementById('publish').click()"), file = path.join(FOLDER, 'mine.html');
     writeFileSync(file, game.bytes);
-    const alone = await opened(programOf(['chromium', 'chromium-browser', 'google-chrome']), pathToFileURL(file).href);
+    const alone = await opened(BROWSER, pathToFileURL(file).href);
     await alone.value('game.loop.pause()');
     const first = await alone.value('(() => { const { game: it } = game; it.board.begin(it.roms); for (let frame = 0; frame < 60; frame++) { it.board.hold(it.masks[frame]); it.board.run(16500); } it.show(); return it.masks.length; })()');
     const wanted = played(source, scriptTo(script.toString(), 60));
@@ -353,8 +362,7 @@ async function following(page) {
 }
 
 async function main() {
-    const program = programOf(['chromium', 'chromium-browser', 'google-chrome']);
-    const page = await opened(program, pathToFileURL(PAGE).href);
+    const page = await opened(BROWSER, pathToFileURL(PAGE).href);
     try {
         const script = await playing(page);
         await moving(page);
@@ -368,9 +376,10 @@ async function main() {
     } finally {
         await page.close();
     }
-    await touching(program);
+    if (IS_FIREFOX) console.log('left out: fingers on a phone, which this Firefox has no way to');
+    else await touching();
     if (ADDRESS) {
-        const live = await opened(program, ADDRESS);
+        const live = await opened(BROWSER, ADDRESS);
         await following(live);
         row('nor with ./play', live.faults.length === 0, live.faults.join('\n'));
         await live.close();
