@@ -124,7 +124,7 @@ int main(void)
         void *(*call)(void *);
         size_t most;
     } calls[] = {
-        {"pac_init", init, 32}, {"pac_hold", hold, 32}, {"pac_exec", exec, 200}, {"pac_draw", draw, 32}, {"pac_peek", peek, 32},
+        {"pac_init", init, 32}, {"pac_hold", hold, 32}, {"pac_exec", exec, 208}, {"pac_draw", draw, 32}, {"pac_peek", peek, 32},
         {"pac_reset", reset, 32}, {"pac_save", save, 32}, {"pac_load", load, 32}, {"pac_load of version 1", load_old, 32},
     };
     lay_old();
