@@ -223,6 +223,14 @@ int memory_statx(int at, const char *path, int flags, unsigned mask, struct stat
     return 0;
 }
 
+/* No file here is a link. */
+int64_t memory_readlink(const char *path, char *to, size_t room)
+{
+    (void)to, (void)room;
+    struct file *file = file_of(path);
+    return file == NULL || !file->is_there ? fail(ENOENT) : fail(EINVAL);
+}
+
 int memory_pipe2(int *ends, int flags)
 {
     (void)ends, (void)flags;
