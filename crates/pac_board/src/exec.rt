@@ -194,7 +194,7 @@ impl Board {
     {
         let mut met = None;
         let mut samples = [0; 5];
-        let near = self.limit_for(limit, sink.room());
+        let near = self.limit_for(limit, S::room(sink));
         let (stopped, count, given) = self.make_stretch(near, &mut samples, told, &mut met);
         sink.samples(&samples[..count]);
         self.give(given, sink)?;
