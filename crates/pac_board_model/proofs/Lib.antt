@@ -21,3 +21,5 @@ pub mod LinesComposed
 pub mod FrameSamples
 pub mod HostCarried
 pub mod HostKeeps
+pub mod Muted
+pub mod MemoryAlone

@@ -14,4 +14,5 @@ pub mod Trace
 pub mod TraceLaws
 pub mod Host
 pub mod Laws
+pub mod MemoryLaws
 pub mod Resumed

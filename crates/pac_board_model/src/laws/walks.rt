@@ -1,6 +1,7 @@
 //! Laws of steps, walks and runs.
 
 ghost use Rattle.pac_board_model.specs.Laws.{StepsAreTimely, RunsEnd, RunsAreJoined, WalksEnd, WalksJoin, WalksGoOn, WalksAreTimed, RunsGoByFrames};
+ghost use Rattle.pac_board_model.specs.MemoryLaws.{MemoryDecides};
 
 /// A step that goes on takes 4 to 23 T-states.
 pub fn steps_are_timely<Board>()
@@ -40,4 +41,10 @@ pub fn walks_are_timed<Board>()
 /// A run is its frames, one played after another.
 pub fn runs_go_by_frames<Board>()
     ensures { RunsGoByFrames Board }
+{}
+
+/// Memory alone decides what a board does: registers, RAM, time, steps and stop are those of a board without voices and without a
+/// picture, and boards whose memories begin alike have one history. So samples and lines may be made later, from the history.
+pub fn memory_decides()
+    ensures { MemoryDecides }
 {}

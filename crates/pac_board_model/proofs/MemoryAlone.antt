@@ -1,0 +1,97 @@
+-- Memory alone decides what a board does.
+use Rattle.std.proofs.Common.{◌≡◌, ℕ, ℤ, List, [], ◌∷◌, refl, ap, ◌∙◌, sym}
+use Rattle.std.specs.Option.{option_or}
+use Rattle.pac_cpu.specs.Instructions.{decoded_instruction}
+use Rattle.pac_cpu.specs.PlacedItems.{Item}
+use Rattle.pac_cpu.specs.Reads.{four_from}
+use Rattle.pac_map.specs.Entry.{Entry, Write, Vector, Sample, Line, Blank, Accept, Reset, Hold, view_after}
+use Rattle.pac_map.specs.Place.{read_place}
+use Rattle.pac_map.specs.RomParts.{Parts}
+use Rattle.pac_map.specs.View.{View}
+use Rattle.pac_board_model.specs.BoardView.{BoardView, board_after}
+use Rattle.pac_board_model.specs.Carried.{moment_view}
+use Rattle.pac_board_model.specs.CarriedProofs.{Carries}
+use Rattle.pac_board_model.specs.History.{read}
+use Rattle.pac_board_model.specs.MemoryLaws.{by_memory, MemoryWalksAlone, HistoryIsOfMemory, MemoryDecides}
+use Rattle.pac_board_model.specs.Output.{Image}
+use Rattle.pac_board_model.specs.Queries.{history_request, is_reset_due}
+use Rattle.pac_board_model.specs.Step.{Questions, Moment, step}
+use Rattle.pac_board_model.specs.Trace.{item_in, by_history, by_view}
+use Rattle.pac_board_model.specs.Walk.{walk}
+use Rattle.pac_board_model.proofs.Carried.{walk-carried, step-carried}
+use Rattle.pac_board_model.proofs.Muted.{with_other_outputs, muted_walk, walk-alike}
+
+abbrev memory : BoardView → View
+memory board = board.memory
+
+memory-after : (set : Parts) (board : BoardView) (entry : Entry)
+    → memory (board_after set board entry) ≡ view_after (memory board) entry
+memory-after set board (Write place byte) = refl
+memory-after set board (Vector byte) = refl
+memory-after set board (Sample number) = refl
+memory-after set board (Line frame line) = refl
+memory-after set board (Blank frame) = refl
+memory-after set board Accept = refl
+memory-after set board Reset = refl
+memory-after set board (Hold mask) = refl
+
+memory-carries : (set : Parts) (sample : View → ℤ) (image : View → Image)
+    → Carries memory (with_other_outputs (by_view set) (λ board. sample board.memory) (λ board. image board.memory))
+    (by_memory set sample image)
+memory-carries set sample image = record {
+  put = memory-after set;
+  read = λ board at. refl;
+  instruction = λ board at. refl;
+  request = λ board. refl;
+  sample = λ board. refl;
+  image = λ board. refl;
+  is_due = λ board. refl;
+}
+
+walks-alone : MemoryWalksAlone
+walks-alone set sample image limit tries from =
+    let heard = λ (board : BoardView). sample board.memory in
+    let seen = λ (board : BoardView). image board.memory in
+    let ask = with_other_outputs (by_view set) heard seen in
+    let alike = walk-alike (by_view set) heard seen limit from tries in
+    let carried =
+    walk-carried memory (step ask) (step (by_memory set sample image))
+    (step-carried memory ask (by_memory set sample image) (memory-carries set sample image)) limit from tries in
+    record {
+      now = ap (λ walked. moment_view memory walked.now) alike ∙ ap (λ walked. walked.now) carried;
+      stop = ap (λ walked. walked.stop) alike ∙ ap (λ walked. walked.stop) carried;
+    }
+
+-- the history's account of a board of this memory, which gives out nothing that matters
+abbrev silent_history : Parts → List Item → ℤ → Image → View → Questions (List Entry)
+silent_history set items sound shown view = record {
+  put = λ entries entry. entry ∷ entries;
+  read = λ entries at. read set.program view entries at;
+  instruction = λ entries at.
+      option_or (item_in items (read_place at))
+      (decoded_instruction (four_from (λ byte. read set.program view entries byte) at));
+  request = λ entries. history_request view entries;
+  sample = λ entries. sound;
+  image = λ entries. shown;
+  is_due = λ entries. is_reset_due view entries;
+}
+
+history-alike : (set : Parts) (items : List Item) (sound : ℤ) (shown : Image) (start : BoardView) (limit tries : ℕ)
+    (from : Moment (List Entry))
+    → muted_walk (walk (step (by_history set items start)) limit from tries)
+    ≡ muted_walk (walk (step (silent_history set items sound shown start.memory)) limit from tries)
+history-alike set items sound shown start limit tries from =
+    walk-alike (by_history set items start) (λ entries. sound) (λ entries. shown) limit from tries
+
+history-is-of-memory : HistoryIsOfMemory
+history-is-of-memory set items start other limit tries from same =
+    let sound = (by_history set items start).sample [] in
+    let shown = (by_history set items start).image [] in
+    let alike =
+    history-alike set items sound shown start limit tries from
+    ∙ ap (λ view. muted_walk (walk (step (silent_history set items sound shown view)) limit from tries)) same
+    ∙ sym (history-alike set items sound shown other limit tries from) in
+    record { now = ap (λ walked. walked.now) alike; stop = ap (λ walked. walked.stop) alike }
+
+pub memory-decides : MemoryDecides
+memory-decides = record { walks = walks-alone; history = history-is-of-memory }
