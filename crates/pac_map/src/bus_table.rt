@@ -70,22 +70,23 @@ fn read_port(offset: u8) -> BusPlace
     }
 }
 
-/// A place of the port page, whose low eight address lines are wired, when written.
+/// A place of the port page, whose low eight address lines are wired, when written. The watchdog is asked for first: programs that wait
+/// write there most.
 #[inline(always)]
-fn write_port(offset: u8) -> BusPlace
+pub(crate) fn write_port(offset: u8) -> BusPlace
     ensures place { result ≡ spec.write_port offset }
     ensures in_range { place_proofs.IsPlaceInRange result }
 {
-    if offset < 0x40 {
+    if offset >= 0xC0 {
+        BusPlace::Kick
+    } else if offset < 0x40 {
         BusPlace::Latch(offset % 8)
     } else if offset < 0x60 {
         BusPlace::Wave(offset - 0x40)
     } else if offset < 0x70 {
         BusPlace::Coordinate(offset - 0x60)
-    } else if offset < 0xC0 {
-        BusPlace::Nothing
     } else {
-        BusPlace::Kick
+        BusPlace::Nothing
     }
 }
 
