@@ -1,3 +1,4 @@
 pub mod Sums
 pub mod Registers
 pub mod Batch
+pub mod Levels

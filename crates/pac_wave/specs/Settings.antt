@@ -1,13 +1,21 @@
 -- For proofs: what the code keeps of a voice, and the range of what a voice puts into the sound.
-use Rattle.std.specs.Prelude.{ℕ, ℤ, pos, negsuc, ◌≤ℤ◌, List}
+use Rattle.std.specs.Prelude.{ℕ, ℤ, pos, negsuc, ◌≤ℤ◌, List, [], ◌∷◌}
 use Rattle.pac_wave.specs.declared.Voice.{Voice}
 use Rattle.pac_wave.specs.declared.settings.Setting.{Setting}
-use Rattle.pac_wave.specs.Wave.{waveform, volume, frequency}
+use Rattle.pac_wave.specs.Wave.{waveform, volume, frequency, amplified_sample}
+
+-- what each sample of a waveform comes to at a volume
+abbrev pub levels_at : ℕ → List ℤ
+levels_at loudness =
+    amplified_sample 0 loudness ∷ amplified_sample 1 loudness ∷ amplified_sample 2 loudness ∷ amplified_sample 3 loudness ∷
+    amplified_sample 4 loudness ∷ amplified_sample 5 loudness ∷ amplified_sample 6 loudness ∷ amplified_sample 7 loudness ∷
+    amplified_sample 8 loudness ∷ amplified_sample 9 loudness ∷ amplified_sample 10 loudness ∷ amplified_sample 11 loudness ∷
+    amplified_sample 12 loudness ∷ amplified_sample 13 loudness ∷ amplified_sample 14 loudness ∷ amplified_sample 15 loudness ∷ []
 
 abbrev pub voice_setting : List ℕ → Voice → Setting
 voice_setting registers voice = record {
   waveform = waveform registers voice;
-  volume = volume registers voice;
+  levels = levels_at (volume registers voice);
   frequency = frequency registers voice;
 }
 

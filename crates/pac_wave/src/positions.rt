@@ -12,7 +12,7 @@ use crate::Voice;
 use crate::settings::Settings;
 use std::marker::Model;
 
-/// The accumulators, 20 bits each.
+/// 4096 times the accumulators, which have 20 bits each.
 #[derive(Drop)]
 pub(crate) struct Positions {
     first: u32,
@@ -21,13 +21,19 @@ pub(crate) struct Positions {
 }
 
 impl Model for Positions {
+    ghost use Rattle.std.specs.Prelude.{◌≡◌, ◌/◌, ◌%◌};
     ghost use Rattle.pac_wave.specs.Wave.{Accumulators, Fit20Bits};
 
     ghost Value = { Accumulators };
 
-    ghost view = { λ all. record { first = all.first; second = all.second; third = all.third } };
+    ghost view = { λ all. record { first = all.first / 4096; second = all.second / 4096; third = all.third / 4096 } };
 
-    ghost invariant = { λ all. Fit20Bits (record { first = all.first; second = all.second; third = all.third }) };
+    ghost invariant = { λ all. record {
+      first : all.first % 4096 ≡ 0;
+      second : all.second % 4096 ≡ 0;
+      third : all.third % 4096 ≡ 0;
+      fit : Fit20Bits (record { first = all.first / 4096; second = all.second / 4096; third = all.third / 4096 });
+    } };
 }
 
 /// The sound sample that three voices add up to.
@@ -50,9 +56,9 @@ impl Positions {
     {
         let [first, second, third] = accumulators;
         Positions {
-            first,
-            second,
-            third,
+            first: 4096 * first,
+            second: 4096 * second,
+            third: 4096 * third,
         }
     }
 
@@ -71,7 +77,7 @@ impl Positions {
         ensures of { accumulators_of_list result ≡ self.now }
         ensures below { Fit20Bits self.now }
     {
-        [self.first, self.second, self.third]
+        [self.first / 4096, self.second / 4096, self.third / 4096]
     }
 
     /// The next sound sample while sound is on, after which the voices move on.
@@ -82,9 +88,9 @@ impl Positions {
         ensures within { wave_proofs.IsSample result }
     {
         let sample = mixed(
-            settings.level(prom, Voice::First, self.first),
-            settings.level(prom, Voice::Second, self.second),
-            settings.level(prom, Voice::Third, self.third),
+            settings.level(prom, Voice::First, self.first / 4096),
+            settings.level(prom, Voice::Second, self.second / 4096),
+            settings.level(prom, Voice::Third, self.third / 4096),
         );
         self.first = settings.grown(Voice::First, self.first);
         self.second = settings.grown(Voice::Second, self.second);

@@ -1,8 +1,8 @@
 //! What the registers say of the voices, told once for as many samples as they stay the same.
 
-ghost use Rattle.std.specs.Prelude.{◌≡◌, ◌<◌, ◌≤◌, ◌+◌, ◌*◌, true, take, drop};
+ghost use Rattle.std.specs.Prelude.{◌≡◌, ◌<◌, ◌≤◌, ◌+◌, ◌*◌, ◌/◌, ◌%◌, ℕ, true, take, drop};
 ghost use Rattle.std.specs.Int.{w64, to_le_bytes};
-ghost use Rattle.pac_wave.specs.Settings.{IsLevel, voice_setting};
+ghost use Rattle.pac_wave.specs.Settings.{IsLevel, levels_at, voice_setting};
 ghost use Rattle.pac_wave.specs.Wave as spec;
 
 use crate::{Voice, amplified};
@@ -13,8 +13,8 @@ use std::marker::Model;
 pub(crate) struct Setting {
     /// The number of its waveform, 0 to 7.
     pub(crate) waveform: u8,
-    /// Its volume, 0 to 15.
-    pub(crate) volume: u8,
+    /// What each sample of a waveform, 0 to 15, comes to at its volume.
+    pub(crate) levels: [i16; 16],
     /// Its frequency, 20 bits.
     pub(crate) frequency: u32,
 }
@@ -85,13 +85,49 @@ fn frequency(registers: &[u8; 32], voice: Voice) -> u32
     }
 }
 
+/// What each sample of a waveform, 0 to 15, comes to at a volume.
+#[inline]
+fn levels(volume: u8) -> [i16; 16]
+    requires { volume < 16 }
+    ensures { result ≡ levels_at volume }
+{
+    [
+        amplified(0, volume),
+        amplified(1, volume),
+        amplified(2, volume),
+        amplified(3, volume),
+        amplified(4, volume),
+        amplified(5, volume),
+        amplified(6, volume),
+        amplified(7, volume),
+        amplified(8, volume),
+        amplified(9, volume),
+        amplified(10, volume),
+        amplified(11, volume),
+        amplified(12, volume),
+        amplified(13, volume),
+        amplified(14, volume),
+        amplified(15, volume),
+    ]
+}
+
+/// What a sample of a waveform comes to.
+#[inline(always)]
+fn level_of(levels: &[i16; 16], sample: u8) -> i16
+    requires { sample < 16 }
+    ensures level { (volume : ℕ) → levels.now ≡ levels_at volume → volume < 16 → result ≡ spec.amplified_sample sample volume }
+    ensures within { (volume : ℕ) → levels.now ≡ levels_at volume → volume < 16 → IsLevel result }
+{
+    levels[usize::from(sample)]
+}
+
 /// What the registers say of a voice.
 fn read_setting(registers: &[u8; 32], voice: Voice) -> Setting
     ensures { result ≡ voice_setting registers.now voice }
 {
     Setting {
         waveform: waveform(registers, voice),
-        volume: volume(registers, voice),
+        levels: levels(volume(registers, voice)),
         frequency: frequency(registers, voice),
     }
 }
@@ -167,43 +203,39 @@ impl Settings {
     }
 
     /// What the registers say of a voice.
-    #[inline]
-    fn setting(&self, voice: Voice) -> Setting
-        ensures setting { result ≡ voice_setting self.now voice }
-        ensures waveform { result.waveform < 8 }
-        ensures volume { result.volume < 16 }
-        ensures frequency { result.frequency < spec.accumulator_range }
+    #[inline(always)]
+    fn setting(&self, voice: Voice) -> &Setting
+        ensures setting { result.now ≡ voice_setting self.now voice }
+        ensures waveform { result.now.waveform < 8 }
+        ensures volume { spec.volume self.now voice < 16 }
+        ensures frequency { result.now.frequency < spec.accumulator_range }
     {
         match voice {
-            Voice::First => self.first,
-            Voice::Second => self.second,
-            Voice::Third => self.third,
+            Voice::First => &self.first,
+            Voice::Second => &self.second,
+            Voice::Third => &self.third,
         }
     }
 
     /// What a voice puts into the sound, from the wave PROM's 256 bytes.
-    #[inline]
+    #[inline(always)]
     pub(crate) fn level(&self, prom: &[u8; 256], voice: Voice, accumulator: u32) -> i16
         requires accumulator { accumulator < spec.accumulator_range }
         ensures level { result ≡ spec.level prom.now self.now voice accumulator }
         ensures within { IsLevel result }
     {
-        let Setting {
-            waveform,
-            volume,
-            ..
-        } = self.setting(voice);
-        let place = 32 * usize::from(waveform) + (accumulator / 32768) as usize;
-        amplified(prom[place] % 16, volume)
+        let setting = self.setting(voice);
+        let place = 32 * usize::from(setting.waveform) + (accumulator / 32768) as usize;
+        level_of(&setting.levels, prom[place] % 16)
     }
 
-    /// An accumulator a sample later.
-    #[inline]
-    pub(crate) fn grown(&self, voice: Voice, accumulator: u32) -> u32
-        requires accumulator { accumulator < spec.accumulator_range }
-        ensures grown { result ≡ spec.grown_accumulator self.now voice accumulator }
-        ensures below { result < spec.accumulator_range }
+    /// 4096 times an accumulator, a sample later: so it has all the bits of its word, and no sum needs a mask.
+    #[inline(always)]
+    pub(crate) fn grown(&self, voice: Voice, position: u32) -> u32
+        requires whole { position % 4096 ≡ 0 }
+        ensures grown { result / 4096 ≡ spec.grown_accumulator self.now voice (position / 4096) }
+        ensures whole { result % 4096 ≡ 0 }
     {
-        (accumulator + self.setting(voice).frequency) % 0x10_0000
+        position.wrapping_add(4096 * self.setting(voice).frequency)
     }
 }
