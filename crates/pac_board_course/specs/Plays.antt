@@ -3,7 +3,7 @@ use Rattle.std.specs.Prelude.{◌≡◌, ◌≢◌, ◌<◌, ◌≤◌, ℕ, suc
 use mathlib.Core.List.{IsPrefix}
 use Rattle.pac_board.specs.Stop.{Stop}
 use Rattle.pac_board.specs.Output.{Output}
-use Rattle.pac_board.specs.CallsLaws.{Offers, board_after_step, once_at, outputs_in}
+use Rattle.pac_board.specs.CallsLaws.{board_after_step, once_at, outputs_in}
 use Rattle.pac_board.specs.Once.{Once}
 use Rattle.pac_board.specs.declared.fault.Idle.{Idle}
 use Rattle.pac_board.specs.declared.fault.Idle.TheVariants.{OutputsDue, TimeIsOver}
@@ -12,12 +12,6 @@ use Rattle.pac_board.specs.Sinks.{TookAll}
 use Rattle.pac_board.specs.State.{due_outputs}
 use Rattle.pac_board_course.specs.Course.{CourseValue, end_of, way_on, way_walked, course_after}
 use Rattle.pac_board_course.specs.CourseProofs.{next_on, course_with_due}
-
--- ---- what is due
-
--- the board's offer; nothing else changes
-abbrev pub CourseOffers : {S A E : Type 0} → Giving S → CourseValue → S → Result A E → CourseValue → S → Type 0
-CourseOffers to old sink result new later = (new ≡ record old { board = new.board }) × Offers to old.board sink result new.board later
 
 -- ---- one step
 

@@ -9,7 +9,7 @@ ghost use Rattle.pac_inputs.specs.Stretches.{most_frames, total_frames};
 ghost use Rattle.pac_board_course.specs.CourseProofs.{FitsTime, FitsAsked, board_asked, frames_begun};
 ghost use Rattle.pac_board_course.specs.Course.{begun, end_of};
 ghost use Rattle.pac_board_course.specs.Frames.{PlaysFrameOn};
-ghost use Rattle.pac_board_course.specs.Plays.{CourseAdvances, CourseOffers, RunsToEnd};
+ghost use Rattle.pac_board_course.specs.Plays.{CourseAdvances, RunsToEnd};
 
 use pac_board::{Board, FRAME_TICKS, Flags, Idle, Inputs, Once, Refused, Sink, Stop};
 use pac_inputs::Script;
@@ -129,22 +129,6 @@ impl Course {
         ensures bound { end_of self.now ≤ state.latest }
     {
         FRAME_TICKS * (self.gone + u64::from(self.frames()))
-    }
-
-    /// Offers what is due to a sink, the sample before the picture. What it refuses stays due, with what comes after it.
-    pub fn offer<S: Sink>(&mut self, sink: &mut S) -> Result<(), Refused>
-        ensures { CourseOffers (by S.took S.refused) self.old sink.old result self.new sink.new }
-    {
-        self.board.offer(sink)
-    }
-
-    /// Does the next step of the run, whose outputs are due then; after a blank the next frame's inputs are held. Where the run is over,
-    /// or outputs are due already, it does nothing.
-    #[inline]
-    pub fn advance(&mut self) -> Result<Once, Idle>
-        ensures { CourseAdvances self.old result self.new }
-    {
-        play_step(&mut self.board, &self.script, self.gone)
     }
 
     /// The frames of the script that have begun, the one under way too.
