@@ -1,15 +1,13 @@
 -- What the text of the DIP switches reads as.
 use Rattle.std.proofs.Common.{◌≡◌, ◌∙◌, ◌<◌, ◌^◌, ℕ, Bool, cond, true, false, refl, sym, ap, List, Option, Some, None, Result, Ok, Err}
-use Rattle.std.proofs.Common.{is_some, true≢false, arith}
-use Rattle.std.specs.Prelude.{option_and_then, pos}
+use Rattle.std.proofs.Common.{arith}
+use Rattle.std.specs.Prelude.{option_and_then}
 use Rattle.std.specs.Str.Parse.{IsNumeral, ParsesUnsigned, digits_value, without_leading_plus}
-use Rattle.clap.specs.Lexer.{without_minus}
 use Rattle.clap.specs.Matches.{ReadsOne, one_text}
 use Rattle.clap.specs.Walk.{one_of, rows_of}
 use Rattle.clap.specs.declared.parser.matches.Found.{Found}
-use Rattle.clap.specs.ValueTests.{accepts, is_unsigned_in}
+use Rattle.clap.specs.ValueTests.{is_unsigned_in}
 use Rattle.clap.specs.declared.builder.value_parser.ValueParser.TheVariants as parser
-use Rattle.clap.proofs.CallerReads.{signed_reads}
 use Rattle.clap.proofs.WalkLemmas.{one_text-rows}
 use Rattle.clap.proofs.ValueTestLemmas.{Accepts-accepts, accepts-Accepts}
 use Rattle.pac_run_options.specs.CommandLine.{byte_of_text}
@@ -31,29 +29,6 @@ read_is gives text None only h = go (is_unsigned_in 0 255 text) refl
     go true e =
         let in_range = accepts-Accepts false (parser.Unsigned 0 255) text e in
         absurd (only text (Err h.0) h.1 (in_range.0, omega (arith, in_range.3)))
-
--- the byte that is read, as u8's own reading would have it
-abbrev Reads : List ℕ → Option ℕ → Type 0
-Reads = ReadsOne (λ (u : List ℕ) (x : Result ℕ (Unit {0})). ParsesUnsigned 8 10 u x)
-
-reads : (text : List ℕ) → Reads text (byte_of_text text)
-reads text = go (is_unsigned_in 0 255 text) refl
-  where
-    go : (b : Bool) → is_unsigned_in 0 255 text ≡ b
-        → Reads text (cond b (Some (digits_value 10 (without_leading_plus text))) None)
-    go true e =
-        let in_range = accepts-Accepts false (parser.Unsigned 0 255) text e in
-        ((in_range.0, omega (arith, in_range.3)), refl)
-    go false e = (tt, λ h. true≢false (sym (is_byte text h.0 h.1) ∙ e))
-
--- a text that the parser of the DIP switches takes reads as a byte
-pub byte_in : (ignore_case : Bool) (text : List ℕ) → accepts ignore_case (parser.Signed (pos 0) (pos 255)) text ≡ true
-    → is_some (byte_of_text (without_minus text)) ≡ true
-byte_in ignore_case text passes =
-    let got = signed_reads (Unit {0}) (λ u x. ParsesUnsigned 8 10 u x) 8 0 255 text (byte_of_text (without_minus text))
-    (reads (without_minus text)) (λ u x h. h) (omega arith)
-    (accepts-Accepts ignore_case (parser.Signed (pos 0) (pos 255)) text passes) in
-    ap (λ (o : Option ℕ). is_some o) got.1
 
 -- what the rows say where u8 was read from the first value
 pub dip_read : {E : Type 0} (f : Found) (id : List ℕ) (gives : List ℕ → Result ℕ E → Type 0) (r : Option ℕ)

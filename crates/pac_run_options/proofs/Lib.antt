@@ -1,5 +1,4 @@
 pub mod Commands
 pub mod Bytes
 pub mod Rows
-pub mod Levels
 pub mod Answered

@@ -65,8 +65,3 @@ module _ {Z : Type 0} where
       pair : Option Text → Option (List Row) → Option (Text × List Row)
       pair (Some n) (Some r) = Some (n, r)
       pair _ _ = None
-
-  pub none_entered : (sub : Option (Box SubCommand Z)) → None ≡ option_map (λ b. (out-SubCommand (box_value b)).name.now) sub
-      → subcommand_rows sub ≡ None
-  none_entered None named = refl
-  none_entered (Some b) named = absurd (true≢false (sym (ap (λ (o : Option Text). is_some o) named)))

@@ -1,6 +1,6 @@
 -- Believed: the command line of the program as `clap` knows it, and what its words ask for.
 use Rattle.std.specs.Prelude.{ℕ, Bool, true, false, pos, List, [], ◌∷◌, ◌++◌, ◌&&◌, Option, Some, None}
-use Rattle.std.specs.Prelude.{if◌then◌else◌, codes, option_map, option_and_then}
+use Rattle.std.specs.Prelude.{if◌then◌else◌, codes, is_some, option_map, option_and_then}
 use Rattle.std.specs.Option.{option_map_or}
 use Rattle.std.specs.Str.{bytes_eq}
 use Rattle.std.specs.Str.Parse.{digits_value, without_leading_plus}
@@ -10,7 +10,7 @@ use Rattle.clap.specs.Kinds.{or_else}
 use Rattle.clap.specs.Takes.{is_given}
 use Rattle.clap.specs.ValueTests.{is_unsigned_in}
 use Rattle.clap.specs.declared.builder.action.ArgAction.TheVariants.{SetTrue}
-use Rattle.clap.specs.declared.error.kind.ErrorKind.TheVariants.{ArgumentConflict}
+use Rattle.clap.specs.declared.error.kind.ErrorKind.TheVariants.{ArgumentConflict, MissingRequiredArgument}
 use Rattle.clap.specs.declared.builder.value_parser.ValueParser.TheVariants as parser
 
 -- ---- what may be said
@@ -191,9 +191,17 @@ abbrev pub conflict_of : Option (Text × List Row) → Kinds
 conflict_of chosen =
     if option_map_or (λ p. bytes_eq p.0 (codes "run") && has_conflict p.1) chosen false then ArgumentConflict ∷ [] else []
 
--- the kinds of error that a command line may have, by its words, the program's name first: those of `clap`, and then that one
+-- and where the words don't say all that a subcommand needs
+abbrev pub lack_of : Option Asked → Kinds
+lack_of asked = if is_some asked then [] else MissingRequiredArgument ∷ []
+
+-- those of our own: that one, and then this one
+abbrev pub own_faults_of : Option (Text × List Row) → Kinds
+own_faults_of chosen = or_else (conflict_of chosen) (lack_of (option_and_then asked_command chosen))
+
+-- the kinds of error that a command line may have, by its words, the program's name first: those of `clap`, and then our own
 unfoldable pub faults_of : List Text → Kinds
-faults_of words = or_else (fault_of pacboard words) (conflict_of (subcommand_of pacboard words))
+faults_of words = or_else (fault_of pacboard words) (own_faults_of (subcommand_of pacboard words))
 
 -- what is asked for where nothing is refused
 abbrev pub unless_refused : Kinds → Option Asked → Option Asked

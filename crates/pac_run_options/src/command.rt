@@ -266,3 +266,14 @@ pub fn dip_conflict(alloc: Global) -> Result<Error, AllocError>
         "the argument '--dip <N>' cannot be used with '--load <FILE>'",
     )
 }
+
+/// The error of words in which `clap` misses nothing, and that don't say all that a request needs. By what `clap` states there are none.
+pub fn lack(alloc: Global) -> Result<Error, AllocError>
+    ensures { IfOk result (λ error. kind_of error ≡ ErrorKind.MissingRequiredArgument) }
+{
+    let mut command = pacboard(alloc)?;
+    command.error(
+        ErrorKind::MissingRequiredArgument,
+        "the words don't say all that is needed",
+    )
+}

@@ -6,7 +6,7 @@ ghost use Rattle.clap.specs.Words.{FailsBy, found_of, rows_of, subcommand_rows_o
 ghost use Rattle.pac_run_options.specs.CommandLine as line;
 ghost use Rattle.pac_run_options.specs.CommandLineProofs as command_line_proofs;
 
-use crate::command::{dip_conflict, pacboard};
+use crate::command::{dip_conflict, lack, pacboard};
 use crate::request::{AsmFiles, DebugFiles, PlayFiles, Request, RunFiles};
 use clap::parser::ValueSource;
 use clap::{ArgMatches, Error};
@@ -25,7 +25,7 @@ pub fn options<'a, S: AsStr>(alloc: Global, words: &'a [S]) -> Result<Request<'a
     refuse_conflict(alloc, &matches)?;
     match request(&matches) {
         Some(request) => Ok(request),
-        None => unreachable!(),
+        None => Err(lack(alloc)?),
     }
 }
 

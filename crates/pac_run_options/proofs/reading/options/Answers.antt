@@ -1,8 +1,8 @@
-use Rattle.std.proofs.Common.{◌∙◌, map, subst, sym}
-use Rattle.clap.specs.Words.{HasKind, Kinds, app_of, subcommand_rows_of}
+use Rattle.std.proofs.Common.{map, sym}
+use Rattle.clap.specs.Words.{app_of, subcommand_rows_of}
 use Rattle.clap.proofs.FaultLemmas.{failed_up}
 use Rattle.pac_run_options.specs.CommandLine as line
-use Rattle.pac_run_options.proofs.Answered.{conflict_left, its_command, its_fault, its_request, never_none, no_fault}
+use Rattle.pac_run_options.proofs.Answered.{its_command, its_conflict, its_fault, its_lack, its_request, no_fault, none_left}
 use Rattle.pac_run_options.proofs.reading.options.Goals as goal
 
 pub returns-in_err-matches-clause-refused : goal.returns-in_err-matches-clause-refused
@@ -17,22 +17,14 @@ returns-in_err-refuse_conflict-clause-refused g c =
     let words = map g.S.AsStr.text c.args.words.now in
     let app = app_of c.in_ok-pacboard.field-0 in
     let matches = c.in_ok-matches.matches in
-    let left = conflict_left words (subcommand_rows_of matches) (no_fault app words c.in_ok-pacboard.ensures c.in_ok-matches.ensures.kinds)
-    (its_command app words matches c.in_ok-pacboard.ensures c.in_ok-matches.ensures.matches) in
-    failed_up c.from_residual-in_err-refuse_conflict.result c.in_err-refuse_conflict.field-0.0 _ (line.faults_of words)
+    let e = c.in_err-refuse_conflict.field-0.0 in
+    failed_up c.from_residual-in_err-refuse_conflict.result e _ (line.faults_of words)
     c.from_residual-in_err-refuse_conflict.ensures.1
-    (subst (λ (kinds : Kinds). HasKind kinds c.in_err-refuse_conflict.field-0.0) (sym left) c.in_err-refuse_conflict.ensures)
+    (its_conflict words (subcommand_rows_of matches) (no_fault app words c.in_ok-pacboard.ensures c.in_ok-matches.ensures.kinds)
+    (its_command app words matches c.in_ok-pacboard.ensures c.in_ok-matches.ensures.matches) e c.in_err-refuse_conflict.ensures)
 
-pub unreachable-requires : goal.unreachable-requires
-unreachable-requires g c =
-    let words = map g.S.AsStr.text c.args.words.now in
-    let app = app_of c.in_ok-pacboard.field-0 in
-    let matches = c.in_ok-matches.matches in
-    never_none words (subcommand_rows_of matches) (no_fault app words c.in_ok-pacboard.ensures c.in_ok-matches.ensures.kinds)
-    (its_command app words matches c.in_ok-pacboard.ensures c.in_ok-matches.ensures.matches) (sym c.in-None.ensures)
-
-pub returns : goal.returns
-returns g c =
+pub returns-in-Some : goal.returns-in-Some
+returns-in-Some g c =
     let words = map g.S.AsStr.text c.args.words.now in
     let app = app_of c.in_ok-pacboard.field-0 in
     let matches = c.in_ok-matches.matches in
@@ -40,7 +32,18 @@ returns g c =
     let none = no_fault app words c.in_ok-pacboard.ensures c.in_ok-matches.ensures.kinds in
     let is = its_command app words matches c.in_ok-pacboard.ensures c.in_ok-matches.ensures.matches in
     let fine = c.in_ok-refuse_conflict.ensures in
+    let asked = sym c.in-Some.ensures in
     record {
-      asked = its_request words command none is fine ∙ sym c.in-Some.ensures;
-      refused = conflict_left words command none is ∙ fine;
+      asked = its_request words command none is fine _ asked;
+      refused = none_left words command none is fine _ asked;
     }
+
+pub returns-clause-refused : goal.returns-clause-refused
+returns-clause-refused g c =
+    let words = map g.S.AsStr.text c.args.words.now in
+    let app = app_of c.in_ok-pacboard.field-0 in
+    let matches = c.in_ok-matches.matches in
+    its_lack words (subcommand_rows_of matches) (no_fault app words c.in_ok-pacboard.ensures c.in_ok-matches.ensures.kinds)
+    (its_command app words matches c.in_ok-pacboard.ensures c.in_ok-matches.ensures.matches) c.in_ok-refuse_conflict.ensures
+    c.in_ok-lack-in-None.field-0
+    (sym c.in-None.ensures) c.in_ok-lack-in-None.ensures
