@@ -94,6 +94,7 @@ pub(crate) fn begin(board: Box<Board>, script: Script) -> Course
 }
 
 /// Writes all that a run gives out, in order: the listing, then wave and frames, then the report.
+#[inline(never)]
 pub(crate) fn write_all<F: Out, W: Out, L: Out, R: Out>(
     inputs: &RunInputs,
     program: &Option<Program>,

@@ -96,6 +96,7 @@ pub fn record_watched<D: FileSystem, R: Out, T: Out>(
 
 /// Runs what the files of a command line hold under a debugger, and answers the exit status. All is read before an output is
 /// created: source, manifest, script, commands, and the files that the manifest names.
+#[inline(never)]
 pub fn debug<D: FileSystem, R: Out, T: Out, C: Teller>(
     alloc: Global,
     disk: &mut D,

@@ -40,6 +40,7 @@ pub fn write_text<W: Out>(bytes: &[u8], text: &mut W) -> Result<(), Failure<'sta
 }
 
 /// Disassembles a file.
+#[inline(never)]
 pub fn dis<'a, D: FileSystem, W: Out>(
     alloc: Global,
     disk: &D,

@@ -124,6 +124,7 @@ pub(crate) fn end<C: Teller>(console: &mut C, ran: Result<Outcome, Failure>) -> 
 
 /// Runs what the files of a command line hold, and answers the exit status. All is read before an output is created: source,
 /// manifest, script, the state that the run begins from, if one is named, and the files that the manifest names.
+#[inline(never)]
 pub fn play<D: FileSystem, R: Out, C: Teller>(
     alloc: Global,
     disk: &mut D,
