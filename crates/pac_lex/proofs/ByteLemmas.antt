@@ -1,10 +1,11 @@
 -- What the first byte of a token is, and what it isn't.
+use Rattle.std.proofs.Common.{rules}
 use Rattle.std.proofs.Common.{◌≡◌, ℕ, Bool, true, false, not, eqb, cond, ◌||◌, List, [], ◌∷◌, Some, refl, arith, inl, inr, ◌⊎◌}
 use Rattle.std.proofs.Common.{subst}
 use Rattle.std.specs.List.{list_all}
 use Rattle.std.specs.Map.{lookup}
 use Rattle.std.specs.Char.{is_ascii_digit}
-use Rattle.std.proofs.lemmas.Bool.{eqb-true, and_parts, or_parts, not-true}
+use Rattle.std.proofs.lemmas.Bool.{eqb-true, and_parts}
 use Rattle.std.proofs.lemmas.Bool.Decides.{nat_tests}
 use Rattle.std.proofs.lemmas.Option.{same_Some, none-some}
 use Rattle.pac_lex.specs.declared.token.TokenKind.{TokenKind}
@@ -73,16 +74,5 @@ pub record PlainParts (b : ℕ) : Type 0 where
   pub no_blank : is_blank b ≡ false
   pub no_comment : is_comment_start b ≡ false
 
-five-false : (a b c d e : Bool) → not (a || b || c || d || e) ≡ true → (a ≡ false) × (b ≡ false) × (c ≡ false) × (d ≡ false) × (e ≡ false)
-five-false a b c d e h =
-    let p1 = or_parts (a || b || c || d) e (not-true (a || b || c || d || e) h) in
-    let p2 = or_parts (a || b || c) d p1.0 in
-    let p3 = or_parts (a || b) c p2.0 in
-    let p4 = or_parts a b p3.0 in
-    (p4.0, p4.1, p3.1, p2.1, p1.1)
-
 pub symbol-parts : (b : ℕ) (kind : TokenKind) → one_byte_kind b ≡ Some kind → PlainParts b
-symbol-parts b kind e =
-    let plain : is_plain b ≡ true = row-passes (λ row. is_plain row.0) one_byte_kinds b kind refl e in
-    let p = five-false (is_name_start b) (is_ascii_digit b) (is_quote b) (is_blank b) (is_comment_start b) plain in
-    record { no_start = p.0; no_digit = p.1; no_quote = p.2; no_blank = p.3; no_comment = p.4 }
+symbol-parts b kind e = search rules

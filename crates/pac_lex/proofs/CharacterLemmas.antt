@@ -1,5 +1,6 @@
 -- The characters of a text, taken out of its quotes.
-use Rattle.std.proofs.Common.{◌≡◌, ℕ, ◌+◌, ◌-◌, false, ◌&&◌, List, [], ◌∷◌, ◌++◌, length, take, drop, flat_map, refl, sym, ap, ◌∙◌, arith}
+use Rattle.std.proofs.Common.{rules}
+use Rattle.std.proofs.Common.{◌≡◌, ℕ, ◌+◌, ◌-◌, false, List, [], ◌∷◌, ◌++◌, length, take, drop, flat_map, refl, sym, ap, ◌∙◌, arith}
 use Rattle.std.proofs.Common.{inl, inr, append_assoc, get_or, ◌≤◌, ◌<◌}
 use Rattle.std.proofs.lemmas.Bool.{cases_Bool, eqb-true}
 use Rattle.std.proofs.lemmas.List.{take_at, take_all, length-append, append-nil}
@@ -10,10 +11,7 @@ use Rattle.pac_lex.specs.TextsProofs.{after_character, unquoted_characters, char
 pub unquoted-cons : (b : ℕ) (bytes : List ℕ) → unquoted_characters (b ∷ bytes) ≡ b ∷ unquoted_characters (after_character b bytes)
 unfolding unquoted_characters
 unquoted-cons b [] = refl
-unquoted-cons b (c ∷ bytes) = elim (cases_Bool (is_quote b && is_quote c)) [
-  | inl e ↦ rw e refl
-  | inr e ↦ rw e refl
-]
+unquoted-cons b (c ∷ bytes) = search rules
 
 pub unquoted-nil : unquoted_characters [] ≡ []
 unfolding unquoted_characters
@@ -33,10 +31,7 @@ unquoted-quoted (c ∷ characters) = elim (cases_Bool (is_quote c)) [
 ]
 
 pub characters-again : (text characters : List ℕ) → text ≡ quoted_text characters → characters_of text ≡ characters
-characters-again text characters e =
-    let between = flat_map quoted_character characters in
-    let len : length (quoted_text characters) - 2 ≡ length between = omega (arith, length-append between (39 ∷ [])) in
-    rw (e, len, take_at between (39 ∷ []) (length between) refl) (unquoted-quoted characters)
+characters-again text characters e = grind (arith, length-append, take_at, unquoted-quoted)
 
 one-more : (found : List ℕ) (b : ℕ) (bytes rest total : List ℕ) → bytes ≡ rest → found ++ unquoted_characters (b ∷ rest) ≡ total
     → (found ++ b ∷ []) ++ unquoted_characters (after_character b bytes) ≡ total
@@ -49,8 +44,7 @@ pub goes-on-unquoted : (found rest total : List ℕ) → 1 ≤ length rest → f
     → (found ++ get_or rest 0 0 ∷ []) ++ unquoted_characters (after_character (get_or rest 0 0) (take (length rest - 1) (drop 1 rest)))
     ≡ total
 goes-on-unquoted found [] total some so_far = absurd (omega arith)
-goes-on-unquoted found (b ∷ rest) total some so_far =
-    one-more found b (take (length (b ∷ rest) - 1) rest) rest total (take_all _ rest (omega arith)) so_far
+goes-on-unquoted found (b ∷ rest) total some so_far = grind (arith, one-more, take_all)
 
 pub ends-unquoted : (found rest total : List ℕ) → length rest < 1 → found ++ unquoted_characters rest ≡ total → found ≡ total
 ends-unquoted found [] total none so_far = sym (append-nil found) ∙ ap (λ (xs : List ℕ). found ++ xs) (sym unquoted-nil) ∙ so_far
@@ -60,13 +54,8 @@ ends-unquoted found (b ∷ rest) total none so_far = absurd (omega arith)
 pub counts-on : (count total : ℕ) (rest : List ℕ) → 1 ≤ length rest → count + length (unquoted_characters rest) ≡ total
     → count + 1 + length (unquoted_characters (after_character (get_or rest 0 0) (take (length rest - 1) (drop 1 rest)))) ≡ total
 counts-on count total [] some so_far = absurd (omega arith)
-counts-on count total (b ∷ rest) some so_far =
-    let same : take (length (b ∷ rest) - 1) rest ≡ rest = take_all _ rest (omega arith) in
-    let one : length (unquoted_characters (b ∷ rest)) ≡ length (b ∷ unquoted_characters (after_character b rest)) =
-    ap length (unquoted-cons b rest) in
-    rw same (omega (arith, one, so_far))
+counts-on count total (b ∷ rest) some so_far = grind (arith, take_all, unquoted-cons)
 
 pub ends-counted : (count total : ℕ) (rest : List ℕ) → length rest < 1 → count + length (unquoted_characters rest) ≡ total → count ≡ total
-ends-counted count total [] none so_far = let nil : length (unquoted_characters []) ≡ 0 = ap length unquoted-nil in
-    omega (arith, nil, so_far)
+ends-counted count total [] none so_far = grind (arith, unquoted-nil)
 ends-counted count total (b ∷ rest) none so_far = absurd (omega arith)

@@ -14,10 +14,4 @@ first-place test bytes None is =
     sym (ap {B = Option ℕ} (λ n. cond (nat_lt n (length bytes)) (Some n) None) at ∙
     cond-false (nat_lt (length bytes) (length bytes)) (Some (length bytes)) None
     (le-ltb (length bytes) (length bytes) (le_refl (length bytes))))
-first-place test bytes (Some k) is =
-    let at : position_or_len test bytes ≡ k =
-    position_or_len_is test bytes k 0 (omega (arith, is.0.high))
-    (λ j below. false_from_ne_true _ (is.0.before j (omega arith) below)) (λ below. is.1)
-    in
-    sym (ap {B = Option ℕ} (λ n. cond (nat_lt n (length bytes)) (Some n) None) at ∙
-    cond-true (nat_lt k (length bytes)) (Some k) None (lt-ltb k (length bytes) is.0.high))
+first-place test bytes (Some k) is = grind (arith, cond-true, false_from_ne_true, lt-ltb, position_or_len_is)

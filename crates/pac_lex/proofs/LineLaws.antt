@@ -106,11 +106,7 @@ first-of line = let rest = after_gap line in elim (cases_Bool (is_end rest)) [
 ]
 
 scan-is : (line : List ℕ) (tokens : List Lexeme) → scan 0 line ≡ Ok tokens → ReadsTokens line tokens
-scan-is line [] e = elim (first-of line) [
-  | none h is ↦ h
-  | fault f h is ↦ absurd cc
-  | token t rest h shorter is ↦ absurd (before-nil t (scan 0 rest) (sym is ∙ e))
-]
+scan-is line [] e = grind (arith, before-nil, first-of)
 scan-is line (t ∷ tokens) e = elim (first-of line) [
   | none h is ↦ absurd cc
   | fault f h is ↦ absurd cc
@@ -139,10 +135,7 @@ break-is (suc n) line f small e = elim (first-of line) [
 
 pub tokens-read : (line : List ℕ) (tokens : List Lexeme) → tokens_of line ≡ Ok tokens → IsRead line tokens
 unfolding tokens_of
-tokens-read line tokens e = elim (chosen (ltb 255 (length line)) _ _ _ e) [
-  | inl (t, p) ↦ absurd cc
-  | inr (t, p) ↦ (ltb-false 255 (length line) t, scan-is line tokens p)
-]
+tokens-read line tokens e = grind (arith, chosen, ltb-false, scan-is)
 
 pub read-again : (line : List ℕ) (tokens : List Lexeme) → IsRead line tokens → tokens_of line ≡ Ok tokens
 unfolding tokens_of

@@ -1,6 +1,6 @@
 -- The first of the lines of a text.
-use Rattle.std.proofs.Common.{◌≡◌, ℕ, ◌<◌, ◌≤◌, Bool, not, eqb, ltb, List, [], ◌∷◌, length, take, drop, get_or, inl, inr, Some, None, refl}
-use Rattle.std.proofs.Common.{sym, ap, ◌∙◌, arith, position}
+use Rattle.std.proofs.Common.{◌≡◌, ℕ, ◌<◌, Bool, eqb, ltb, List, [], ◌∷◌, length, take, drop, Some, None, refl}
+use Rattle.std.proofs.Common.{ap, ◌∙◌, arith, position}
 use Rattle.std.specs.List.{slice_split, position_or_len, before_first, after_first}
 use Rattle.std.specs.Str.Lines.{lines, lines_of_parts, strip_carriage_return}
 use Rattle.std.proofs.lemmas.Bool.{ltb-true, lt-ltb, cases_lt, not-true, cond-true, cond-false, ne_eqb}
@@ -29,13 +29,4 @@ lines-first bs end e =
 
 pub lines-last : (bs : List ℕ) → 0 < length bs → position (λ b. eqb b 10) bs ≡ None → lines bs ≡ bs ∷ []
 lines-last bs some e =
-    let at : length bs ≤ position_or_len is_feed bs = elim (cases_lt (position_or_len is_feed bs) (length bs)) [
-      | inl lt ↦
-          absurd (none-some (position_or_len is_feed bs)
-          (sym e ∙ cond-true (ltb (position_or_len is_feed bs) (length bs)) (Some (position_or_len is_feed bs)) None (lt-ltb _ _ lt)))
-      | inr le ↦ le
-    ] in
-    let split =
-    slice_split_none is_feed bs
-    (λ k d lt. not-true (is_feed (get_or bs k d)) (prefix_len_passes (λ b. not (is_feed b)) bs k d (omega arith))) in
-    ap lines_of_parts split ∙ cond-false (eqb (length bs) 0) [] (bs ∷ []) (ne_eqb (length bs) 0 (λ q. omega arith))
+    grind (arith, cases_lt, cond-false, cond-true, lt-ltb, ne_eqb, none-some, not-true, prefix_len_passes, slice_split_none)

@@ -1,6 +1,6 @@
 -- A line read token by token.
 use Rattle.std.proofs.Common.{◌≡◌, ℕ, zero, suc, ◌<◌, true, false, List, [], ◌∷◌, ◌++◌, drop, Result, Ok, Err, refl, sym, ap, ◌∙◌}
-use Rattle.std.proofs.Common.{arith, append_assoc, sub-one, one-add, append-nil, inl, inr}
+use Rattle.std.proofs.Common.{arith, append_assoc, one-add, append-nil, inl, inr}
 use Rattle.std.proofs.lemmas.Bool.{cases_Bool}
 use Rattle.pac_lex.specs.declared.token.TokenKind.{TokenKind}
 use Rattle.pac_lex.specs.declared.fault.LexFault.{LexFault}
@@ -38,8 +38,7 @@ scan-token : (b : ℕ) (bytes : List ℕ) (kind : TokenKind) (len : ℕ) → is_
     → scan 0 (b ∷ bytes) ≡ token_before (cut_token kind len (b ∷ bytes)) (scan 0 (drop len (b ∷ bytes)))
 unfolding scan
 scan-token b bytes kind zero e f g h = absurd (omega arith)
-scan-token b bytes kind (suc len) e f g h =
-    rw (e, f, g, sub-one) (ap (token_before (cut_token kind (suc len) (b ∷ bytes))) (scan-skip len bytes))
+scan-token b bytes kind (suc len) e f g h = grind (arith, scan-skip)
 
 scan-gap : (line : List ℕ) → scan 0 line ≡ scan 0 (after_gap line)
 scan-gap [] = refl

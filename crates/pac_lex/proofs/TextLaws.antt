@@ -1,4 +1,5 @@
 -- A text ends where its characters, each quote doubled, end in one quote.
+use Rattle.std.proofs.Common.{rules}
 use Rattle.std.proofs.Common.{◌≡◌, ℕ, suc, ◌+◌, true, false, cond, List, [], ◌∷◌, ◌++◌, length, take, drop, Option, Some, None, refl}
 use Rattle.std.proofs.Common.{ap, ◌∙◌, arith, inl, inr, subst, flat_map}
 use Rattle.std.specs.List.{list_all}
@@ -43,11 +44,7 @@ closes-doubled b c bytes m e f h = record {
 
 pub closing-is : (bytes : List ℕ) (n : ℕ) → closing_length bytes ≡ Some n → Closes bytes n
 closing-is [] n e = absurd (none-some n e)
-closing-is (b ∷ []) n e =
-    elim (chosen (is_quote b) (Some 1) None (Some n) e) [
-      | inl (q, s) ↦ subst (λ (k : ℕ). Closes (b ∷ []) k) (same_Some 1 n s) (closes-here b [] (quote-is b q) refl)
-      | inr (q, s) ↦ absurd (none-some n s)
-    ]
+closing-is (b ∷ []) n e = search rules
 closing-is (b ∷ c ∷ bytes) n e =
     elim (chosen (is_quote b) (cond (is_quote c) (more 2 (closing_length bytes)) (Some 1)) (more 1 (closing_length (c ∷ bytes))) (Some n)
     e) [

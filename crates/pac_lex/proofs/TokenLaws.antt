@@ -1,10 +1,11 @@
 -- What is found where the bytes begin is a token or a fault there, and what is there is found.
-use Rattle.std.proofs.Common.{◌≡◌, ℕ, zero, suc, ◌+◌, ◌<◌, Bool, true, false, not, eqb, ◌||◌, ◌&&◌, List, [], ◌∷◌, ◌++◌, length, take, drop}
+use Rattle.std.proofs.Common.{rules}
+use Rattle.std.proofs.Common.{◌≡◌, ℕ, zero, suc, ◌+◌, ◌<◌, Bool, true, false, eqb, ◌||◌, ◌&&◌, List, [], ◌∷◌, ◌++◌, length, take, drop}
 use Rattle.std.proofs.Common.{Option, Some, None, Result, Ok, Err, refl, sym, ap, ◌∙◌, arith, inl, inr, ◌⊎◌, add-one, subst, flat_map}
-use Rattle.std.proofs.Common.{append_assoc, is_some, cond}
+use Rattle.std.proofs.Common.{append_assoc, cond}
 use Rattle.std.specs.List.{prefix_len, list_all}
 use Rattle.std.specs.Char.{is_ascii_digit, is_ascii_alphanumeric}
-use Rattle.std.proofs.lemmas.Bool.{cond-true, cond-false, eqb-true, and_parts, or_cases, or_parts, not-true, true≢false}
+use Rattle.std.proofs.lemmas.Bool.{cond-true, cond-false, eqb-true, and_parts, true≢false}
 use Rattle.std.proofs.lemmas.Option.{none-some}
 use Rattle.std.proofs.lemmas.List.{take_at, drop_at, take-append-drop, length-append}
 use Rattle.pac_lemmas.proofs.Options.{none-or-some}
@@ -21,7 +22,7 @@ use Rattle.pac_lex.specs.Tokens.{one_byte_kind, is_af, begins, begins_nothing, I
 use Rattle.pac_lex.specs.Scan.{name_token_at, number_token_at, text_token_at, quoted_token, one_byte_token, numeral_token, token_at}
 use Rattle.pac_lex.proofs.Prefixes.{prefix-of-all, begins-after, begins-take}
 use Rattle.pac_lex.proofs.ByteLemmas.{chosen, Starts, digit-no-start, digit-no-blank, digit-no-comment, start-no-blank, start-no-comment}
-use Rattle.pac_lex.proofs.ByteLemmas.{is_mark, symbol-is-mark, symbol-parts}
+use Rattle.pac_lex.proofs.ByteLemmas.{is_mark, symbol-is-mark}
 use Rattle.pac_lex.proofs.NameLemmas.{name-has-bytes, number-has-bytes}
 use Rattle.pac_lex.proofs.TextLaws.{closing-is, closing-again, printable-quoted}
 
@@ -96,20 +97,12 @@ number-is bytes kind len start e =
 text-ok : (o : Option ℕ) (bytes : List ℕ) (kind : TokenKind) (len : ℕ) → quoted_token o bytes ≡ Ok (kind, len)
     → (n : ℕ) × (o ≡ Some n) × (list_all is_printable (take n bytes) ≡ true) × (pair Text (n + 1) ≡ pair kind len)
 text-ok None bytes kind len e = absurd cc
-text-ok (Some n) bytes kind len e =
-    elim (chosen (list_all is_printable (take n bytes)) (Ok (Text, n + 1)) (Err NoToken) (Ok (kind, len)) e) [
-      | inl (t, p) ↦ (n, refl, t, ok-is _ _ p)
-      | inr (t, p) ↦ absurd cc
-    ]
+text-ok (Some n) bytes kind len e = search rules
 
 text-err : (o : Option ℕ) (bytes : List ℕ) (fault : LexFault) → quoted_token o bytes ≡ Err fault
     → ((o ≡ None) × (OpenText ≡ fault)) ⊎ ((n : ℕ) × (o ≡ Some n) × (list_all is_printable (take n bytes) ≡ false) × (NoToken ≡ fault))
 text-err None bytes fault e = inl (refl, err-is _ _ e)
-text-err (Some n) bytes fault e =
-    elim (chosen (list_all is_printable (take n bytes)) (Ok (Text, n + 1)) (Err NoToken) (Err fault) e) [
-      | inl (t, p) ↦ absurd cc
-      | inr (t, p) ↦ inr (n, refl, t, err-is _ _ p)
-    ]
+text-err (Some n) bytes fault e = search rules
 
 text-is : (b : ℕ) (bytes : List ℕ) (kind : TokenKind) (len : ℕ) → is_quote b ≡ true → text_token_at bytes ≡ Ok (kind, len)
     → IsFound (b ∷ bytes) kind len
@@ -167,8 +160,7 @@ pub record IsFoundAgain (kind : TokenKind) (text rest : List ℕ) : Type 0 where
 name-at-name : (text rest : List ℕ) → list_all is_name_byte text ≡ true → begins is_name_byte rest ≡ false
     → (is_af text && begins is_quote rest) ≡ false → name_token_at (text ++ rest) ≡ (Name, length text)
 unfolding name_token_at
-name-at-name text rest all stop af =
-    rw (prefix-of-all is_name_byte text rest all stop, take_at text rest (length text) refl, drop_at text rest (length text) refl, af) refl
+name-at-name text rest all stop af = grind (arith, drop_at, prefix-of-all, take_at)
 
 name-again : (text rest : List ℕ) → IsToken Name text rest → IsFoundAgain Name text rest
 unfolding token_at
@@ -182,8 +174,7 @@ name-again (b ∷ text) rest (start, all, stop, af) = record {
 number-at-number : (text rest : List ℕ) (n : ℕ) → list_all is_ascii_alphanumeric text ≡ true → begins is_ascii_alphanumeric rest ≡ false
     → numeral text ≡ Some n → number_token_at (text ++ rest) ≡ Ok (Number n, length text)
 unfolding number_token_at
-number-at-number text rest n all stop is =
-    rw (prefix-of-all is_ascii_alphanumeric text rest all stop, take_at text rest (length text) refl, is) refl
+number-at-number text rest n all stop is = grind (arith, prefix-of-all, take_at)
 
 number-again : (n : ℕ) (text rest : List ℕ) → IsToken (Number n) text rest → IsFoundAgain (Number n) text rest
 unfolding token_at
@@ -208,18 +199,11 @@ text-at-closed characters rest stop =
 
 text-again : (text rest : List ℕ) → IsToken Text text rest → IsFoundAgain Text text rest
 unfolding token_at
-text-again text rest (characters, is, all, stop) = rw is record {
-  starts = record { no_blank = refl; no_end = refl };
-  found = text-at-closed characters rest stop ∙ cond-true (list_all is_printable characters) _ _ all;
-  some = omega arith;
-}
+text-again text rest (characters, is, all, stop) = grind (arith, cond-true, text-at-closed)
 
 -- a byte in either case
 either-case : (b c d : ℕ) (p : ℕ → Bool) → (eqb b c || eqb b d) ≡ true → p c ≡ true → p d ≡ true → p b ≡ true
-either-case b c d p e f g = elim (or_cases (eqb b c) (eqb b d) e) [
-  | inl h ↦ subst (λ (x : ℕ). p x ≡ true) (sym (eqb-true b c h)) f
-  | inr h ↦ subst (λ (x : ℕ). p x ≡ true) (sym (eqb-true b d h)) g
-]
+either-case b c d p e f g = search rules
 
 name-at-af : (a f : ℕ) (rest : List ℕ) → is_name_byte a ≡ true → is_name_byte f ≡ true → is_af (a ∷ f ∷ []) ≡ true
     → name_token_at (a ∷ f ∷ 39 ∷ rest) ≡ (AlternateAf, 3)
@@ -244,13 +228,7 @@ af-again (a ∷ f ∷ []) rest e =
 
 mark-again : (kind : TokenKind) (b : ℕ) (rest : List ℕ) → one_byte_kind b ≡ Some kind → IsFoundAgain kind (b ∷ []) rest
 unfolding token_at
-mark-again kind b rest e =
-    let plain = symbol-parts b kind e in
-    record {
-      starts = record { no_blank = plain.no_blank; no_end = plain.no_comment };
-      found = rw (plain.no_start, plain.no_digit, plain.no_quote, e) refl;
-      some = omega arith;
-    }
+mark-again kind b rest e = search rules
 
 marks-again : (kind : TokenKind) (text rest : List ℕ) → (b : ℕ) × (one_byte_kind b ≡ Some kind) × (text ≡ b ∷ []) →
     IsFoundAgain kind text rest
@@ -266,11 +244,7 @@ token-again kind text rest h = marks-again kind text rest h
 begins-no : (b : ℕ) → is_blank b ≡ false → is_comment_start b ≡ false → is_name_start b ≡ false → is_ascii_digit b ≡ false →
     is_quote b ≡ false
     → one_byte_kind b ≡ None → begins_nothing b ≡ true
-begins-no b e1 e2 e3 e4 e5 e6 = six-true _ _ _ _ _ _ e1 e2 e3 e4 e5 (ap is_some e6)
-  where
-    six-true : (u v w x y z : Bool) → u ≡ false → v ≡ false → w ≡ false → x ≡ false → y ≡ false → z ≡ false
-        → not (u || v || w || x || y || z) ≡ true
-    six-true u v w x y z a b c d e f = rw (a, b, c, d, e, f) refl
+begins-no b e1 e2 e3 e4 e5 e6 = search rules
 
 unclosed : (b : ℕ) (bytes : List ℕ) → closing_length bytes ≡ None → (characters rest : List ℕ) → b ∷ bytes ≡ quoted_text characters ++ rest
     → begins is_quote rest ≡ false → ⊥
@@ -336,29 +310,12 @@ pub record IsTold (fault : LexFault) (bytes : List ℕ) : Type 0 where
 
 nothing-told : (b : ℕ) (bytes : List ℕ) → begins_nothing b ≡ true → IsTold NoToken (b ∷ bytes)
 unfolding token_at
-nothing-told b bytes e =
-    let p1 = or_parts (is_blank b || is_comment_start b || is_name_start b || is_ascii_digit b || is_quote b) (is_some (one_byte_kind b))
-    (not-true _ e) in
-    let p2 = or_parts (is_blank b || is_comment_start b || is_name_start b || is_ascii_digit b) (is_quote b) p1.0 in
-    let p3 = or_parts (is_blank b || is_comment_start b || is_name_start b) (is_ascii_digit b) p2.0 in
-    let p4 = or_parts (is_blank b || is_comment_start b) (is_name_start b) p3.0 in
-    let p5 = or_parts (is_blank b) (is_comment_start b) p4.0 in
-    record {
-      starts = record { no_blank = p5.0; no_end = p5.1 };
-      told = rw (p4.1, p3.1, p2.1, no-kind (one_byte_kind b) p1.1) refl;
-    }
-  where
-    no-kind : (o : Option TokenKind) → is_some o ≡ false → o ≡ None
-    no-kind None f = refl
-    no-kind (Some kind) f = absurd cc
+nothing-told b bytes e = search rules
 
 text-told : (characters rest : List ℕ) → list_all is_printable characters ≡ false → begins is_quote rest ≡ false
     → IsTold NoToken (quoted_text characters ++ rest)
 unfolding token_at
-text-told characters rest all stop =
-    let told : text_token_at ((flat_map quoted_character characters ++ 39 ∷ []) ++ rest) ≡ Err NoToken =
-    text-at-closed characters rest stop ∙ cond-false (list_all is_printable characters) _ _ all in
-    record { starts = record { no_blank = refl; no_end = refl }; told = told }
+text-told characters rest all stop = grind (arith, cond-false, text-at-closed)
 
 number-at-bad : (run rest : List ℕ) → list_all is_ascii_alphanumeric run ≡ true → begins is_ascii_alphanumeric rest ≡ false
     → numeral run ≡ None → number_token_at (run ++ rest) ≡ Err WrongNumber

@@ -1,13 +1,11 @@
-use Rattle.std.proofs.Common.{sym, ◌∙◌, length, arith}
+use Rattle.std.proofs.Common.{sym, ◌∙◌, arith}
 use Rattle.std.proofs.lemmas.Bool.{eqb-false}
 use Rattle.std.proofs.lemmas.List.{take_rest}
 use Rattle.pac_lex.proofs.LineLemmas.{lines-first, lines-last}
 use Rattle.pac_lex.proofs.line.first_line.Goals as goal
 
 pub returns-in_default-clause-some : goal.returns-in_default-clause-some
-returns-in_default-clause-some c =
-    let some = eqb-false (length c.args.bytes.now) 0 (sym c.is_empty.ensures ∙ c.if-is_empty.false) in
-    lines-last c.args.bytes.now (omega (arith, some)) (sym c.line_feed.ensures.place ∙ c.in_default.is)
+returns-in_default-clause-some c = grind (arith, eqb-false, lines-last)
 
 pub returns-clause-some : goal.returns-clause-some
 returns-clause-some c =
