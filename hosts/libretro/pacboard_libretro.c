@@ -1,0 +1,194 @@
+/* The proved board as a libretro core, for RetroArch and other frontends. hosts/libretro/build makes it.
+ *
+ * Content is a ROM block, a manifest or a source (hosts/c/content.h). States are the board's blocks, so rewind and run-ahead are the
+ * frontend's. Sound has 96,000 samples a second, which the frontend resamples; a picture is XRGB8888. */
+#include "../c/content.h"
+#include "../c/machine.h"
+
+#include <libretro.h>
+
+enum { BUTTONS = 9, PORTS = 2, SWITCHES = 5, TURN = SWITCHES };
+
+static const struct button {
+    unsigned button;
+    uint16_t held[PORTS];
+} buttons[BUTTONS] = {
+    {RETRO_DEVICE_ID_JOYPAD_UP, {PAC_P1_UP, PAC_P2_UP}},         {RETRO_DEVICE_ID_JOYPAD_LEFT, {PAC_P1_LEFT, PAC_P2_LEFT}},
+    {RETRO_DEVICE_ID_JOYPAD_RIGHT, {PAC_P1_RIGHT, PAC_P2_RIGHT}}, {RETRO_DEVICE_ID_JOYPAD_DOWN, {PAC_P1_DOWN, PAC_P2_DOWN}},
+    {RETRO_DEVICE_ID_JOYPAD_SELECT, {PAC_COIN1, PAC_COIN2}},     {RETRO_DEVICE_ID_JOYPAD_START, {PAC_START1, PAC_START2}},
+    {RETRO_DEVICE_ID_JOYPAD_X, {PAC_CREDIT, 0}},                 {RETRO_DEVICE_ID_JOYPAD_L, {PAC_RACK_TEST, 0}},
+    {RETRO_DEVICE_ID_JOYPAD_R, {PAC_BOARD_TEST, PAC_COCKTAIL}},
+};
+
+/* The options: the groups of the DIP switches by the values that bin/dip names, of 201 first, and the quarter turns. */
+static const struct retro_variable options[] = {
+    {"pacboard_coins", "Coins; 1C1C|FREE|1C2C|2C1C"}, {"pacboard_lives", "Lives; 3|1|2|5"},
+    {"pacboard_bonus", "Bonus life; 10000|15000|20000|NONE"}, {"pacboard_difficulty", "Difficulty; NORMAL|HARD"},
+    {"pacboard_names", "Ghosts' names; NORMAL|ALTERNATE"}, {"pacboard_turn", "Quarter turns to the left; 0|1|2|3"}, {NULL, NULL},
+};
+static const struct group {
+    uint8_t shift;
+    const char *names[4]; /* by their value */
+} groups[SWITCHES] = {
+    {0, {"FREE", "1C1C", "1C2C", "2C1C"}}, {2, {"1", "2", "3", "5"}}, {4, {"10000", "15000", "20000", "NONE"}},
+    {6, {"HARD", "NORMAL", NULL, NULL}}, {7, {"ALTERNATE", "NORMAL", NULL, NULL}},
+};
+
+static machine it;
+static uint8_t rgba[PAC_RGBA_SIZE];
+static uint32_t picture[PAC_WIDTH * PAC_HEIGHT];
+static bool is_loaded, is_told;
+static retro_environment_t environment;
+static retro_video_refresh_t show;
+static retro_audio_sample_batch_t play;
+static retro_input_poll_t poll_input;
+static retro_input_state_t input;
+
+RETRO_API unsigned retro_api_version(void) { return RETRO_API_VERSION; }
+RETRO_API void retro_init(void) {}
+RETRO_API void retro_deinit(void) {}
+RETRO_API void retro_set_video_refresh(retro_video_refresh_t call) { show = call; }
+RETRO_API void retro_set_audio_sample(retro_audio_sample_t call) { (void)call; }
+RETRO_API void retro_set_audio_sample_batch(retro_audio_sample_batch_t call) { play = call; }
+RETRO_API void retro_set_input_poll(retro_input_poll_t call) { poll_input = call; }
+RETRO_API void retro_set_input_state(retro_input_state_t call) { input = call; }
+RETRO_API void retro_set_controller_port_device(unsigned port, unsigned device) { (void)port, (void)device; }
+RETRO_API unsigned retro_get_region(void) { return RETRO_REGION_NTSC; }
+RETRO_API void retro_cheat_reset(void) {}
+RETRO_API void retro_cheat_set(unsigned index, bool is_on, const char *code) { (void)index, (void)is_on, (void)code; }
+RETRO_API bool retro_load_game_special(unsigned type, const struct retro_game_info *games, size_t count) { return (void)type, (void)games, (void)count, false; }
+RETRO_API void retro_unload_game(void) { is_loaded = false; }
+RETRO_API size_t retro_serialize_size(void) { return PAC_BOARD_SIZE; }
+
+RETRO_API void retro_set_environment(retro_environment_t call)
+{
+    environment = call;
+    call(RETRO_ENVIRONMENT_SET_VARIABLES, (void *)options);
+}
+
+RETRO_API void retro_get_system_info(struct retro_system_info *info)
+{
+    *info = (struct retro_system_info){.library_name = "pacboard", .library_version = "0.1", .valid_extensions = "roms|toml|asm", .need_fullpath = true};
+}
+
+RETRO_API void retro_get_system_av_info(struct retro_system_av_info *info)
+{
+    *info = (struct retro_system_av_info){
+        .geometry = {PAC_WIDTH, PAC_HEIGHT, PAC_WIDTH, PAC_HEIGHT, (float)PAC_WIDTH / PAC_HEIGHT},
+        .timing = {1e6 / PAC_FRAME_MICROSECONDS, PAC_SAMPLE_RATE},
+    };
+}
+
+/* Shows a line of text, if the frontend does. */
+static void tell(const char *text)
+{
+    struct retro_message message = {text, 300};
+    environment(RETRO_ENVIRONMENT_SET_MESSAGE, &message);
+}
+
+/* What the frontend has for an option, and an empty text where it has nothing. */
+static const char *option(int at)
+{
+    struct retro_variable asked = {options[at].key, NULL};
+    return environment(RETRO_ENVIRONMENT_GET_VARIABLE, &asked) && asked.value != NULL ? asked.value : "";
+}
+
+/* The byte of the DIP switches: what no option says is as in PAC_SWITCHES. */
+static uint8_t switches(void)
+{
+    unsigned found = PAC_SWITCHES;
+    for (int at = 0; at < SWITCHES; at++)
+        for (unsigned value = 0; value < 4 && groups[at].names[value] != NULL; value++)
+            if (strcmp(option(at), groups[at].names[value]) == 0)
+                found = (found & ~((groups[at].shift < 6 ? 3u : 1u) << groups[at].shift)) | value << groups[at].shift;
+    return (uint8_t)found;
+}
+
+/* Says where the frontend's cheats find the board's memory. */
+static void map_memory(void)
+{
+    uint8_t *bytes = it.board.bytes;
+    struct retro_memory_descriptor parts[] = {
+        {.flags = RETRO_MEMDESC_CONST, .ptr = it.roms, .start = 0, .len = PAC_SOURCE_ROM_SIZE, .addrspace = "ROM"},
+        {.ptr = bytes + PAC_AT_TILE_RAM, .start = 0x4000, .len = PAC_TILE_RAM_SIZE, .addrspace = "TILES"},
+        {.ptr = bytes + PAC_AT_COLOUR_RAM, .start = 0x4400, .len = PAC_COLOUR_RAM_SIZE, .addrspace = "COLOURS"},
+        {.flags = RETRO_MEMDESC_SYSTEM_RAM, .ptr = bytes + PAC_AT_WORK_RAM, .start = 0x4C00, .len = PAC_WORK_RAM_SIZE, .addrspace = "RAM"},
+    };
+    struct retro_memory_map map = {parts, sizeof parts / sizeof parts[0]};
+    environment(RETRO_ENVIRONMENT_SET_MEMORY_MAPS, &map);
+}
+
+RETRO_API bool retro_load_game(const struct retro_game_info *game)
+{
+    static uint8_t roms[PAC_ROMS_SIZE];
+    enum retro_pixel_format format = RETRO_PIXEL_FORMAT_XRGB8888;
+    const char *wrong = !pac_matches() ? "the core's header is another library's" : game == NULL || game->path == NULL ? "no content" : content_read(game->path, roms);
+    if (wrong == NULL && !environment(RETRO_ENVIRONMENT_SET_PIXEL_FORMAT, &format))
+        wrong = "the frontend shows no XRGB8888";
+    if (wrong == NULL && machine_open(&it, roms, switches()) != PAC_DONE)
+        wrong = "the board isn't made";
+    if (wrong != NULL)
+        return tell(wrong), false;
+    unsigned turns = (unsigned)strtoul(option(TURN), NULL, 10) & 3;
+    environment(RETRO_ENVIRONMENT_SET_ROTATION, &turns);
+    map_memory();
+    return is_told = false, is_loaded = true;
+}
+
+/* Power-on, with the switches as they are now. */
+RETRO_API void retro_reset(void)
+{
+    static uint8_t roms[PAC_ROMS_SIZE];
+    memcpy(roms, it.roms, sizeof roms);
+    machine_open(&it, roms, switches()), is_told = false;
+}
+
+/* What is held on both joypads. */
+static uint16_t held(void)
+{
+    unsigned mask = 0;
+    for (unsigned at = 0; at < BUTTONS * PORTS; at++)
+        if (input(at % PORTS, RETRO_DEVICE_JOYPAD, 0, buttons[at / PORTS].button))
+            mask |= buttons[at / PORTS].held[at % PORTS];
+    return (uint16_t)mask;
+}
+
+/* A frame: what is held, its sound in both ears, silence after a stop, and its picture. */
+RETRO_API void retro_run(void)
+{
+    int16_t samples[PAC_FRAME_SAMPLES + 2] = {0}, both[2 * (PAC_FRAME_SAMPLES + 2)];
+    pac_ran ran = {0};
+    poll_input();
+    if (machine_hold(&it, held()) != PAC_DONE || machine_run(&it, PAC_FRAME_MICROSECONDS, samples, PAC_FRAME_SAMPLES + 2, &ran) != PAC_DONE)
+        tell("the board refuses the frame");
+    if (ran.stop != PAC_GOES && !is_told)
+        is_told = true, tell("the board stopped: its program has run into what is no instruction");
+    size_t count = ran.samples > PAC_FRAME_SAMPLES ? ran.samples : PAC_FRAME_SAMPLES;
+    for (size_t at = 0; at < 2 * count; at++)
+        both[at] = samples[at / 2];
+    for (size_t done = 0, part; done < count && (part = play(both + 2 * done, count - done)) > 0; done += part)
+        continue;
+    if (machine_draw(&it, rgba) == PAC_DONE)
+        for (size_t at = 0; at < PAC_WIDTH * PAC_HEIGHT; at++)
+            picture[at] = (uint32_t)rgba[4 * at] << 16 | (uint32_t)rgba[4 * at + 1] << 8 | rgba[4 * at + 2];
+    show(picture, PAC_WIDTH, PAC_HEIGHT, PAC_WIDTH * sizeof picture[0]);
+}
+
+RETRO_API bool retro_serialize(void *bytes, size_t size)
+{
+    if (size < PAC_BOARD_SIZE || !is_loaded)
+        return false;
+    return memcpy(bytes, it.board.bytes, PAC_BOARD_SIZE), true;
+}
+
+RETRO_API bool retro_unserialize(const void *bytes, size_t size)
+{
+    static pac_board board;
+    if (size < PAC_BOARD_SIZE || !is_loaded)
+        return false;
+    memcpy(board.bytes, bytes, PAC_BOARD_SIZE);
+    return is_told = false, machine_put(&it, &board) == PAC_DONE;
+}
+
+RETRO_API void *retro_get_memory_data(unsigned kind) { return kind == RETRO_MEMORY_SYSTEM_RAM ? it.board.bytes + PAC_AT_WORK_RAM : NULL; }
+RETRO_API size_t retro_get_memory_size(unsigned kind) { return kind == RETRO_MEMORY_SYSTEM_RAM ? PAC_WORK_RAM_SIZE : 0; }
