@@ -1,0 +1,273 @@
+#!/usr/bin/env python3
+"""Tries hosts/gdb/server.py by packets, as gdb sends them, against the board's own calls, and hosts/gdb/symbols.py by readelf.
+
+    hosts/gdb/try.py [LISTING]
+
+It debugs hosts/out/starfall.roms, which hosts/build leaves. LISTING is starfall's, where symbols are to be tried. The last line is
+`N passed, M failed`, and the exit status is 0 where M is 0.
+"""
+import ctypes
+import pathlib
+import re
+import shutil
+import socket
+import subprocess
+import sys
+import tempfile
+import time
+import xml.etree.ElementTree
+from typing import Any
+
+sys.dont_write_bytecode = True
+ROOT = pathlib.Path(__file__).resolve().parents[2]
+sys.path[:0] = [str(ROOT / "tools/lib"), str(ROOT / "hosts/python")]
+
+import blocks
+import pacboard
+import rows
+
+OUT, SERVER = ROOT / "hosts/out", ROOT / "hosts/gdb/server.py"
+STEPS, STOPS, BACK = 3000, 40, 200
+PAIRS = "A F,B C,D E,H L,SP,PC,IX,IY,A' F',B' C',D' E',H' L',I R".split(",")  # gdb's registers, the high byte first
+NAMES = "af bc de hl sp pc ix iy af' bc' de' hl' ir".split()
+count = rows.Count("gdb", is_shown=True)
+row = count.row
+
+
+class Client:
+    """A gdb that sends what it's told to."""
+
+    def __init__(self, port: int) -> None:
+        self.peer, self.waiting = socket.create_connection(("127.0.0.1", port), timeout=60), b""
+        self.peer.setsockopt(socket.IPPROTO_TCP, socket.TCP_NODELAY, 1)
+
+    def send(self, content: bytes, change: int = 0) -> None:
+        """Sends a packet, with a sum that may be changed."""
+        self.peer.sendall(b"$%s#%02x" % (content, (sum(content) + change) & 255))
+
+    def byte(self) -> bytes:
+        """The next byte."""
+        if not self.waiting:
+            self.waiting = self.peer.recv(65536)
+            if not self.waiting:
+                raise OSError("the server is gone")
+        first, self.waiting = self.waiting[:1], self.waiting[1:]
+        return first
+
+    def answer(self) -> str:
+        """The next packet, whose sum has to be right."""
+        found = b""
+        while self.byte() != b"$":
+            pass
+        while (byte := self.byte()) != b"#":
+            found += byte
+        told = self.byte() + self.byte()
+        if told != b"%02x" % (sum(found) & 255):
+            raise OSError("a wrong sum")
+        return found.decode("latin-1")
+
+    def ask(self, content: str) -> str:
+        """A packet's answer."""
+        self.send(content.encode("latin-1"))
+        return self.answer()
+
+    def pc(self) -> int:
+        """The register PC."""
+        return int.from_bytes(bytes.fromhex(self.ask("p5")), "little")
+
+    def monitor(self, words: str) -> str:
+        """What `monitor` answers."""
+        return bytes.fromhex(self.ask("qRcmd," + words.encode().hex())).decode()
+
+
+class Server:
+    """A server of some content."""
+
+    def __init__(self, content: pathlib.Path) -> None:
+        self.process = subprocess.Popen([sys.executable, SERVER, content], stderr=subprocess.PIPE, text=True)
+        assert self.process.stderr is not None
+        found = re.search(r"127\.0\.0\.1:(\d+)", self.process.stderr.readline())
+        self.port = int(found[1]) if found else 0
+
+    def __enter__(self) -> "Server":
+        return self
+
+    def __exit__(self, *words: object) -> None:
+        self.process.terminate()
+        self.process.wait()
+
+
+def registers_of(block: bytes) -> str:
+    """The registers of a block as gdb reads them, by the places of docs/FORMATS.md."""
+    found = b""
+    for pair in PAIRS:
+        for name in reversed(pair.split(" ")):
+            at, size = blocks.FIELDS[name]
+            found += block[at : at + size]
+    return found.hex()
+
+
+def steps_of(block: bytes) -> int:
+    """The steps of a block."""
+    at, size = blocks.FIELDS["steps"]
+    return int.from_bytes(block[at : at + size], "little")
+
+
+def stepped(board: Any) -> bytes:
+    """The board's block a step later."""
+    steps = steps_of(board.block)
+    while steps_of(board.block) == steps:
+        board.run(1)
+    return board.block
+
+
+def try_questions(one: Client) -> None:
+    """What gdb asks first."""
+    features = one.ask("qSupported:multiprocess+;swbreak+").split(";")
+    row("what the server can do", {"ReverseStep+", "ReverseContinue+", "qXfer:features:read+", "swbreak+"} <= set(features))
+    parts, at = "", 0
+    while not parts.endswith("l"):
+        found = one.ask(f"qXfer:features:read:target.xml:{at:x},80")
+        parts, at = parts.rstrip("m") + found[1:] + found[0], at + 0x80
+    target = xml.etree.ElementTree.fromstring(parts[:-1])
+    row("the target's description", target.findtext("architecture") == "z80" and [reg.get("name") for reg in target.iter("reg")] == NAMES)
+    row("a thread", (one.ask("qfThreadInfo"), one.ask("qsThreadInfo"), one.ask("qC"), one.ask("Hg0")) == ("m1", "l", "QC1", "OK"))
+    row("why it stands", one.ask("?") == "S05")
+    for packet in ("vMustReplyEmpty", "vCont?", "X0,0:", "qNone", "Z2,4c00,1", "!"):
+        row(f"{packet} isn't known", one.ask(packet) == "")
+    one.send(b"g", change=1)
+    row("a wrong sum is asked for again", one.byte() == b"-")
+    kept = one.ask("g")
+    wrong = ["m", "m0", "mz,1", "m0,10001", "m-1,1", "M4c00,2:00", "M4c00,1:0", "M0,1:00", "M4fff,2:0000", "M5000,1:00", "pd", "p-1", "Pd=0000", "P0=00", "P0=000000", "G00", "Z0,10000,1", "cx"]
+    row(f"{len(wrong)} wrong packets", [one.ask(packet) for packet in wrong] == ["E01"] * len(wrong) and one.ask("g") == kept)
+
+
+def try_steps(one: Client, board: Any) -> list[bytes]:
+    """Goes step by step, and back."""
+    seen, is_same = [board.block], one.ask("g") == registers_of(board.block)
+    row("the registers at power-on", is_same)
+    for _ in range(STEPS):
+        seen.append(stepped(board))
+        is_same = is_same and one.ask("s") == "S05" and one.ask("g") == registers_of(seen[-1])
+    row(f"{STEPS} steps by the board's calls", is_same)
+    is_same = all(one.ask("bs") == "S05" and one.ask("g") == registers_of(seen[-2 - at]) for at in range(BACK))
+    row(f"{BACK} steps back", is_same)
+    row("and as many on", all(one.ask("s") == "S05" for _ in range(BACK)) and one.ask("g") == registers_of(seen[-1]))
+    row("back to the beginning", one.ask("bc") == "T05replaylog:begin;" and one.ask("g") == registers_of(seen[0]) and one.ask("bs") == "T05replaylog:begin;")
+    return seen
+
+
+def try_stops(one: Client, seen: list[bytes]) -> None:
+    """Stops at breakpoints, and goes back to them."""
+    counts: dict[int, list[int]] = {}
+    for at, block in enumerate(seen[1:], 1):
+        counts.setdefault(int.from_bytes(block[52:54], "little"), []).append(at)
+    place, met = min(((place, found) for place, found in counts.items() if len(found) >= STOPS), key=lambda one: len(one[1]))
+    row("a breakpoint", one.ask(f"Z0,{place:x},1") == "OK")
+    is_same = all(one.ask("c") == "T05swbreak:;" and one.ask("g") == registers_of(seen[at]) for at in met[:STOPS])
+    row(f"{STOPS} stops at it, each where single steps meet it", is_same)
+    is_same = all(one.ask("bc") == "T05swbreak:;" and one.ask("g") == registers_of(seen[at]) for at in met[: STOPS - 1][::-1])
+    row(f"{STOPS - 1} of them back", is_same)
+    row("and then the beginning", one.ask("bc") == ("T05swbreak:;" if met[0] == 0 else "T05replaylog:begin;"))
+    row("a breakpoint that a step comes to", all(one.ask("s") == "S05" for _ in range(met[0] - 1)) and one.ask("s") == "T05swbreak:;")
+    row("and back, no breakpoint", one.ask(f"z0,{place:x},1") == "OK" and one.ask("bc") == "T05replaylog:begin;")
+
+
+def try_memory(one: Client, board: Any, room: pathlib.Path) -> None:
+    """Reads and writes memory and registers, holds inputs, and draws."""
+    frames = 30
+    row(f"{frames} frames", one.monitor(f"frames {frames}") == "done\n")
+    for _ in range(frames):
+        board.run(pacboard.FRAME_MICROSECONDS)
+    row("registers by the board's calls", one.ask("g") == registers_of(board.block))
+    found = ctypes.create_string_buffer(0x10000)
+    pacboard.LIBRARY.pac_peek(board.state, board.roms, ctypes.c_size_t(len(board.roms)), 0, found, ctypes.c_size_t(0x10000))
+    row("all that the processor would read", bytes.fromhex(one.ask("m0,10000")) == found.raw)
+    row("a picture", one.monitor(f"picture {room / 'it.ppm'}") == "done\n")
+    rgba, rgb = board.draw(), bytearray(pacboard.RGBA_SIZE // 4 * 3)
+    for colour in range(3):
+        rgb[colour::3] = rgba[colour::4]
+    row("by the board's calls", (room / "it.ppm").read_bytes() == b"P6\n288 224\n255\n" + rgb)
+    row("no picture where there is no folder", "No such file" in one.monitor(f"picture {room}/none/it.ppm"))
+    row("held", one.monitor("hold P1_UP,COIN1") == "done\n" and one.ask("m5000,1") == f"{0xFF & ~0x21:02x}")
+    row("and let go", one.monitor("hold -") == "done\n" and one.ask("m5000,1") == "ff")
+    row("no such input", one.monitor("hold UP").startswith("hold NAME") and one.monitor("help") == one.monitor("frames x"))
+    for start in (0x4000, 0x43FF, 0x47FF, 0x4C00, 0x4FEF):
+        wanted = int(one.ask(f"m{start:x},1"), 16) ^ 0x5A
+        row(f"a byte to {start:04X}H", one.ask(f"M{start:x},1:{wanted:02x}") == "OK" and one.ask(f"m{start:x},1") == f"{wanted:02x}")
+    kept = one.ask("g")
+    for at in range(len(NAMES)):
+        changed = kept[: 4 * at] + "3412" + kept[4 * at + 4 :]
+        row(f"{NAMES[at]} set", one.ask(f"P{at:x}=3412") == "OK" and one.ask("g") == changed and one.ask("G" + kept) == "OK" and one.ask("g") == kept)
+    row("no way back from there", one.ask("bs") == "T05replaylog:begin;")
+    row("a reset", one.monitor("reset") == "done\n" and one.pc() == 0)
+
+
+def try_calls(server: Server, one: Client) -> None:
+    """Calls for a stop while it goes, and comes again."""
+    one.send(b"c")
+    time.sleep(0.2)
+    one.peer.sendall(b"\3")
+    row("a call for a stop", one.answer() == "S02")
+    row("a stop far away", one.ask("Z0,3fff,1") == "OK")
+    one.send(b"c")
+    time.sleep(0.2)
+    one.peer.sendall(b"\3")
+    row("a call for a stop with a breakpoint", one.answer() == "S02")
+    row("no acknowledgements any more", one.ask("QStartNoAckMode") == "OK")
+    one.send(b"g")
+    row("none comes", one.byte() == b"$")
+    one.waiting = b"$" + one.waiting
+    kept = one.answer()
+    row("gdb leaves", one.ask("D") == "OK")
+    one.peer.close()
+    other = Client(server.port)
+    row("and comes again", other.ask("g") == kept)
+    other.peer.close()
+
+
+def try_ends(room: pathlib.Path) -> None:
+    """A program that stops, and content that is none."""
+    (room / "stop.roms").write_bytes(b"\x00\xed\x00" + bytes(pacboard.ROMS_SIZE - 3))
+    with Server(room / "stop.roms") as server:
+        one = Client(server.port)
+        row("a program that stops", [one.ask("c"), one.ask("s"), f"{one.pc():x}"] == ["S04", "S04", "1"])
+        row("and a step back", one.ask("bs") == "S05" and one.pc() == 0)
+    for content in (room / "none.roms", room):
+        end = subprocess.run([sys.executable, SERVER, content], capture_output=True, text=True, check=False, timeout=60)
+        row(f"no content: {content.name}", end.returncode == 3 and end.stderr.count("\n") == 1)
+
+
+def try_symbols(room: pathlib.Path, listing: pathlib.Path) -> None:
+    """The symbols as an ELF file."""
+    words: list[str | pathlib.Path] = [sys.executable, ROOT / "hosts/gdb/symbols.py", listing, "-o", room / "it.elf"]
+    row("an ELF file", subprocess.run(words, check=False).returncode == 0)
+    row("has the program", (room / "it.elf").read_bytes()[84 : 84 + 0x4000] == (OUT / "starfall.roms").read_bytes()[:0x4000])
+    if shutil.which("readelf"):
+        said = subprocess.run(["readelf", "-hsW", room / "it.elf"], capture_output=True, text=True, check=False)
+        found = dict((name, int(value, 16)) for value, name in re.findall(r"^ *\d+: ([0-9a-f]{8}) .* (\w+)$", said.stdout, re.M))
+        wanted = dict((name, int(value) & 0xFFFFFFFF) for name, value in re.findall(r"^(\w+) (-?\d+)$", listing.read_text().rpartition("\nSYMBOLS\n")[2], re.M))
+        row("and its symbols, by readelf", not said.stderr and "Zilog Z80" in said.stdout and len(wanted) > 100 and found == wanted)
+    words[2] = OUT / "starfall.roms"
+    row("no listing", subprocess.run(words, capture_output=True, check=False).returncode == 3)
+
+
+def main(words: list[str]) -> int:
+    """Tries the server and the symbols."""
+    board = pacboard.Board((OUT / "starfall.roms").read_bytes())
+    with tempfile.TemporaryDirectory(prefix="gdb-") as name:
+        room = pathlib.Path(name)
+        with Server(OUT / "starfall.roms") as server:
+            one = Client(server.port)
+            try_questions(one)
+            try_stops(one, try_steps(one, board))
+            try_memory(one, pacboard.Board(board.roms), room)
+            try_calls(server, one)
+        try_ends(room)
+        if words:
+            try_symbols(room, pathlib.Path(words[0]))
+    return count.end(50)
+
+
+if __name__ == "__main__":
+    rows.main(__doc__, main)
