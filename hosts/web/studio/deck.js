@@ -8,8 +8,9 @@ import { HEIGHT, WIDTH } from '../board.js';
 
 const FAR = 36000; // frames in which a line is looked for
 const MODES = { live: 'Live', replay: 'Played again', demo: 'Demo · press a key to play', paused: 'Paused', stopped: 'Stopped',
-    busy: 'Playing it again' };
+    busy: 'Playing it again', preview: 'Preview; all of it again' };
 const SHORT = 30; // frames below which no progress is told
+const PREVIEW = 'The new code goes on from where the old one was a second or two ago. Meanwhile all is played again under it, and takes its place.';
 
 export class Deck {
     constructor(studio) {
@@ -147,11 +148,14 @@ export class Deck {
         const mode = run.stop ? 'stopped' : !studio.loop.isPlaying ? 'paused' : session.isDemo ? 'demo' : session.isReplay ? 'replay' : 'live';
         at('mode').dataset.mode = this.busy ? 'busy' : mode;
         at('mode').textContent = this.busy ?? MODES[mode];
+        at('mode').title = session.isPreview ? PREVIEW : '';
+        at('stage').classList.toggle('preview', session.isPreview);
     }
 
     // Tells how far it is played again under new code; nothing once that is done.
     progress(frame, all) {
-        const text = frame === null || all - frame < SHORT && !this.busy ? null : `${MODES.busy}: ${Math.floor(100 * frame / Math.max(1, all))}%`;
+        const text = frame === null || all - frame < SHORT && !this.busy ? null
+            : `${this.session.isPreview ? MODES.preview : MODES.busy}: ${Math.floor(100 * frame / Math.max(1, all))}%`;
         if (text === this.busy) return;
         this.busy = text;
         this.show();

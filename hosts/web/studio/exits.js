@@ -5,6 +5,8 @@ import { textOf } from './bytes.js';
 import { Film, fragmentOf, published } from './outputs.js';
 import { scriptOf } from './tape.js';
 
+const OF_THE_RUN = ['state', 'picture']; // what is saved of a whole run, and of no preview
+
 export class Exits {
     constructor(studio) {
         this.studio = studio;
@@ -51,6 +53,7 @@ export class Exits {
         const { studio } = this, { name, session } = studio;
         document.querySelector('.menu').open = kind === 'film' ? document.querySelector('.menu').open : false;
         if (kind === 'source') studio.isChanged = false;
+        if (OF_THE_RUN.includes(kind)) await session.isWhole();
         if (kind === 'source') download(`${name}.asm`, studio.editor.text, 'text/plain');
         else if (kind === 'script') await this.script();
         else if (kind === 'state') download(`${name}.state`, session.run.board.save());
@@ -106,7 +109,9 @@ export class Exits {
     }
 
     async publish() {
-        const { studio } = this, { files, session } = studio, script = new TextEncoder().encode(scriptOf(this.masks));
+        const { studio } = this, { files, session } = studio;
+        await session.isWhole();
+        const script = new TextEncoder().encode(scriptOf(this.masks));
         const parts = { 'pac_host.wasm': files['pac_host.wasm'], roms: session.roms, 'sound.js': files['sound.js'],
             ...(session.tape.length ? { script } : {}) };
         const poster = at('picture').toDataURL('image/png'), isTurned = at('stage').classList.contains('turned');

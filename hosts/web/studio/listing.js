@@ -61,6 +61,12 @@ export class Listing {
         bytes.forEach((_, at) => this.lineAt.set(address + at, number));
     }
 
+    // Whether each name that another listing has, too, is the same place there.
+    isInPlace(other) {
+        const places = new Map([...other.names].flatMap(([address, names]) => names.map((name) => [name, address])));
+        return [...this.names].every(([address, names]) => names.every((name) => (places.get(name) ?? address) === address));
+    }
+
     // How many bytes the source has placed.
     get size() {
         return this.lineAt.size;

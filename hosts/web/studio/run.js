@@ -86,11 +86,16 @@ export class Run {
         this.stop = null;
     }
 
+    // The frame from which a frame is played, where it isn't come to by going on.
+    before(frame) {
+        return frame;
+    }
+
     // The steps to a moment, each at most a frame; where the board stops on the way it stays there.
     *to(frame, inside = 0) {
         const isAhead = this.canGo && (frame > this.frame || frame === this.frame && inside >= this.inside);
-        const nearest = STRIDE * Math.min(Math.floor(frame / STRIDE), this.snapshots.length - 1);
-        if (!isAhead || nearest > this.frame) this.restore(frame);
+        const nearest = STRIDE * Math.min(Math.floor(this.before(frame) / STRIDE), this.snapshots.length - 1);
+        if (!isAhead || nearest > this.frame) this.restore(this.before(frame));
         while (this.canGo && this.frame < frame) {
             this.next();
             yield this.frame;
@@ -106,10 +111,37 @@ export class Run {
     }
 }
 
+// What another ROM block makes of a run's snapshots, each moment from one that is a second old, or two: no run, but a look ahead at what the
+// run will be under that block, as far as nothing before the snapshot would have been otherwise.
+export class Preview extends Run {
+    before(frame) {
+        return Math.max(0, frame - STRIDE);
+    }
+
+    // Its own moments take the place of the run's.
+    next() {
+        const samples = super.next();
+        if (this.canGo && this.frame % STRIDE === 0) this.snapshots[this.frame / STRIDE] = this.board.block;
+        return samples;
+    }
+}
+
+// The snapshots of a run on another board, under its ROM block or another one.
+function copied(run, kind, board, roms) {
+    board.begin(roms);
+    return Object.assign(Object.create(kind), run, { board, roms, snapshots: run.snapshots.slice() });
+}
+
 // The run once more, on another board and at the same moment: it goes where that one doesn't.
 export function beside(run, board) {
-    const other = Object.assign(Object.create(Run.prototype), run, { board, snapshots: run.snapshots.slice() });
-    board.begin(run.roms);
+    const other = copied(run, Object.getPrototypeOf(run), board, run.roms);
     other.restore(run.frame);
+    return other.go(run.frame, run.inside);
+}
+
+// A preview of a run under another ROM block, at the same moment.
+export function previewOf(run, board, roms) {
+    const other = copied(run, Preview.prototype, board, roms);
+    other.restore(other.before(run.frame));
     return other.go(run.frame, run.inside);
 }

@@ -1,28 +1,37 @@
 // What the studio plays: a run that is live, or played again, or gone through; and the same moment of it under new code.
 
 import { Board, FRAME_SAMPLES } from '../board.js';
-import { sliced } from './bytes.js';
-import { beside, Run } from './run.js';
+import { breath, equal, sliced } from './bytes.js';
+import { beside, previewOf, Run } from './run.js';
 import { LONGEST, Tape } from './tape.js';
 
 const SILENCE = new Int16Array(FRAME_SAMPLES);
+const LONG = 900; // frames from which on what is played again is previewed: less is done in a blink
 
 export class Session {
     // `module` is the compiled one; `told` is called where something has changed that is to be shown.
     constructor(module, roms, controls, told) {
         const board = () => new Board(new WebAssembly.Instance(module, {}).exports, roms);
-        Object.assign(this, { controls, told, board, spare: board(), easel: board(), probe: board(), scouts: {} });
+        Object.assign(this, { controls, told, board, spare: [board(), board()], easel: board(), probe: board(), scouts: {} });
         this.run = new Run(board(), roms, new Tape());
         this.isDemo = false;
         this.wish = 0; // counts what was wished to go to, so that the last one calls the others off
         this.edit = 0; // and the ROM blocks
         this.target = null; // the moment that is gone to
         this.coming = null; // the run under the next ROM block, while it's played up to the moment of this one
+        this.whole = null; // the run before it, while a preview is shown in its place
+        this.wasRight = null; // whether the last preview was what all of it came to; nothing where none was shown
         this.isBusy = false;
     }
 
+    // The ROM block of the last program, under which all is played or will be.
     get roms() {
-        return this.run.roms;
+        return (this.coming ?? this.run).roms;
+    }
+
+    // Whether what is shown is a preview of what is played again.
+    get isPreview() {
+        return this.whole !== null;
     }
 
     get tape() {
@@ -37,8 +46,8 @@ export class Session {
     // Begins anew: with a ROM block, a tape, and from a state where one is given.
     begin(roms, masks = [], { isDemo = false, start = null } = {}) {
         this.wish++;
-        this.edit++;
-        Object.assign(this, { target: null, coming: null, isBusy: false });
+        this.callsOff();
+        Object.assign(this, { target: null, isBusy: false });
         this.run = new Run(this.run.board, roms, new Tape(masks), start);
         this.isDemo = isDemo;
         this.told();
@@ -61,7 +70,7 @@ export class Session {
         if (this.run.frame < this.tape.length) {
             const { frame, inside } = this.run, from = frame + (inside > 0 ? 1 : 0);
             this.tape.cut(from);
-            for (const run of [this.run, this.coming]) run?.forget(from);
+            for (const run of [this.run, this.coming, this.whole]) run?.forget(from);
         }
     }
 
@@ -98,19 +107,60 @@ export class Session {
     }
 
     // Plays what was played again under another ROM block, up to the moment that is shown, and takes its place; `progress` hears of each slice.
-    // Meanwhile the old one goes on, and may be gone through. Whether it came there: the next replacement calls it off.
-    async replace(roms, progress = () => undefined) {
-        const edit = ++this.edit, old = this.run, run = this.coming = new Run(this.spare, roms, old.tape, old.start);
-        const end = await sliced(this.following(run, progress), () => edit === this.edit);
-        if (end === undefined || edit !== this.edit) return false;
-        this.spare = old.board;
+    // Meanwhile the old one goes on, or a preview where one is wanted and there is much to play, and may be gone through. Whether it came there:
+    // the next replacement calls it off.
+    async replace(roms, progress = () => undefined, isPreviewed = false) {
+        this.callsOff();
+        const { edit, run: old } = this;
+        if (equal(roms, old.roms)) return this.shows(old);
+        this.coming = new Run(this.spare.pop(), roms, old.tape, old.start);
+        if (isPreviewed && old.frame >= LONG) this.previews(roms);
+        const run = await sliced(this.following(this.coming, progress), () => edit === this.edit);
+        if (run === undefined || edit !== this.edit) return false;
+        this.wasRight = this.isPreview ? equal(run.board.block, this.run.board.block) : null;
+        for (const { board } of new Set([old, this.run])) this.spare.push(board);
+        Object.assign(this, { coming: null, whole: null });
+        return this.shows(run);
+    }
+
+    // Waits until what is shown is no preview any more.
+    async isWhole() {
+        while (this.isPreview) await breath();
+    }
+
+    // Shows another run in place of this one.
+    shows(run) {
         this.run = run;
-        this.coming = null;
         this.wish++; // what went through the old one ends
         this.isBusy = false;
         this.told();
         if (this.target) this.go(this.target.frame, this.target.inside);
         return true;
+    }
+
+    // Shows a preview under a ROM block, unless the board stops in it.
+    previews(roms) {
+        const preview = previewOf(this.run, this.spare.pop(), roms);
+        if (!preview.canGo) {
+            this.spare.push(preview.board);
+            return;
+        }
+        this.whole = this.run;
+        this.shows(preview);
+    }
+
+    // Calls off what is played again: what was played whole before it is there once more, at the same moment.
+    callsOff() {
+        this.edit++;
+        this.wasRight = null;
+        if (this.coming) this.spare.push(this.coming.board);
+        this.coming = null;
+        if (!this.isPreview) return;
+        const { run, whole } = this;
+        this.wish++;
+        this.spare.push(run.board);
+        this.run = whole.go(run.frame, run.inside);
+        this.whole = null;
     }
 
     // The run once more, on a board that is kept for a purpose: to look around without moving it.

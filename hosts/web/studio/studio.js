@@ -34,7 +34,7 @@ function isPort(address) {
 
 class Studio {
     constructor(files, module, assembler) {
-        Object.assign(this, { files, assembler, listing: null, name: 'starfall', latchAt: PLACES.AT_LATCH, places: [] });
+        Object.assign(this, { files, assembler, listing: null, whole: null, name: 'starfall', latchAt: PLACES.AT_LATCH, places: [] });
         this.set = files.set; // what is in the sockets beside the program
         this.screen = new Screen(at('picture'));
         this.controls = new Controls((before) => this.taken(before));
@@ -132,18 +132,23 @@ class Studio {
         const told = `${counted(this.listing.size)} of 16,384 bytes, assembled in ${milliseconds.toFixed(1)} ms`;
         at('assembled').textContent = told;
         const roms = this.romsOf(rom);
-        if (equal(roms, this.session.roms)) this.told();
-        else await this.replays(roms, told);
+        if (!equal(roms, this.session.roms)) await this.replays(roms, told);
+        else {
+            this.whole ??= this.listing;
+            this.told();
+        }
     }
 
-    // Plays what was played again under another ROM block.
+    // Plays what was played again under another ROM block. Until that is done a preview is shown, unless a name has moved: what the old program has
+    // left in RAM may then point to where things were.
     async replays(roms, told) {
-        const begun = performance.now();
-        const isDone = await this.session.replace(roms, (frame, all) => this.deck.progress(frame, all));
-        this.deck.progress(null);
+        const begun = performance.now(), { session, listing } = this;
+        const isDone = await session.replace(roms, (frame, all) => this.deck.progress(frame, all), this.whole?.isInPlace(listing) ?? false);
         if (!isDone) return;
-        const { run } = this.session;
-        at('assembled').textContent = `${told} · the same moment in ${Math.round(performance.now() - begun)} ms (${counted(run.frame)} frames)`;
+        this.deck.progress(null);
+        this.whole = listing;
+        const { run, wasRight } = session, verdict = wasRight === null ? '' : wasRight ? ', as previewed' : ', not as previewed';
+        at('assembled').textContent = `${told} · the same moment in ${Math.round(performance.now() - begun)} ms (${counted(run.frame)} frames${verdict})`;
         if (!this.loop.isPlaying && run.canGo && this.wasStopped) this.deck.play();
         this.wasStopped = false;
     }
@@ -202,6 +207,7 @@ class Studio {
         at('name').textContent = `${name}.asm`;
         document.title = `${name} · Studio`;
         this.isChanged = false;
+        this.whole = null;
         this.editor.text = text;
         const made_ = rom ? { rom } : this.assembler.isThere ? this.assembler.assemble(bytesOf(text)) : { rom: new Uint8Array(PROGRAM) };
         if (made_.rom) this.session.begin(this.romsOf(made_.rom), masks, { isDemo });

@@ -270,6 +270,32 @@ async function editing(page) {
     row("the browser's way back takes it away", (await page.value('studio.editor.text')) === other);
 }
 
+// A preview, until a long session is played again.
+async function previewing(page) {
+    const source = example('starfall', 'asm'), held = Array.from({ length: 3000 }, (_, at) => (at % 90 < 30 ? 4 : 0));
+    const types = (from, to) => page.value(`(() => { const { area } = studio.editor, at = area.value.indexOf('${from}'); area.focus();
+        area.setSelectionRange(at, at + ${from.length}); document.execCommand('insertText', false, '${to}'); })()`);
+    const told = "document.getElementById('assembled').textContent";
+    await page.value(`studio.begin('starfall', ${JSON.stringify(source)}, ${JSON.stringify(held)})`);
+    await page.value(rest);
+    await page.value(goes(3000));
+    await types('STARS   EQU 4 ', 'STARS   EQU 2 ');
+    await page.until('studio.session.isPreview');
+    const mode = await page.value("document.getElementById('mode').textContent + document.getElementById('stage').className");
+    row('a long session is previewed at once, and the page says so', /^Preview; all of it again: \d+%stage.* preview$/.test(mode), mode);
+    const { bytes } = await page.saved("document.querySelector('[data-save=state]').click()");
+    const { state } = played(source.replace('STARS   EQU 4 ', 'STARS   EQU 2 '), scriptTo(held.map((mask) => `1 ${mask ? 'P1_RIGHT' : '-'}`).join('\n'), 3000));
+    row('a state that is saved meanwhile is that of all of it', isSameBoard(state, bytes));
+    await page.until(`${told}.includes('same moment')`);
+    row('whether the preview was right is told', / \(3,000 frames, not as previewed\)$/.test(await page.value(told)), await page.value(told));
+    await types('        LD SP,STACK', '        NOP\\n        LD SP,STACK');
+    await page.until("document.getElementById('mode').textContent.startsWith('Playing it again')");
+    row('where names have moved there is none', !await page.value('studio.session.isPreview'));
+    await page.until(`${told}.endsWith('(3,000 frames)')`);
+    await page.value(`studio.begin('starfall', ${JSON.stringify(source)})`);
+    await page.value(rest);
+}
+
 // A source that ./play has translated: faults are told by the lines of the file on the disk.
 async function translated(page) {
     const problem = "document.getElementById('problem').textContent", source = '        LD A,1\n        ORG 0\n        LD A,2\n';
@@ -370,6 +396,7 @@ async function main() {
         await looking(page);
         await editing(page);
         await outside(page, script);
+        await previewing(page);
         await translated(page);
         await hostile(page, row);
         row('nothing went wrong on the way', page.faults.length === 0, page.faults.join('\n'));
