@@ -20,6 +20,9 @@ ROOT = pathlib.Path(__file__).resolve().parents[2]
 EXAMPLES = ("starfall", "hello", "welcome", "sunset")
 CHANGED, MANY = 500, 100  # sources with a changed line, and with a few
 LARGEST = 200_000  # bytes
+# What is no TOML after a right manifest.
+NO_TOML = ["x =", "[x", "[x]\ny", "x = \"a\n", "x = \"a", "x = 'a\n'", "x = 'a", "x = \"\1\"", "x = \"\\q\"", "x = \"\\", "[x]\n[x]\n", "[tiles]\n", "x = 1\nx = 2"]
+NO_TOML += ["[[x]", "[[x]]\n[x]\n", "[x]\n[[x]]\n", "x = y", "x = 1 2", "x = 00", "x = 1.", "= 3", "[]", "[x] y", "[x]]", "x = [1]]", "x = true1", "\1"]
 # What is put into a line: signs and words of this assembler and of others.
 PIECES = ["HL", "A", "IX", "P", "NZ", "LD", "255", "70000", "0FFH", "1A", "//", "/*", "AND ", "STARS", "\xe9", "IF ", "EQU", "X ", "NOWHERE", "\"x\""]
 PIECES += ["INCLUDE \"x\"", "$FF", "0x10", "ALIGN 8"] + list("$:,()+-*/';#%&<>=.@ \t")
@@ -119,7 +122,7 @@ def fault_of_manifest(room: pathlib.Path, text: str) -> tuple[str, str]:
 
 
 def other_files(room: pathlib.Path) -> Iterator[dict[str, Any]]:
-    """Scripts and manifests that are refused, with what is said of them; where TOML itself is wrong, the page has its own words."""
+    """Scripts and manifests that are refused, with what is said of them."""
     rows = loaded("explanations")
     for path in (ROOT / "examples").glob("*.*rom"):
         shutil.copy(path, room)
@@ -129,11 +132,13 @@ def other_files(room: pathlib.Path) -> Iterator[dict[str, Any]]:
     for code, text, number, _ in rows.SCRIPTS:
         known = causes_of_files.in_script(code, str(number), text.encode(), room)[0][1]
         yield {"kind": "script", "code": code, "text": text, "line": number, "causes": list(causes.sentences(code, known))}
+    for text in (rows.SET + more for more in NO_TOML):
+        known = causes_of_files.in_manifest("M1", "", text.encode(), room / "set.toml")[0][1]
+        yield {"kind": "manifest", "code": "M1", "text": text, "line": 0, "causes": list(causes.sentences("M1", known))}
     for code, text, _, _ in rows.MANIFESTS:
         found, part = fault_of_manifest(room, text)
         known = causes_of_files.in_manifest(found, part, text.encode(), room / "set.toml")[0][1]
-        if not known.get("toml"):
-            yield {"kind": "manifest", "code": code, "text": text, "line": 0, "causes": list(causes.sentences(found, known))}
+        yield {"kind": "manifest", "code": code, "text": text, "line": 0, "causes": list(causes.sentences(found, known))}
 
 
 def lay(room: pathlib.Path) -> None:

@@ -1,9 +1,8 @@
 // A ROM set as files: by a manifest, or by the chips that dumps are named after. Refused as docs/FORMATS.md says.
-//
-// The reader of manifests takes the part of TOML that sets are written in: tables, arrays of tables, and keys with values in one line.
 
 import { digestOf, Fault, textOf } from './bytes.js';
 import { sentences } from './causes.js';
+import { tablesOf as read } from './manifest.js';
 import { PARTS } from './tables.js';
 
 const CHIPS = {
@@ -11,11 +10,6 @@ const CHIPS = {
     '7f': 'colours', '4a': 'lookup', '1m': 'wave', '3m': 'timing',
 };
 const SIZES = Object.fromEntries(PARTS);
-const ESCAPES = { b: '\b', t: '\t', n: '\n', f: '\f', r: '\r', '"': '"', '\\': '\\' };
-const HEADER = /^\[(\[)?[ \t]*("[^"\\]*"|'[^']*'|[\w-]+)[ \t]*\](\])?[ \t]*(?:#.*)?$/;
-const PAIR = /^("[^"\\]*"|'[^']*'|[\w.-]+)[ \t]*=[ \t]*(.*)$/;
-const TEXT = /^(?:"((?:[^"\\]|\\.)*)"|'([^']*)')[ \t]*(?:#.*)?$/;
-const OTHER = /^(?:true|false|[+-]?[\w.:+-]+|\[[^\]]*\]|\{[^}]*\})[ \t]*(?:#.*)?$/;
 
 // A fault of a part, with what is known of it.
 function refusal(code, part, known = {}) {
@@ -23,33 +17,9 @@ function refusal(code, part, known = {}) {
     return new Fault(code, sentences(code, (name) => all[name]).join('; '), part);
 }
 
-// A text of TOML without its quotes.
-function unquoted(text) {
-    return text.replace(/\\(?:u([0-9A-Fa-f]{4})|(.))/g, (_, code, letter) => (code ? String.fromCharCode(parseInt(code, 16))
-        : ESCAPES[letter] ?? '\ufffd'));
-}
-
-// The tables of a manifest: each name with its pairs; of the program with an array of them.
-export function tablesOf(text) {
-    const tables = new Map(), root = new Map();
-    let pairs = root;
-    text.split('\n').forEach((row, at) => {
-        const line = row.trim(), refused = (cause) => new Fault('M1', `line ${at + 1} of the manifest: ${cause}`, `line ${at + 1}`);
-        if (line === '' || line.startsWith('#')) return;
-        const head = HEADER.exec(line), pair = PAIR.exec(line);
-        if (head) {
-            const name = head[2].replace(/^["']|["']$/g, ''), isArray = head[1] !== undefined;
-            if (isArray !== (head[3] !== undefined)) throw refused('a bracket has no other');
-            if (isArray ? !Array.isArray(tables.get(name) ?? []) : tables.has(name)) throw refused(`${name} is there twice`);
-            pairs = new Map();
-            tables.set(name, isArray ? [...tables.get(name) ?? [], pairs] : pairs);
-        } else if (pair) {
-            const key = pair[1].replace(/^["']|["']$/g, ''), value = TEXT.exec(pair[2]);
-            if (pairs.has(key)) throw refused(`${key} is there twice`);
-            if (!value && !OTHER.test(pair[2]) || pairs === root && key in SIZES && pair[2].startsWith('{')) throw refused("this page's reader of TOML doesn't know this value");
-            pairs.set(key, value ? (value[1] === undefined ? value[2] : unquoted(value[1])) : null);
-        } else throw refused('this is no table and no key with a value');
-    });
+// The tables of a manifest by their names; nothing for a key before the first table that has a table's name.
+function tablesOf(text) {
+    const { root, tables } = read(text);
     for (const key of root.keys()) if (key in SIZES || key === 'program') tables.set(key, null);
     return tables;
 }
