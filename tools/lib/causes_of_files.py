@@ -31,7 +31,7 @@ def in_script(_code: str, said: str, content: bytes, _path: pathlib.Path) -> Pla
     return [(number, known | {"unknown inputs": [{"name": name, "near": near(name, names)} for name in unknown]})]
 
 
-def misformed(document):
+def misformed(document: dict[str, Any]) -> str | None:
     """The first known table of a manifest that has another form."""
     for name, value in document.items():
         if name == "program":
@@ -114,7 +114,7 @@ def in_listing(_code: str, said: str, content: bytes, _path: pathlib.Path) -> Pl
     return [(0, {"row": None, "address": address, "place": said})]
 
 
-def source_line(content, row):
+def source_line(content: bytes, row: int) -> int:
     """The number of the source's line to which a row of a listing belongs."""
     rows = content.decode("latin-1").split("\n")[:row]
     return next((int(line[:5]) for line in reversed(rows) if line[:5].isdigit()), 0)

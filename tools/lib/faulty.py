@@ -115,8 +115,9 @@ def explained(source: bytes) -> dict[str, Any]:
 def fault_of_manifest(room: pathlib.Path, text: str) -> tuple[str, str]:
     """The code of a manifest's fault, and its part."""
     tables = judge_run.tables_of(text.encode()) or {}
-    files = {part: judge_run.read(room, table.get("file", "")) for part, table in tables.items()}
-    missing = next((part for part, table in tables.items() if "file" in table and files[part] is None), "")
+    found_files = {part: judge_run.read(room, table.get("file", "")) for part, table in tables.items()}
+    missing = next((part for part, table in tables.items() if "file" in table and found_files[part] is None), "")
+    files = {part: file for part, file in found_files.items() if file is not None}
     found = re.fullmatch(r"refused (M\d) ?(\w*)", judge_run.fault_of_set(tables or None, files, True) or "") if not missing else None
     return (found[1], found[2]) if found else ("M5", missing)
 

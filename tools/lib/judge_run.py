@@ -7,14 +7,14 @@ show, where the processor meets nothing but NOPs before a frame is over or befor
 tools/check/hostile makes, and those of no frame, which tools/check/sets makes. This was written from these pages and from "The board on one page" of
 docs/USING.md, without a look at the program.
 """
-import collections
 import ctypes
 import hashlib
 import os
 import re
 import struct
 import tomllib
-from typing import Any
+from collections.abc import Mapping
+from typing import Any, BinaryIO, NamedTuple
 
 import judge_source
 
@@ -26,14 +26,24 @@ LIBC = ctypes.CDLL(None, use_errno=True)
 DEEPEST = 20  # brackets, braces and dots in a line of a manifest that both readers of TOML take
 
 # The outputs of a run: bytes, or None where they aren't known; `outputs` is None where no file is created.
-Answer = collections.namedtuple("Answer", "status error text outputs")
+class Answer(NamedTuple):
+    """What a run answers."""
+
+    status: int
+    error: str
+    text: bytes
+    outputs: Mapping[str, bytes | None] | None
+
+
+Stretch = tuple[int, list[str]]  # frames, and the names of what is held in them
+Goal = tuple[int, str]  # an index, and the word by which it is told
 
 
 class Unsure(Exception):
     """The checker can't tell: Python's reader of TOML and the program's might differ."""
 
 
-def refused(fault):
+def refused(fault: str) -> Answer:
     """The answer to an input that is refused: it leaves the outputs empty."""
     return Answer(1, fault + "\n", b"", {"frames": b"", "wave": b"", "listing": b""})
 
@@ -45,7 +55,7 @@ PARTS = [(f"program{part}", 4096) for part in range(1, 5)]
 PARTS += [("tiles", 4096), ("sprites", 4096), ("colours", 32), ("lookup", 256), ("wave", 256), ("timing", 256)]
 
 
-def document_of(manifest):
+def document_of(manifest: bytes) -> dict[str, Any] | None:
     """The document, or None where it is no TOML. tomllib reads TOML 1.0 and the program 1.1, in which a text may be right that wasn't:
     with a line feed or a last comma in braces, with new escapes, or with a time without seconds."""
     try:
@@ -63,7 +73,7 @@ def document_of(manifest):
     return document
 
 
-def is_table(table):
+def is_table(table: object) -> bool:
     """Whether a table has the form of a part's."""
     if not isinstance(table, dict) or not isinstance(table.get("file", ""), str):
         return False
@@ -71,7 +81,7 @@ def is_table(table):
     return isinstance(digest, str) and re.fullmatch("[0-9a-fA-F]{40}", digest) is not None
 
 
-def tables_of(manifest):
+def tables_of(manifest: bytes) -> dict[str, Any] | None:
     """The tables of a manifest by their parts, or None where it is M1."""
     document = document_of(manifest)
     if document is None:
@@ -85,7 +95,7 @@ def tables_of(manifest):
     return tables if all(is_table(table) for table in tables.values()) else None
 
 
-def open_beneath(folder, name):
+def open_beneath(folder: str | os.PathLike[str], name: str) -> BinaryIO:
     """Opens a file of a folder for reading, where no link leads out of it: here the kernel judges, by RESOLVE_BENEATH of its openat2."""
     at = os.open(folder, os.O_PATH | os.O_CLOEXEC)
     try:
@@ -98,7 +108,7 @@ def open_beneath(folder, name):
         os.close(at)
 
 
-def read(folder, name):
+def read(folder: str | os.PathLike[str], name: str) -> bytes | None:
     """The bytes of a file of the manifest's folder, or None where it can't be read."""
     if not name or name.startswith("/") or ".." in name.split("/") or "\0" in name:
         return None
@@ -110,12 +120,12 @@ def read(folder, name):
     return found if found is not None and len(found) <= LARGEST else None
 
 
-def told(name):
+def told(name: str) -> str:
     """A file's name as a message tells it."""
     return re.sub("[\x00-\x1f\x7f]", lambda sign: f"\\x{ord(sign[0]):02X}", name)
 
 
-def fault_of_set(tables, files, has_source):
+def fault_of_set(tables: dict[str, Any] | None, files: Mapping[str, bytes], has_source: bool) -> str | None:
     """The fault of a set whose files were read; None where it is whole."""
     if tables is None:
         return "refused M1"
@@ -143,12 +153,12 @@ def fault_of_set(tables, files, has_source):
 NAMES = "P1_UP P1_LEFT P1_RIGHT P1_DOWN RACK_TEST COIN1 COIN2 CREDIT P2_UP P2_LEFT P2_RIGHT P2_DOWN BOARD_TEST START1 START2 COCKTAIL"
 
 
-def words_of(line):
+def words_of(line: bytes) -> list[bytes]:
     """A line's words: what blanks and tabs part."""
     return [word for word in re.split(rb"[ \t]+", line) if word]
 
 
-def number_of(word, most):
+def number_of(word: bytes, most: int) -> int | None:
     """The decimal number of a word, from 1 to `most`; None where it is none."""
     if re.fullmatch(rb"[0-9]+", word):
         digits = word.lstrip(b"0")
@@ -157,36 +167,36 @@ def number_of(word, most):
     return None
 
 
-def stretches_of(script):
-    """What a script's lines say, each a number of frames and the names of what is held in them, and None; or None and its fault."""
-    stretches, total = [], 0
+def stretches_of(script: bytes) -> tuple[list[Stretch], str | None]:
+    """What a script's lines say, each a number of frames and the names of what is held in them, and None; or nothing and its fault."""
+    stretches, total = list[Stretch](), 0
     for number, line in enumerate(judge_source.lines_of(script), 1):
         words = words_of(line)
         if not words or words[0].startswith(b"#"):
             continue
         count = number_of(words[0], 36_000)
         if count is None:
-            return None, f"refused I2 line {number}"
+            return [], f"refused I2 line {number}"
         names = words[1].decode("latin-1").split(",") if len(words) == 2 else [""]
         names = [] if words[1:] == [b"-"] else names
         if not all(name in NAMES.split() for name in names):
-            return None, f"refused I1 line {number}"
+            return [], f"refused I1 line {number}"
         total += count
         if total > 36_000:
-            return None, f"refused I3 line {number}"
+            return [], f"refused I3 line {number}"
         stretches.append((count, names))
     return stretches, None
 
 
-def frames_of(stretches):
+def frames_of(stretches: list[Stretch]) -> int:
     """How many frames the lines of a script have together."""
     return sum(count for count, _ in stretches)
 
 
-def ports_of(stretches, frame):
+def ports_of(stretches: list[Stretch], frame: int) -> tuple[int, int]:
     """What is read at 5000H and at 5040H in a frame, the first of which is 1: a bit is 0 while its input is held. After the last frame
     nothing is held."""
-    held = []
+    held = list[str]()
     for count, names in stretches:
         if 0 < frame <= count:
             held = names
@@ -200,7 +210,7 @@ def ports_of(stretches, frame):
 class Run:
     """A run of so many frames of a ROM of NOPs, whose first other byte begins no instruction. A step is an index, and PC is the same."""
 
-    def __init__(self, rom, frames, switches):
+    def __init__(self, rom: bytes, frames: int, switches: int) -> None:
         self.rom, self.frames, self.switches = rom, frames, switches
         self.stop = next((at for at, byte in enumerate(rom) if byte), 0x4000)
         self.end = min(frames, 2) * NOPS
@@ -209,7 +219,7 @@ class Run:
             raise Unsure
         self.last = min(self.end, self.stop)
 
-    def byte(self, at):
+    def byte(self, at: int) -> int:
         """The byte that the processor would read."""
         at %= 0x8000
         if at < 0x4000:
@@ -219,18 +229,18 @@ class Run:
             return {0: 0xFF, 1: 0xFF, 2: self.switches, 3: 0xFF}[at // 64 % 4]
         return 0xBF if 0x4800 <= at < 0x4C00 else 0
 
-    def four(self, at):
+    def four(self, at: int) -> bytes:
         """The four bytes from an address on."""
         return bytes(self.byte(at + place) for place in range(4))
 
-    def report(self):
+    def report(self) -> str:
         """The report of the whole run."""
         text = f"frames {self.last // NOPS} of {self.frames}\nsteps {self.last} ticks {4 * self.last}\n"
         if self.last == self.end:
             return text + "end done\n"
         return text + f"stop S1 at {self.last:04X} bytes {self.four(self.last).hex(' ').upper()}\n"
 
-    def wave(self):
+    def wave(self) -> bytes:
         """The sound: nothing but silence."""
         size = 3168 * self.frames
         head = b"RIFF" + (36 + size).to_bytes(4, "little") + b"WAVEfmt " + (16).to_bytes(4, "little") + b"\1\0\1\0"
@@ -241,15 +251,15 @@ class Run:
 class Session:
     """The debugger's session over such a run."""
 
-    def __init__(self, run):
-        self.run, self.index, self.furthest, self.breaks, self.slots = run, 0, 0, set(), {}
+    def __init__(self, run: Run) -> None:
+        self.run, self.index, self.furthest, self.breaks, self.slots = run, 0, 0, set[int](), dict[int, int]()
 
-    def place(self, word):
+    def place(self, word: str) -> str:
         """The line of a place."""
         text = judge_source.disassembled(self.run.four(self.index), self.index)[0]
         return f"{word} {self.index} {4 * self.index} {self.index:04X} {text}"
 
-    def go(self, goals):
+    def go(self, goals: list[Goal]) -> str:
         """Goes on to the first of some goals, each an index and its word, or as far as the run goes."""
         run = self.run
         goals = [goal for goal in goals if self.index < goal[0] <= run.last]
@@ -262,24 +272,24 @@ class Session:
         self.furthest = max(self.furthest, self.index)
         return self.place(word)
 
-    def next_break(self):
+    def next_break(self) -> list[Goal]:
         """The next index at which PC is a breakpoint."""
         return [(at, "break") for at in sorted(self.breaks) if at > self.index][:1]
 
-    def step(self, count):
+    def step(self, count: int) -> str:
         """`step n`."""
         return self.go([(self.index + count, "step")])
 
-    def proceed(self):
+    def proceed(self) -> str:
         """`continue`."""
         return self.go(self.next_break())
 
-    def frame(self, count):
+    def frame(self, count: int) -> str:
         """`frames n`: there is one vertical blank at most that isn't the end."""
         blank = [(NOPS, "frame")] if count == 1 and self.index < NOPS else []
         return self.go(sorted(self.next_break() + blank))
 
-    def back(self, count):
+    def back(self, count: int) -> str:
         """`back n`."""
         oldest = 4096 * max(0, self.furthest // 4096 - 15)
         if self.index - count < oldest:
@@ -287,38 +297,38 @@ class Session:
         self.index -= count
         return self.place("back")
 
-    def keep(self, slot):
+    def keep(self, slot: int) -> str:
         """`keep k`."""
         self.slots[slot] = self.index
         return "ok"
 
-    def restore(self, slot):
+    def restore(self, slot: int) -> str:
         """`return k`."""
         if slot not in self.slots:
             return "refused G3"
         self.index = self.slots[slot]
         return self.place("return")
 
-    def set_break(self, at):
+    def set_break(self, at: int) -> str:
         """`break a`."""
         if at not in self.breaks and len(self.breaks) == 64:
             return "refused G4"
         self.breaks.add(at)
         return "ok"
 
-    def unset_break(self, at):
+    def unset_break(self, at: int) -> str:
         """`unbreak a`."""
         self.breaks.discard(at)
         return "ok"
 
-    def registers(self):
+    def registers(self) -> str:
         """`regs`: NOPs change PC and R's low seven bits alone."""
         pairs = " ".join(f"{name}=0000" for name in "AF BC DE HL IX IY SP".split())
         others = " ".join(f"{name}'=0000" for name in "AF BC DE HL".split())
         blanks = self.index // NOPS
         return f"{pairs} PC={self.index:04X}\n{others} I=00 R={self.index % 128:02X} IM=0 IFF=00 LATCH=00 VEC=00 WD={blanks}"
 
-    def memory(self, at, count):
+    def memory(self, at: int, count: int) -> str:
         """`mem a n`."""
         rows = []
         for row in range(0, count, 16):
@@ -326,7 +336,7 @@ class Session:
             rows.append(f"{(at + row) % 65536:04X}: {read_bytes.hex(' ').upper()}")
         return "\n".join(rows)
 
-    def instructions(self, at, count):
+    def instructions(self, at: int, count: int) -> str:
         """`dis a n`."""
         rows = []
         for _ in range(count):
@@ -336,7 +346,7 @@ class Session:
             at = (at + size) % 65536
         return "\n".join(rows)
 
-    def history(self, count):
+    def history(self, count: int) -> str:
         """`history n`."""
         return "\n".join(f"{at} {at:04X} NOP" for at in range(max(0, self.index - count), self.index))
 
@@ -356,7 +366,7 @@ class Session:
         b"history": ((256,), history),
     }
 
-    def answer(self, line):
+    def answer(self, line: bytes) -> str:
         """What a line is answered."""
         words = words_of(line)
         if not words:
@@ -372,7 +382,7 @@ class Session:
                 given.append(number_of(word, most))
         return "refused G1" if None in given else does(self, *given)
 
-    def text(self, commands):
+    def text(self, commands: bytes) -> str:
         """What the lines of a file are answered."""
         answers = (self.answer(line) for line in judge_source.lines_of(commands))
         return "".join(answer + "\n" for answer in answers if answer)
@@ -380,16 +390,19 @@ class Session:
 
 # ---- A whole run
 
-def run(source, manifest, folder, script, commands=None, switches=201):
+def run(
+    source: bytes | None, manifest: bytes, folder: str | os.PathLike[str], script: bytes, commands: bytes | None = None, switches: int = 201
+) -> Answer:
     """What `run` answers, or `debug` where there are commands; no source is None."""
     tables = tables_of(manifest)
-    files = {}
+    files = dict[str, bytes]()
     for part, _ in PARTS:
         if tables and "file" in tables.get(part, {}):
             name = tables[part]["file"]
-            files[part] = read(folder, name)
-            if files[part] is None:
+            found = read(folder, name)
+            if found is None:
                 return Answer(3, f"read fault {told(name)}\n", b"", None)
+            files[part] = found
     listing, rom = b"SYMBOLS\n", None
     if source is not None:
         assembly, fault = judge_source.assemble(source)
@@ -399,7 +412,7 @@ def run(source, manifest, folder, script, commands=None, switches=201):
     fault = fault_of_set(tables, files, source is not None)
     stretches, fault_of_script = stretches_of(script)
     if fault or fault_of_script:
-        return refused(fault or fault_of_script)
+        return refused(fault or fault_of_script or "")
     whole = Run(rom or b"".join(files[f"program{part}"] for part in range(1, 5)), frames_of(stretches), switches)
     text = Session(whole).text(commands) if commands is not None else ""
     pictures = b"" if whole.last < NOPS else None

@@ -7,12 +7,12 @@ prints the listing, or the fault. This was written from that page, with the code
 without a look at the assembler: where both agree, the page says all that there is to say. `disassembled` is by the section
 "Disassembly" of docs/FORMATS.md and the same codes. tools/check/hostile holds the program against both.
 """
-import collections
 import functools
 import itertools
 import re
 import sys
-from typing import Any
+from collections.abc import Callable, Iterator
+from typing import Any, NamedTuple
 
 # A line of 255 bytes may nest an expression deeper than Python lets functions call themselves by itself.
 sys.setrecursionlimit(10_000)
@@ -47,7 +47,7 @@ INI | ED A2; INIR | ED B2; IND | ED AA; INDR | ED BA; OUTI | ED A3; OTIR | ED B3
 """
 
 
-def field(names, bits):
+def field(names: str, bits: int) -> dict[str, str]:
     """What each name of a field is in the bits; `-` stands for none."""
     return {name.replace("_", " "): f"{at:0{bits}b}" for at, name in enumerate(names.split()) if name != "-"}
 
@@ -73,10 +73,22 @@ CONDITIONS = FIELDS["ccc"]
 REGISTERS = set("A B C D E H L I R AF BC DE HL SP IX IY".split()) | set(CONDITIONS)
 DIRECTIVES = set("ORG EQU DEFB DB DEFW DW DEFS DS DEFM DM IF ELSE ENDIF".split())
 
-Form = collections.namedtuple("Form", "mnemonic operands code number")
+Token = tuple[str, Any]  # a kind, and what it says
+Tree = tuple[Any, ...]  # an expression: its operator, and the trees or values below it
+Place = tuple[str, Tree]  # what of a line is filled in: a kind, and what it is
 
 
-def expanded(text, code):
+class Form(NamedTuple):
+    """A form of an instruction: its code's bytes and letters, and the number that it stands for if it has one."""
+
+    mnemonic: str
+    operands: tuple[str, ...]
+    code: tuple[Any, ...]
+    number: int | None
+
+
+
+def expanded(text: str, code: str) -> Iterator[Form]:
     """The forms of a row, one for each code: the text's words, the code's, and the number that a field stands for."""
     for letters, names in FIELDS.items():
         if letters in code:
@@ -94,7 +106,7 @@ def expanded(text, code):
     yield Form(mnemonic, tuple(operands.split(",")) if operands else (), tuple(words), None)
 
 
-def all_forms():
+def all_forms() -> Iterator[Form]:
     """The forms of all rows, each with IX with IY too."""
     for row in re.split(r"[;\n]", ROWS.strip()):
         text, code = (part.strip() for part in row.split("|"))
@@ -107,7 +119,7 @@ def all_forms():
 # Each mnemonic with its operands: its code, or its codes by the number that the source gives. Of two codes the first one counts.
 FORMS: dict[Any, Any] = {}
 # Each code's bytes that are fixed: its form.
-CODES = {}
+CODES = dict[tuple[int, ...], Form]()
 for _form in all_forms():
     FORMS.setdefault((_form.mnemonic, _form.operands), {}).setdefault(_form.number, _form.code)
     CODES[tuple(word for word in _form.code if isinstance(word, int))] = _form
@@ -129,7 +141,7 @@ TOKEN = re.compile(
 BASES = {"H": 16, "B": 2, "O": 8, "Q": 8, "D": 10}
 
 
-def number_of(word):
+def number_of(word: str) -> int:
     """The number of a token that begins with a digit."""
     base = BASES.get(word[-1].upper(), 10)
     digits = word[:-1] if word[-1].upper() in BASES else word
@@ -141,7 +153,7 @@ def number_of(word):
     return value
 
 
-def tokens(line):
+def tokens(line: bytes) -> list[Token]:
     """The tokens of a line, each its kind and what it says."""
     if len(line) > 255:
         raise Fault("A1 L4")
@@ -169,7 +181,7 @@ def tokens(line):
 
 # ---- Expressions, as trees of tuples
 
-def operand_of(found):
+def operand_of(found: list[Token]) -> Tree:
     """Reads the operand at the front: a number, a name, a text of one character, `$`, or a group."""
     if not found:
         raise Fault("A2")
@@ -190,7 +202,7 @@ def operand_of(found):
     raise Fault("A2")
 
 
-def signed_of(found):
+def signed_of(found: list[Token]) -> Tree:
     """Reads an operand with the signs before it."""
     if found and found[0] in (("sign", "+"), ("sign", "-")):
         sign = found.pop(0)[1]
@@ -198,7 +210,7 @@ def signed_of(found):
     return operand_of(found)
 
 
-def chain_of(found, part, signs):
+def chain_of(found: list[Token], part: Callable[[list[Token]], Tree], signs: str) -> Tree:
     """Reads parts with operators of one rank between them."""
     tree = part(found)
     while found and found[0][0] == "sign" and found[0][1] in signs:
@@ -207,17 +219,17 @@ def chain_of(found, part, signs):
     return tree
 
 
-def product_of(found):
+def product_of(found: list[Token]) -> Tree:
     """Reads what `*` and `/` join."""
     return chain_of(found, signed_of, "*/")
 
 
-def sum_of(found):
+def sum_of(found: list[Token]) -> Tree:
     """Reads what `+` and `-` join."""
     return chain_of(found, product_of, "+-")
 
 
-def expression(found):
+def expression(found: list[Token]) -> Tree:
     """The tree of tokens that are an expression and nothing else."""
     rest = list(found)
     tree = sum_of(rest)
@@ -226,14 +238,14 @@ def expression(found):
     return tree
 
 
-def names_of(tree):
+def names_of(tree: Tree) -> set[str]:
     """The names in a tree."""
     if tree[0] == "name":
         return {tree[1]}
     return set().union(*(names_of(part) for part in tree[1:] if isinstance(part, tuple)))
 
 
-def value_of(tree, symbols, here):
+def value_of(tree: Tree, symbols: dict[str, int], here: int) -> int:
     """The value of a tree all of whose names are known; A10 where a result on the way is none."""
     kind = tree[0]
     if kind in ("number", "name", "here"):
@@ -262,11 +274,21 @@ def value_of(tree, symbols, here):
 
 # A label, an operation, what it has to be evaluated for at once (`at_once`), and its places: each a kind and a tree. `size` is None where
 # the line places nothing, or where `at_once` tells it; `code` is the code's words, or the codes by number.
-Line = collections.namedtuple("Line", "label operation at_once places size code")
+class Line(NamedTuple):
+    """What a line says."""
+
+    label: str | None
+    operation: str | None
+    at_once: Tree | None
+    places: tuple[Place, ...]
+    size: int | None
+    code: Any
+
+
 EMPTY = Line(None, None, None, (), None, None)
 
 
-def parted(found):
+def parted(found: list[Token]) -> list[list[Token]]:
     """Operands, parted by commas."""
     if not found:
         return []
@@ -281,7 +303,7 @@ def parted(found):
     return operands
 
 
-def is_closed_by_last(found):
+def is_closed_by_last(found: list[Token]) -> bool:
     """Whether tokens begin with a parenthesis that the last one closes."""
     depth = 0
     for at, token in enumerate(found):
@@ -291,7 +313,7 @@ def is_closed_by_last(found):
     return False
 
 
-def shapes(found):
+def shapes(found: list[Token]) -> list[tuple[str, Tree | None]]:
     """What an operand of an instruction may be in a form, each with its tree if it has one."""
     if len(found) == 1 and found[0][0] in ("name", "other") and found[0][1].upper() in REGISTERS | {"AF'"}:
         return [(found[0][1].upper(), None)]
@@ -301,8 +323,8 @@ def shapes(found):
     inside = found[1:-1]
     first = inside[0][1].upper() if inside and inside[0][0] == "name" else ""
     if len(inside) == 1 and first in REGISTERS:
-        indexed = [(f"({first}+d)", ("number", 0))] if first in ("IX", "IY") else []
-        return [(f"({first})", None)] + indexed
+        indexed: list[tuple[str, Tree | None]] = [(f"({first}+d)", ("number", 0))] if first in ("IX", "IY") else []
+        return [(f"({first})", None), *indexed]
     if first in ("IX", "IY") and inside[1] in (("sign", "+"), ("sign", "-")):
         return [(f"({first}+d)", expression(inside[1:]))]
     tree = expression(inside)
@@ -312,7 +334,7 @@ def shapes(found):
 KINDS = {"n": "n", "nn": "nn", "e": "e", "(n)": "n", "(nn)": "nn", "(IX+d)": "d", "(IY+d)": "d", "b": "number", "t": "number", "m": "number"}
 
 
-def instruction(label, mnemonic, operands):
+def instruction(label: str | None, mnemonic: str, operands: list[list[Token]]) -> Line:
     """The line of an instruction."""
     if len(operands) > 2:
         raise Fault("A2")
@@ -325,7 +347,7 @@ def instruction(label, mnemonic, operands):
     raise Fault("A2")
 
 
-def list_of_bytes(operands):
+def list_of_bytes(operands: list[list[Token]]) -> Iterator[Place]:
     """The places of DEFB: texts and expressions."""
     for operand in operands:
         if len(operand) == 1 and operand[0][0] == "text":
@@ -334,7 +356,7 @@ def list_of_bytes(operands):
             yield ("n", expression(operand))
 
 
-def directive(label, operation, operands):
+def directive(label: str | None, operation: str, operands: list[list[Token]]) -> Line:
     """The line of a directive."""
     counts = {"ORG": (1, 1), "EQU": (1, 1), "IF": (1, 1), "ELSE": (0, 0), "ENDIF": (0, 0), "DEFM": (1, 1), "DEFS": (1, 2)}
     operation = {"DB": "DEFB", "DW": "DEFW", "DS": "DEFS", "DM": "DEFM"}.get(operation, operation)
@@ -355,7 +377,7 @@ def directive(label, operation, operands):
 
 
 @functools.lru_cache(maxsize=4096)
-def read_line(line):
+def read_line(line: bytes) -> Line | str:
     """What a line says, or the fault A1 or A2 that it has."""
     try:
         found = tokens(line)
@@ -381,22 +403,22 @@ def read_line(line):
 
 # ---- Sources
 
-def lines_of(text):
+def lines_of(text: bytes) -> list[bytes]:
     """The lines of a text."""
     pieces = text.split(b"\n")
     last = pieces.pop()
     return [piece[:-1] if piece.endswith(b"\r") else piece for piece in pieces] + ([last] if last else [])
 
 
-def first_word(line):
+def first_word(line: bytes) -> bytes:
     """A line's first word in capitals: what letters, digits and `_` stand first."""
     found = re.match(rb"[ \t]*([A-Za-z0-9_]*)", line)
     return found[1].upper() if found else b""
 
 
-def open_if(lines):
+def open_if(lines: list[bytes]) -> int:
     """The number of the first IF that is never closed; none, and it is past all lines."""
-    opened = []
+    opened = list[int]()
     for number, line in enumerate(lines, 1):
         if first_word(line) == b"IF":
             opened.append(number)
@@ -408,17 +430,17 @@ def open_if(lines):
 class Assembly:
     """What is known of a source, line by line."""
 
-    def __init__(self):
-        self.symbols = {}
+    def __init__(self) -> None:
+        self.symbols = dict[str, int]()
         self.at = 0
         self.is_taken = bytearray(0x4000)
         self.rom = bytearray(0x4000)
         # the IFs that are open: `true` and `else` are counted, `false`, `rest` (after the ELSE of a true one) and `inner` are skipped
-        self.open = []
+        self.open = list[str]()
         # each line's bytes: an address and a size, None without, and `-` where it is skipped
-        self.spots = []
+        self.spots = list[Any]()
 
-    def skips(self, word):
+    def skips(self, word: bytes) -> bool:
         """Whether a line with this first word is skipped; keeps count of the IFs among skipped lines."""
         if not self.open or self.open[-1] in ("true", "else"):
             return False
@@ -433,18 +455,18 @@ class Assembly:
             return False
         return True
 
-    def at_once(self, tree):
+    def at_once(self, tree: Tree) -> int:
         """The value of an expression whose names have to be defined above."""
         if not names_of(tree) <= self.symbols.keys():
             raise Fault("A4")
         return value_of(tree, self.symbols, self.at)
 
-    def branch(self, line):
+    def branch(self, line: Line) -> None:
         """IF, ELSE and ENDIF, where they count."""
         if line.operation == "IF":
             if len(self.open) == 8:
                 raise Fault("A12")
-            self.open.append("true" if self.at_once(line.at_once) else "false")
+            self.open.append("true" if self.at_once(line.at_once or ()) else "false")
         elif not self.open or line.operation == "ELSE" and self.open[-1] == "else":
             raise Fault("A13")
         elif line.operation == "ENDIF":
@@ -452,7 +474,7 @@ class Assembly:
         else:
             self.open[-1] = {"true": "rest", "false": "else"}[self.open[-1]]
 
-    def place(self, size):
+    def place(self, size: int) -> None:
         """Places so many bytes here."""
         if self.at + size > 0x4000:
             raise Fault("A5")
@@ -462,7 +484,7 @@ class Assembly:
         self.spots[-1] = (self.at, size)
         self.at += size
 
-    def first_phase(self, text):
+    def first_phase(self, text: bytes) -> None:
         """Defines and places what a line says that counts; or finds it skipped."""
         self.spots.append(None)
         if self.skips(first_word(text)):
@@ -494,10 +516,10 @@ class Assembly:
         elif size == 0:
             self.spots[-1] = (self.at, 0)
 
-    def second_phase(self, text, spot):
+    def second_phase(self, text: bytes, spot: Any) -> None:
         """Fills the bytes of a line."""
         line = read_line(text)
-        if not line.places and not line.code:
+        if isinstance(line, str) or not line.places and not line.code:
             return
         here, size = spot
         for _, tree in line.places:
@@ -507,7 +529,7 @@ class Assembly:
         self.rom[here : here + size] = content(line, values, here, size)
 
 
-def content(line, values, here, size):
+def content(line: Line, values: list[tuple[str, int]], here: int, size: int) -> bytes:
     """The bytes of a line with these values in its places."""
     coded = []
     for kind, value in values:
@@ -527,7 +549,7 @@ def content(line, values, here, size):
     return b"".join(bytes([word]) if isinstance(word, int) else by_kind[word] for word in words)
 
 
-def assemble(source):
+def assemble(source: bytes) -> tuple[Any, str | None]:
     """The assembly of a source and None, or None and its fault."""
     lines = lines_of(source)
     if len(lines) > 65535:
@@ -548,7 +570,7 @@ def assemble(source):
     return assembly, None
 
 
-def listing(source, assembly):
+def listing(source: bytes, assembly: "Assembly") -> bytes:
     """The listing of a source that is assembled."""
     text = bytearray()
     for number, (line, spot) in enumerate(zip(lines_of(source), assembly.spots), 1):
@@ -566,13 +588,13 @@ def listing(source, assembly):
 
 # ---- Disassembly
 
-def hexadecimal(value, digits):
+def hexadecimal(value: int, digits: int) -> str:
     """A number as the disassembly writes it."""
     text = f"{value:0{digits}X}H"
     return text if text[0].isdigit() else "0" + text
 
 
-def disassembled(code, at):
+def disassembled(code: bytes, at: int) -> tuple[str, int]:
     """The text of the instruction that bytes begin with, at an address, and its size."""
     keys = [bytes(code[:1]), bytes(code[:2]), bytes(code[:2] + code[3:4])]
     for key in keys:
@@ -583,7 +605,7 @@ def disassembled(code, at):
     return f"DEFB {hexadecimal(code[0], 2)}", 1
 
 
-def shown(form, code, at):
+def shown(form: Form, code: bytes, at: int) -> str:
     """The text of an instruction of this form."""
     texts, place = dict[str, str](), 0
     for word in form.code:
@@ -604,7 +626,7 @@ def shown(form, code, at):
     return f"{form.mnemonic} {','.join(operands)}".strip()
 
 
-def disassembly(code):
+def disassembly(code: bytes) -> bytes:
     """The text of a file of bytes."""
     at, text = 0, []
     while at < len(code):
@@ -614,7 +636,7 @@ def disassembly(code):
     return "".join(text).encode()
 
 
-def main():
+def main() -> None:
     """Prints the listing of a source, or its fault."""
     if len(sys.argv) != 2 or sys.argv[1] == "--help":
         sys.exit(print(__doc__.strip()) if "--help" in sys.argv else "judge_source.py: it takes one source; --help tells more")

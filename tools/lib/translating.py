@@ -622,7 +622,7 @@ class Translation:
             shown = ",".join(before.removesuffix("+") + ("+0" if before.endswith("+") else "0" if tree else "") + after for before, tree, after in forms)
             read = judge.read_line(f" {name} {shown}".encode("latin-1"))
             if not isinstance(read, str):
-                item.operation, item.operands, item.size = name, forms, read.size
+                item.operation, item.operands, item.size = name, forms, read.size or 0
                 return
         raise Fault(f"{mnemonic} {rest} is no instruction in a form that is known")
 
