@@ -7,8 +7,7 @@
  * 1, are written to standard output, without the first SKIPPED of them. With STATE the board of a state file is played on. table.h has the
  * instructions' texts.
  *
- * A step of the board takes 4 T-states or more, and a microsecond is 3.072: so a call that asks for time up to the next microsecond after the
- * board's own does exactly one. All that is written is read from the board's block before that call.
+ * stepped.h does the steps; all that is written is read from the board's block before each.
  *
  * The second form makes the same of what `pacboard debug` answers to COUNT times `step 1` and `regs`, after a first `regs`, before which the place is
  * that of power-on unless it is told (`placed`). At a step outside of the ROM, whose bytes the session doesn't tell, it
@@ -17,31 +16,22 @@
  * The exit status is 0, 3 where a file can't be read or written, 4 where a call is refused, and 5 where the board stopped; a line tells of these.
  */
 #define _POSIX_C_SOURCE 200809L
-#include "../../hosts/pacboard.h"
+#include "stepped.h"
 #include "table.h"
 
 #include <stdio.h>
 #include <stdlib.h>
 #include <string.h>
 
-enum { FRAME_TICKS = 50688, LONGEST = 36000, LINE = 256, RECORD = 48, ROOM = 1 << 16, SAMPLES = 64, FROM = PAC_AT_A, SIZE = PAC_AT_TILE_RAM - PAC_AT_A };
+enum { LONGEST = 36000, LINE = 256, RECORD = 48, ROOM = 1 << 16, FROM = PAC_AT_A, SIZE = PAC_AT_TILE_RAM - PAC_AT_A };
 
 /* What the step is that a line is about. */
 enum kind { INSTRUCTION, HALTED, ACCEPTED };
 
-static pac_board board;
-static uint8_t roms[PAC_ROMS_SIZE + 1], held[2 * LONGEST + 1], file_text[PAC_STATE_SIZE + 1];
+static uint8_t held[2 * LONGEST + 1], file_text[PAC_STATE_SIZE + 1];
 static char room[ROOM + 2 * LINE];
 static size_t used;
 static long skipped; /* lines that aren't written */
-
-/* Ends the program: its status, and why. */
-static void give_up(int status, const char *what)
-{
-    fflush(stdout);
-    fprintf(stderr, "trace: %s\n", what);
-    exit(status);
-}
 
 /* Reads a file: how many bytes, which are at most so many. */
 static size_t read_file(const char *name, uint8_t *bytes, size_t most)
@@ -52,39 +42,6 @@ static size_t read_file(const char *name, uint8_t *bytes, size_t most)
         give_up(3, "a file can't be read");
     fclose(file);
     return length;
-}
-
-/* A number of the block, its low byte first. */
-static uint64_t number(size_t at, int size)
-{
-    uint64_t found = 0;
-    while (size-- > 0)
-        found = found << 8 | board.bytes[at + (size_t)size];
-    return found;
-}
-
-/* The byte that the processor would read at an address. */
-static uint8_t byte_at(uint16_t address)
-{
-    const uint8_t *bytes = board.bytes;
-    uint16_t at = address & 0x7FFF;
-    if (at < 0x4000)
-        return roms[at];
-    at = (at & 0x1FFF) | 0x4000;
-    if (at < 0x4400)
-        return bytes[PAC_AT_TILE_RAM + (at & 0x3FF)];
-    if (at < 0x4800)
-        return bytes[PAC_AT_COLOUR_RAM + (at & 0x3FF)];
-    if (at < 0x4C00)
-        return 0xBF;
-    if (at < 0x5000)
-        return bytes[PAC_AT_WORK_RAM + (at & 0x3FF)];
-    switch (at >> 6 & 3) {
-    case 0: return (uint8_t)~bytes[PAC_AT_HELD];
-    case 1: return (uint8_t)~bytes[PAC_AT_HELD + 1];
-    case 2: return bytes[PAC_AT_SWITCHES];
-    default: return 0xFF;
-    }
 }
 
 /* Hands out what has gathered. */
@@ -241,35 +198,6 @@ static enum kind next_kind(void)
     return flags & PAC_HALTED ? HALTED : INSTRUCTION;
 }
 
-/* Does a step: 0, or why the board stopped. Its microseconds are those up to the first one after the board's own time; where that is within
- * the same T-state, no step comes of it, and the next call asks for one more. */
-static uint32_t step(void)
-{
-    static int16_t samples[SAMPLES];
-    pac_ran ran = {0};
-    uint64_t time = number(PAC_AT_TIME, 8), asked = number(PAC_AT_ASKED, 8), steps = number(PAC_AT_STEPS, 8);
-    uint64_t wanted = time * 125 / 384 + 1;
-    if (wanted <= asked)
-        wanted = asked + 1;
-    if (pac_exec(&board, roms, PAC_ROMS_SIZE, (uint32_t)(wanted - asked), samples, SAMPLES, &ran) != PAC_DONE)
-        give_up(4, "pac_exec refuses");
-    uint64_t done = number(PAC_AT_STEPS, 8) - steps;
-    if (done > 1)
-        give_up(4, "more than one step was done at once");
-    return done == 0 && ran.stop == PAC_GOES ? step() : ran.stop;
-}
-
-/* Plays a frame without a word: 0, or why the board stopped. */
-static uint32_t pass_frame(void)
-{
-    static int16_t samples[2 * PAC_FRAME_SAMPLES];
-    pac_ran ran = {0};
-    uint64_t target = (number(PAC_AT_TIME, 8) / FRAME_TICKS + 1) * PAC_FRAME_MICROSECONDS, asked = number(PAC_AT_ASKED, 8);
-    if (pac_exec(&board, roms, PAC_ROMS_SIZE, (uint32_t)(target - asked), samples, 2 * PAC_FRAME_SAMPLES, &ran) != PAC_DONE)
-        give_up(4, "pac_exec refuses");
-    return ran.stop;
-}
-
 /* Plays a ROM block: 0, or why the board stopped. */
 static uint32_t play(long frames, long first, long last, int is_binary)
 {
@@ -281,8 +209,7 @@ static uint32_t play(long frames, long first, long last, int is_binary)
         if (now != frame) {
             frame = now;
             uint16_t mask = frame <= (uint64_t)frames ? (uint16_t)(held[2 * frame - 2] | held[2 * frame - 1] << 8) : 0;
-            if (pac_hold(&board, mask, 0xFFFF) != PAC_DONE)
-                give_up(4, "pac_hold refuses");
+            hold(mask);
         }
         if (now < (uint64_t)first) {
             stop = pass_frame();

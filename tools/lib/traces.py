@@ -67,7 +67,7 @@ def built(name: str) -> pathlib.Path:
     library, source, target = OUT / "libpac_host.a", ROOT / f"tools/lib/{name}.c", OUT / name
     if not library.exists():
         raise Refused(3, f"{library} isn't there: hosts/build makes it")
-    made_of = (library, source, ROOT / "hosts/pacboard.h", pathlib.Path(__file__), ROOT / "tools/lib/judge_source.py")
+    made_of = (library, source, source.with_name("stepped.h"), ROOT / "hosts/pacboard.h", pathlib.Path(__file__), ROOT / "tools/lib/judge_source.py")
     newest = max(path.stat().st_mtime for path in made_of)
     if not target.exists() or target.stat().st_mtime < newest:
         with tempfile.TemporaryDirectory(prefix=f"{name}-", dir=OUT) as room:
