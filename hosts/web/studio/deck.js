@@ -8,7 +8,7 @@ import { HEIGHT, WIDTH } from '../board.js';
 
 const FAR = 36000; // frames in which a line is looked for
 const MODES = { live: 'Live', replay: 'Played again', demo: 'Demo · press a key to play', paused: 'Paused', stopped: 'Stopped',
-    busy: 'Playing it again', preview: 'Preview; all of it again' };
+    busy: 'Playing it again', preview: 'Preview; replayed' };
 const SHORT = 30; // frames below which no progress is told
 const PREVIEW = 'The new code goes on from where the old one was a second or two ago. Meanwhile all is played again under it, and takes its place.';
 

@@ -282,7 +282,7 @@ async function previewing(page) {
     await types('STARS   EQU 4 ', 'STARS   EQU 2 ');
     await page.until('studio.session.isPreview');
     const mode = await page.value("document.getElementById('mode').textContent + document.getElementById('stage').className");
-    row('a long session is previewed at once, and the page says so', /^Preview; all of it again: \d+%stage.* preview$/.test(mode), mode);
+    row('a long session is previewed at once, and the page says so', /^Preview; replayed: \d+%stage.* preview$/.test(mode), mode);
     const { bytes } = await page.saved("document.querySelector('[data-save=state]').click()");
     const { state } = played(source.replace('STARS   EQU 4 ', 'STARS   EQU 2 '), scriptTo(held.map((mask) => `1 ${mask ? 'P1_RIGHT' : '-'}`).join('\n'), 3000));
     row('a state that is saved meanwhile is that of all of it', isSameBoard(state, bytes));
