@@ -160,7 +160,7 @@ export class Session {
         this.wish++;
         this.spare.push(run.board);
         this.run = whole.go(run.frame, run.inside);
-        this.whole = null;
+        Object.assign(this, { whole: null, isBusy: false });
     }
 
     // The run once more, on a board that is kept for a purpose: to look around without moving it.
