@@ -47,7 +47,7 @@ def lay_file(source, to):
 def lay_crate(crate, to):
     """Copies a crate. Of what was built only its proved library is taken: hundreds of megabytes of files that nobody writes."""
     built = ROOT / "crates" / crate / "out/rlib"
-    shutil.copytree(ROOT / "crates" / crate, to, ignore=shutil.ignore_patterns("out", "wrong-bodies", "must-fail"))
+    shutil.copytree(ROOT / "crates" / crate, to, ignore=shutil.ignore_patterns("out", "wrong-bodies.toml", "must-fail"))
     if (built / f"{crate}.rlib").is_dir():
         shutil.copytree(built, to / "out/rlib", copy_function=lay_file)
 
