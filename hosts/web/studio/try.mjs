@@ -280,7 +280,7 @@ async function previewing(page) {
     await page.value(rest);
     await page.value(goes(3000));
     await types('STARS   EQU 4 ', 'STARS   EQU 2 ');
-    await page.until('studio.session.isPreview');
+    await page.until("studio.session.isPreview && /^Preview.*%/.test(document.getElementById('mode').textContent)");
     const mode = await page.value("document.getElementById('mode').textContent + document.getElementById('stage').className");
     row('a long session is previewed at once, and the page says so', /^Preview; replayed: \d+%stage.* preview$/.test(mode), mode);
     const { bytes } = await page.saved("document.querySelector('[data-save=state]').click()");
