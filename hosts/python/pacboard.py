@@ -271,14 +271,14 @@ class Board:
 
     def array_of(self, part: str) -> NDArray[uint8]:
         """The same as an array of numpy, that of the picture's colour numbers with 224 rows of 288."""
-        import numpy  # pylint: disable=import-outside-toplevel  # (only who asks for it needs it)
+        import numpy  # type: ignore[import,unused-ignore]  # (only who asks for it needs it)  # pylint: disable=import-outside-toplevel
 
         found = numpy.frombuffer(self.view(part), numpy.uint8)
         return found.reshape(HEIGHT, WIDTH) if part == "picture" else found
 
     def image(self) -> NDArray[uint8]:
         """The picture as it stands as an array of numpy: 224 rows of 288 pixels, each red, green, blue and 255."""
-        import numpy  # pylint: disable=import-outside-toplevel
+        import numpy  # type: ignore[import,unused-ignore]  # pylint: disable=import-outside-toplevel
 
         found = numpy.empty((HEIGHT, WIDTH, 4), numpy.uint8)
         self.draw_into(found)

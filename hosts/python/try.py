@@ -152,7 +152,7 @@ def try_views() -> None:
 def try_arrays() -> None:
     """The same as arrays of numpy, where it is there."""
     try:
-        import numpy  # pylint: disable=import-outside-toplevel
+        import numpy  # type: ignore[import,unused-ignore]  # pylint: disable=import-outside-toplevel
     except ImportError:
         print("LEFT OUT: arrays of numpy, which isn't here", file=sys.stderr, flush=True)
         row("no array without numpy", fault_of(board_of("hello").image) == "ModuleNotFoundError")
