@@ -21,7 +21,7 @@ Cflags: -I${{includedir}}
 Libs: -L${{libdir}} -l{library}
 """
 ACCOUNTS = {"pac_host": "Namco's Pac-Man main board, proved, as a library", "pac_source": "Its assembler and disassembler, proved, as a library"}
-CMAKE = """# The libraries, as targets: pacboard::pac_host is the board's shared one, pacboard::pac_host_static the other; and so is pac_source, the assembler's.
+CMAKE = """# The libraries, as targets: pacboard::pac_host, the board's, and pacboard::pac_source, the assembler's, are shared, and with _static static.
 get_filename_component(_pacboard_prefix "${CMAKE_CURRENT_LIST_DIR}/../../.." ABSOLUTE)
 foreach(_pacboard_name pac_host pac_source)
   if(NOT TARGET pacboard::${_pacboard_name})
