@@ -82,7 +82,7 @@ def film(name: str) -> tuple[str, str]:
 
 
 def try_threads() -> None:
-    """Plays eight boards in eight threads, and one board in two."""
+    """Plays eight boards in eight threads, and then one board in all of them."""
     sums = dict(line.split("  ")[::-1] for line in (EXAMPLES / "outputs.sha1").read_text().splitlines())
     names = sorted(path.stem for path in EXAMPLES.glob("*.asm"))
     names = (names * THREADS)[:THREADS]
@@ -90,9 +90,9 @@ def try_threads() -> None:
         for name, found in zip(names, list(pool.map(film, names))):
             row(f"{name} in one of {THREADS} threads", found == (sums[f"{name}/frames.ppm"], sums[f"{name}/wave.wav"]))
         board = board_of("hello")
-        list(pool.map(lambda _: played(board, FRAMES), range(2)))
+        list(pool.map(lambda _: played(board, FRAMES), range(THREADS)))
     asked = int.from_bytes(board.block[AT_ASKED : AT_ASKED + 8], "little")
-    row("one board in two threads", asked == 2 * FRAMES * pacboard.FRAME_MICROSECONDS)
+    row(f"one board in {THREADS} threads", asked == THREADS * FRAMES * pacboard.FRAME_MICROSECONDS)
 
 
 def try_pickles() -> None:
