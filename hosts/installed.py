@@ -6,31 +6,36 @@ import tempfile
 
 HOSTS = pathlib.Path(__file__).resolve().parent
 VERSION_IN = HOSTS.parent / "crates/pac_run_options/src/command.rt"
-SONAME = "libpac_host.so.0"
-LINKS = {"lib/libpac_host.so": SONAME}
+LIBRARIES = {"pac_host": "pacboard", "pac_source": "pacsource"}  # each one's name for pkg-config
+SONAME = "libpac_host.so.0"  # the board's
+EXPORTS = "{ global: pac_*; local: *; };\n"
 HEADERS = ("pacboard.h", "pacsource.h")
 PKG_CONFIG = """prefix=${{pcfiledir}}/../..
 includedir=${{prefix}}/include
 libdir=${{prefix}}/lib
 
-Name: pacboard
-Description: Namco's Pac-Man main board, proved, as a library
+Name: {name}
+Description: {account}
 Version: {version}
 Cflags: -I${{includedir}}
-Libs: -L${{libdir}} -lpac_host
+Libs: -L${{libdir}} -l{library}
 """
-CMAKE = """# The board's library, as targets: pacboard::pac_host is the shared one, and pacboard::pac_host_static the other.
+ACCOUNTS = {"pac_host": "Namco's Pac-Man main board, proved, as a library", "pac_source": "Its assembler and disassembler, proved, as a library"}
+CMAKE = """# The libraries, as targets: pacboard::pac_host, the board's, and pacboard::pac_source, the assembler's, are shared, and with _static static.
 get_filename_component(_pacboard_prefix "${CMAKE_CURRENT_LIST_DIR}/../../.." ABSOLUTE)
-if(NOT TARGET pacboard::pac_host)
-  add_library(pacboard::pac_host SHARED IMPORTED)
-  set_target_properties(pacboard::pac_host PROPERTIES
-    IMPORTED_LOCATION "${_pacboard_prefix}/lib/libpac_host.so" IMPORTED_SONAME "@SONAME@"
-    INTERFACE_INCLUDE_DIRECTORIES "${_pacboard_prefix}/include")
-  add_library(pacboard::pac_host_static STATIC IMPORTED)
-  set_target_properties(pacboard::pac_host_static PROPERTIES
-    IMPORTED_LOCATION "${_pacboard_prefix}/lib/libpac_host.a"
-    INTERFACE_INCLUDE_DIRECTORIES "${_pacboard_prefix}/include")
-endif()
+foreach(_pacboard_name pac_host pac_source)
+  if(NOT TARGET pacboard::${_pacboard_name})
+    add_library(pacboard::${_pacboard_name} SHARED IMPORTED)
+    set_target_properties(pacboard::${_pacboard_name} PROPERTIES
+      IMPORTED_LOCATION "${_pacboard_prefix}/lib/lib${_pacboard_name}.so" IMPORTED_SONAME "lib${_pacboard_name}.so.0"
+      INTERFACE_INCLUDE_DIRECTORIES "${_pacboard_prefix}/include")
+    add_library(pacboard::${_pacboard_name}_static STATIC IMPORTED)
+    set_target_properties(pacboard::${_pacboard_name}_static PROPERTIES
+      IMPORTED_LOCATION "${_pacboard_prefix}/lib/lib${_pacboard_name}.a"
+      INTERFACE_INCLUDE_DIRECTORIES "${_pacboard_prefix}/include")
+  endif()
+endforeach()
+unset(_pacboard_name)
 unset(_pacboard_prefix)
 """
 CMAKE_VERSION = """set(PACKAGE_VERSION "{version}")
@@ -52,35 +57,49 @@ def version() -> str:
     return found[0]
 
 
-def shared(archive: pathlib.Path) -> bytes:
+def soname(library: str) -> str:
+    """The name by which a program looks for a shared library: it changes where an old program can't go on with the new library."""
+    return f"lib{library}.so.0"
+
+
+def links(number: str) -> dict[str, str]:
+    """The links beside the shared libraries, whose own names end with their version."""
+    found = dict[str, str]()
+    for library in LIBRARIES:
+        found |= {f"lib/{soname(library)}": f"lib{library}.so.{number}", f"lib/lib{library}.so": soname(library)}
+    return found
+
+
+def shared(archive: pathlib.Path, library: str = "pac_host") -> bytes:
     """The shared library of a static one. It exports the header's calls alone."""
     with tempfile.TemporaryDirectory(prefix="installed-") as room:
         pathlib.Path(room, "library.a").write_bytes(archive.read_bytes())
-        pathlib.Path(room, "names").write_text("{ global: pac_*; local: *; };\n")
-        words = ["cc", "-shared", "-o", SONAME, f"-Wl,-soname,{SONAME}", "-Wl,--version-script,names", "-Wl,--build-id=none"]
+        pathlib.Path(room, "names").write_text(EXPORTS)
+        words = ["cc", "-shared", "-o", "made", f"-Wl,-soname,{soname(library)}", "-Wl,--version-script,names", "-Wl,--build-id=none"]
         words += ["-Wl,--whole-archive", "library.a", "-Wl,--no-whole-archive"]
         subprocess.run(words, cwd=room, check=True)
-        subprocess.run(["strip", SONAME], cwd=room, check=True)
-        return pathlib.Path(room, SONAME).read_bytes()
+        subprocess.run(["strip", "made"], cwd=room, check=True)
+        return pathlib.Path(room, "made").read_bytes()
 
 
 def laid(archive: pathlib.Path, number: str) -> dict[str, tuple[bytes, int]]:
     """All files of the libraries, each with its mode: the board's is this archive, and the assembler's is beside it."""
-    cmake = CMAKE.replace("@SONAME@", SONAME)
     found = {
-        f"lib/{SONAME}": (shared(archive), 0o755),
-        "lib/libpac_host.a": (archive.read_bytes(), 0o644),
-        "lib/libpac_source.a": (archive.with_name("libpac_source.a").read_bytes(), 0o644),
-        "lib/pkgconfig/pacboard.pc": (PKG_CONFIG.format(version=number).encode(), 0o644),
-        "lib/cmake/pacboard/pacboardConfig.cmake": (cmake.encode(), 0o644),
+        "lib/cmake/pacboard/pacboardConfig.cmake": (CMAKE.encode(), 0o644),
         "lib/cmake/pacboard/pacboardConfigVersion.cmake": (CMAKE_VERSION.format(version=number).encode(), 0o644),
     }
+    for library, path in (("pac_host", archive), ("pac_source", archive.with_name("libpac_source.a"))):
+        text = PKG_CONFIG.format(name=LIBRARIES[library], account=ACCOUNTS[library], version=number, library=library)
+        found[f"lib/lib{library}.a"] = (path.read_bytes(), 0o644)
+        found[f"lib/lib{library}.so.{number}"] = (shared(path, library), 0o755)
+        found[f"lib/pkgconfig/{LIBRARIES[library]}.pc"] = (text.encode(), 0o644)
     return found | {f"include/{name}": ((HOSTS / name).read_bytes(), 0o644) for name in HEADERS}
 
 
 def install(archive: pathlib.Path, prefix: pathlib.Path) -> list[str]:
     """Lays the libraries below a prefix, each file as a whole, and answers the names of what is there then."""
-    files = laid(archive, version())
+    number = version()
+    files = laid(archive, number)
     for name, (content, mode) in files.items():
         path = prefix / name
         path.parent.mkdir(parents=True, exist_ok=True)
@@ -88,7 +107,7 @@ def install(archive: pathlib.Path, prefix: pathlib.Path) -> list[str]:
         beside.write_bytes(content)
         beside.chmod(mode)
         beside.replace(path)
-    for name, to in LINKS.items():
+    for name, to in links(number).items():
         (prefix / name).unlink(missing_ok=True)
         (prefix / name).symlink_to(to)
-    return [*files, *LINKS]
+    return [*files, *links(number)]

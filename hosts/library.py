@@ -69,11 +69,12 @@ def kit():
     return pathlib.Path(shutil.which("rt") or "rt").resolve().parent.parent
 
 
-def lay_kit(flags, to, kept):
+def lay_kit(flags, to, kept, target=""):
     """Lays a copy of the kit into a folder, its files by links, whose C compiler gets these flags too, and answers the copy's `rt`.
 
     The copy proves the same, and hands the compiler the same program, as LLVM's bitcode, which is kept in a file; the flags say which
-    instructions of the processor it may use.
+    instructions of the processor it may use. A target is another processor for which the copy checks and compiles: `rattle` knows it, but `rt`
+    hands on none besides a page's.
     """
     whole, compiler = kit(), "toolchain/bin/clang"
     for file in [*whole.iterdir(), *(whole / "bin").iterdir(), *(whole / "toolchain").iterdir(), *(whole / "toolchain/bin").iterdir()]:
@@ -81,6 +82,10 @@ def lay_kit(flags, to, kept):
         (to / name).parent.mkdir(parents=True, exist_ok=True)
         if str(name) in ("bin/rt", "bin/rtlib.py"):
             shutil.copy(file, to / name)  # (they look for the rest beside themselves)
+        elif str(name) == "bin/rattle" and target:
+            handed = f'case "$1" in check | build) set -- "$@" --target {shlex.quote(target)} ;; esac'
+            (to / name).write_text(f'#!/bin/sh\n{handed}\nexec {shlex.quote(str(file))} "$@"\n')
+            (to / name).chmod(0o755)
         elif str(name) not in ("bin", "toolchain", "toolchain/bin", compiler):
             (to / name).symlink_to(file)
     keep = f"[ ! -f module.bc ] || cp module.bc {shlex.quote(str(kept))}"
@@ -147,12 +152,12 @@ def laid(table, name, kind, is_after_ci, swapped="", lay=None):
         yield folder
 
 
-def build(name, kind, file, to, is_after_ci, flags=(), swapped="", lay=None):
+def build(name, kind, file, to, is_after_ci, flags=(), swapped="", lay=None, target=""):
     """Builds a library as a crate of this kind, in a copy of it and of all below it, and takes the file that it leaves.
 
     The flags are for the compiler. What an earlier build of either kind has checked, and nothing has changed since, isn't checked again. Beside
     the file, with the end .bc, stands the bitcode of which the compiler made it. A crate that is swapped may declare functions of C, and all
-    crates above it are proved over it there.
+    crates above it are proved over it there. A target is that of another processor.
     """
     table = crates()
     if not table.get(name, (False, []))[0]:
@@ -164,8 +169,8 @@ def build(name, kind, file, to, is_after_ci, flags=(), swapped="", lay=None):
             built = folder / "crates" / crate / "out"
             shutil.rmtree(built, ignore_errors=True)  # (what was proved over the crate that was swapped isn't so here)
             take_kept(place, crate, built)
-        OUT.mkdir(exist_ok=True)
-        run(lay_kit(flags, folder / "kit", (OUT / to).with_suffix(".bc")), folder / "crates" / name, "lib", declaring=swapped)
+        (OUT / to).parent.mkdir(parents=True, exist_ok=True)
+        run(lay_kit(flags, folder / "kit", (OUT / to).with_suffix(".bc"), target), folder / "crates" / name, "lib", declaring=swapped)
         shutil.copy(folder / "crates" / name / "out" / file.format(name), OUT / to)
         for crate in crates_kept:
             keep(place, crate, folder / "crates" / crate / "out")

@@ -18,20 +18,22 @@ PARTS = {"tiles": 4096, "sprites": 4096, "colours": 32, "lookup": 256, "wave": 2
 QUARTER = 4096  # bytes of a part of the program
 MOST_LINKS = 40  # that a name leads through
 SIZE = 4 * QUARTER + sum(PARTS.values())
+Table = dict[str, str]  # of a part: `file`, and `sha1` where it has one
 
 
 class Refused(Exception):
     """A ROM set is refused."""
 
 
-def is_table(table):
+def is_table(table: object) -> bool:
     """Whether a part's table has the form of one."""
-    names = isinstance(table, dict) and isinstance(table.get("file", ""), str) and isinstance(table.get("sha1", ""), str)
-    digest = table.get("sha1", "0" * 40) if names else ""
-    return names and len(digest) == 40 and not set(digest) - set("0123456789abcdefABCDEF")
+    if not isinstance(table, dict) or not isinstance(table.get("file", ""), str):
+        return False
+    digest = table.get("sha1", "0" * 40)
+    return isinstance(digest, str) and len(digest) == 40 and not set(digest) - set("0123456789abcdefABCDEF")
 
 
-def tables_of(text, has_program):
+def tables_of(text: bytes, has_program: bool) -> dict[str, tuple[Table, int]]:
     """The tables of the parts that a manifest names, in the order of the block, each with its size."""
     try:
         manifest = tomllib.loads(text.decode())
@@ -54,13 +56,13 @@ def tables_of(text, has_program):
     return {name: (tables[name], size) for name, size in sizes.items()}
 
 
-def beginning(path, size):
+def beginning(path: str | os.PathLike[str], size: int) -> bytes:
     """The first bytes of a file, so many at most."""
     with open(path, "rb") as file:
         return file.read(size)
 
 
-def path_of(folder, file):
+def path_of(folder: pathlib.Path, file: str) -> str | None:
     """The path of a plain file that a manifest names, in its folder or below, past links that stay there (docs/FORMATS.md), or None."""
     if not file or "\0" in file or file.startswith("/") or ".." in file.split("/"):
         return None
@@ -80,7 +82,7 @@ def path_of(folder, file):
     return path if os.path.isfile(path) else None
 
 
-def part_of(folder, name, table, size):
+def part_of(folder: pathlib.Path, name: str, table: Table, size: int) -> bytes:
     """The bytes of a part, which are looked at."""
     file = table["file"]
     path = path_of(folder, file)
@@ -94,7 +96,7 @@ def part_of(folder, name, table, size):
     return part
 
 
-def block_of(manifest, program=None):
+def block_of(manifest: pathlib.Path, program: bytes | None = None) -> bytes:
     """The ROM block of a manifest, with the bytes of a program where one is given."""
     if program is not None and len(program) != 4 * QUARTER:
         raise Refused("the program has another length than 16,384 bytes")
@@ -103,7 +105,7 @@ def block_of(manifest, program=None):
     return (program or b"") + b"".join(part for name, part in parts.items() if name != "timing")
 
 
-def main():
+def main() -> int:
     """Writes a ROM block."""
     parser = argparse.ArgumentParser(prog="roms.py", description=__doc__, formatter_class=argparse.RawDescriptionHelpFormatter)
     parser.add_argument("manifest", type=pathlib.Path)

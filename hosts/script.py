@@ -21,21 +21,21 @@ class Refused(Exception):
     """A script is refused."""
 
 
-def mask_of(names):
+def mask_of(names: str) -> int | None:
     """The mask of the names of a line; None where one is unknown."""
     words = [] if names == "-" else names.split(",")
     return sum(MASKS[name] for name in set(words)) if all(name in MASKS for name in words) else None
 
 
-def count_of(word):
+def count_of(word: str) -> int:
     """The number that a word of digits stands for, however many there are; 0 where it isn't one, and where it has more than six."""
     digits = word.lstrip("0")
     return int(digits) if re.fullmatch("[0-9]{1,6}", digits, re.ASCII) else 0
 
 
-def frames_of(text):
+def frames_of(text: str) -> list[int]:
     """The mask of each frame of a script's text."""
-    frames = []
+    frames: list[int] = []
     for number, line in enumerate(text.split("\n"), 1):
         words = [word for word in re.split("[ \t]+", line.removesuffix("\r")) if word]
         if not words or words[0].startswith("#"):
@@ -52,12 +52,12 @@ def frames_of(text):
     return frames
 
 
-def held_in(text):
+def held_in(text: bytes) -> bytes:
     """What is held in each frame, two bytes a frame, of a script's bytes."""
     return b"".join(mask.to_bytes(2, "little") for mask in frames_of(text.decode("latin-1")))
 
 
-def main():
+def main() -> int:
     """Writes what is held in each frame of a script."""
     parser = argparse.ArgumentParser(prog="script.py", description=__doc__, formatter_class=argparse.RawDescriptionHelpFormatter)
     parser.add_argument("script", type=pathlib.Path)

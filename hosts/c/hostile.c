@@ -73,7 +73,7 @@ static const uint8_t *constant(const uint8_t *bytes, size_t size)
     size_t page = (size_t)sysconf(_SC_PAGESIZE), pages = (size + page - 1) / page * page;
     uint8_t *copy = guarded(size);
     memcpy(copy, bytes, size);
-    if (mprotect(copy + size - pages, pages, PROT_READ) != 0)
+    if (pages != 0 && mprotect(copy + size - pages, pages, PROT_READ) != 0) /* (qemu refuses a range without a page) */
         perror("hostile"), exit(3);
     return copy;
 }

@@ -15,6 +15,11 @@
 #include <sys/mman.h>
 
 enum { PAGE = 4096, SIZE = 1 << 20, KB = 1024, FILLED = 0xA5 };
+#ifdef __aarch64__
+enum { LEAST = 128 * KB }; /* bytes of a thread's stack, below which C's library makes none */
+#else
+enum { LEAST = 16 * KB };
+#endif
 
 static pac_board board;
 static uint8_t roms[PAC_ROMS_SIZE] = {0x3E, 0x42, 0x32, 0x40, 0x40, 0x76}; /* LD A,42H / LD (4040H),A / HALT */
@@ -96,9 +101,10 @@ static void lay_old(void)
     memcpy(old_text + sizeof old_text - sizeof digest, digest, sizeof digest);
 }
 
-/* The bytes that a thread takes of a stack of this size, whose end is the end of a page; 0 where there can be no such thread. */
-static size_t taken(void *(*call)(void *), size_t size)
+/* The bytes that a thread takes of a stack of this size, or of the least one, whose end is the end of a page; 0 where there can be no such thread. */
+static size_t taken(void *(*call)(void *), size_t asked)
 {
+    size_t size = asked < LEAST ? LEAST : asked;
     uint8_t *room = mmap(NULL, SIZE + PAGE, PROT_READ | PROT_WRITE, MAP_PRIVATE | MAP_ANONYMOUS, -1, 0);
     size_t untouched = 0;
     pthread_attr_t attributes;

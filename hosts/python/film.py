@@ -21,7 +21,7 @@ except OSError as error:
 HEAD = b"P6\n%d %d\n255\n" % (pacboard.WIDTH, pacboard.HEIGHT)
 
 
-def picture(rgba):
+def picture(rgba: bytes) -> bytes:
     """A PPM image of a picture, without its fourth bytes."""
     rgb = bytearray(len(rgba) // 4 * 3)
     for colour in range(3):
@@ -29,16 +29,16 @@ def picture(rgba):
     return HEAD + rgb
 
 
-def wave_head(samples):
+def wave_head(samples: int) -> bytes:
     """The head of a sound of so many samples."""
     rate, size = pacboard.SAMPLE_RATE, 2 * samples
     return struct.pack("<4sI8sIHHIIHH4sI", b"RIFF", 36 + size, b"WAVEfmt ", 16, 1, 1, rate, 2 * rate, 2, 16, b"data", size)
 
 
-def main(words):
+def main(words: list[str]) -> int:
     """Writes film and sound."""
     if len(words) != 4:
-        print(__doc__.strip())
+        print((__doc__ or "").strip())
         return 0 if "--help" in words else 2
     with open(words[0], "rb") as file:
         board = pacboard.Board(file.read())

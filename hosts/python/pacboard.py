@@ -1,17 +1,22 @@
 """The proved board in Python: the calls of hosts/pacboard.h over ctypes.
 
-The shared object is made of hosts/out/libpac_host.a, which hosts/build leaves, by the C compiler `cc`, the first time and whenever the
-library is newer; a line on standard error says so. $PAC_HOST names another shared object.
-
     board = Board(roms)                          # at power-on; roms are the 25,120 bytes that hosts/roms.py makes
     board.hold(INPUTS["P1_LEFT"])                # this and nothing else is held
     ran, samples = board.run(FRAME_MICROSECONDS) # an array of 16 bit samples
     rgba = board.draw()                          # 288 by 224 pixels, four bytes each
     kept = board.block                           # all of its state, 67,756 bytes; board.block = kept goes back
+    ram = board.view("work_ram")                 # what is there now, and after each later call: nothing is copied
+
+The library is the shared object that $PAC_HOST names, else the one beside this file, where `pip install hosts/python` lays it, else that of an
+unpacked release. In the repository it is made of hosts/out/libpac_host.a, which hosts/build leaves, by the C compiler `cc`, the first time
+and whenever the library is newer; a line on standard error says so.
 
 C takes what it is handed for what it wants: of a number that is too great it would use the low bits alone. So each number is looked at here
-first, and one that is out of range raises ValueError; bytes are those of a buffer, and nothing else is taken for them.
+first, and one that is out of range raises ValueError; bytes are those of a buffer, and nothing else is taken for them. Calls for one board
+from several threads come one after another; those for different boards run at the same time.
 """
+from __future__ import annotations
+
 import array
 import ctypes
 import operator
@@ -19,8 +24,29 @@ import os
 import pathlib
 import subprocess
 import sys
+import tempfile
+import threading
+from collections.abc import Callable
+from typing import TYPE_CHECKING, Any, Protocol, SupportsIndex, TypeAlias
 
-OUT = pathlib.Path(__file__).resolve().parent.parent / "out"
+if TYPE_CHECKING:
+    from _typeshed import ReadableBuffer, WriteableBuffer
+    from numpy import uint8  # type: ignore[import,unused-ignore]
+    from numpy.typing import NDArray  # type: ignore[import,unused-ignore]
+
+    class Array(Protocol):
+        """What an array of numpy has, also where numpy isn't there to tell."""
+
+        @property
+        def nbytes(self) -> int: ...
+        def tobytes(self) -> bytes: ...
+
+    Readable: TypeAlias = ReadableBuffer | Array
+    Writable: TypeAlias = WriteableBuffer | Array
+
+HERE = pathlib.Path(__file__).resolve().parent
+OUT = HERE.parent / "out"
+SONAME = "libpac_host.so.0"
 BOARD_SIZE, ROMS_SIZE, STATE_SIZE, RGBA_SIZE = 67_756, 25_120, 67_756, 258_048  # bytes
 WIDTH, HEIGHT = 288, 224  # pixels
 FRAME_MICROSECONDS, FRAME_SAMPLES, SAMPLE_RATE, SWITCHES = 16_500, 1_584, 96_000, 0xC9
@@ -33,12 +59,16 @@ CODES = {
     3: "the microseconds in all would pass 2^50",
     4: "the buffer has less room than the samples that the call could give",
 } | {10 + at: f"the state file is refused: V{at}" for at in range(1, 7)}
+PARTS = {  # of a block, by the header's names: where each begins, and how many bytes it has
+    "tile_ram": (82, 1024), "colour_ram": (1106, 1024), "work_ram": (2130, 1024), "coordinates": (3154, 16), "wave_registers": (3170, 32),
+    "picture": (3224, 64_512),
+}  # fmt: skip
 
 
 class Refused(Exception):
     """A call is refused, and nothing is changed: its code."""
 
-    def __init__(self, code):
+    def __init__(self, code: int) -> None:
         super().__init__(CODES.get(code, f"code {code}"))
         self.code = code
 
@@ -46,33 +76,46 @@ class Refused(Exception):
 class Ran(ctypes.Structure):
     """What a run did, as pac_ran of the header."""
 
+    ticks: int
+    samples: int
+    pictures: int
+    stop: int
+    pc: int
+    bytes: ctypes.Array[ctypes.c_uint8]
+    vector: int
     _fields_ = [
         ("ticks", ctypes.c_uint64), ("samples", ctypes.c_uint32), ("pictures", ctypes.c_uint32), ("stop", ctypes.c_uint32),
         ("pc", ctypes.c_uint16), ("bytes", ctypes.c_uint8 * 4), ("vector", ctypes.c_uint8), ("zero", ctypes.c_uint8),
     ]  # fmt: skip
 
 
-def shared_object():
+def shared_object() -> str:
     """The path of the shared object, which is made where it isn't there or is older than the library."""
     if "PAC_HOST" in os.environ:
         return os.environ["PAC_HOST"]
+    is_released = HERE.parts[-4:-1] == ("share", "pacboard", "hosts")
+    for path in (HERE / SONAME, *(prefix / "lib" / SONAME for prefix in HERE.parents[3:4] if is_released)):
+        if path.is_file():
+            return os.fspath(path)
     archive, shared = OUT / "libpac_host.a", OUT / "libpac_host.so"
     if not archive.exists():
         raise OSError(f"{archive} isn't there: hosts/build makes it")
     if not shared.exists() or shared.stat().st_mtime < archive.stat().st_mtime:
-        words = ["cc", "-shared", "-o", str(shared), "-Wl,--whole-archive", str(archive), "-Wl,--no-whole-archive"]
-        print("pacboard.py:", *words, file=sys.stderr)
-        if subprocess.run(words, check=False).returncode:
-            raise OSError(f"{shared} isn't made: cc refuses the library")
+        with tempfile.TemporaryDirectory(dir=OUT, prefix=".pacboard-") as room:  # (another process may be looking for it)
+            words = ["cc", "-shared", "-o", f"{room}/made", "-Wl,--whole-archive", str(archive), "-Wl,--no-whole-archive"]
+            print("pacboard.py:", *words, file=sys.stderr)
+            if subprocess.run(words, check=False).returncode:
+                raise OSError(f"{shared} isn't made: cc refuses the library")
+            os.replace(f"{room}/made", shared)
     return os.fspath(shared)
 
 
-def library():
+def library() -> ctypes.CDLL:
     """The library, whose board has the size that this file knows."""
     file = shared_object()
     found = ctypes.CDLL(file)
     size, text, written = ctypes.c_size_t, ctypes.c_char_p, ctypes.c_void_p
-    arguments = {
+    arguments: dict[str, tuple[Any, ...]] = {
         "pac_size": (),
         "pac_init": (written, text, size, ctypes.c_uint8),
         "pac_reset": (written,),
@@ -81,6 +124,7 @@ def library():
         "pac_draw": (written, text, size, written, size),
         "pac_save": (written, text, size, written, size),
         "pac_load": (written, text, size, text, size),
+        "pac_peek": (written, text, size, ctypes.c_uint16, written, size),
     }
     for name, kinds in arguments.items():
         call = getattr(found, name, None)
@@ -95,7 +139,7 @@ def library():
 LIBRARY = library()
 
 
-def number(what, value, bits):
+def number(what: str, value: SupportsIndex, bits: int) -> int:
     """A whole number that so many bits hold; what it is, where it isn't one."""
     found = operator.index(value)
     if not 0 <= found < 1 << bits:
@@ -103,25 +147,26 @@ def number(what, value, bits):
     return found
 
 
-def bytes_of(buffer):
+def bytes_of(buffer: Readable) -> bytes:
     """The bytes of a buffer. `bytes` would take a number for a count of zeros, and a list for bytes."""
-    return bytes(memoryview(buffer))
+    whole: Any = buffer
+    return bytes(memoryview(whole))
 
 
-def done(code):
+def done(code: int) -> None:
     """Passes a code of 0, and raises what another one means."""
     if code:
         raise Refused(code)
 
 
-def held_of(content):
+def held_of(content: bytes) -> list[int]:
     """What is held in each frame, of the bytes of a file that hosts/script.py makes."""
     if len(content) % 2 != 0:
         raise ValueError(f"what is held in each frame has two bytes a frame, and not {len(content)} in all")
     return [low | high << 8 for low, high in zip(content[::2], content[1::2])]
 
 
-def status_of(name, main, words):
+def status_of(name: str, main: Callable[[list[str]], int], words: list[str]) -> int:
     """The exit status of a host's main function, which tells what it can't do in one line: 3 where a file can't be read or written, 4 where
     the library or this file refuses what it is handed."""
     try:
@@ -135,56 +180,117 @@ def status_of(name, main, words):
 
 
 class Board:
-    """A board with its ROM set."""
+    """A board with its ROM set. It is pickled, and copied, by that and its block."""
 
-    def __init__(self, roms, switches=SWITCHES):
+    def __init__(self, roms: Readable, switches: SupportsIndex = SWITCHES) -> None:
         """A board at power-on."""
-        self.roms, self.state = bytes_of(roms), ctypes.create_string_buffer(BOARD_SIZE)
-        done(LIBRARY.pac_init(self.state, self.roms, len(self.roms), number("switches", switches, 8)))
+        self.place(roms)
+        self.call("pac_init", self.roms, len(self.roms), number("switches", switches, 8))
+
+    def place(self, roms: Readable) -> None:
+        """Takes ROMs, and memory for a block."""
+        self.roms, self.memory, self.lock = bytes_of(roms), bytearray(BOARD_SIZE), threading.Lock()
+        self.state = (ctypes.c_char * BOARD_SIZE).from_buffer(self.memory)
+
+    def call(self, name: str, *words: object) -> None:
+        """Makes a call of the library for this board."""
+        with self.lock:
+            done(getattr(LIBRARY, name)(self.state, *words))
 
     @property
-    def block(self):
+    def block(self) -> bytes:
         """All of its state: a snapshot."""
-        return self.state.raw
+        with self.lock:
+            return bytes(self.memory)
 
     @block.setter
-    def block(self, kept):
+    def block(self, kept: Readable) -> None:
         """Goes back to a snapshot. Whether it is one, the next call tells."""
         content = bytes_of(kept)
         if len(content) != BOARD_SIZE:
             raise Refused(1)
-        ctypes.memmove(self.state, content, BOARD_SIZE)
+        with self.lock:
+            self.memory[:] = content
 
-    def reset(self):
+    def __getstate__(self) -> tuple[bytes, bytes]:
+        """What is kept of a board: its ROMs and its block."""
+        return self.roms, self.block
+
+    def __setstate__(self, kept: tuple[bytes, bytes]) -> None:
+        """Becomes the board that was kept, where there is one."""
+        self.place(kept[0])
+        self.block = kept[1]
+        if len(self.roms) != ROMS_SIZE:
+            raise Refused(1)
+        self.call("pac_hold", 0, 0)  # (changes nothing, and refuses a block that is no board's)
+
+    def reset(self) -> None:
         """Does what the watchdog does."""
-        done(LIBRARY.pac_reset(self.state))
+        self.call("pac_reset")
 
-    def hold(self, inputs):
+    def hold(self, inputs: SupportsIndex) -> None:
         """Holds these inputs, and lets all others go."""
-        done(LIBRARY.pac_hold(self.state, number("inputs", inputs, 16), 0xFFFF))
+        self.call("pac_hold", number("inputs", inputs, 16), 0xFFFF)
 
-    def run(self, microseconds, room=None):
+    def run(self, microseconds: SupportsIndex, room: SupportsIndex | None = None) -> tuple[Ran, array.array[int]]:
         """Lets so many microseconds go by: what was done, and the samples. `room` is so many samples; where it is left out, enough for a
         board that isn't behind, as each but a state file's is."""
         asked = number("microseconds", microseconds, 32)
-        room = asked * 12 // 125 + 2 if room is None else number("room", room, 32)
-        ran, samples = Ran(), (ctypes.c_int16 * max(room, 1))()
-        done(LIBRARY.pac_exec(self.state, self.roms, len(self.roms), asked, samples, room, ctypes.byref(ran)))
-        return ran, array.array("h", samples[: ran.samples])
+        count = asked * 12 // 125 + 2 if room is None else number("room", room, 32)
+        ran, samples = Ran(), array.array("h", bytes(2 * max(count, 1)))
+        self.call("pac_exec", self.roms, len(self.roms), asked, samples.buffer_info()[0], count, ctypes.byref(ran))
+        del samples[ran.samples :]
+        return ran, samples
 
-    def draw(self):
+    def draw(self) -> bytes:
         """The picture as it stands: red, green, blue and 255 for each pixel, row by row."""
-        rgba = ctypes.create_string_buffer(RGBA_SIZE)
-        done(LIBRARY.pac_draw(self.state, self.roms, len(self.roms), rgba, RGBA_SIZE))
-        return rgba.raw
+        rgba = bytearray(RGBA_SIZE)
+        self.draw_into(rgba)
+        return bytes(rgba)
 
-    def save(self):
+    def draw_into(self, rgba: Writable) -> None:
+        """Draws the picture into a buffer of 258,048 bytes, as an array of numpy is."""
+        buffer: Any = rgba
+        if memoryview(buffer).nbytes != RGBA_SIZE:
+            raise Refused(1)
+        self.call("pac_draw", self.roms, len(self.roms), (ctypes.c_char * RGBA_SIZE).from_buffer(buffer), RGBA_SIZE)
+
+    def peek(self, address: SupportsIndex, count: SupportsIndex = 1) -> bytes:
+        """What the processor would read at so many addresses from one on; after FFFFH comes 0000H."""
+        found = bytearray(number("count", count, 17))
+        place = (ctypes.c_char * max(len(found), 1)).from_buffer(found or bytearray(1))
+        self.call("pac_peek", self.roms, len(self.roms), number("address", address, 16), place, len(found))
+        return bytes(found)
+
+    def view(self, part: str) -> memoryview:
+        """A part of the block, of PARTS, as it is after each call: nothing is copied, and nothing can be written."""
+        if part not in PARTS:
+            raise ValueError(f"a block has no part {part!r}, but {', '.join(PARTS)}")
+        at, size = PARTS[part]
+        return memoryview(self.memory).toreadonly()[at : at + size]
+
+    def array_of(self, part: str) -> NDArray[uint8]:
+        """The same as an array of numpy, that of the picture's colour numbers with 224 rows of 288."""
+        import numpy  # type: ignore[import,unused-ignore]  # (only who asks for it needs it)  # pylint: disable=import-outside-toplevel
+
+        found = numpy.frombuffer(self.view(part), numpy.uint8)
+        return found.reshape(HEIGHT, WIDTH) if part == "picture" else found
+
+    def image(self) -> NDArray[uint8]:
+        """The picture as it stands as an array of numpy: 224 rows of 288 pixels, each red, green, blue and 255."""
+        import numpy  # type: ignore[import,unused-ignore]  # pylint: disable=import-outside-toplevel
+
+        found = numpy.empty((HEIGHT, WIDTH, 4), numpy.uint8)
+        self.draw_into(found)
+        return found
+
+    def save(self) -> bytes:
         """The board's state file."""
         text = ctypes.create_string_buffer(STATE_SIZE)
-        done(LIBRARY.pac_save(self.state, self.roms, len(self.roms), text, STATE_SIZE))
+        self.call("pac_save", self.roms, len(self.roms), text, STATE_SIZE)
         return text.raw
 
-    def load(self, text):
+    def load(self, text: Readable) -> None:
         """Becomes the board of a state file."""
         content = bytes_of(text)
-        done(LIBRARY.pac_load(self.state, self.roms, len(self.roms), content, len(content)))
+        self.call("pac_load", self.roms, len(self.roms), content, len(content))

@@ -21,7 +21,7 @@ except OSError as error:
 SECOND = 61  # frames, a little more than a second
 
 
-def played(board, held):
+def played(board: pacboard.Board, held: list[int]) -> list[str]:
     """Plays frames: a sum of each one's samples and picture."""
     sums = []
     for mask in held:
@@ -31,10 +31,10 @@ def played(board, held):
     return sums
 
 
-def main(words):
+def main(words: list[str]) -> int:
     """Plays, goes back, and compares."""
     if len(words) != 2:
-        print(__doc__.strip())
+        print((__doc__ or "").strip())
         return 0 if "--help" in words else 2
     with open(words[0], "rb") as file:
         board = pacboard.Board(file.read())
@@ -42,7 +42,7 @@ def main(words):
         held = pacboard.held_of(file.read())
     if not held:
         raise ValueError("there is no frame to go back to")
-    kept, sums = {}, []
+    kept, sums = dict[int, bytes](), list[str]()
     for at in range(0, len(held), SECOND):
         kept[at] = board.block
         sums += played(board, held[at : at + SECOND])
