@@ -41,7 +41,7 @@ covered : (span : Span) (k : ℕ) → k < span.size → span_covers span (span.a
 covered span k h = and_from _ _ (le-leb span.at (span.at + k) (omega arith)) (lt-ltb (span.at + k) (span.at + span.size) (omega arith))
 
 uncovered : (span : Span) (k : ℕ) → (k < span.at) ⊎ (span.at + span.size ≤ k) → span_covers span k ≡ false
-uncovered span k h2 = search rules
+uncovered span k apart = search rules
 
 -- with the cells of a span taken
 pub with_span : (places : List LineLayout) (span : Span) (n : ℕ) (old : List Bool) → old ≡ cells_below n places → span.at + span.size ≤ n

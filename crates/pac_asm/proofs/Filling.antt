@@ -212,4 +212,4 @@ no-more symbols number before texts left h = refl
 pub finished : (source rest : List ℕ) (symbols : List Symbol) (places left : List LineLayout) (number : ℕ) (filled : List Line)
     → (rest ≡ []) ⊎ (left ≡ []) → Filling source rest symbols places left number filled
     → phase2 symbols 1 [] (lines source) places ≡ Ok filled
-finished source rest symbols places left number filled h7 was = grind (arith, no-more)
+finished source rest symbols places left number filled over was = grind (arith, no-more)

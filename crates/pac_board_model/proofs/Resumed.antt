@@ -141,7 +141,7 @@ module _ {Board : Type 0} (ask : Questions Board) (held other : ℕ → ℕ) (en
   both-onward w over e early = grind (arith, ended-stays, going-steps, step-alike, step-timely)
 
   onward-alike : (w v : Walk Board) → Alike w v → Alike (walk_onward one limit w) (walk_onward two limit v)
-  onward-alike w v h2 = grind (arith, apart-late, both-onward, ended-stays, late-has-ended)
+  onward-alike w v alike = grind (arith, apart-late, both-onward, ended-stays, late-has-ended)
 
   pub walk-alike : (start begun : Moment Board) (n : ℕ) → Alike (walk_at_start start) (walk_at_start begun)
       → Alike (walk one limit start n) (walk two limit begun n)
@@ -270,7 +270,7 @@ module _ {Board : Type 0} (ask : Questions Board) (first second : Play) (from : 
       outputs : (resumed ask first from).outputs ≡ half.outputs
 
     meets : IsAlike (resumed ask first from) half → Meets
-    meets h0 = grind (arith, resumed-late)
+    meets alike = grind (arith, resumed-late)
 
     -- the second play's run is the rest of both
     second-is : resumed ask second middle ≡ walk_to (resumed_step ask both before) (resumed_end both before) half.now

@@ -7,7 +7,7 @@ use Rattle.pac_lex.proofs.CharacterLemmas.{characters-again}
 use Rattle.pac_lex.proofs.LineLaws.{tokens-read, read-again, fault-told, fault-found}
 
 pub one-reading : EachLineHasOneReading
-one-reading line h1 = grind (arith, fault-found, fault-told, read-again, tokens-read)
+one-reading line answer = grind (arith, fault-found, fault-told, read-again, tokens-read)
 
 one-is : (text : List ℕ) (d : ℕ) → one_character text ≡ Some d → text ≡ quoted_text (d ∷ [])
 one-is text d e = search rules
