@@ -118,7 +118,7 @@ module _ {S : Type 0} (to : Giving S) where
   pub finish-given : (old : SessionValue) (sink : S) (new : SessionValue) (later : S)
       → IsSessionOfferRefused to (session_at_command old) sink new later ⊎ IsFinishRefused to old sink new later
       → GaveSome to old sink new later
-  finish-given old sink new later h4 = grind (arith, offer-refused, step-given)
+  finish-given old sink new later refusal = grind (arith, offer-refused, step-given)
 
 -- ---- one after another
 
