@@ -50,7 +50,7 @@ take-bytes : (width : ℕ) (bytes : List ℕ) → AreBytes bytes → AreBytes (t
 unfolding AreBytes
 take-bytes (suc width) (x ∷ xs) fits zero = fits 0
 take-bytes (suc width) (x ∷ xs) fits (suc i) = take-bytes width xs (λ j. fits (suc j)) i
-take-bytes width bytes fits zero_2 = omega arith
+take-bytes width bytes fits i = omega arith
 
 drop-bytes : (at : ℕ) (bytes : List ℕ) → AreBytes bytes → AreBytes (drop at bytes)
 unfolding AreBytes
