@@ -41,8 +41,6 @@ use Rattle.pac_asm.proofs.FirstWords.{is_if, word-of-if}
 use Rattle.pac_asm.proofs.OpenIfs.{opens, AreNested, AreOpen, none-nested, read-same, counts-if, counts-none, open-else}
 use Rattle.pac_asm.proofs.OpenIfs.{open-end, open-skipped, open-if}
 
--- ---- answers
-
 -- ---- names
 
 -- an assignment gives each of these names its number

@@ -26,8 +26,6 @@ use Rattle.pac_asm.specs.Skipping.{after_texts, IsLeftOutIfSkipped, SkippedLines
 use Rattle.pac_asm.proofs.Skipping.{passed-over}
 use Rattle.pac_asm.proofs.Sizes.{Adds, Lays, then-ok, if-ok, none-ok, text, laid}
 
--- ---- lists
-
 -- ---- the first phase
 
 taken-ok : (number : ℕ) (old new : Standing) (line : List ℕ) (below : List (List ℕ))

@@ -14,8 +14,6 @@ use Rattle.pac_table.specs.Instructions.{row_at}
 use Rattle.pac_table_names.specs.Names.{value_named}
 use Rattle.pac_table_names.specs.ByName.{rows_named_from, rows_named}
 
--- ---- a search by places
-
 -- ---- the rows with a name
 
 -- the rows from n on are these
